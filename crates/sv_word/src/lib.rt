@@ -1,0 +1,11 @@
+//! Characters, words and sets of characters.
+//!
+//! A character is a number from 0 to 0x2FFFF, surrogate code points included, and a word is a
+//! list of characters (theory UnicodeStrings of SMT-LIB 2.6).
+#![tactic(auto)]
+
+mod ranges;
+mod word;
+
+pub use ranges::Ranges;
+pub use word::Word;
