@@ -4,7 +4,7 @@ ghost use Rattle.std.specs.Option.{option_copied};
 use std::alloc::{AllocError, Global};
 use std::marker::Model;
 
-/// A `Vec` that contracts see as the list of its elements, so that a copy equals what it copies.
+/// A list of elements, which contracts see as the list.
 #[derive(Debug, Drop)]
 pub struct Items<T> {
     items: Vec<T>,
@@ -22,6 +22,7 @@ impl<T> Model for Items<T> {
 }
 
 impl<T> Items<T> {
+    /// No element. Takes no memory.
     pub fn new(alloc: Global) -> Items<T>
         ensures { result ≡ [] }
     {
@@ -30,12 +31,14 @@ impl<T> Items<T> {
         }
     }
 
+    /// The elements of a `Vec`, in place.
     pub fn from_vec(items: Vec<T>) -> Items<T>
         ensures { result ≡ items.items }
     {
         Items { items }
     }
 
+    /// The elements as a `Vec`, in place.
     pub fn into_vec(self) -> Vec<T>
         ensures { result.items ≡ self }
     {
@@ -61,6 +64,12 @@ impl<T> Items<T> {
         self.items.len()
     }
 
+    pub fn is_empty(&self) -> bool
+        ensures { IsTrue result ↔ (self.now ≡ []) }
+    {
+        self.items.is_empty()
+    }
+
     pub fn get(&self, at: usize) -> Option<&T>
         ensures value { option_copied result ≡ slice_get self.now at }
         ensures within { OnSome result (at < length self.now) }
@@ -68,30 +77,34 @@ impl<T> Items<T> {
         self.items.get(at)
     }
 
-    /// Moves the items of `more` to the end.
+    /// Moves the elements of `more` to the end. Where there is no memory `more` is lost.
     pub fn append(&mut self, more: Items<T>) -> Result<(), AllocError>
     where
         T: Drop,
-        ensures { OnOk result (self.new ≡ self.old ++ more) }
+        ensures ok { OnOk result (self.new ≡ self.old ++ more) }
+        ensures err { OnErr result (self.new ≡ self.old) }
     {
         let Items { mut items } = more;
         self.items.append(&mut items)
     }
 
+    /// Takes the last element off.
     pub fn pop(&mut self) -> Option<T>
         ensures { MatchOption result ((self.old ≡ []) × (self.new ≡ [])) (λ last. self.old ≡ self.new ++ last ∷ []) }
     {
         self.items.pop()
     }
 
-    pub fn is_empty(&self) -> bool
-        ensures { IsTrue result ↔ (self.now ≡ []) }
+    /// Makes room for `more` further elements, so that as many pushes find memory.
+    pub fn reserve(&mut self, more: usize) -> Result<(), AllocError>
+        ensures { self.new ≡ self.old }
     {
-        self.items.is_empty()
+        self.items.reserve(more)
     }
 }
 
 impl<T: Copy> Items<T> {
+    /// A copy of a slice. Linear.
     pub fn from_slice(alloc: Global, items: &[T]) -> Result<Items<T>, AllocError>
         ensures { IfOk result (λ it. it ≡ items.now) }
     {
@@ -101,14 +114,16 @@ impl<T: Copy> Items<T> {
 }
 
 impl<T: Drop> Items<T> {
-    pub fn remove(&mut self, at: usize) -> T
-        requires { at < length self.old }
-        ensures item { slice_get self.old at ≡ Some result }
-        ensures rest { self.new ≡ remove self.old at }
+    /// Adds one element at the end. Amortised constant.
+    pub fn push(&mut self, item: T) -> Result<(), AllocError>
+        ensures ok { OnOk result (self.new ≡ self.old ++ item ∷ []) }
+        ensures err { OnErr result (self.new ≡ self.old) }
     {
-        self.items.remove(at)
+        self.items.push(item)?;
+        Ok(())
     }
 
+    /// Puts `item` before the element at `at`. Linear in what follows.
     pub fn insert(&mut self, at: usize, item: T) -> Result<(), AllocError>
         requires { at ≤ length self.old }
         ensures ok { OnOk result (self.new ≡ insert self.old at item) }
@@ -118,11 +133,13 @@ impl<T: Drop> Items<T> {
         Ok(())
     }
 
-    /// Keeps the first `n`.
-    pub fn truncate(&mut self, n: usize)
-        ensures { self.new ≡ take n self.old }
+    /// Takes the element at `at` out. Linear in what follows.
+    pub fn remove(&mut self, at: usize) -> T
+        requires { at < length self.old }
+        ensures item { slice_get self.old at ≡ Some result }
+        ensures rest { self.new ≡ remove self.old at }
     {
-        self.items.truncate(n);
+        self.items.remove(at)
     }
 
     pub fn set(&mut self, at: usize, item: T)
@@ -132,16 +149,15 @@ impl<T: Drop> Items<T> {
         self.items[at] = item;
     }
 
-    pub fn push(&mut self, item: T) -> Result<(), AllocError>
-        ensures ok { OnOk result (self.new ≡ self.old ++ item ∷ []) }
-        ensures err { OnErr result (self.new ≡ self.old) }
+    /// Keeps the first `n` elements.
+    pub fn truncate(&mut self, n: usize)
+        ensures { self.new ≡ take n self.old }
     {
-        self.items.push(item)?;
-        Ok(())
+        self.items.truncate(n);
     }
 }
 
-/// `items.get(at)`, with its answer as one equation.
+/// The element at `at` of a slice, its answer one equation.
 pub fn at<T>(items: &[T], at: usize) -> Option<&T>
     ensures { option_copied result ≡ slice_get items.now at }
 {
