@@ -11,7 +11,8 @@ fn a_list_is_edited_in_place(rt: HostRuntime) -> Result<(), AllocError> {
     let mut list = listed(alloc, &[1, 2, 3])?;
     list.reserve(3)?;
     list.push(5)?;
-    list.insert(3, 4)?;
+    let last = list.len().saturating_sub(1);
+    list.insert(last, 4)?;
     assert_eq!(rt; list.as_slice(), [1, 2, 3, 4, 5].as_slice());
     if list.len() > 2 {
         assert_eq!(rt; list.remove(0), 1);
