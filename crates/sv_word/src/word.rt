@@ -1,11 +1,15 @@
-ghost use Rattle.std.specs.Prelude.{◌≡◌, [], ◌∷◌, ◌++◌, ◌≤◌, length, slice_get, IfOk, OnOk, OnErr, IfSome};
+ghost use Rattle.std.specs.Prelude.{◌≡◌, ◌↔◌, [], ◌∷◌, ◌++◌, ◌≤◌, length, slice_get, take, IsTrue, IfOk, OnOk, OnErr, IfSome};
 ghost use Rattle.sv_word.specs.Words.{IsWord};
 
 use std::alloc::{AllocError, Global};
+use std::cmp::Ordering;
 use std::marker::Model;
 use sv_list::Copied;
 
-/// A word: a list of characters, each from 0 to 0x2FFFF.
+/// A word: a list of characters, each from 0 to 0x2FFFF (theory UnicodeStrings of SMT-LIB 2.6).
+///
+/// Contracts see the list. A character takes four bytes. Equality and order are those of the
+/// lists, character by character from the first.
 #[derive(Debug, Drop)]
 pub struct Word {
     characters: Vec<u32>,
@@ -22,7 +26,7 @@ impl Model for Word {
 }
 
 impl Word {
-    /// The empty word.
+    /// The empty word, without taking memory.
     pub fn new(alloc: Global) -> Word
         ensures { result ≡ [] }
     {
@@ -38,6 +42,14 @@ impl Word {
         self.characters.len()
     }
 
+    /// Whether it has no character.
+    pub fn is_empty(&self) -> bool
+        ensures { IsTrue result ↔ (self.now ≡ []) }
+    {
+        self.characters.is_empty()
+    }
+
+    /// The character at place `at`, counted from 0; `None` exactly where the word ends before it.
     pub fn get(&self, at: usize) -> Option<u32>
         ensures value { result ≡ slice_get self.now at }
         ensures bound { IfSome result (λ c. c ≤ 0x2FFFF) }
@@ -48,12 +60,14 @@ impl Word {
         }
     }
 
+    /// The characters, from the first.
     pub fn as_slice(&self) -> &[u32]
         ensures { result.now ≡ self.now }
     {
         self.characters.as_slice()
     }
 
+    /// Adds a character at the end, in constant time but for the moves of a growing list.
     pub fn push(&mut self, c: u32) -> Result<(), AllocError>
         requires { c ≤ 0x2FFFF }
         ensures ok { OnOk result (self.new ≡ self.old ++ c ∷ []) }
@@ -63,7 +77,7 @@ impl Word {
         Ok(())
     }
 
-    /// Adds the characters of `other` at the end.
+    /// Adds the characters of `other` at the end, in time linear in their number.
     pub fn append(&mut self, other: &Word) -> Result<(), AllocError>
         ensures ok { OnOk result (self.new ≡ self.old ++ other.now) }
         ensures err { OnErr result (self.new ≡ self.old) }
@@ -72,6 +86,15 @@ impl Word {
         Ok(())
     }
 
+    /// Keeps the first `n` characters; a word that has no more than these stays as it is.
+    #[tactic(auto, using(crate::proofs::Characters::characters_of_take))]
+    pub fn truncate(&mut self, n: usize)
+        ensures { self.new ≡ take n self.old }
+    {
+        self.characters.truncate(n);
+    }
+
+    /// The same word, in memory of its own. Linear.
     pub fn copy(&self, alloc: Global) -> Result<Word, AllocError>
         ensures { IfOk result (λ w. w ≡ self.now) }
     {
@@ -79,7 +102,14 @@ impl Word {
         Ok(Word { characters })
     }
 
-    /// Each character is one.
+    /// Whether the two are one word. Linear in the shorter one.
+    pub fn same(&self, other: &Word) -> bool
+        ensures { IsTrue result ↔ (self.now ≡ other.now) }
+    {
+        self.characters.as_slice() == other.characters.as_slice()
+    }
+
+    /// A law: each of its members is a character.
     #[tactic(auto, using(crate::proofs::Characters::word_of_all))]
     pub fn is_word(&self)
         ensures { IsWord self.now }
@@ -90,21 +120,18 @@ impl Word {
 
 impl Copied for Word {
     fn copy(&self, alloc: Global) -> Result<Word, AllocError> {
-        Ok(Word {
-            characters: Vec::from_slice(alloc, &self.characters)?,
-        })
+        self.copy(alloc)
     }
 }
 
 impl PartialEq for Word {
     ghost use Rattle.std.specs.Prelude.{nat_eq};
-    ghost use Rattle.std.specs.Cmp.Lexicographic.{pointwise, lists_per};
-    ghost use Rattle.std.specs.Cmp.Rules.{comparing};
-    ghost use Rattle.std.proofs.Common.{rules};
+    ghost use Rattle.std.specs.Cmp.Lexicographic.{pointwise, nat_list_eq_equiv};
+    ghost use Rattle.std.specs.Cmp.{partial_equiv_from_equiv};
 
     ghost eq = { pointwise nat_eq };
 
-    ghost laws = { Prim.search (rules, comparing) };
+    ghost laws = { partial_equiv_from_equiv nat_list_eq_equiv };
 
     fn eq(&self, other: &Word) -> bool {
         self.characters.as_slice() == other.characters.as_slice()
@@ -112,8 +139,39 @@ impl PartialEq for Word {
 }
 
 impl Eq for Word {
-    ghost use Rattle.std.specs.Cmp.Rules.{comparing};
-    ghost use Rattle.std.proofs.Common.{rules};
+    ghost use Rattle.std.specs.Cmp.Lexicographic.{nat_list_eq_equiv};
 
-    ghost laws = { Prim.search (rules, comparing) };
+    ghost laws = { nat_list_eq_equiv };
+}
+
+impl PartialOrd for Word {
+    ghost use Rattle.std.specs.Prelude.{Some};
+    ghost use Rattle.std.specs.Ordering.{nat_cmp};
+    ghost use Rattle.std.specs.Cmp.Lexicographic.{slice_cmp, texts_po};
+
+    ghost partial_cmp = { λ v w. Some (slice_cmp nat_cmp v w) };
+
+    ghost laws = { texts_po };
+
+    fn partial_cmp(&self, other: &Word) -> Option<Ordering> {
+        Some(self.cmp(other))
+    }
+}
+
+impl Ord for Word {
+    ghost use Rattle.std.specs.Prelude.{refl};
+    ghost use Rattle.std.specs.Ordering.{nat_cmp};
+    ghost use Rattle.std.specs.Cmp.Lexicographic.{slice_cmp, nat_list_cmp_total, texts_ties};
+
+    ghost cmp = { slice_cmp nat_cmp };
+
+    ghost total = { nat_list_cmp_total };
+
+    ghost matches_partial_cmp = { λ v w. refl };
+
+    ghost matches_eq = { texts_ties };
+
+    fn cmp(&self, other: &Word) -> Ordering {
+        self.characters.as_slice().cmp(&other.characters.as_slice())
+    }
 }
