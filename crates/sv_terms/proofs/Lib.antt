@@ -1,0 +1,3 @@
+pub mod HasWords
+pub mod Plains
+pub mod Words

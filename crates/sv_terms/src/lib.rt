@@ -1,0 +1,25 @@
+//! Terms and regular expressions of the theory UnicodeStrings, and what they mean.
+//!
+//! The central fact is the definition `In`: the words of a regular expression, by cases on its
+//! form. Every language is a set of words, so that what is in one has no character above 0x2FFFF.
+//! Everything that is said of regular expressions above this crate cites it.
+//!
+//! Copying, comparing and `has_word` take time linear in the expression, and stack in its nesting.
+//!
+//! ```text
+//! let digit = Regex::Range(0x30, 0x39);
+//! let digits = Regex::Plus(Boxed::new(alloc, digit)?);
+//! has_word(&digits) // true
+//! ```
+#![tactic(auto)]
+
+mod inhabited;
+mod laws;
+mod plain;
+mod regex;
+#[cfg(test)]
+mod tests;
+
+pub use inhabited::has_word;
+pub use laws::words_only;
+pub use regex::Regex;
