@@ -1,2 +1,4 @@
+pub mod Cuts
+pub mod Pairs
 pub mod Ranges
 pub mod Words

@@ -4,8 +4,10 @@
 //! list of characters (theory UnicodeStrings of SMT-LIB 2.6).
 #![tactic(auto)]
 
+mod pieces;
 mod ranges;
 mod word;
 
+pub use pieces::cuts;
 pub use ranges::Ranges;
 pub use word::Word;
