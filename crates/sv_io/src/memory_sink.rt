@@ -1,0 +1,103 @@
+ghost use Rattle.std.specs.Prelude.{◌≡◌, ◌≤◌, ◌<◌, ◌↔◌, IsErrOf, IfOk, IsTrue, is_ok, not, min, length, [], Some};
+ghost use Rattle.std.specs.Io.KnownBytes.{WriteAppends};
+ghost use Rattle.sv_io.specs.Counts.{HasCause, Rose, raised};
+ghost use Rattle.sv_io.specs.Memory.{is_failing, faults_after};
+
+use crate::{Failed, Sink, SinkFault};
+use std::alloc::Global;
+use std::marker::Model;
+
+/// A sink in memory, for tests: it takes bytes in pieces, and fails at chosen calls.
+#[derive(Debug, Drop)]
+pub struct MemSink {
+    taken: Vec<u8>,
+    failing: Vec<u64>,
+    piece: usize,
+    calls: u64,
+    faults: u64,
+}
+
+impl Model for MemSink {
+    ghost use Rattle.std.specs.Prelude.{◌≤◌};
+    ghost use Rattle.sv_io.specs.Memory.{Taken};
+
+    ghost Value = { Taken };
+
+    ghost view = { λ s. record { taken = s.taken.items; failing = s.failing.items; piece = s.piece; calls = s.calls; faults = s.faults } };
+
+    ghost invariant = { λ s. 1 ≤ s.piece };
+}
+
+impl MemSink {
+    /// A sink that took nothing yet. Calls of `write` and `flush` are numbered from 0 on, up to
+    /// the last `u64`, where the number stays: those in `failing` fail. A write takes at most
+    /// `piece` bytes.
+    pub fn new(alloc: Global, failing: Vec<u64>, piece: usize) -> MemSink
+        requires { 1 ≤ piece }
+        ensures { result ≡ record { taken = []; failing = failing.items; piece = piece; calls = 0; faults = 0 } }
+    {
+        MemSink {
+            taken: Vec::new(alloc),
+            failing,
+            piece,
+            calls: 0,
+            faults: 0,
+        }
+    }
+
+    /// The bytes taken so far.
+    pub fn taken(&self) -> &[u8]
+        ensures { result.now ≡ self.now.taken }
+    {
+        &self.taken
+    }
+
+    // Counts a call, and says whether it is one of those that fail.
+    fn fails(&mut self) -> bool
+        ensures fails { result ≡ is_failing self.old.failing self.old.calls }
+        ensures counted { self.new ≡ record self.old { calls = raised self.old.calls } }
+    {
+        let fails = self.failing.contains(&self.calls);
+        self.calls = self.calls.saturating_add(1);
+        fails
+    }
+}
+
+impl Sink for MemSink {
+    ghost taken = { λ s. Some s.taken };
+
+    ghost faults = { λ s. s.faults };
+
+    fn write(&mut self, piece: &[u8]) -> Result<usize, SinkFault>
+        requires { 0 < length piece.now }
+        ensures failed { IsErrOf result SinkFault.Failed ↔ IsTrue (is_failing self.old.failing self.old.calls) }
+        ensures later { self.old.faults ≤ self.new.faults }
+        ensures cause { IsErrOf result SinkFault.Failed → Rose self.old.faults self.new.faults }
+        ensures count { IfOk result (λ count. count ≡ min self.old.piece (length piece.now)) }
+        ensures least { IfOk result (λ count. 1 ≤ count) }
+        ensures bytes { WriteAppends (Some self.old.taken) (Some self.new.taken) result piece.now }
+        ensures state { self.new ≡ record self.old { taken = self.new.taken; calls = raised self.old.calls; faults = faults_after (is_failing self.old.failing self.old.calls) self.old.faults } }
+    {
+        if self.fails() {
+            self.faults = self.faults.saturating_add(1);
+            return Err(SinkFault::Failed);
+        }
+        let count = self.piece.min(piece.len());
+        match self.taken.extend_from_slice(&piece[..count]) {
+            Ok(()) => Ok(count),
+            Err(e) => Err(SinkFault::Memory(e)),
+        }
+    }
+
+    fn flush(&mut self) -> Result<(), Failed>
+        ensures cause { HasCause self.old.faults self.new.faults result }
+        ensures failed { is_ok result ≡ not (is_failing self.old.failing self.old.calls) }
+        ensures state { self.new ≡ record self.old { calls = raised self.old.calls; faults = faults_after (is_failing self.old.failing self.old.calls) self.old.faults } }
+    {
+        if self.fails() {
+            self.faults = self.faults.saturating_add(1);
+            return Err(Failed);
+        }
+        Ok(())
+    }
+}
