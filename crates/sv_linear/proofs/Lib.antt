@@ -1,0 +1,6 @@
+pub mod Ascending
+pub mod Bounds
+pub mod Contents
+pub mod Homogeneous
+pub mod Merging
+pub mod Refusals

@@ -1,0 +1,10 @@
+pub mod Columns
+pub mod Combining
+pub mod Divisors
+pub mod Faults
+pub mod Forms
+pub mod Integers
+pub mod Meeting
+pub mod Points
+pub mod Quotients
+pub mod Terms
