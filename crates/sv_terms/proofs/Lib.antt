@@ -1,3 +1,5 @@
+pub mod Entries
 pub mod HasWords
+pub mod Adding
 pub mod Plains
 pub mod Words

@@ -1,2 +1,4 @@
 pub mod Language
+pub mod Names
 pub mod Opened
+pub mod Witness

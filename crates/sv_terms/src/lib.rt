@@ -4,22 +4,31 @@
 //! form. Every language is a set of words, so that what is in one has no character above 0x2FFFF.
 //! Everything that is said of regular expressions above this crate cites it.
 //!
-//! Copying, comparing and `has_word` take time linear in the expression, and stack in its nesting.
+//! Copying, comparing and `witness` take time linear in the expression (and the word that is
+//! made), and stack in its nesting.
 //!
 //! ```text
 //! let digit = Regex::Range(0x30, 0x39);
 //! let digits = Regex::Plus(Boxed::new(alloc, digit)?);
-//! has_word(&digits) // true
+//! witness(alloc, &digits)? // Some of the word 0
 //! ```
 #![tactic(auto)]
 
 mod inhabited;
 mod laws;
+mod model;
+mod name;
 mod plain;
 mod regex;
 #[cfg(test)]
 mod tests;
+mod value;
+mod witnesses;
 
 pub use inhabited::has_word;
 pub use laws::words_only;
+pub use model::Model;
+pub use name::Name;
 pub use regex::Regex;
+pub use value::Value;
+pub use witnesses::witness;

@@ -1,14 +1,20 @@
-//! Which forms have a word, and copies, at concrete values.
-use crate::{Regex, has_word, words_only};
+//! Witnesses, names and models at concrete values.
+use crate::{Model, Name, Regex, Value, has_word, witness, words_only};
 use std::alloc::{AllocError, Global};
 use std::test::Fail;
 use sv_list::{Boxed, Items};
 use sv_word::Word;
 
-fn letter(alloc: Global) -> Result<Regex, AllocError> {
+fn word(alloc: Global, text: &str) -> Result<Word, AllocError> {
     let mut word = Word::new(alloc);
-    word.push(0x61)?;
-    Ok(Regex::Text(word))
+    for byte in text.as_bytes() {
+        word.push(u32::from(*byte))?;
+    }
+    Ok(word)
+}
+
+fn letters(alloc: Global, text: &str) -> Result<Regex, AllocError> {
+    Ok(Regex::Text(word(alloc, text)?))
 }
 
 fn pair(alloc: Global, first: Regex, second: Regex) -> Result<Items<Regex>, AllocError> {
@@ -18,46 +24,98 @@ fn pair(alloc: Global, first: Regex, second: Regex) -> Result<Items<Regex>, Allo
     Ok(parts)
 }
 
+fn nested(alloc: Global, depth: u32) -> Result<Regex, AllocError> {
+    let mut regex = letters(alloc, "a")?;
+    for _ in 0..depth {
+        let parts = pair(alloc, Regex::Empty, regex)?;
+        regex = Regex::Plus(Boxed::new(alloc, Regex::Union(parts))?);
+    }
+    Ok(regex)
+}
+
 #[test]
-fn plain_forms_with_a_word_and_without(rt: HostRuntime) -> Result<(), Fail> {
+fn witnesses_of_plain_forms(rt: HostRuntime) -> Result<(), Fail> {
     let alloc = rt.alloc();
     words_only();
     let none = Regex::Empty;
+    let half = Regex::Concat(pair(alloc, letters(alloc, "x")?, Regex::Empty)?);
     let rows = vec![in alloc;
-        (none.copy(alloc)?, false),
-        (Regex::All, true),
-        (Regex::AnyChar, true),
-        (letter(alloc)?, true),
-        (Regex::Range(0x61, 0x63), true),
-        (Regex::Range(0x63, 0x61), false),
-        (Regex::Range(0x30000, 0x30001), false),
+        (none.copy(alloc)?, None),
+        (Regex::All, Some("")),
+        (Regex::AnyChar, Some("\0")),
+        (letters(alloc, "a")?, Some("a")),
+        (Regex::Range(0x61, 0x63), Some("a")),
+        (Regex::Range(0x63, 0x61), None),
+        (Regex::Range(0x30000, 0x30001), None),
         (
-            Regex::Concat(pair(alloc, letter(alloc)?, Regex::All)?),
-            true
+            Regex::Concat(pair(alloc, letters(alloc, "ab")?, letters(alloc, "cd")?)?),
+            Some("abcd")
         ),
         (
-            Regex::Concat(pair(alloc, letter(alloc)?, Regex::Empty)?),
-            false
+            Regex::Concat(pair(alloc, letters(alloc, "a")?, Regex::Empty)?),
+            None
         ),
         (
-            Regex::Union(pair(alloc, Regex::Empty, letter(alloc)?)?),
-            true
+            Regex::Union(pair(alloc, Regex::Empty, letters(alloc, "a")?)?),
+            Some("a")
         ),
         (
-            Regex::Union(pair(alloc, Regex::Empty, Regex::Empty)?),
-            false
+            Regex::Union(pair(alloc, half, letters(alloc, "y")?)?),
+            Some("y")
         ),
-        (Regex::Star(Boxed::new(alloc, Regex::Empty)?), true),
-        (Regex::Plus(Boxed::new(alloc, Regex::Empty)?), false),
-        (Regex::Plus(Boxed::new(alloc, Regex::AnyChar)?), true),
-        (Regex::Opt(Boxed::new(alloc, Regex::Empty)?), true),
+        (Regex::Union(pair(alloc, Regex::Empty, Regex::Empty)?), None),
+        (Regex::Star(Boxed::new(alloc, Regex::Empty)?), Some("")),
+        (Regex::Plus(Boxed::new(alloc, Regex::Empty)?), None),
+        (
+            Regex::Plus(Boxed::new(alloc, letters(alloc, "ab")?)?),
+            Some("ab")
+        ),
+        (Regex::Opt(Boxed::new(alloc, Regex::Empty)?), Some("")),
+        (nested(alloc, 500)?, Some("a")),
     ]?;
     for (regex, expected) in &rows {
         assert!(rt; regex.is_plain());
-        assert_eq!(rt; has_word(regex), *expected, "{regex:?}");
+        assert_eq!(rt; has_word(regex), expected.is_some(), "{regex:?}");
+        let expected = match expected {
+            Some(text) => Some(word(alloc, text)?),
+            None => None,
+        };
+        assert_eq!(rt; witness(alloc, regex)?, expected, "{regex:?}");
         let copy = regex.copy(alloc)?;
         assert!(rt; copy.same(regex));
         assert!(rt; !copy.same(&Regex::Comp(Boxed::new(alloc, regex.copy(alloc)?)?)));
+    }
+    Ok(())
+}
+
+#[test]
+fn values_by_name(rt: HostRuntime) -> Result<(), Fail> {
+    let alloc = rt.alloc();
+    let name = Name::of(alloc, b"abc")?;
+    let quoted = Name::of(alloc, b"|abc|")?;
+    let spaced = Name::of(alloc, b"| |")?;
+    assert!(rt; name.same(&quoted));
+    assert!(rt; !name.same(&spaced));
+    assert_eq!(rt; Name::of(alloc, b"||")?.as_bytes().len(), 0);
+    assert_eq!(rt; Name::of(alloc, b"|")?.as_bytes().len(), 1);
+
+    let mut model = Model::new(alloc);
+    model.set(name.copy(alloc)?, Value::Truth(false))?;
+    model.set(spaced.copy(alloc)?, Value::Number(-3))?;
+    model.set(quoted, Value::Text(word(alloc, "b")?))?;
+    let model = model.copy(alloc)?;
+    assert_eq!(rt; model.len(), 2);
+    assert_eq!(rt; model.get(&Name::of(alloc, b"ab")?), None);
+    let entries = [
+        (&name, Value::Text(word(alloc, "b")?)),
+        (&spaced, Value::Number(-3)),
+    ];
+    for (place, (name, value)) in entries.iter().enumerate() {
+        let (held, _) = model.at(place).ok_or("no entry")?;
+        assert!(rt; held.same(name));
+        let held = model.get(name).ok_or("no value")?;
+        assert!(rt; held.same(&value.copy(alloc)?));
+        assert!(rt; !held.same(&Value::Truth(false)));
     }
     Ok(())
 }
