@@ -1,3 +1,4 @@
+pub mod Declaring
 pub mod Entries
 pub mod HasWords
 pub mod Adding

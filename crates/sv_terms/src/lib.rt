@@ -14,21 +14,33 @@
 //! ```
 #![tactic(auto)]
 
+mod entry;
 mod inhabited;
 mod laws;
 mod model;
 mod name;
+mod op;
 mod plain;
 mod regex;
+mod sort;
+mod symbols;
+mod term;
 #[cfg(test)]
 mod tests;
+mod transducer;
 mod value;
 mod witnesses;
 
+pub use entry::{Body, Entry};
 pub use inhabited::has_word;
 pub use laws::words_only;
 pub use model::Model;
 pub use name::Name;
+pub use op::Op;
 pub use regex::Regex;
+pub use sort::Sort;
+pub use symbols::Symbols;
+pub use term::Term;
+pub use transducer::{Item, TransEdge, Transducer};
 pub use value::Value;
 pub use witnesses::witness;

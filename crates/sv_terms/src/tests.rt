@@ -1,5 +1,8 @@
-//! Witnesses, names and models at concrete values.
-use crate::{Model, Name, Regex, Value, has_word, witness, words_only};
+//! Witnesses, names, models, terms and symbols at concrete values.
+use crate::{
+    Entry, Item, Model, Name, Op, Regex, Sort, Symbols, Term, TransEdge, Transducer, Value,
+    has_word, witness, words_only,
+};
 use std::alloc::{AllocError, Global};
 use std::test::Fail;
 use sv_list::{Boxed, Items};
@@ -117,5 +120,71 @@ fn values_by_name(rt: HostRuntime) -> Result<(), Fail> {
         assert!(rt; held.same(&value.copy(alloc)?));
         assert!(rt; !held.same(&Value::Truth(false)));
     }
+    Ok(())
+}
+
+// It reads one character from a to z and writes it twice.
+fn doubling(alloc: Global) -> Result<Transducer, AllocError> {
+    let mut items = Items::new(alloc);
+    items.push(Item::Copy)?;
+    items.push(Item::Text(word(alloc, "")?))?;
+    let mut edges = Items::new(alloc);
+    edges.push(TransEdge {
+        from: 0,
+        lo: 0x61,
+        hi: 0x7A,
+        items,
+        to: 1,
+    })?;
+    let mut ends = Items::new(alloc);
+    ends.push((1, Word::new(alloc)))?;
+    Ok(Transducer {
+        states: 2,
+        start: 0,
+        edges,
+        ends,
+    })
+}
+
+fn constant(alloc: Global, name: &str) -> Result<Term, AllocError> {
+    Ok(Term::Constant(Name::of(alloc, name.as_bytes())?, Sort::String))
+}
+
+#[test]
+fn terms_and_symbols(rt: HostRuntime) -> Result<(), Fail> {
+    let alloc = rt.alloc();
+    let x = Boxed::new(alloc, constant(alloc, "x")?)?;
+    let y = Boxed::new(alloc, constant(alloc, "y")?)?;
+    let related = Term::Related(doubling(alloc)?, x, y);
+    let member = Term::InRe(
+        Boxed::new(alloc, Term::Text(word(alloc, "a")?))?,
+        Regex::All,
+    );
+    let mut parts = Items::new(alloc);
+    parts.push(related)?;
+    parts.push(member)?;
+    parts.push(Term::Opaque(Sort::Bool))?;
+    parts.push(Term::Number(-1))?;
+    parts.push(Term::Truth(true))?;
+    let term = Term::Apply(Op::And, parts);
+    let copy = term.copy(alloc)?;
+    assert!(rt; copy.same(&term));
+    assert!(rt; !copy.same(&Term::Opaque(Sort::Int)));
+
+    let mut symbols = Symbols::new(alloc);
+    let names = ["x", "|y|", "T"];
+    for name in names {
+        let name = Name::of(alloc, name.as_bytes())?;
+        if symbols.get(&name).is_none() {
+            symbols.declare(name, Entry::Constant(Sort::Int))?;
+        }
+    }
+    assert_eq!(rt; symbols.len(), 3);
+    let y = Name::of(alloc, b"y")?;
+    assert!(rt; symbols.get(&y).is_some());
+    let (name, _) = symbols.at(1).ok_or("no entry")?;
+    assert!(rt; name.same(&y));
+    symbols.truncate(1);
+    assert!(rt; symbols.get(&y).is_none());
     Ok(())
 }
