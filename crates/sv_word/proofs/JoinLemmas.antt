@@ -3,7 +3,6 @@ use Rattle.std.proofs.Common.{◌≡◌, ℕ, zero, suc, ◌+◌, ◌-◌, ◌<�
 use Rattle.std.proofs.Math.ListN.{drop_of_length-le, set}
 use Rattle.std.proofs.Math.Seq.{drop-cons}
 use Rattle.std.proofs.lemmas.Bool.Decides.{nat_tests}
-use Rattle.std.proofs.lemmas.List.{take_all, length-drop}
 use Rattle.std.specs.Prelude.{fold}
 use Rattle.sv_word.proofs.Apart.{apart-less, or-false}
 use Rattle.sv_word.specs.Ranges.{in_ranges, in_pair, with_joined, IsApartFrom, EndsBy}
@@ -187,10 +186,6 @@ module _ (ps : List (ℕ × ℕ)) (p q : ℕ × ℕ) (n : ℕ) (len : n ≡ leng
 pub joined-first : (ps : List (ℕ × ℕ)) (p : ℕ × ℕ) → length ps ≡ 0 → ps ++ p ∷ [] ≡ with_joined ps p
 joined-first [] p e = refl
 joined-first (q ∷ ps) p e = absurd (omega arith)
-
--- a slice from `i` on
-pub rest-whole : (ps : List (ℕ × ℕ)) (i : ℕ) → take (length ps - i) (drop i ps) ≡ drop i ps
-rest-whole ps i = take_all (length ps - i) (drop i ps) (omega (arith, length-drop i ps))
 
 pub ends-drop : (top i : ℕ) (ps : List (ℕ × ℕ)) → EndsBy top ps → EndsBy top (drop i ps)
 ends-drop top zero ps e = e

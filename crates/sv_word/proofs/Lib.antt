@@ -2,7 +2,10 @@ pub mod Apart
 pub mod Characters
 pub mod ComplementLemmas
 pub mod CutLemmas
+pub mod HexLemmas
 pub mod JoinLemmas
 pub mod MeetLemmas
+pub mod ReadLemmas
 pub mod SameLemmas
 pub mod SearchLemmas
+pub mod Slices

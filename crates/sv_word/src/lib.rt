@@ -4,10 +4,15 @@
 //! list of characters (theory UnicodeStrings of SMT-LIB 2.6).
 #![tactic(auto)]
 
+mod literal_fault;
 mod pieces;
 mod ranges;
+mod reading;
+mod utf8;
 mod word;
 
+pub use literal_fault::LiteralFault;
 pub use pieces::cuts;
 pub use ranges::Ranges;
+pub use reading::read_literal;
 pub use word::Word;

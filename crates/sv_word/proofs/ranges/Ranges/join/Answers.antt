@@ -1,6 +1,7 @@
 use Rattle.std.proofs.Common.{◌≤◌, ◌||◌, ◌⊎◌, [], length, inl, inr, ap, ◌∙◌, arith}
 use Rattle.sv_word.proofs.Apart.{apart-ends}
-use Rattle.sv_word.proofs.JoinLemmas.{IsJoining, joining-left-at, joining-right-at, joining-done, joining-exact, rest-whole}
+use Rattle.sv_word.proofs.JoinLemmas.{IsJoining, joining-left-at, joining-right-at, joining-done, joining-exact}
+use Rattle.sv_word.proofs.Slices.{rest-whole}
 use Rattle.sv_word.specs.Ranges.{in_ranges}
 use Rattle.sv_word.proofs.ranges.Ranges.join.Goals as goal
 use Rattle.sv_word.proofs.ranges.Ranges.join.Goals.{then-loop-i-test+else-j-right, else-loop-i-test}
