@@ -5,6 +5,7 @@ pub mod CutLemmas
 pub mod HexLemmas
 pub mod JoinLemmas
 pub mod MeetLemmas
+pub mod PrintLemmas
 pub mod ReadLemmas
 pub mod SameLemmas
 pub mod SearchLemmas

@@ -15,12 +15,8 @@ after-prepended : (w : List ℕ) (c : ℕ) (r : Result (List ℕ) LiteralFault) 
 after-prepended w c (Ok v) = ap Ok (sym (append_assoc w (c ∷ []) v))
 after-prepended w c (Err f) = refl
 
-after-none : (r : Result (List ℕ) LiteralFault) → after [] r ≡ r
-after-none (Ok v) = refl
-after-none (Err f) = refl
-
 -- the bytes that belong to a character are passed
-lit-skip : (place skip : ℕ) (bs : List ℕ) → skip ≤ length bs → lit_from place skip bs ≡ lit_from (place + skip) 0 (drop skip bs)
+pub lit-skip : (place skip : ℕ) (bs : List ℕ) → skip ≤ length bs → lit_from place skip bs ≡ lit_from (place + skip) 0 (drop skip bs)
 lit-skip place zero bs le = ap (λ p. lit_from p 0 bs) (omega arith)
 lit-skip place (suc skip) [] le = absurd (omega arith)
 lit-skip place (suc skip) (b ∷ bs) le =
@@ -32,23 +28,10 @@ pub record IsReading (raw : List ℕ) (place : ℕ) (w : List ℕ) : Type 0 wher
   pub room : place ≤ length raw
   pub read : lit raw ≡ after w (lit_from place 0 (drop place raw))
 
-pub reading-start : (raw : List ℕ) → IsReading raw 0 []
-reading-start raw = record { room = omega arith; read = sym (after-none (lit raw)) }
-
 module _ (raw : List ℕ) (place : ℕ) (w : List ℕ) (m : IsReading raw place w) where
-  pub reading-end : length raw ≤ place → lit raw ≡ Ok w
-  reading-end le = m.read ∙ ap (λ l. after w (lit_from place 0 l)) (drop_of_length-le raw le) ∙ ap Ok (append_nil w)
-    where
-      append_nil : (l : List ℕ) → l ++ [] ≡ l
-      append_nil [] = refl
-      append_nil (x ∷ xs) = ap (λ l. x ∷ l) (append_nil xs)
-
   module _ (lt : place < length raw) where
     opened : lit raw ≡ after w (followed_by (front_of place (get_or raw place 0) (drop (suc place) raw)) (λ skip. lit_from (place + 1) skip (drop (suc place) raw)))
     opened = m.read ∙ ap (λ l. after w (lit_from place 0 l)) (drop-cons raw place 0 lt)
-
-    pub reading-fault : (f : LiteralFault) → front_of place (get_or raw place 0) (drop (place + 1) raw) ≡ Err f → lit raw ≡ Err f
-    reading-fault f e = opened ∙ ap (λ r. after w (followed_by r (λ skip. lit_from (place + 1) skip (drop (suc place) raw)))) (rw add-one at e)
 
     pub reading-more : (c n : ℕ) → front_of place (get_or raw place 0) (drop (place + 1) raw) ≡ Ok (c, n) → 1 ≤ n → n ≤ length (drop (place + 1) raw) + 1
         → IsReading raw (place + n) (w ++ c ∷ [])

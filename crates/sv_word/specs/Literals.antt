@@ -92,6 +92,10 @@ shown c =
     else (if is_within 0x20 0x7E c && not (c == backslash) then c ∷ []
     else backslash ∷ letter_u ∷ open_brace ∷ (digits 16 false c ++ close_brace ∷ []))
 
--- a word as a literal, with its quotes
+-- a word as it stands between a literal's quotes
+abbrev pub spelled : List ℕ → List ℕ
+spelled w = flat_map shown w
+
+-- a word as a literal
 abbrev pub printed : List ℕ → List ℕ
-printed w = quote ∷ (flat_map shown w ++ quote ∷ [])
+printed w = quote ∷ (spelled w ++ quote ∷ [])

@@ -5,7 +5,7 @@ use thiserror::Error;
 
 /// Why the bytes between the quotes of a string literal are no word: the first fault from the
 /// left, with the place of its first byte, counted from 0.
-#[derive(Debug, Drop, Error)]
+#[derive(Clone, Copy, Debug, PartialEq, Eq, Error)]
 pub enum LiteralFault {
     /// A quote that isn't doubled.
     #[error("the quote at byte {0} isn't doubled")]

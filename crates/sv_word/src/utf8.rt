@@ -44,7 +44,10 @@ fn three(low: u8, high: u8, a: u8, more: &[u8]) -> Option<(u32, usize)>
     }
     let (b, c) = (more[0], more[1]);
     if low <= b && b <= high && 0x80 <= c && c <= 0xBF {
-        Some((bits(a, 0xE0) * 0x1000 + bits(b, 0x80) * 0x40 + bits(c, 0x80), 3))
+        Some((
+            bits(a, 0xE0) * 0x1000 + bits(b, 0x80) * 0x40 + bits(c, 0x80),
+            3,
+        ))
     } else {
         None
     }

@@ -19,7 +19,8 @@ returns-then-number-le196607-clause-bytes c =
 pub returns-then-len-lt1-clause-exact : goal.returns-then-len-lt1-clause-exact
 returns-then-len-lt1-clause-exact c =
     elim c.then-len-lt1.branch [
-      then-len-lt1-via-then-len-lt1 w ↦ braced-long c.args.digits.now c.digit_count-len.result c.digit_count-len.ensures (inl w.if-len-lt1.true)
-    | then-len-lt1-via-else-len-lt1+then-len-gt5 w ↦ braced-long c.args.digits.now c.digit_count-len.result c.digit_count-len.ensures (inr w.if-len-gt5.true)
-    | then-len-lt1-via-else-len-lt1+else-len-gt5+then-byte_at-ne125 w ↦ braced-none c.args.digits.now c.digit_count-len.result c.digit_count-len.ensures
-          (λ e. w.if-byte_at-ne125.true (w.byte_at.ensures ∙ e)) ]
+      | then-len-lt1-via-then-len-lt1 w ↦ braced-long c.args.digits.now c.digit_count-len.result c.digit_count-len.ensures (inl w.if-len-lt1.true)
+      | then-len-lt1-via-else-len-lt1+then-len-gt5 w ↦ braced-long c.args.digits.now c.digit_count-len.result c.digit_count-len.ensures (inr w.if-len-gt5.true)
+      | then-len-lt1-via-else-len-lt1+else-len-gt5+then-byte_at-ne125 w ↦ braced-none c.args.digits.now c.digit_count-len.result c.digit_count-len.ensures
+          (λ e. w.if-byte_at-ne125.true (w.byte_at.ensures ∙ e))
+    ]

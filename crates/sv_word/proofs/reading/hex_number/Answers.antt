@@ -30,7 +30,7 @@ overflow_add-number c =
     let front = take c.loop-b.b-index c.args.digits.now in
     let few = c.requires.few in
     let low : c.loop-b.number < 0x10000 =
-        rw c.loop-b.invariant (value-below front (digits-take c.loop-b.b-index c.args.digits.now c.requires.hex) (omega (arith, length-take c.loop-b.b-index c.args.digits.now))) in
+    rw c.loop-b.invariant (value-below front (digits-take c.loop-b.b-index c.args.digits.now c.requires.hex) (omega (arith, length-take c.loop-b.b-index c.args.digits.now))) in
     let small : c.unwrap.result < 16 = rw (digit c) (digit-at c.args.digits.now c.requires.hex c.loop-b.b-index 0 (omega arith)) in
     omega arith
 
