@@ -2,7 +2,7 @@
 use Rattle.std.specs.Char.{is_ascii_hexdigit}
 use Rattle.std.specs.List.{prefix_len, flat_map}
 use Rattle.std.specs.Fmt.{digits}
-use Rattle.std.specs.Prelude.{if◌then◌else◌, ◌==◌, ◌&&◌, not, ◌+◌, ◌-◌, ℕ, Bool, false, nat_lt, nat_le, zero, suc, List, [], ◌∷◌, ◌++◌, take, slice_index, unwrap_or, Option, Some, None, Result, Ok, Err}
+use Rattle.std.specs.Prelude.{if◌then◌else◌, ◌==◌, ◌&&◌, not, ◌+◌, ◌-◌, ℕ, false, nat_lt, nat_le, zero, suc, List, [], ◌∷◌, ◌++◌, take, slice_index, unwrap_or, Option, Some, None, Result, Ok, Err}
 use Rattle.std.specs.Str.Parse.{digits_value}
 use Rattle.sv_word.specs.declared.literal_fault.LiteralFault.{LiteralFault}
 use Rattle.sv_word.specs.declared.literal_fault.LiteralFault.TheVariants.{Quote, Utf8, Above}

@@ -1,5 +1,5 @@
 -- UTF-8 (RFC 3629; the Unicode Standard, table 3-7, well-formed byte sequences).
-use Rattle.std.specs.Prelude.{if◌then◌else◌, ◌==◌, ◌&&◌, ◌||◌, ◌+◌, ◌-◌, ◌*◌, ℕ, Bool, nat_le, List, [], ◌∷◌, Option, Some, None}
+use Rattle.std.specs.Prelude.{if◌then◌else◌, ◌==◌, ◌&&◌, ◌+◌, ◌-◌, ◌*◌, ℕ, Bool, nat_le, List, [], ◌∷◌, Option, Some, None}
 
 abbrev pub is_within : ℕ → ℕ → ℕ → Bool
 is_within low high b = nat_le low b && nat_le b high

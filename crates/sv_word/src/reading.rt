@@ -7,6 +7,18 @@ use crate::utf8;
 use crate::word::Word;
 use std::alloc::Global;
 
+// The last character.
+const LAST: u32 = 0x2FFFF;
+
+// Behind `\u` stand so many digits, and behind `\u{` from the fewest to the most and then `}`.
+const FIXED_DIGITS: usize = 4;
+
+const FEWEST_DIGITS: usize = 1;
+
+const MOST_DIGITS: usize = 5;
+
+const CLOSE: u8 = b'}';
+
 /// The word that a string literal stands for, from the bytes between its outer quotes.
 ///
 /// A doubled quote is one quote. `\u` with four hexadecimal digits, and `\u{` with one to five and
@@ -41,7 +53,7 @@ fn first_character(first: u8, more: &[u8], place: usize) -> Result<(u32, usize),
         b'\\' => Ok(escape(more).unwrap_or((u32::from(first), 1))),
         0..0x80 => Ok((u32::from(first), 1)),
         _ => match utf8::decode(first, more) {
-            Some((c, len)) if c <= 0x2FFFF => Ok((c, len)),
+            Some((c, len)) if c <= LAST => Ok((c, len)),
             Some(_) => Err(LiteralFault::Above(place)),
             None => Err(LiteralFault::Utf8(place)),
         },
@@ -69,11 +81,11 @@ fn braced(digits: &[u8]) -> Option<(u32, usize)>
     ensures bytes { IfSome result (λ f. (1 ≤ f.1) × (f.1 ≤ length digits.now + 3)) }
 {
     let len = digit_count(digits);
-    if len < 1 || 5 < len || byte_at(digits, len) != b'}' {
+    if len < FEWEST_DIGITS || MOST_DIGITS < len || byte_at(digits, len) != CLOSE {
         return None;
     }
     let number = hex_number(&digits[..len]);
-    if number <= 0x2FFFF {
+    if number <= LAST {
         Some((number, len + 4))
     } else {
         None
@@ -86,8 +98,8 @@ fn four(digits: &[u8]) -> Option<(u32, usize)>
     ensures character { IfSome result (λ f. f.0 ≤ 0x2FFFF) }
     ensures bytes { IfSome result (λ f. (1 ≤ f.1) × (f.1 ≤ length digits.now + 2)) }
 {
-    if 4 <= digit_count(digits) {
-        Some((hex_number(&digits[..4]), 6))
+    if FIXED_DIGITS <= digit_count(digits) {
+        Some((hex_number(&digits[..FIXED_DIGITS]), FIXED_DIGITS + 2))
     } else {
         None
     }

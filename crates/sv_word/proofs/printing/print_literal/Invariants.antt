@@ -1,4 +1,4 @@
-use Rattle.std.proofs.Common.{◌≡◌, ◌∷◌, ◌++◌, take}
+use Rattle.std.proofs.Common.{◌≡◌, ◌∷◌, take}
 use Rattle.std.specs.String.{string_bytes}
 use Rattle.sv_word.specs.Literals.{quote, spelled}
 use Rattle.sv_word.proofs.printing.print_literal.Given as goal

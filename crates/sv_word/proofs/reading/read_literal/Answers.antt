@@ -1,7 +1,6 @@
-use Rattle.std.proofs.Common.{ℕ, ◌≡◌, ◌≤◌, ◌+◌, drop, get_or, length, Ok, subst, sym, arith}
+use Rattle.std.proofs.Common.{◌+◌, sym}
 use Rattle.sv_word.proofs.ReadLemmas.{reading-more}
 use Rattle.sv_word.proofs.Slices.{rest-whole}
-use Rattle.sv_word.specs.Literals.{front_of}
 use Rattle.sv_word.proofs.reading.read_literal.Goals as goal
 
 pub loop-place-preserved : goal.loop-place-preserved

@@ -1,4 +1,4 @@
-use Rattle.std.proofs.Common.{◌≡◌, ◌≤◌, ◌-◌, length}
+use Rattle.std.proofs.Common.{◌-◌, length}
 use Rattle.sv_word.proofs.ReadLemmas.{IsReading}
 use Rattle.sv_word.proofs.reading.read_literal.Given as goal
 
