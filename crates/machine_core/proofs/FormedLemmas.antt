@@ -1,0 +1,80 @@
+-- Edges and ends stay well formed, and found by their states, where one more is added.
+use Rattle.std.proofs.Common.{◌≡◌, ℕ, ◌≤◌, inl, inr, List, [], ◌∷◌, ◌++◌, length, IsTrue, ◌||◌, ◌&&◌, nat_le, ◌⊎◌, true, ◌+◌, refl, sym, ◌∙◌, subst, arith, Result, Ok, Err, OnOk, OnErr, Bool, false}
+use Rattle.std.specs.Result.{is_err}
+use Rattle.std.proofs.lemmas.Bool.Decides.{nat_tests}
+use Rattle.std.proofs.lemmas.List.Elements.{Contains-push_cases}
+use Rattle.sv_word.specs.Ranges.{in_ranges, IsApartFrom}
+use Rattle.machine_core.specs.declared.edge.Edge.{Edge}
+use Rattle.machine_core.specs.declared.end.End.{End}
+use Rattle.machine_core.specs.Places.{add_to}
+use Rattle.machine_core.specs.Edges.{IsEdge, IsEnd, IsFormed}
+use Rattle.machine_core.specs.Indexed.{AreIndexed}
+use Rattle.machine_core.proofs.PlaceLemmas.{index-add, length-add_to}
+
+module _ (states width : ℕ) (edges : List Edge) (ends : List End) (formed : IsFormed states width edges ends) where
+  formed-edge : (e : Edge) → IsEdge states width e → IsFormed states width (edges ++ e ∷ []) ends
+  formed-edge e ok = record {
+    edge = λ f k. elim (Contains-push_cases edges e f k) [ inl h ↦ formed.edge f h | inr h ↦ subst (IsEdge states width) h ok ];
+    ending = formed.ending;
+  }
+
+  formed-end : (e : End) → IsEnd states width e → IsFormed states width edges (ends ++ e ∷ [])
+  formed-end e ok = record {
+    edge = formed.edge;
+    ending = λ f k. elim (Contains-push_cases ends e f k) [ inl h ↦ formed.ending f h | inr h ↦ subst (IsEnd states width) h ok ];
+  }
+
+-- after a push that may have failed
+module _ {T E : Type 0} (r : Result T E) (states width : ℕ) (edges new_edges : List Edge) (ends new_ends : List End) (formed : IsFormed states width edges ends) where
+  pub formed-edge-pushed : (e : Edge) → IsEdge states width e → OnOk r (new_edges ≡ edges ++ e ∷ []) → OnErr r (new_edges ≡ edges) → IsFormed states width new_edges ends
+  formed-edge-pushed e ok a b = by_case r a b
+    where
+      by_case : (r : Result T E) → OnOk r (new_edges ≡ edges ++ e ∷ []) → OnErr r (new_edges ≡ edges) → IsFormed states width new_edges ends
+      by_case (Ok x) a b = subst (λ l. IsFormed states width l ends) (sym a) (formed-edge states width edges ends formed e ok)
+      by_case (Err x) a b = subst (λ l. IsFormed states width l ends) (sym b) formed
+
+  pub formed-end-pushed : (e : End) → IsEnd states width e → OnOk r (new_ends ≡ ends ++ e ∷ []) → OnErr r (new_ends ≡ ends) → IsFormed states width edges new_ends
+  formed-end-pushed e ok a b = by_case r a b
+    where
+      by_case : (r : Result T E) → OnOk r (new_ends ≡ ends ++ e ∷ []) → OnErr r (new_ends ≡ ends) → IsFormed states width edges new_ends
+      by_case (Ok x) a b = subst (λ l. IsFormed states width edges l) (sym a) (formed-end states width edges ends formed e ok)
+      by_case (Err x) a b = subst (λ l. IsFormed states width edges l) (sym b) formed
+
+module _ (states : ℕ) (edges : List Edge) (ends : List End) (out over : List (List ℕ)) (ok : AreIndexed states edges ends out over) where
+  pub indexed-edge : (e : Edge) (new : List Edge) (rows : List (List ℕ)) (n : ℕ) → new ≡ edges ++ e ∷ [] → n ≡ length edges → rows ≡ add_to e.from n out
+      → AreIndexed states new ends rows over
+  indexed-edge e new rows n a b d = rw (a, d, b) (record {
+    out_rows = length-add_to e.from (length edges) out ∙ ok.out_rows;
+    over_rows = ok.over_rows;
+    out_places = index-add (λ e. e.from) edges e out ok.out_places;
+    over_places = ok.over_places;
+  })
+
+  pub indexed-end : (e : End) (new : List End) (rows : List (List ℕ)) (n : ℕ) → new ≡ ends ++ e ∷ [] → n ≡ length ends → rows ≡ add_to e.at n over
+      → AreIndexed states edges new out rows
+  indexed-end e new rows n a b d = rw (a, d, b) (record {
+    out_rows = ok.out_rows;
+    over_rows = length-add_to e.at (length ends) over ∙ ok.over_rows;
+    out_places = ok.out_places;
+    over_places = index-add (λ e. e.at) ends e over ok.over_places;
+  })
+
+-- what holds where a call did not fail
+pub got : {X E P : Type 0} (r : Result X E) (b : Bool) → OnOk r P → b ≡ is_err r → b ≡ false → P
+got (Ok x) b h e f = h
+got (Err x) b h e f = cc
+
+either : (a b : Bool) → IsTrue (a || b) → IsTrue a ⊎ IsTrue b
+either true b h = inl refl
+either false b h = inr h
+
+below_last : (low high c : ℕ) → IsTrue (nat_le low c && nat_le c high) → high ≤ 0x2FFFF → c ≤ 0x2FFFF
+below_last low high c h e = grind (arith, nat_tests)
+
+-- ranges hold characters alone
+pub apart-characters : (low : ℕ) (rs : List (ℕ × ℕ)) → IsApartFrom low rs → (c : ℕ) → IsTrue (in_ranges rs c) → c ≤ 0x2FFFF
+apart-characters low [] h c e = cc
+apart-characters low (p ∷ ps) h c e = elim (either (nat_le p.0 c && nat_le c p.1) (in_ranges ps c) e) [
+  | inl here ↦ below_last p.0 p.1 c here h.2
+  | inr there ↦ apart-characters (p.1 + 2) ps h.3 c there
+]

@@ -1,0 +1,6 @@
+pub mod CostLemmas
+pub mod PlaceLemmas
+pub mod FoundLemmas
+pub mod FormedLemmas
+pub mod WideLemmas
+pub mod GraphLemmas

@@ -1,0 +1,15 @@
+pub mod Costs
+pub mod CostLaws
+pub mod Lists
+pub mod Orders
+pub mod Moves
+pub mod Language
+pub mod LanguageLaws
+pub mod Runs
+pub mod RunLaws
+pub mod RunBounds
+pub mod Places
+pub mod Edges
+pub mod EdgeLaws
+pub mod Indexed
+pub mod Graphs

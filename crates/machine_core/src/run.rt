@@ -1,0 +1,81 @@
+ghost use Rattle.std.specs.Prelude.{◌≡◌, ℕ, ◌<◌, ◌≤◌, ◌^◌, length, IfOk, IfSome, IfNone, All, Err};
+ghost use Rattle.machine_core.specs.Costs.{Fits, IsFirstPast, entry_total};
+ghost use Rattle.machine_core.specs.Runs.{run_total};
+ghost use Rattle.machine_core.specs.declared.run.CostFault.TheVariants.{Past, Memory};
+
+use crate::cost::Cost;
+use std::alloc::{AllocError, Global};
+use sv_list::{Copied, Items};
+use sv_word::Word;
+use thiserror::Error;
+
+/// A run of a machine over its states `T`: the characters that it reads, the states that it goes
+/// through, which are one more than the characters, the cost of each step and that of the end.
+#[derive(Drop)]
+pub struct Run<T> {
+    pub word: Word,
+    pub states: Items<T>,
+    pub costs: Items<Cost>,
+    pub last: Cost,
+}
+
+impl<T: Copied> Copied for Run<T> {
+    fn copy(&self, alloc: Global) -> Result<Self, AllocError> {
+        Ok(Run {
+            word: self.word.copy(alloc)?,
+            states: self.states.copy(alloc)?,
+            costs: self.costs.copy(alloc)?,
+            last: self.last.copy(alloc)?,
+        })
+    }
+}
+
+/// Why a run has no total.
+#[derive(Debug, Drop, Error)]
+pub enum CostFault {
+    /// The sum at this register, the first such, is 2^64 or more.
+    #[error("the costs at register {0} add up to 2^64 or more")]
+    Past(usize),
+    #[error("out of memory")]
+    Memory(AllocError),
+}
+
+impl From<AllocError> for CostFault {
+    ghost from_gives = { λ e fault. fault ≡ Memory e };
+
+    fn from(e: AllocError) -> Self {
+        CostFault::Memory(e)
+    }
+}
+
+/// The costs of a run's steps and of its end, added up at each register. Linear in the costs of the
+/// run, and no allocation for up to four registers.
+pub fn total<T>(alloc: Global, run: &Run<T>) -> Result<Cost, CostFault>
+    requires { All (λ k. length k ≡ length run.now.last) run.now.costs }
+    ensures sum { IfOk result (λ cost. cost ≡ run_total run.now) }
+    ensures fits { IfOk result Fits }
+    ensures past { (register : ℕ) → result ≡ Err (Past register) → IsFirstPast (run_total run.now) register }
+{
+    let mut sum = Cost::new(alloc);
+    for (register, last) in run.last.as_slice().iter().enumerate() {
+        match register_total(run.costs.as_slice(), register, *last) {
+            Some(entry) => sum.push(entry)?,
+            None => return Err(CostFault::Past(register)),
+        }
+    }
+    Ok(sum)
+}
+
+// What the steps cost at a register, and `last`; `None` where that is 2^64 or more.
+fn register_total(costs: &[Cost], register: usize, last: u64) -> Option<u64>
+    requires { All (λ k. register < length k) costs.now }
+    ensures sum { IfSome result (λ sum. sum ≡ entry_total register costs.now last) }
+    ensures fits { IfSome result (λ sum. sum < 2 ^ 64) }
+    ensures past { IfNone result (2 ^ 64 ≤ entry_total register costs.now last) }
+{
+    let mut sum = last;
+    for cost in costs {
+        sum = sum.checked_add(cost.as_slice()[register])?;
+    }
+    Some(sum)
+}
