@@ -40,23 +40,23 @@ module _ {T E : Type 0} (r : Result T E) (states width : ℕ) (edges new_edges :
       by_case (Ok x) a b = subst (λ l. IsFormed states width edges l) (sym a) (formed-end states width edges ends formed e ok)
       by_case (Err x) a b = subst (λ l. IsFormed states width edges l) (sym b) formed
 
-module _ (states : ℕ) (edges : List Edge) (ends : List End) (out over : List (List ℕ)) (ok : AreIndexed states edges ends out over) where
-  pub indexed-edge : (e : Edge) (new : List Edge) (rows : List (List ℕ)) (n : ℕ) → new ≡ edges ++ e ∷ [] → n ≡ length edges → rows ≡ add_to e.from n out
-      → AreIndexed states new ends rows over
+module _ (states : ℕ) (edges : List Edge) (ends : List End) (edge_places end_places : List (List ℕ)) (ok : AreIndexed states edges ends edge_places end_places) where
+  pub indexed-edge : (e : Edge) (new : List Edge) (rows : List (List ℕ)) (n : ℕ) → new ≡ edges ++ e ∷ [] → n ≡ length edges → rows ≡ add_to e.from n edge_places
+      → AreIndexed states new ends rows end_places
   indexed-edge e new rows n a b d = rw (a, d, b) (record {
-    out_rows = length-add_to e.from (length edges) out ∙ ok.out_rows;
-    over_rows = ok.over_rows;
-    out_places = index-add (λ e. e.from) edges e out ok.out_places;
-    over_places = ok.over_places;
+    edge_rows = length-add_to e.from (length edges) edge_places ∙ ok.edge_rows;
+    end_rows = ok.end_rows;
+    edges_found = index-add (λ e. e.from) edges e edge_places ok.edges_found;
+    ends_found = ok.ends_found;
   })
 
-  pub indexed-end : (e : End) (new : List End) (rows : List (List ℕ)) (n : ℕ) → new ≡ ends ++ e ∷ [] → n ≡ length ends → rows ≡ add_to e.at n over
-      → AreIndexed states edges new out rows
+  pub indexed-end : (e : End) (new : List End) (rows : List (List ℕ)) (n : ℕ) → new ≡ ends ++ e ∷ [] → n ≡ length ends → rows ≡ add_to e.at n end_places
+      → AreIndexed states edges new edge_places rows
   indexed-end e new rows n a b d = rw (a, d, b) (record {
-    out_rows = ok.out_rows;
-    over_rows = length-add_to e.at (length ends) over ∙ ok.over_rows;
-    out_places = ok.out_places;
-    over_places = index-add (λ e. e.at) ends e over ok.over_places;
+    edge_rows = ok.edge_rows;
+    end_rows = length-add_to e.at (length ends) end_places ∙ ok.end_rows;
+    edges_found = ok.edges_found;
+    ends_found = index-add (λ e. e.at) ends e end_places ok.ends_found;
   })
 
 -- what holds where a call did not fail

@@ -6,8 +6,8 @@ use Rattle.machine_core.specs.declared.edge.Edge.{Edge}
 use Rattle.machine_core.specs.declared.end.End.{End}
 
 -- one row for each state, with the places of its edges, and one with those of its ends
-pub record AreIndexed (states : ℕ) (edges : List Edge) (ends : List End) (out over : List (List ℕ)) : Type 0 where
-  pub out_rows : length out ≡ states
-  pub over_rows : length over ≡ states
-  pub out_places : IsIndex from_of edges out
-  pub over_places : IsIndex at_of ends over
+pub record AreIndexed (states : ℕ) (edges : List Edge) (ends : List End) (edge_places end_places : List (List ℕ)) : Type 0 where
+  pub edge_rows : length edge_places ≡ states
+  pub end_rows : length end_places ≡ states
+  pub edges_found : IsIndex from_of edges edge_places
+  pub ends_found : IsIndex at_of ends end_places

@@ -1,6 +1,7 @@
 -- Laws of runs and paths: a run and its total are a pair of the language, and each pair has a run.
-use Rattle.std.specs.Prelude.{◌≡◌, ℕ, zero, suc, List, [], ◌∷◌, ◌++◌, length, All}
-use Rattle.std.proofs.Common.{arith, refl, sym, ap, ◌∙◌, subst}
+use Rattle.std.specs.Prelude.{◌≡◌, ℕ, suc, List, [], ◌∷◌, ◌++◌, length, All}
+use Rattle.std.proofs.Common.{refl, sym, ap, ◌∙◌, subst}
+use Rattle.std.proofs.lemmas.List.Elements.{All-nil, All-cons}
 use Rattle.machine_core.specs.declared.run.Run.{Run}
 use Rattle.machine_core.specs.Costs.{add_costs, zeros, total_of}
 use Rattle.machine_core.specs.Language.{RunsFrom, StopsAt}
@@ -80,20 +81,27 @@ module _ {S : Type 0} (steps : S → ℕ → List ℕ → S → Type 0) where
       let p = accepted_path (StopsAt width t) word s cost r in
       (p.0, p.1, subst (IsPath steps s p.0 word p.1) p.5.0 p.4, ap (total_of p.1) (sym p.5.1) ∙ p.6)
 
-  -- the steps of a path cost one number for each register, where each step does
-  pub path_width : (is_state : S → Type 0) (width : ℕ) → ((s t : S) (c : ℕ) (cost : List ℕ) → is_state s → steps s c cost t → is_state t)
-      → ((s t : S) (c : ℕ) (cost : List ℕ) → is_state s → steps s c cost t → length cost ≡ width)
-      → (s : S) (us : List S) (word : List ℕ) (costs : List (List ℕ)) (t : S) → is_state s → IsPath steps s us word costs t
-      → All (λ k. length k ≡ width) costs × is_state t
-  path_width is_state width step wide s [] [] [] t h p = (λ k d lt. absurd (omega arith), subst is_state p h)
-  path_width is_state width step wide s [] [] (x ∷ costs) t h p = absurd p
-  path_width is_state width step wide s [] (x ∷ word) costs t h p = absurd p
-  path_width is_state width step wide s (v ∷ us) [] costs t h p = absurd p
-  path_width is_state width step wide s (v ∷ us) (x ∷ word) [] t h p = absurd p
-  path_width is_state width step wide s (v ∷ us) (x ∷ word) (y ∷ costs) t h p =
-      let rest = path_width is_state width step wide v us word costs t (step s v x y h p.0) p.1 in
-      (all_cons y costs (wide s v x y h p.0) rest.0, rest.1)
-    where
-      all_cons : (y : List ℕ) (costs : List (List ℕ)) → length y ≡ width → All (λ k. length k ≡ width) costs → All (λ k. length k ≡ width) (y ∷ costs)
-      all_cons y costs e h zero d lt = e
-      all_cons y costs e h (suc k) d lt = h k d (omega arith)
+  module _ (is_state : S → Type 0) (width : ℕ) (step_is_state : (s t : S) (c : ℕ) (cost : List ℕ) → is_state s → steps s c cost t → is_state t)
+      (step_width : (s t : S) (c : ℕ) (cost : List ℕ) → is_state s → steps s c cost t → length cost ≡ width) where
+    abbrev HasWidth : List ℕ → Type 0
+    HasWidth cost = length cost ≡ width
+
+    -- a path goes through states alone, and each step costs one number for each register
+    pub path_formed : (s : S) (us : List S) (word : List ℕ) (costs : List (List ℕ)) (t : S) → is_state s → IsPath steps s us word costs t
+        → All is_state us × All (λ k. length k ≡ width) costs × is_state t
+    path_formed s [] [] [] t h p = (All-nil is_state, All-nil HasWidth, subst is_state p h)
+    path_formed s [] [] (x ∷ costs) t h p = absurd p
+    path_formed s [] (x ∷ word) costs t h p = absurd p
+    path_formed s (v ∷ us) [] costs t h p = absurd p
+    path_formed s (v ∷ us) (x ∷ word) [] t h p = absurd p
+    path_formed s (v ∷ us) (x ∷ word) (y ∷ costs) t h p =
+        let here = step_is_state s v x y h p.0 in
+        let rest = path_formed v us word costs t here p.1 in
+        (All-cons is_state v us here rest.0, All-cons HasWidth y costs (step_width s v x y h p.0) rest.1, rest.2)
+
+    pub run_formed : (ends : S → List ℕ → Type 0) → ((s : S) (cost : List ℕ) → is_state s → ends s cost → length cost ≡ width)
+        → (first : S) → is_state first → (run : Run S) → IsRun ends steps first run
+        → All is_state run.states × All (λ k. length k ≡ width) run.costs × (length run.last ≡ width)
+    run_formed ends end_width first h run r =
+        let p = path_formed first r.after run.word run.costs r.stop h r.path in
+        (subst (All is_state) (sym r.states) (All-cons is_state first r.after h p.0), p.1, end_width r.stop run.last p.2 r.last)

@@ -18,12 +18,16 @@ use std::marker::Model;
 use sv_list::{Copied, Items};
 use sv_word::Ranges;
 
-/// A machine that contracts see as a [`Graph`]. It finds what leaves a state without going over all edges.
+/// A machine whose states are numbers and whose edges and ends are listed.
+///
+/// Contracts see a [`Graph`]. Beside the lists it keeps, for each state, the places of its edges and
+/// of its ends, so that what leaves a state is found without a look at the others. Memory is linear
+/// in states, edges and ends, and so is a copy.
 #[derive(Drop)]
 pub struct Explicit {
     graph: Graph,
-    out: Index,
-    over: Index,
+    edge_places: Index,
+    end_places: Index,
 }
 
 impl Model for Explicit {
@@ -35,10 +39,12 @@ impl Model for Explicit {
 
     ghost view = { λ m. m.graph };
 
-    ghost invariant = { λ m. AreIndexed m.graph.states m.graph.edges m.graph.ends m.out m.over };
+    ghost invariant = { λ m. AreIndexed m.graph.states m.graph.edges m.graph.ends m.edge_places m.end_places };
 }
 
 impl Explicit {
+    /// A machine with this number of states, at least one, and no edges or ends. The start is state 0.
+    /// Linear in the states.
     pub fn new(alloc: Global, states: u32, registers: usize) -> Result<Explicit, AllocError>
         requires { 0 < states }
         ensures states { IfOk result (λ m. m.states ≡ states) }
@@ -52,45 +58,54 @@ impl Explicit {
             edges: Items::new(alloc),
             ends: Items::new(alloc),
         };
-        let out = Index::new(alloc, states)?;
-        let over = Index::new(alloc, states)?;
-        Ok(Explicit { graph, out, over })
+        let edge_places = Index::new(alloc, states)?;
+        let end_places = Index::new(alloc, states)?;
+        Ok(Explicit {
+            graph,
+            edge_places,
+            end_places,
+        })
     }
 
+    /// The number of states.
     pub fn states(&self) -> u32
         ensures { result ≡ self.now.states }
     {
         self.graph.states
     }
 
+    /// The edges, in the order in which they were added.
     pub fn edges(&self) -> &[Edge]
         ensures { result.now ≡ self.now.edges }
     {
         self.graph.edges.as_slice()
     }
 
+    /// The ends, in the order in which they were added.
     pub fn finals(&self) -> &[End]
         ensures { result.now ≡ self.now.ends }
     {
         self.graph.ends.as_slice()
     }
 
-    /// The places in `edges` of the edges that leave a state, ascending.
+    /// The places in `edges` of the edges that leave state `at`, ascending. Constant time.
     pub fn edges_from(&self, at: u32) -> &[usize]
         requires { at < self.now.states }
         ensures { result.now ≡ places from_of at self.now.edges }
     {
-        self.out.row(at)
+        self.edge_places.row(at)
     }
 
-    /// The places in `finals` of a state's ends, ascending.
+    /// The places in `finals` of the ends of state `at`, ascending. Constant time.
     pub fn ends_at(&self, at: u32) -> &[usize]
         requires { at < self.now.states }
         ensures { result.now ≡ places at_of at self.now.ends }
     {
-        self.over.row(at)
+        self.end_places.row(at)
     }
 
+    /// Adds an edge from state `from` to state `to` on the characters of `on`, of which there is at
+    /// least one, with one number of `cost` for each register. Amortised constant time.
     pub fn add_edge(&mut self, from: u32, on: Ranges, cost: Cost, to: u32) -> Result<(), AllocError>
         requires from { from < self.old.states }
         requires to { to < self.old.states }
@@ -106,13 +121,14 @@ impl Explicit {
         let _characters = on.as_slice();
         let place = self.graph.edges.len();
         self.graph.edges.push(Edge { from, on, cost, to })?;
-        if self.out.add(from, place).is_err() {
+        if self.edge_places.add(from, place).is_err() {
             let _edge = self.graph.edges.pop();
             return Err(AllocError);
         }
         Ok(())
     }
 
+    /// Adds an end to state `at`, with one number of `cost` for each register. Amortised constant time.
     pub fn add_end(&mut self, at: u32, cost: Cost) -> Result<(), AllocError>
         requires at { at < self.old.states }
         requires cost { length cost ≡ self.old.registers }
@@ -125,14 +141,15 @@ impl Explicit {
     {
         let place = self.graph.ends.len();
         self.graph.ends.push(End { at, cost })?;
-        if self.over.add(at, place).is_err() {
+        if self.end_places.add(at, place).is_err() {
             let _end = self.graph.ends.pop();
             return Err(AllocError);
         }
         Ok(())
     }
 
-    /// The same runs, with zeros as costs.
+    /// The machine with the same runs and with zeros as costs, from one without registers. Linear in
+    /// the machine and the registers.
     pub fn widen(&self, alloc: Global, registers: usize) -> Result<Explicit, AllocError>
         requires { self.now.registers ≡ 0 }
         ensures states { IfOk result (λ m. m.states ≡ self.now.states) }
@@ -168,8 +185,8 @@ impl Copied for Explicit {
         };
         Ok(Explicit {
             graph,
-            out: self.out.copy(alloc)?,
-            over: self.over.copy(alloc)?,
+            edge_places: self.edge_places.copy(alloc)?,
+            end_places: self.end_places.copy(alloc)?,
         })
     }
 }

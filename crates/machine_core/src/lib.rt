@@ -34,13 +34,15 @@ mod laws;
 mod machine;
 mod run;
 mod state;
+#[cfg(test)]
+mod tests;
 
 pub use cost::Cost;
 pub use edge::Edge;
 pub use end::End;
 pub use explicit::Explicit;
 pub use graph::Graph;
-pub use laws::{language_of_runs, runs_bounded_by_top};
+pub use laws::{language_of_runs, listed_costs_are_bounded, runs_are_formed, runs_bounded_by_top};
 pub use machine::{Machine, Move};
 pub use run::{CostFault, Run, total};
 pub use state::State;

@@ -1,4 +1,3 @@
-use Rattle.machine_core.specs.LanguageLaws.{reached_is_state}
 use Rattle.machine_core.specs.RunBounds.{runs_from_steps, paths_from_steps}
 use Rattle.machine_core.proofs.laws.runs_bounded_by_top.Goals as goal
 
@@ -14,9 +13,3 @@ returns-clause-paths g c register =
     let m = c.args.machine.now in
     paths_from_steps (g.M.Machine.is_state m) (g.M.Machine.steps_to m) register (g.M.Machine.top m) (g.met.M.Machine.step_is_state m)
     (λ s t x k h st. (g.met.M.Machine.step_cost m s t x k h st).below register) (g.M.Machine.width m)
-
-pub returns-clause-reached : goal.returns-clause-reached
-returns-clause-reached g c s r =
-    let m = c.args.machine.now in
-    reached_is_state (g.M.Machine.is_state m) (g.M.Machine.steps_to m) (g.met.M.Machine.step_is_state m) (g.M.Machine.first m)
-    (g.met.M.Machine.first_is_state m) s r

@@ -14,7 +14,7 @@ invariant_of-self-inside c = record {
 
 pub invariant_of-self-else-is_err : goal.invariant_of-self-else-is_err
 invariant_of-self-else-is_err c =
-    indexed-edge c.self.inside.graph.states c.self.inside.graph.edges c.self.inside.graph.ends c.self.inside.out c.self.inside.over c.self.invariant
+    indexed-edge c.self.inside.graph.states c.self.inside.graph.edges c.self.inside.graph.ends c.self.inside.edge_places c.self.inside.end_places c.self.invariant
     (edge c.args.from c.args.on c.args.cost c.args.to) c.push.new.self c.add.new.self c.len-place.result
     c.in_ok-push.ensures.ok c.len-place.ensures (got c.add.result c.is_err.result c.add.ensures.ok c.is_err.ensures.value c.if-is_err.false)
 
