@@ -1,5 +1,4 @@
-ghost use Rattle.std.specs.Prelude.{◌≡◌, ◌≤◌, ◌<◌, IfOk, All, length};
-ghost use Rattle.sv_word.specs.Ranges.{IsInhabited};
+ghost use Rattle.std.specs.Prelude.{◌≡◌, IfOk, All, length};
 
 use crate::{
     Cost, CostFault, Explicit, Machine, Move, Run, State, language_of_runs,
@@ -10,17 +9,6 @@ use std::cmp::Ordering;
 use sv_list::{Copied, Items};
 use sv_word::{Ranges, Word};
 
-fn letters(alloc: Global, low: u32, high: u32) -> Result<Ranges, AllocError>
-    requires { high ≤ 0x2FFFF }
-    ensures { IfOk result IsInhabited }
-{
-    let on = Ranges::of(alloc, low, high)?;
-    if on.is_empty() {
-        return Err(AllocError);
-    }
-    Ok(on)
-}
-
 // On `a` to `c` state 0 stays, on `b` it may go to state 1, which goes back on `b` to `d`.
 fn sample(alloc: Global) -> Result<Explicit, AllocError>
     ensures states { IfOk result (λ m. m.states ≡ 2) }
@@ -29,19 +17,19 @@ fn sample(alloc: Global) -> Result<Explicit, AllocError>
     let mut machine = Explicit::new(alloc, 2, 2)?;
     machine.add_edge(
         0,
-        letters(alloc, 0x61, 0x63)?,
+        Ranges::of(alloc, 0x61, 0x63)?,
         Cost::from_slice(alloc, &[1, 0])?,
         0,
     )?;
     machine.add_edge(
         0,
-        letters(alloc, 0x62, 0x62)?,
+        Ranges::of(alloc, 0x62, 0x62)?,
         Cost::from_slice(alloc, &[0, 5])?,
         1,
     )?;
     machine.add_edge(
         1,
-        letters(alloc, 0x62, 0x64)?,
+        Ranges::of(alloc, 0x62, 0x64)?,
         Cost::from_slice(alloc, &[2, 0])?,
         0,
     )?;
@@ -95,8 +83,8 @@ fn a_state_tells_what_leaves_it(rt: HostRuntime) -> Result<(), AllocError> {
 fn a_machine_gets_registers(rt: HostRuntime) -> Result<(), AllocError> {
     let alloc = rt.alloc();
     let mut plain = Explicit::new(alloc, 2, 0)?;
-    plain.add_edge(0, letters(alloc, 0x61, 0x61)?, Cost::new(alloc), 1)?;
-    plain.add_edge(1, letters(alloc, 0x62, 0x62)?, Cost::zeros(alloc, 0)?, 0)?;
+    plain.add_edge(0, Ranges::of(alloc, 0x61, 0x61)?, Cost::new(alloc), 1)?;
+    plain.add_edge(1, Ranges::of(alloc, 0x62, 0x62)?, Cost::zeros(alloc, 0)?, 0)?;
     plain.add_end(1, Cost::new(alloc))?;
     let wide = plain.widen(alloc, 5)?;
     assert_eq!(rt; wide.registers(), 5);

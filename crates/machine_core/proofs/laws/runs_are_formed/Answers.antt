@@ -1,4 +1,3 @@
-use Rattle.std.proofs.Common.{◌≡◌, ℕ, List, length, All}
 use Rattle.machine_core.specs.LanguageLaws.{reached_is_state}
 use Rattle.machine_core.specs.RunLaws.{run_formed}
 use Rattle.machine_core.proofs.laws.runs_are_formed.Goals as goal
