@@ -1,0 +1,94 @@
+-- Where a reader stands in the bytes that it was fed, and what its calls answer.
+use Rattle.std.specs.Prelude.{◌≡◌, ◌+◌, ◌*◌, ◌-◌, ℕ, List, [], ◌∷◌, ◌++◌, Bool, true, false, Option, Some, None, Result, Ok, Err, length, drop}
+use Rattle.std.specs.Option.{option_to_list}
+use Rattle.sexpr_reader.specs.declared.mode.Mode.{Mode}
+use Rattle.sexpr_reader.specs.declared.mode.Mode.TheVariants as m
+use Rattle.sexpr_reader.specs.declared.reader.Reader.{Reader}
+use Rattle.sexpr_reader.specs.declared.syntax_fault.SyntaxFault.{SyntaxFault}
+use Rattle.sexpr_reader.specs.declared.syntax_fault.SyntaxFault.TheVariants as f
+use Rattle.sexpr_reader.specs.declared.sexpr.Sexpr.{Sexpr}
+use Rattle.sexpr_reader.specs.Tokens.{Token}
+use Rattle.sexpr_reader.specs.Lexes.{Lexes}
+use Rattle.sexpr_reader.specs.Items.{tokens_of_all, open_tokens, levels, IsFormed}
+use Rattle.sexpr_reader.specs.Parts.{IsPart, IsGap}
+use Rattle.sexpr_reader.specs.Reads.{Begins, FaultAfter, Waits, Ends, EndsWith}
+
+-- the bytes are the tokens of the items given and of the lists that are open, a gap, and what is kept: an unfinished token, and the bytes ahead
+pub record At (ended : Bool) (mode : Mode) (lists : List (List Sexpr)) (place : ℕ) (kept ahead bytes : List ℕ) (given : List Sexpr) : Type 0 where
+  pub blank : List ℕ
+  pub part : List ℕ
+  pub lexed : Lexes ended bytes (tokens_of_all given ++ open_tokens lists) (blank ++ kept)
+  pub gap : IsGap mode blank
+  pub begun : IsPart mode part
+  pub split : kept ≡ part ++ ahead
+  pub here : place + length kept ≡ length bytes
+  pub nested : levels 0 (tokens_of_all given) ≡ Some 0
+  pub level : levels 0 (tokens_of_all given ++ open_tokens lists) ≡ Some (length lists)
+  pub apart : (us vs : List Token) → us ++ vs ≡ open_tokens lists → levels 0 us ≡ Some 0 → us ≡ []
+
+-- the reader was fed these bytes and gave these items; `ended` says whether it was told that the input has ended behind the bytes
+pub record Stands (ended : Bool) (r : Reader) (bytes : List ℕ) (given : List Sexpr) : Type 0 where
+  pub at : At ended r.mode r.nest.lists.items r.place (drop r.start r.pending.items) (drop r.at r.pending.items) bytes given
+
+-- the raw bytes that the reader keeps
+abbrev pub kept : Reader → List ℕ
+kept r = r.pending.items
+
+-- one item more was given
+pub record Gives (ended : Bool) (new : Reader) (bytes : List ℕ) (given : List Sexpr) (item : Sexpr) : Type 0 where
+  pub stands : Stands ended new bytes (given ++ item ∷ [])
+  pub rest : List ℕ
+  pub begins : Begins ended bytes (given ++ item ∷ []) rest
+  pub formed : IsFormed item
+
+-- what `next` answers: one item more, nothing where no further item is whole and no fault stands there, the first fault behind the last item, or want of memory
+abbrev pub Answers : Reader → List ℕ → List Sexpr → Result (Option Sexpr) SyntaxFault → Type 0
+Answers new bytes given (Ok (Some item)) = Gives false new bytes given item
+Answers new bytes given (Ok None) = Stands false new bytes given × Waits bytes given × EndsWith bytes (kept new)
+Answers new bytes given (Err (f.Memory _)) = Stands false new bytes given
+Answers new bytes given (Err fault) = Stands false new bytes given × FaultAfter false bytes given fault
+
+-- what `end` answers: the same where no byte follows, and nothing where all items were given and no list, literal or quoted symbol is open
+abbrev pub Closes : Bool → Reader → List ℕ → List Sexpr → Result (Option Sexpr) SyntaxFault → Type 0
+Closes ended new bytes given (Ok (Some item)) = Gives true new bytes given item
+Closes ended new bytes given (Ok None) = Stands true new bytes given × Ends bytes given
+Closes ended new bytes given (Err (f.Memory _)) = Stands ended new bytes given
+Closes ended new bytes given (Err fault) = Stands true new bytes given × FaultAfter true bytes given fault
+
+-- what one step answers: nothing or an item, the first fault, or want of memory
+abbrev pub Steps : Bool → Reader → List ℕ → List Sexpr → Result (Option Sexpr) SyntaxFault → Type 0
+Steps ended new bytes given (Ok item) = Stands ended new bytes (given ++ option_to_list item)
+Steps ended new bytes given (Err (f.Memory _)) = Stands ended new bytes given
+Steps ended new bytes given (Err fault) = Stands ended new bytes given × FaultAfter ended bytes given fault
+
+-- the same, as contracts see it
+pub record IsSame (old new : Reader) : Type 0 where
+  pub pending : new.pending.items ≡ old.pending.items
+  pub start : new.start ≡ old.start
+  pub at : new.at ≡ old.at
+  pub place : new.place ≡ old.place
+  pub mode : new.mode ≡ old.mode
+  pub lists : new.nest.lists.items ≡ old.nest.lists.items
+
+-- a token ended there
+pub record IsSettled (old new : Reader) (end : ℕ) : Type 0 where
+  pub pending : new.pending.items ≡ old.pending.items
+  pub start : new.start ≡ end
+  pub at : new.at ≡ end
+  pub place : new.place + old.start ≡ old.place + end
+  pub mode : new.mode ≡ m.Blank
+
+-- a mode that a step may leave without a byte
+abbrev pub busy : Mode → ℕ
+busy m.Blank = 0
+busy _ = 1
+
+-- what is left to do
+abbrev pub work : Reader → ℕ
+work r = 2 * (length r.pending.items - r.at) + busy r.mode
+
+-- a token that only more bytes could end, or none
+abbrev pub IsLeft : Mode → Type 0
+IsLeft m.Run = ⊥
+IsLeft m.Quote = ⊥
+IsLeft _ = Unit {0}

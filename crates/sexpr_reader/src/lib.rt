@@ -1,0 +1,17 @@
+//! Exactly the s-expressions of the bytes, however they are cut into pieces, with the first syntax fault and its place (SMT-LIB 2.6, section 3).
+#![tactic(auto)]
+
+mod action;
+mod bytes;
+mod kind;
+mod mode;
+mod nest;
+mod reader;
+mod sexpr;
+mod syntax_fault;
+mod token_kind;
+
+pub use kind::Kind;
+pub use reader::Reader;
+pub use sexpr::Sexpr;
+pub use syntax_fault::SyntaxFault;

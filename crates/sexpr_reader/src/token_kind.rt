@@ -1,0 +1,154 @@
+// The kind of a whole token.
+ghost use Rattle.std.specs.Prelude.{◌≡◌, ◌∷◌, ◌++◌, [], List, ℕ, true, false, ◌&&◌, IfSome, IfNone};
+ghost use Rattle.std.specs.List.{list_all};
+ghost use Rattle.sexpr_reader.specs.Bytes.{is_digit, is_hexadecimal, is_bit, is_symbol_byte};
+ghost use Rattle.sexpr_reader.specs.Tokens.{IsPlain, is_readable, is_numeral, is_symbol, is_keyword, are_some};
+ghost use Rattle.sexpr_reader.specs.declared.kind.Kind.{Kind};
+
+use crate::bytes::{is_bit, is_digit, is_hexadecimal, is_symbol_byte};
+use crate::kind::Kind;
+
+/// Whether the content of a literal is a word.
+pub fn is_readable(content: &[u8]) -> bool
+    ensures { result ≡ is_readable content.now }
+{
+    content.iter().all(|b| *b <= 127)
+}
+
+/// Whether a literal, with its quotes, has a word as its content.
+pub fn is_literal(token: &[u8]) -> bool
+    ensures { (content : List ℕ) → token.now ≡ 34 ∷ content ++ 34 ∷ [] → result ≡ is_readable content }
+{
+    match token {
+        [_, content @ .., _] => is_readable(content),
+        _ => false,
+    }
+}
+
+fn are_digits(bytes: &[u8]) -> bool
+    ensures { result ≡ list_all is_digit bytes.now }
+{
+    bytes.iter().all(|b| is_digit(*b))
+}
+
+fn is_numeral(bytes: &[u8]) -> bool
+    ensures { result ≡ is_numeral bytes.now }
+{
+    match bytes {
+        [] => false,
+        [b] => is_digit(*b),
+        [b, ..] => *b != b'0' && are_digits(bytes),
+    }
+}
+
+fn are_symbol_bytes(bytes: &[u8]) -> bool
+    ensures { result ≡ list_all is_symbol_byte bytes.now }
+{
+    bytes.iter().all(|b| is_symbol_byte(*b))
+}
+
+fn are_some_digits(bytes: &[u8]) -> bool
+    ensures { result ≡ are_some is_digit bytes.now }
+{
+    match bytes {
+        [] => false,
+        [b, rest @ ..] => is_digit(*b) && are_digits(rest),
+    }
+}
+
+fn all_hexadecimal(bytes: &[u8]) -> bool
+    ensures { result ≡ list_all is_hexadecimal bytes.now }
+{
+    bytes.iter().all(|b| is_hexadecimal(*b))
+}
+
+fn are_some_hexadecimal(bytes: &[u8]) -> bool
+    ensures { result ≡ are_some is_hexadecimal bytes.now }
+{
+    match bytes {
+        [] => false,
+        [b, rest @ ..] => is_hexadecimal(*b) && all_hexadecimal(rest),
+    }
+}
+
+fn all_bits(bytes: &[u8]) -> bool
+    ensures { result ≡ list_all is_bit bytes.now }
+{
+    bytes.iter().all(|b| is_bit(*b))
+}
+
+fn are_some_bits(bytes: &[u8]) -> bool
+    ensures { result ≡ are_some is_bit bytes.now }
+{
+    match bytes {
+        [] => false,
+        [b, rest @ ..] => is_bit(*b) && all_bits(rest),
+    }
+}
+
+fn are_decimal_parts(whole: &[u8], part: &[u8]) -> bool
+    ensures { result ≡ (is_numeral whole.now && are_some is_digit part.now) }
+{
+    is_numeral(whole) && are_some_digits(part)
+}
+
+fn is_symbol(bytes: &[u8]) -> bool
+    ensures { result ≡ is_symbol bytes.now }
+{
+    match bytes {
+        [] => false,
+        [b, ..] => !is_digit(*b) && are_symbol_bytes(bytes),
+    }
+}
+
+fn is_keyword(bytes: &[u8]) -> bool
+    ensures { result ≡ is_keyword bytes.now }
+{
+    match bytes {
+        [] => false,
+        [b, rest @ ..] => *b == b':' && is_symbol(rest),
+    }
+}
+
+fn is_decimal(bytes: &[u8]) -> bool
+    ensures yes { result ≡ true → IsPlain Kind.Decimal bytes.now }
+    ensures no { result ≡ false → IsPlain Kind.Decimal bytes.now → ⊥ }
+{
+    for (i, b) in bytes.iter().enumerate() {
+        if *b == b'.' {
+            return are_decimal_parts(&bytes[..i], &bytes[i + 1..]);
+        }
+    }
+    false
+}
+
+fn is_hash(bytes: &[u8]) -> Option<Kind>
+    ensures some { IfSome result (λ kind. IsPlain kind bytes.now) }
+    ensures none { IfNone result ((IsPlain Kind.Hexadecimal bytes.now → ⊥) × (IsPlain Kind.Binary bytes.now → ⊥)) }
+{
+    match bytes {
+        [b'#', b'x', digits @ ..] if are_some_hexadecimal(digits) => Some(Kind::Hexadecimal),
+        [b'#', b'b', digits @ ..] if are_some_bits(digits) => Some(Kind::Binary),
+        _ => None,
+    }
+}
+
+/// The kind of a run, where it is a token.
+pub fn plain_kind(bytes: &[u8]) -> Option<Kind>
+    ensures some { IfSome result (λ kind. IsPlain kind bytes.now) }
+    ensures none { IfNone result ((kind : Kind) → IsPlain kind bytes.now → ⊥) }
+{
+    if is_symbol(bytes) {
+        return Some(Kind::Symbol);
+    }
+    if is_numeral(bytes) {
+        return Some(Kind::Numeral);
+    }
+    if is_keyword(bytes) {
+        return Some(Kind::Keyword);
+    }
+    if is_decimal(bytes) {
+        return Some(Kind::Decimal);
+    }
+    is_hash(bytes)
+}
