@@ -113,3 +113,18 @@ IsEnded-less (Atomic Hexadecimal bs) b after more h = h
 IsEnded-less (Atomic Binary bs) b after more h = h
 IsEnded-less (Atomic Symbol bs) b after more h = h
 IsEnded-less (Atomic Keyword bs) b after more h = h
+
+-- bytes before the last ones
+behind : (xs ys front : List ℕ) (b : ℕ) (rest more : List ℕ) → xs ++ more ≡ front ++ (ys ++ (b ∷ rest ++ more)) → xs ≡ front ++ (ys ++ b ∷ rest)
+behind xs ys front b rest more e =
+    let whole : xs ++ more ≡ (front ++ (ys ++ b ∷ rest)) ++ more = e ∙ simp append_assoc in
+    same_length xs (front ++ (ys ++ b ∷ rest)) more more (omega (arith, ap length whole, length-append xs more, length-append (front ++ (ys ++ b ∷ rest)) more)) whole
+  where
+    same_length : (us vs ws zs : List ℕ) → length us ≡ length vs → us ++ ws ≡ vs ++ zs → us ≡ vs
+    same_length [] [] ws zs n k = refl
+    same_length [] (v ∷ vs) ws zs n k = absurd (omega arith)
+    same_length (u ∷ us) [] ws zs n k = absurd (omega arith)
+    same_length (u ∷ us) (v ∷ vs) ws zs n k =
+        let head : u ≡ v = cc in
+        let later : us ++ ws ≡ vs ++ zs = cc in
+        let tail : us ≡ vs = same_length us vs ws zs (omega arith) later in cc

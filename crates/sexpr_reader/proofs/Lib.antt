@@ -3,6 +3,7 @@ pub mod Classes
 pub mod Determined
 pub mod Ends
 pub mod Faults
+pub mod Formed
 pub mod Fronts
 pub mod Growing
 pub mod Lasts
@@ -11,6 +12,8 @@ pub mod Lexing
 pub mod Moves
 pub mod Nests
 pub mod Nexts
+pub mod OneFault
+pub mod OneReading
 pub mod Places
 pub mod Readable
 pub mod Readers

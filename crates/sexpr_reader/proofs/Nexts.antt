@@ -14,6 +14,7 @@ use Rattle.sexpr_reader.specs.Parts.{IsPart, IsGap}
 use Rattle.sexpr_reader.specs.Reads.{Begins, Waits, EndsWith, IsUnfinished}
 use Rattle.sexpr_reader.specs.Standing.{Stands, Steps, Answers, Gives, kept}
 use Rattle.sexpr_reader.proofs.Faults.{no_fault}
+use Rattle.sexpr_reader.proofs.Formed.{tokens_back}
 use Rattle.sexpr_reader.proofs.Fronts.{Stuck}
 use Rattle.sexpr_reader.proofs.Lasts.{reads, begins}
 use Rattle.sexpr_reader.proofs.Waits.{part_stuck}
@@ -27,14 +28,10 @@ all_tokens : (ended : Bool) (bytes : List ℕ) (ts : List Token) (rest : List �
 all_tokens ended bytes [] rest h = tt
 all_tokens ended bytes (t ∷ ts) rest h = (h.4, all_tokens ended h.1 ts rest h.6)
 
-all_behind : (ts us : List Token) → AreTokens (ts ++ us) → AreTokens us
-all_behind [] us h = h
-all_behind (t ∷ ts) us h = all_behind ts us h.1
-
 pub formed : (ended : Bool) (bytes : List ℕ) (given : List Sexpr) (item : Sexpr) (rest : List ℕ) → Begins ended bytes (given ++ item ∷ []) rest → IsFormed item
 formed ended bytes given item rest b =
     let whole : tokens_of_all (given ++ item ∷ []) ≡ tokens_of_all given ++ tokens_of item = flat_map-append tokens_of given (item ∷ []) ∙ ap (λ (l : List Token). tokens_of_all given ++ l) (append-nil (tokens_of item)) in
-    all_behind (tokens_of_all given) (tokens_of item) (subst AreTokens whole (all_tokens ended bytes _ rest b.lexed))
+    tokens_back (tokens_of_all given) (tokens_of item) (subst AreTokens whole (all_tokens ended bytes _ rest b.lexed))
 
 pub gives : (ended : Bool) (new : Reader) (bytes : List ℕ) (given : List Sexpr) (item : Sexpr) → Stands ended new bytes (given ++ item ∷ []) → Gives ended new bytes given item
 gives ended new bytes given item s =

@@ -27,6 +27,11 @@ AreTokens (t ∷ ts) = IsToken t × AreTokens ts
 abbrev pub IsFormed : Sexpr → Type 0
 IsFormed item = AreTokens (tokens_of item)
 
+-- the same of each
+abbrev pub AreFormed : List Sexpr → Type 0
+AreFormed [] = Unit {0}
+AreFormed (item ∷ items) = IsFormed item × AreFormed items
+
 -- how many lists are open behind the tokens, with n open before them; nothing where a `)` closes none, or a `(` opens list number 1,001 inside one another
 abbrev pub levels : ℕ → List Token → Option ℕ
 levels n [] = Some n

@@ -4,6 +4,7 @@
 mod action;
 mod bytes;
 mod kind;
+mod laws;
 mod mode;
 mod nest;
 mod reader;
@@ -12,6 +13,10 @@ mod syntax_fault;
 mod token_kind;
 
 pub use kind::Kind;
+pub use laws::{formed_parts, more_bytes, one_reading, pieces_join};
 pub use reader::Reader;
 pub use sexpr::Sexpr;
 pub use syntax_fault::SyntaxFault;
+
+#[cfg(test)]
+mod tests;

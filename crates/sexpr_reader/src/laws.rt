@@ -1,0 +1,35 @@
+// What the definitions of a reading imply.
+ghost use Rattle.std.specs.Prelude.{◌≡◌, ◌++◌, ◌∷◌, [], ◌↔◌, List, ℕ, Bool, true, false};
+ghost use Rattle.sexpr_reader.specs.declared.kind.Kind.{Kind as AnyKind};
+ghost use Rattle.sexpr_reader.specs.declared.reader.Reader.{Reader as AnyReader};
+ghost use Rattle.sexpr_reader.specs.declared.sexpr.Sexpr.{Sexpr as AnySexpr};
+ghost use Rattle.sexpr_reader.specs.declared.sexpr.Sexpr.TheVariants.{Atom, List as Listed};
+ghost use Rattle.sexpr_reader.specs.declared.syntax_fault.SyntaxFault.{SyntaxFault as AnyFault};
+ghost use Rattle.sexpr_reader.specs.Items.{IsFormed, AreFormed};
+ghost use Rattle.sexpr_reader.specs.Reads.{Begins, Reads, SyntaxAt, FaultAfter, Ends};
+ghost use Rattle.sexpr_reader.specs.Standing.{Stands};
+ghost use Rattle.sexpr_reader.specs.Tokens.{IsOf};
+
+/// Bytes have one reading and at most one first fault, and none where they are read to their end.
+pub fn one_reading()
+    ensures items { (ended : Bool) (bytes : List ℕ) (these those : List AnySexpr) (rest after : List ℕ) → Reads ended bytes these rest → Reads ended bytes those after → (these ≡ those) × (rest ≡ after) }
+    ensures fault { (ended : Bool) (bytes : List ℕ) (this that : AnyFault) → SyntaxAt ended bytes this → SyntaxAt ended bytes that → this ≡ that }
+    ensures done { (bytes : List ℕ) (items : List AnySexpr) (fault : AnyFault) → Ends bytes items → SyntaxAt true bytes fault → ⊥ }
+{}
+
+/// What is whole stays whole when more bytes come, and the first fault stays the first, with the items before it.
+pub fn more_bytes()
+    ensures items { (ended : Bool) (bytes more : List ℕ) (items : List AnySexpr) (rest : List ℕ) → Begins false bytes items rest → Begins ended (bytes ++ more) items (rest ++ more) }
+    ensures fault { (ended : Bool) (bytes more : List ℕ) (items : List AnySexpr) (fault : AnyFault) → FaultAfter false bytes items fault → FaultAfter ended (bytes ++ more) items fault }
+{}
+
+/// Two pieces fed one after the other are one piece.
+pub fn pieces_join()
+    ensures { (reader : AnyReader) (bytes first second : List ℕ) (given : List AnySexpr) → Stands false reader ((bytes ++ first) ++ second) given → Stands false reader (bytes ++ (first ++ second)) given }
+{}
+
+/// The parts of an s-expression whose atoms are tokens.
+pub fn formed_parts()
+    ensures atom { (kind : AnyKind) (bytes : List ℕ) → IsFormed (Atom kind bytes) ↔ IsOf kind bytes }
+    ensures list { (items : List AnySexpr) → IsFormed (Listed items) ↔ AreFormed items }
+{}
