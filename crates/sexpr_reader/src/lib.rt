@@ -1,4 +1,23 @@
-//! Exactly the s-expressions of the bytes, however they are cut into pieces, with the first syntax fault and its place (SMT-LIB 2.6, section 3).
+//! Exactly the s-expressions of the bytes, however they are cut into pieces, with the first
+//! syntax fault and its place (SMT-LIB 2.6, sections 3.1 and 3.2).
+//!
+//! The one central fact: a [`Reader`] that was fed some bytes has given exactly the s-expressions
+//! that are whole in them. `next` answers `None` exactly where no further one is whole and no
+//! fault stands there, and a fault exactly where it is the first one behind them. Bytes have one
+//! reading, and more bytes take nothing of it back (`one_reading`, `more_bytes`).
+//!
+//! Each byte is looked at a bounded number of times, however small the pieces. Besides the open
+//! lists only the unfinished token is kept, and nesting is a list of open lists: nothing recurses.
+//!
+//! ```text
+//! let mut reader = Reader::new(alloc);
+//! reader.feed(b"(push 1) (p")?;
+//! reader.next() // Ok(Some(List [Atom(Symbol, push), Atom(Numeral, 1)]))
+//! reader.next() // Ok(None)
+//! reader.feed(b"op))")?;
+//! reader.next() // Ok(Some(List [Atom(Symbol, pop)]))
+//! reader.end()  // Err(Close(14))
+//! ```
 #![tactic(auto)]
 
 mod action;

@@ -265,7 +265,8 @@ impl Reader {
         ensures at { OnOk result ((self.new.mode ≡ Mode.Blank) × (self.new.at ≡ self.old.at)) }
         ensures refused { OnErr result (IsSame self.old self.new) }
     {
-        if !is_literal(&self.pending[self.start..self.at]) {
+        let is_text = is_literal(self.alloc, &self.pending[self.start..self.at])?;
+        if !is_text {
             return Err(SyntaxFault::Literal(self.place));
         }
         Ok(self.finish(Kind::Literal, self.at)?)

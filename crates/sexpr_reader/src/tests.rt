@@ -101,7 +101,10 @@ fn inputs_are_read_in_any_pieces(rt: HostRuntime) -> Result<(), AllocError> {
     for (input, expected) in [
         ("", ""),
         (" \t\r\n", ""),
-        ("a 0 1.50 #xFf #b01 |q q| :k \"l\"", "S:a N:0 D:1.50 H:#xFf B:#b01 Q:|q q| K::k L:\"l\" "),
+        (
+            "a 0 1.50 #xFf #b01 |q q| :k \"l\"",
+            "S:a N:0 D:1.50 H:#xFf B:#b01 Q:|q q| K::k L:\"l\" ",
+        ),
         ("(a (b) ())", "[S:a [S:b ][]]"),
         ("(check-sat))(check-sat)", "[S:check-sat ]close 11"),
         ("(assert (", "incomplete"),
@@ -175,14 +178,23 @@ fn lists_are_nested_up_to_the_limit(rt: HostRuntime) -> Result<(), AllocError> {
         input.push(b'(')?;
         expected.push(b'[')?;
     }
-    assert_eq!(rt; reading(alloc, &input, 7)?.as_slice(), b"incomplete".as_slice());
+    assert_eq!(rt;
+        reading(alloc, &input, 7)?.as_slice(),
+        b"incomplete".as_slice()
+    );
     for _ in 0..1_000 {
         input.push(b')')?;
         expected.push(b']')?;
     }
-    assert_eq!(rt; reading(alloc, &input, 4_096)?.as_slice(), expected.as_slice());
+    assert_eq!(rt;
+        reading(alloc, &input, 4_096)?.as_slice(),
+        expected.as_slice()
+    );
     input.insert(0, b'(')?;
-    assert_eq!(rt; reading(alloc, &input, 3)?.as_slice(), b"depth 1000".as_slice());
+    assert_eq!(rt;
+        reading(alloc, &input, 3)?.as_slice(),
+        b"depth 1000".as_slice()
+    );
     Ok(())
 }
 
@@ -209,7 +221,8 @@ fn a_fault_stays_and_little_is_kept(rt: HostRuntime) -> Result<(), AllocError> {
 #[test]
 fn a_long_script_is_read_in_small_pieces(rt: HostRuntime) -> Result<(), AllocError> {
     let alloc = rt.alloc();
-    let line = b"(assert (= |quoted name| (str.++ \"a literal\" variable (str.replace x \"<\" \"&lt;\"))) ) ; 1\n";
+    let line =
+        b"(assert (= |quoted name| (str.++ \"a literal\" variable (str.replace x \"<\" \"&lt;\"))) ) ; 1\n";
     let mut block = Vec::new(alloc);
     for _ in 0..10_000 {
         block.extend_from_slice(line)?;

@@ -1,5 +1,5 @@
-// The kind of a whole token.
-ghost use Rattle.std.specs.Prelude.{◌≡◌, ◌∷◌, ◌++◌, [], List, ℕ, true, false, ◌&&◌, IfSome, IfNone};
+// The kind of a whole token. Each test takes time in the length of the token.
+ghost use Rattle.std.specs.Prelude.{◌≡◌, ◌∷◌, ◌++◌, [], List, ℕ, true, false, ◌&&◌, IfOk, IfSome, IfNone};
 ghost use Rattle.std.specs.List.{list_all};
 ghost use Rattle.sexpr_reader.specs.Bytes.{is_digit, is_hexadecimal, is_bit, is_symbol_byte};
 ghost use Rattle.sexpr_reader.specs.Tokens.{IsPlain, is_readable, is_numeral, is_symbol, is_keyword, are_some};
@@ -7,21 +7,22 @@ ghost use Rattle.sexpr_reader.specs.declared.kind.Kind.{Kind};
 
 use crate::bytes::{is_bit, is_digit, is_hexadecimal, is_symbol_byte};
 use crate::kind::Kind;
+use std::alloc::{AllocError, Global};
 
-/// Whether the content of a literal is a word.
-pub fn is_readable(content: &[u8]) -> bool
+/// Whether the content of a literal is the text of a word.
+fn is_readable(content: &[u8]) -> bool
     ensures { result ≡ is_readable content.now }
 {
     content.iter().all(|b| *b <= 127)
 }
 
-/// Whether a literal, with its quotes, has a word as its content.
-pub fn is_literal(token: &[u8]) -> bool
-    ensures { (content : List ℕ) → token.now ≡ 34 ∷ content ++ 34 ∷ [] → result ≡ is_readable content }
+/// Whether the bytes between a literal's quotes are the text of a word.
+pub fn is_literal(_alloc: Global, token: &[u8]) -> Result<bool, AllocError>
+    ensures { IfOk result (λ is. (content : List ℕ) → token.now ≡ 34 ∷ content ++ 34 ∷ [] → is ≡ is_readable content) }
 {
     match token {
-        [_, content @ .., _] => is_readable(content),
-        _ => false,
+        [_, content @ .., _] => Ok(is_readable(content)),
+        _ => Ok(false),
     }
 }
 
