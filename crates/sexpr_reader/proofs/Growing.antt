@@ -4,6 +4,7 @@ use Rattle.std.specs.List.{flat_map}
 use Rattle.std.proofs.lemmas.List.Concat.{flat_map-append}
 use Rattle.sexpr_reader.specs.declared.kind.Kind.TheVariants.{Numeral, Decimal, Hexadecimal, Binary, Symbol, Quoted, Keyword, Literal}
 use Rattle.sexpr_reader.specs.declared.sexpr.Sexpr.{Sexpr}
+use Rattle.sexpr_reader.specs.declared.sexpr.Sexpr.TheVariants as s
 use Rattle.sexpr_reader.specs.declared.syntax_fault.SyntaxFault.{SyntaxFault}
 use Rattle.sexpr_reader.specs.declared.syntax_fault.SyntaxFault.TheVariants as f
 use Rattle.sexpr_reader.specs.Bytes.{is_border}
@@ -16,6 +17,7 @@ use Rattle.sexpr_reader.proofs.Faults.{fault_stuck}
 use Rattle.sexpr_reader.proofs.Fronts.{Stuck}
 use Rattle.sexpr_reader.proofs.Levels.{levels-append}
 use Rattle.sexpr_reader.proofs.Lexing.{Lexes-more, EndsAt-more}
+use Rattle.sexpr_reader.proofs.Nests.{tokens_of-List}
 use Rattle.sexpr_reader.proofs.Tokens.{same_lexing, cut_lexing, Further, first, second}
 
 module _ (ended : Bool) (more : List ℕ) where
@@ -55,12 +57,6 @@ module _ (ended : Bool) (more : List ℕ) where
   Begins-more bytes items rest b = record { lexed = Lexes-more ended bytes (tokens_of_all items) rest more b.lexed; nested = b.nested }
 
   module _ (bytes : List ℕ) (items : List Sexpr) (fault : SyntaxFault) (h : FaultAfter false bytes items fault) (item : Sexpr) (after : List ℕ) (b : Begins ended (h.rest ++ more) (item ∷ []) after) where
-    s : SyntaxAt false bytes fault
-    s = h.first
-
-    both : List Token
-    both = tokens_of_all items ++ tokens_of_all (item ∷ [])
-
     stuck : Stuck ended h.first.level (h.first.front.blank ++ (h.first.rest ++ more))
     stuck = fault_stuck ended h.first.level (h.first.rest ++ more) h.first.here fault h.first.front.blank h.first.front.gap (FaultAt-more h.first.level h.first.here h.first.rest fault h.first.found)
 
@@ -114,17 +110,57 @@ IsEnded-less (Atomic Binary bs) b after more h = h
 IsEnded-less (Atomic Symbol bs) b after more h = h
 IsEnded-less (Atomic Keyword bs) b after more h = h
 
--- bytes before the last ones
-behind : (xs ys front : List ℕ) (b : ℕ) (rest more : List ℕ) → xs ++ more ≡ front ++ (ys ++ (b ∷ rest ++ more)) → xs ≡ front ++ (ys ++ b ∷ rest)
-behind xs ys front b rest more e =
-    let whole : xs ++ more ≡ (front ++ (ys ++ b ∷ rest)) ++ more = e ∙ simp append_assoc in
-    same_length xs (front ++ (ys ++ b ∷ rest)) more more (omega (arith, ap length whole, length-append xs more, length-append (front ++ (ys ++ b ∷ rest)) more)) whole
-  where
-    same_length : (us vs ws zs : List ℕ) → length us ≡ length vs → us ++ ws ≡ vs ++ zs → us ≡ vs
-    same_length [] [] ws zs n k = refl
-    same_length [] (v ∷ vs) ws zs n k = absurd (omega arith)
-    same_length (u ∷ us) [] ws zs n k = absurd (omega arith)
-    same_length (u ∷ us) (v ∷ vs) ws zs n k =
-        let head : u ≡ v = cc in
-        let later : us ++ ws ≡ vs ++ zs = cc in
-        let tail : us ≡ vs = same_length us vs ws zs (omega arith) later in cc
+same_length : (us vs ws zs : List ℕ) → length us ≡ length vs → us ++ ws ≡ vs ++ zs → us ≡ vs
+same_length [] [] ws zs n k = refl
+same_length [] (v ∷ vs) ws zs n k = absurd (omega arith)
+same_length (u ∷ us) [] ws zs n k = absurd (omega arith)
+same_length (u ∷ us) (v ∷ vs) ws zs n k =
+    let head : u ≡ v = cc in
+    let later : us ++ ws ≡ vs ++ zs = cc in
+    let tail : us ≡ vs = same_length us vs ws zs (omega arith) later in cc
+
+without : (us vs more : List ℕ) → us ++ more ≡ vs ++ more → us ≡ vs
+without us vs more e = same_length us vs more more (omega (arith, ap length e, length-append us more, length-append vs more)) e
+
+first_of : (us : List ℕ) (c : ℕ) (front : List ℕ) → (d : ℕ) × ((ds : List ℕ) × (us ++ c ∷ front ≡ d ∷ ds))
+first_of [] c front = (c, (front, refl))
+first_of (u ∷ us) c front = (u, (us ++ c ∷ front, refl))
+
+-- tokens of which the last is a `)` begin with a byte
+some_bytes : (ts : List Token) (bytes rest : List ℕ) → Lexes false bytes (ts ++ Close ∷ []) rest → (c : ℕ) × ((front : List ℕ) × (bytes ≡ c ∷ front ++ rest))
+some_bytes [] bytes rest h =
+    let f = first_of h.0 41 [] in
+    let whole : bytes ≡ (h.0 ++ 41 ∷ []) ++ rest = h.3 ∙ ap (λ (l : List ℕ). h.0 ++ 41 ∷ l) h.6 ∙ sym (append_assoc h.0 (41 ∷ []) rest) in
+    (f.0, (f.1.0, whole ∙ ap (λ (l : List ℕ). l ++ rest) f.1.1))
+some_bytes (t ∷ ts) bytes rest h =
+    let k = some_bytes ts h.1 rest h.6 in
+    let f = first_of (h.0 ++ text t) k.0 k.1.0 in
+    let whole : bytes ≡ ((h.0 ++ text t) ++ k.0 ∷ k.1.0) ++ rest = h.3 ∙ ap (λ (l : List ℕ). h.0 ++ (text t ++ l)) k.1.1 ∙ simp append_assoc in
+    (f.0, (f.1.0, whole ∙ ap (λ (l : List ℕ). l ++ rest) f.1.1))
+
+Lexes-less : (ts : List Token) (bytes rest more : List ℕ) → Lexes false (bytes ++ more) (ts ++ Close ∷ []) (rest ++ more) → Lexes false bytes (ts ++ Close ∷ []) rest
+Lexes-less [] bytes rest more h =
+    let whole : bytes ++ more ≡ (h.0 ++ 41 ∷ rest) ++ more = h.3 ∙ ap (λ (l : List ℕ). h.0 ++ 41 ∷ l) h.6 ∙ sym (append_assoc h.0 (41 ∷ rest) more) in
+    (h.0, rest, h.2, without bytes (h.0 ++ 41 ∷ rest) more whole, h.4, tt, refl)
+Lexes-less (t ∷ ts) bytes rest more h =
+    let k = some_bytes ts h.1 (rest ++ more) h.6 in
+    let after : h.1 ≡ (k.0 ∷ k.1.0 ++ rest) ++ more = k.1.1 ∙ ap (λ (l : List ℕ). k.0 ∷ l) (sym (append_assoc k.1.0 rest more)) in
+    let whole : bytes ++ more ≡ (h.0 ++ (text t ++ (k.0 ∷ k.1.0 ++ rest))) ++ more = h.3 ∙ ap (λ (l : List ℕ). h.0 ++ (text t ++ l)) after ∙ simp append_assoc in (
+      h.0,
+      k.0 ∷ k.1.0 ++ rest,
+      h.2,
+      without bytes (h.0 ++ (text t ++ (k.0 ∷ k.1.0 ++ rest))) more whole,
+      h.4,
+      IsEnded-less t k.0 (k.1.0 ++ rest) more (subst (IsEnded t false) after h.5),
+      Lexes-less ts (k.0 ∷ k.1.0 ++ rest) rest more (subst (λ (l : List ℕ). Lexes false l (ts ++ Close ∷ []) (rest ++ more)) after h.6),
+    )
+
+-- a list is whole with its last byte
+pub list_whole : (bytes more rest : List ℕ) (items inner : List Sexpr) → Begins false (bytes ++ more) (items ++ s.List inner ∷ []) (rest ++ more) → Begins false bytes (items ++ s.List inner ∷ []) rest
+list_whole bytes more rest items inner b =
+    let shape : tokens_of_all (items ++ s.List inner ∷ []) ≡ (tokens_of_all items ++ (Open ∷ tokens_of_all inner)) ++ Close ∷ [] =
+    flat_map-append tokens_of items (s.List inner ∷ []) ∙ ap (λ (l : List Token). tokens_of_all items ++ l) (append-nil (tokens_of (s.List inner)) ∙ tokens_of-List inner) ∙ sym (append_assoc (tokens_of_all items) (Open ∷ tokens_of_all inner) (Close ∷ [])) in
+    record {
+      lexed = subst (λ (ts : List Token). Lexes false bytes ts rest) (sym shape) (Lexes-less (tokens_of_all items ++ (Open ∷ tokens_of_all inner)) bytes rest more (subst (λ (ts : List Token). Lexes false (bytes ++ more) ts (rest ++ more)) shape b.lexed));
+      nested = b.nested;
+    }

@@ -23,6 +23,11 @@ pub fn more_bytes()
     ensures fault { (ended : Bool) (bytes more : List ℕ) (items : List AnySexpr) (fault : AnyFault) → FaultAfter false bytes items fault → FaultAfter ended (bytes ++ more) items fault }
 {}
 
+/// A list is whole with its last byte, whatever was fed behind it.
+pub fn list_whole()
+    ensures { (bytes more rest : List ℕ) (items inner : List AnySexpr) → Begins false (bytes ++ more) (items ++ Listed inner ∷ []) (rest ++ more) → Begins false bytes (items ++ Listed inner ∷ []) rest }
+{}
+
 /// Two pieces fed one after the other are one piece.
 pub fn pieces_join()
     ensures { (reader : AnyReader) (bytes first second : List ℕ) (given : List AnySexpr) → Stands false reader ((bytes ++ first) ++ second) given → Stands false reader (bytes ++ (first ++ second)) given }

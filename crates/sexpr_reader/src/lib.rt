@@ -32,7 +32,7 @@ mod syntax_fault;
 mod token_kind;
 
 pub use kind::Kind;
-pub use laws::{formed_parts, more_bytes, one_reading, pieces_join};
+pub use laws::{formed_parts, list_whole, more_bytes, one_reading, pieces_join};
 pub use reader::Reader;
 pub use sexpr::Sexpr;
 pub use syntax_fault::SyntaxFault;

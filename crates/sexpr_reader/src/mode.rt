@@ -21,25 +21,41 @@ pub enum Mode {
     Quote,
 }
 
-/// What the next byte does.
-pub fn action(mode: Mode, byte: u8) -> Action
-    ensures { Acts mode byte result }
-{
-    match mode {
-        Mode::Blank => first_action(byte),
-        Mode::Comment if is_line_end(byte) => Action::Skip(Mode::Blank),
-        Mode::Comment => Action::Skip(Mode::Comment),
-        Mode::Run if is_border(byte) => Action::EndRun,
-        Mode::Run => Action::Take(Mode::Run),
-        Mode::Bars => match byte {
-            b'|' => Action::EndQuoted,
-            b'\\' => Action::Refuse,
-            _ => Action::Take(Mode::Bars),
-        },
-        Mode::Quotes if byte == b'"' => Action::Take(Mode::Quote),
-        Mode::Quotes => Action::Take(Mode::Quotes),
-        Mode::Quote if byte == b'"' => Action::Take(Mode::Quotes),
-        Mode::Quote => Action::EndLiteral,
+impl Mode {
+    /// What the next byte does.
+    pub fn action(self, byte: u8) -> Action
+        ensures { Acts self byte result }
+    {
+        match self {
+            Mode::Blank => first_action(byte),
+            Mode::Comment if is_line_end(byte) => Action::Skip(Mode::Blank),
+            Mode::Comment => Action::Skip(Mode::Comment),
+            Mode::Run if is_border(byte) => Action::EndRun,
+            Mode::Run => Action::Take(Mode::Run),
+            Mode::Bars => match byte {
+                b'|' => Action::EndQuoted,
+                b'\\' => Action::Refuse,
+                _ => Action::Take(Mode::Bars),
+            },
+            Mode::Quotes if byte == b'"' => Action::Take(Mode::Quote),
+            Mode::Quotes => Action::Take(Mode::Quotes),
+            Mode::Quote if byte == b'"' => Action::Take(Mode::Quotes),
+            Mode::Quote => Action::EndLiteral,
+        }
+    }
+
+    /// Whether no token is unfinished.
+    pub fn is_idle(self) -> bool
+        ensures { result ≡ is_idle self }
+    {
+        match self {
+            Mode::Blank => true,
+            Mode::Comment => true,
+            Mode::Run => false,
+            Mode::Bars => false,
+            Mode::Quotes => false,
+            Mode::Quote => false,
+        }
     }
 }
 
@@ -57,19 +73,5 @@ fn first_action(byte: u8) -> Action
         b'|' => Action::Take(Mode::Bars),
         b'"' => Action::Take(Mode::Quotes),
         _ => Action::Take(Mode::Run),
-    }
-}
-
-/// Whether no token is unfinished.
-pub fn is_idle(mode: Mode) -> bool
-    ensures { result ≡ is_idle mode }
-{
-    match mode {
-        Mode::Blank => true,
-        Mode::Comment => true,
-        Mode::Run => false,
-        Mode::Bars => false,
-        Mode::Quotes => false,
-        Mode::Quote => false,
     }
 }

@@ -2,7 +2,7 @@ ghost use Rattle.std.specs.Prelude.{◌≡◌, ◌≤◌, ◌<◌, ◌+◌, ◌^
 
 use crate::action::Action;
 use crate::kind::Kind;
-use crate::mode::{Mode, action, is_idle};
+use crate::mode::Mode;
 use crate::nest::Nest;
 use crate::sexpr::Sexpr;
 use crate::syntax_fault::SyntaxFault;
@@ -43,7 +43,7 @@ impl Reader {
     ghost use Rattle.sexpr_reader.specs.Stepping.{Acts};
     ghost use Rattle.sexpr_reader.specs.Tokens.{Open, Close, Atomic};
 
-    /// A reader that was fed nothing.
+    /// A reader that was fed nothing. It takes no memory.
     pub fn new(alloc: Global) -> Reader
         ensures { Stands false result [] [] }
     {
@@ -58,7 +58,7 @@ impl Reader {
         }
     }
 
-    /// The number of raw bytes that are kept.
+    /// The number of raw bytes that are kept. It takes no memory.
     pub fn held(&self) -> usize
         ensures { result ≡ length (kept self.now) }
     {
@@ -66,6 +66,11 @@ impl Reader {
     }
 
     /// Takes the next bytes, which stand behind those that were fed before.
+    ///
+    /// Time and memory in the length of the piece. It is meant for a reader whose input hasn't
+    /// ended: after `end` has answered anything but want of memory, no call of `next` or `end`
+    /// promises anything of bytes that are fed then. More than 2^64 - 1 bytes are answered as want
+    /// of memory.
     pub fn feed(&mut self, piece: &[u8]) -> Result<(), AllocError>
         ensures fed { OnOk result ((bytes : List ℕ) (given : List Sexpr) → Stands false self.old bytes given → Stands false self.new (bytes ++ piece.now) given) }
         ensures refused { OnErr result ((ended : Bool) (bytes : List ℕ) (given : List Sexpr) → Stands ended self.old bytes given → Stands ended self.new bytes given) }
@@ -78,14 +83,19 @@ impl Reader {
         Ok(())
     }
 
-    /// The next whole item.
+    /// The next whole item. Where it answers `None`, more bytes or the end have to come first.
+    ///
+    /// A fault is answered again by each later call, whatever is fed. A call looks only at bytes
+    /// that none looked at before, and once more at the token that they end; it takes memory for
+    /// the item and for the lists that are open.
     pub fn next(&mut self) -> Result<Option<Sexpr>, SyntaxFault>
         ensures { (bytes : List ℕ) (given : List Sexpr) → Stands false self.old bytes given → Answers self.new bytes given result }
     {
         self.read_on()
     }
 
-    /// The next item where no byte follows, so that a last atom is whole.
+    /// The next item where no byte follows, so that a last atom is whole. It is called until it
+    /// answers `None` or a fault, and costs what `next` does.
     pub fn end(&mut self) -> Result<Option<Sexpr>, SyntaxFault>
         ensures { (ended : Bool) (bytes : List ℕ) (given : List Sexpr) → Stands ended self.old bytes given → Closes ended self.new bytes given result }
     {
@@ -151,7 +161,7 @@ impl Reader {
         ensures done { result ≡ true → (bytes : List ℕ) (given : List Sexpr) → Stands true self.now bytes given → Ends bytes given }
         ensures open { result ≡ false → (bytes : List ℕ) (given : List Sexpr) → Stands true self.now bytes given → FaultAfter true bytes given Incomplete }
     {
-        if !is_idle(self.mode) {
+        if !self.mode.is_idle() {
             return false;
         }
         self.nest.is_empty()
@@ -163,7 +173,7 @@ impl Reader {
         ensures steps { (ended : Bool) (bytes : List ℕ) (given : List Sexpr) → Stands ended self.old bytes given → Steps ended self.new bytes given result }
         ensures work { OnOk result ((self.new.pending.items ≡ self.old.pending.items) × (work self.new < work self.old)) }
     {
-        match action(self.mode, self.pending[self.at]) {
+        match self.mode.action(self.pending[self.at]) {
             Action::Skip(mode) => {
                 self.skip(mode);
                 Ok(None)

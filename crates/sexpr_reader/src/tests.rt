@@ -56,7 +56,7 @@ fn write_fault(alloc: Global, out: &mut Vec<u8>, fault: SyntaxFault) -> Result<(
 fn drain(alloc: Global, reader: &mut Reader, out: &mut Vec<u8>) -> Result<bool, AllocError> {
     for _ in 0..u64::MAX {
         match reader.next() {
-            Ok(Some(item)) => write_item(out, &item)?,
+            Ok(Some(item)) => write_item(out, &item.copy(alloc)?)?,
             Ok(None) => return Ok(false),
             Err(fault) => {
                 write_fault(alloc, out, fault)?;
@@ -146,11 +146,17 @@ fn inputs_are_read_in_any_pieces(rt: HostRuntime) -> Result<(), AllocError> {
 #[test]
 fn any_byte_may_stand_in_a_comment_or_quoted_symbol(rt: HostRuntime) -> Result<(), AllocError> {
     let alloc = rt.alloc();
-    let rows: [(&[u8], &[u8]); 12] = [
+    let rows: [(&[u8], &[u8]); 15] = [
         (b";\0\x80\xff\nx", b"S:x "),
         (b"|\0\x80\xff|", b"Q:|\0\x80\xff| "),
         (b"\"\0\"", b"L:\"\0\" "),
         (b"\"\xc3\xa9\"", b"L:\"\xc3\xa9\" "),
+        (
+            b"\"\\x\\u{2ffff}\\u{30000}\"",
+            b"L:\"\\x\\u{2ffff}\\u{30000}\" ",
+        ),
+        (b"\"\xf0\xaf\xbf\xbf\"", b"L:\"\xf0\xaf\xbf\xbf\" "),
+        (b"(\"\xf0\xb0\x80\x80\")", b"literal 1"),
         (b"x \"\xff\"", b"S:x literal 2"),
         (b"x \"\xff", b"S:x incomplete"),
         (b"a\0", b"token 0"),
@@ -223,24 +229,22 @@ fn a_long_script_is_read_in_small_pieces(rt: HostRuntime) -> Result<(), AllocErr
     let alloc = rt.alloc();
     let line =
         b"(assert (= |quoted name| (str.++ \"a literal\" variable (str.replace x \"<\" \"&lt;\"))) ) ; 1\n";
-    let mut block = Vec::new(alloc);
-    for _ in 0..10_000 {
-        block.extend_from_slice(line)?;
+    let mut script = Vec::new(alloc);
+    for _ in 0..1_000 {
+        script.extend_from_slice(line)?;
     }
     let mut reader = Reader::new(alloc);
     let mut count = 0_u64;
-    for _ in 0..56 {
-        for piece in block.chunks(4_096) {
-            reader.feed(piece)?;
-            for _ in 0..u64::MAX {
-                match reader.next() {
-                    Ok(Some(_)) => count = count.wrapping_add(1),
-                    _ => break,
-                }
+    for piece in script.chunks(4_096) {
+        reader.feed(piece)?;
+        for _ in 0..u64::MAX {
+            match reader.next() {
+                Ok(Some(_)) => count = count.wrapping_add(1),
+                _ => break,
             }
         }
     }
-    assert_eq!(rt; count, 560_000);
+    assert_eq!(rt; count, 1_000);
     assert_eq!(rt; reader.held(), 0);
     Ok(())
 }

@@ -8,20 +8,25 @@ ghost use Rattle.sexpr_reader.specs.declared.kind.Kind.{Kind};
 use crate::bytes::{is_bit, is_digit, is_hexadecimal, is_symbol_byte};
 use crate::kind::Kind;
 use std::alloc::{AllocError, Global};
+use sv_word::{LiteralFault, read_literal};
 
-/// Whether the content of a literal is the text of a word.
-fn is_readable(content: &[u8]) -> bool
-    ensures { result ≡ is_readable content.now }
+/// Whether bytes are the text of a word.
+fn is_readable(alloc: Global, content: &[u8]) -> Result<bool, AllocError>
+    ensures { IfOk result (λ is. is ≡ is_readable content.now) }
 {
-    content.iter().all(|b| *b <= 127)
+    match read_literal(alloc, content) {
+        Ok(_) => Ok(true),
+        Err(LiteralFault::Memory(error)) => Err(error),
+        Err(_) => Ok(false),
+    }
 }
 
 /// Whether the bytes between a literal's quotes are the text of a word.
-pub fn is_literal(_alloc: Global, token: &[u8]) -> Result<bool, AllocError>
+pub fn is_literal(alloc: Global, token: &[u8]) -> Result<bool, AllocError>
     ensures { IfOk result (λ is. (content : List ℕ) → token.now ≡ 34 ∷ content ++ 34 ∷ [] → is ≡ is_readable content) }
 {
     match token {
-        [_, content @ .., _] => Ok(is_readable(content)),
+        [_, content @ .., _] => is_readable(alloc, content),
         _ => Ok(false),
     }
 }
