@@ -1,10 +1,10 @@
 -- The parts of an s-expression whose atoms are tokens.
-use Rattle.std.proofs.Common.{◌≡◌, ℕ, List, [], ◌∷◌, ◌++◌, sym, ap, ◌∙◌, subst, append_assoc}
+use Rattle.std.proofs.Common.{ℕ, List, [], ◌∷◌, ◌++◌, sym, subst}
 use Rattle.std.specs.Prelude.{◌↔◌}
 use Rattle.sexpr_reader.specs.declared.kind.Kind.{Kind}
 use Rattle.sexpr_reader.specs.declared.sexpr.Sexpr.{Sexpr}
 use Rattle.sexpr_reader.specs.declared.sexpr.Sexpr.TheVariants as s
-use Rattle.sexpr_reader.specs.Tokens.{Token, Open, Close, Atomic, IsOf, IsToken}
+use Rattle.sexpr_reader.specs.Tokens.{Token, Open, Close, Atomic, IsOf}
 use Rattle.sexpr_reader.specs.Items.{tokens_of, tokens_of_all, IsFormed, AreFormed, AreTokens}
 use Rattle.sexpr_reader.proofs.Nests.{tokens_of-Atom, tokens_of-List}
 

@@ -1,17 +1,15 @@
 -- What was read, and what was wrong, stays so when more bytes come.
-use Rattle.std.proofs.Common.{◌≡◌, ℕ, ◌+◌, ◌==◌, not, List, [], ◌∷◌, ◌++◌, ◌⊎◌, inl, inr, ⊎_elim, Bool, true, false, IsTrue, Some, length, refl, sym, ap, ◌∙◌, subst, append_assoc, append-nil, arith, length-append}
-use Rattle.std.specs.List.{flat_map}
+use Rattle.std.proofs.Common.{◌≡◌, ℕ, List, [], ◌∷◌, ◌++◌, inl, inr, ⊎_elim, Bool, false, length, refl, sym, ap, ◌∙◌, subst, append_assoc, append-nil, arith, length-append}
 use Rattle.std.proofs.lemmas.List.Concat.{flat_map-append}
 use Rattle.sexpr_reader.specs.declared.kind.Kind.TheVariants.{Numeral, Decimal, Hexadecimal, Binary, Symbol, Quoted, Keyword, Literal}
 use Rattle.sexpr_reader.specs.declared.sexpr.Sexpr.{Sexpr}
 use Rattle.sexpr_reader.specs.declared.sexpr.Sexpr.TheVariants as s
 use Rattle.sexpr_reader.specs.declared.syntax_fault.SyntaxFault.{SyntaxFault}
 use Rattle.sexpr_reader.specs.declared.syntax_fault.SyntaxFault.TheVariants as f
-use Rattle.sexpr_reader.specs.Bytes.{is_border}
 use Rattle.sexpr_reader.specs.Tokens.{Token, Open, Close, Atomic, text, doubled}
-use Rattle.sexpr_reader.specs.Lexes.{Lexes, EndsAt, IsEnded}
+use Rattle.sexpr_reader.specs.Lexes.{Lexes, IsEnded}
 use Rattle.sexpr_reader.specs.Items.{tokens_of, tokens_of_all, levels}
-use Rattle.sexpr_reader.specs.Reads.{Begins, Reads, IsOddRun, FaultAt, SyntaxAt, Front, FaultAfter}
+use Rattle.sexpr_reader.specs.Reads.{Begins, FaultAt, SyntaxAt, FaultAfter}
 use Rattle.sexpr_reader.proofs.Ends.{one_rest}
 use Rattle.sexpr_reader.proofs.Faults.{fault_stuck}
 use Rattle.sexpr_reader.proofs.Fronts.{Stuck}

@@ -1,14 +1,13 @@
 -- At one place stands one fault.
-use Rattle.std.proofs.Common.{◌≡◌, ℕ, ◌+◌, ◌==◌, ◌||◌, not, List, [], ◌∷◌, ◌++◌, ◌⊎◌, ⊎_elim, Bool, true, false, IsTrue, Option, Some, length, refl, sym, ap, ◌∙◌, subst, append-nil, arith}
+use Rattle.std.proofs.Common.{◌≡◌, ℕ, ◌==◌, ◌||◌, List, [], ◌∷◌, ◌++◌, ⊎_elim, Bool, true, false, IsTrue, Some, length, refl, sym, ap, ◌∙◌, subst, append-nil, arith}
 use Rattle.sexpr_reader.specs.declared.syntax_fault.SyntaxFault.{SyntaxFault}
-use Rattle.sexpr_reader.specs.declared.syntax_fault.SyntaxFault.TheVariants as f
 use Rattle.sexpr_reader.specs.declared.sexpr.Sexpr.{Sexpr}
-use Rattle.sexpr_reader.specs.Tokens.{Token, doubled, is_barred, IsRun}
-use Rattle.sexpr_reader.specs.Lexes.{IsBlank, IsBlankEnd, Lexes}
+use Rattle.sexpr_reader.specs.Tokens.{doubled, is_barred}
+use Rattle.sexpr_reader.specs.Lexes.{IsBlankEnd}
 use Rattle.sexpr_reader.specs.Items.{tokens_of_all, levels}
-use Rattle.sexpr_reader.specs.Reads.{IsOpenEnd, FaultAt, SyntaxAt, Ends}
+use Rattle.sexpr_reader.specs.Reads.{IsOpenEnd, SyntaxAt, Ends}
 use Rattle.sexpr_reader.proofs.Determined.{skip, skip-blank, same_front}
-use Rattle.sexpr_reader.proofs.Faults.{Cause, token, close, depth, literal, placed, Bad, odd, slash, shut, deep, unread, Sight, stands, lacks, sight, bad_stays, bad_some, skip-end, fault_stuck}
+use Rattle.sexpr_reader.proofs.Faults.{Cause, placed, Bad, odd, slash, shut, deep, unread, Sight, stands, lacks, sight, bad_stays, bad_some, skip-end, fault_stuck}
 use Rattle.sexpr_reader.proofs.Fronts.{Stuck, one_front}
 use Rattle.sexpr_reader.proofs.Tokens.{run_not, differ}
 use Rattle.sexpr_reader.proofs.Waits.{no_half, no_text, token_front}

@@ -1,5 +1,5 @@
 -- S-expressions are told apart by their tokens.
-use Rattle.std.proofs.Common.{◌≡◌, ℕ, zero, suc, List, [], ◌∷◌, ◌++◌, Bool, true, false, Option, Some, None, if◌then◌else◌, refl, sym, ap, ◌∙◌, subst, append_assoc, append-nil, map}
+use Rattle.std.proofs.Common.{◌≡◌, ℕ, suc, List, [], ◌∷◌, ◌++◌, Bool, true, false, Option, Some, None, if◌then◌else◌, refl, sym, ap, ◌∙◌, append_assoc, map}
 use Rattle.std.specs.Prelude.{nat_lt}
 use Rattle.std.specs.List.{flat_map}
 use Rattle.sexpr_reader.specs.declared.kind.Kind.{Kind}
@@ -9,7 +9,7 @@ use Rattle.sexpr_reader.specs.declared.sexpr.Sexpr.TheOpen.{Sexpr-F}
 use Rattle.sexpr_reader.specs.Tokens.{Token, Open, Close, Atomic}
 use Rattle.sexpr_reader.specs.Items.{tokens_of, tokens_of_all, tokens_layer, levels}
 use Rattle.sexpr_reader.proofs.Lasts.{tokens_roll, some_tokens}
-use Rattle.sexpr_reader.proofs.Levels.{levels-append, of_true}
+use Rattle.sexpr_reader.proofs.Levels.{levels-append}
 
 abbrev layer : Sexpr-F Sexpr → List Token
 layer x = tokens_layer (map-Sexpr Sexpr (List Token) tokens_of x)

@@ -80,12 +80,10 @@ fn drain_end(alloc: Global, reader: &mut Reader, out: &mut Vec<u8>) -> Result<()
 }
 
 /// What the input is read as, in pieces of this size.
-fn reading(alloc: Global, input: &[u8], size: usize) -> Result<Vec<u8>, AllocError>
-    requires { 0 < size }
-{
+fn reading(alloc: Global, input: &[u8], size: usize) -> Result<Vec<u8>, AllocError> {
     let mut reader = Reader::new(alloc);
     let mut out = Vec::new(alloc);
-    for piece in input.chunks(size) {
+    for piece in input.chunks(size.max(1)) {
         reader.feed(piece)?;
         if drain(alloc, &mut reader, &mut out)? {
             return Ok(out);

@@ -1,4 +1,4 @@
-use Rattle.std.proofs.Common.{◌≡◌, ◌++◌, subst, append_assoc, false, List, ℕ}
+use Rattle.std.proofs.Common.{subst, append_assoc, false, List, ℕ}
 use Rattle.sexpr_reader.specs.Standing.{Stands}
 use Rattle.sexpr_reader.proofs.laws.pieces_join.Goals as goal
 
