@@ -45,7 +45,7 @@ impl Reader {
 
     /// A reader that was fed nothing. It takes no memory.
     pub fn new(alloc: Global) -> Reader
-        ensures { Stands false result [] [] }
+        ensures stands { Stands false result [] [] }
     {
         Reader {
             pending: Vec::new(alloc),
@@ -60,7 +60,7 @@ impl Reader {
 
     /// The number of raw bytes that are kept. It takes no memory.
     pub fn held(&self) -> usize
-        ensures { result ≡ length (kept self.now) }
+        ensures count { result ≡ length (kept self.now) }
     {
         self.pending.len()
     }
@@ -89,7 +89,7 @@ impl Reader {
     /// that none looked at before, and once more at the token that they end; it takes memory for
     /// the item and for the lists that are open.
     pub fn next(&mut self) -> Result<Option<Sexpr>, SyntaxFault>
-        ensures { (bytes : List ℕ) (given : List Sexpr) → Stands false self.old bytes given → Answers self.new bytes given result }
+        ensures answers { (bytes : List ℕ) (given : List Sexpr) → Stands false self.old bytes given → Answers self.new bytes given result }
     {
         self.read_on()
     }
@@ -97,7 +97,7 @@ impl Reader {
     /// The next item where no byte follows, so that a last atom is whole. It is called until it
     /// answers `None` or a fault, and costs what `next` does.
     pub fn end(&mut self) -> Result<Option<Sexpr>, SyntaxFault>
-        ensures { (ended : Bool) (bytes : List ℕ) (given : List Sexpr) → Stands ended self.old bytes given → Closes ended self.new bytes given result }
+        ensures answers { (ended : Bool) (bytes : List ℕ) (given : List Sexpr) → Stands ended self.old bytes given → Closes ended self.new bytes given result }
     {
         match self.read_on() {
             Ok(None) => self.read_last(),
