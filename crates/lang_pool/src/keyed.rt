@@ -3,8 +3,8 @@ ghost use Rattle.std.specs.Prelude.{◌≡◌, true};
 /// A value that was made for a key.
 ///
 /// An implementation says in `Fits` what that means, as that a machine reads just the words of the
-/// regular expression that is its key. A type whose `Fits` is no equation keeps it as the invariant
-/// of its `Model`, which may go by recursion.
+/// regular expression that is its key. Where `Fits` goes by recursion no ghost field can hold it,
+/// but the invariant of the value's `Model` can.
 pub trait Keyed<K: Eq> {
     /// The key of a value.
     ghost key_of: { Self → K };

@@ -29,7 +29,7 @@ impl<K, V: Drop> Model for Pool<K, V> {
 }
 
 impl<K, V: Drop> Pool<K, V> {
-    /// A pool of so many empty cells. Takes memory for two words a cell.
+    /// A pool of so many empty cells, in time and memory of one pointer a cell.
     pub fn new(alloc: Global, cells: usize) -> Result<Pool<K, V>, AllocError>
         ensures { IfOk result (λ pool. length pool ≡ cells) }
     {
@@ -68,8 +68,8 @@ impl<K: Eq, V: Keyed<K> + Drop> Pool<K, V> {
     /// Where the note knows nothing and the cell is empty, `build` is run, and its value fills the
     /// cell unless another thread was first. Where the cell's value has another key, `build` is run
     /// for the caller alone. So it may run twice where another thread meanwhile fills the cell with
-    /// another key, and never where the cell has this key. An error is the builder's own.
-    /// The pool itself takes no memory here, and the call never waits.
+    /// another key, and not at all where the cell already has this key. The pool itself takes no
+    /// memory here, and the call never waits: a look costs one atomic read and one comparison.
     pub fn get<'a, E, B: Fn() -> Result<Box<V>, E> + Drop>(
         &'a self,
         cell: usize,

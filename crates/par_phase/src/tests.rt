@@ -18,11 +18,12 @@ impl Job for Square {
     }
 }
 
-// Tells whether its arrival came before its work.
+// Enters itself as done, and tells whether it had arrived by then.
 #[derive(Drop)]
 struct Watched<'a> {
     place: u64,
-    arrivals: &'a Arrivals,
+    arrived: &'a Roll,
+    done: &'a Roll,
 }
 
 impl Job for Watched<'_> {
@@ -33,23 +34,36 @@ impl Job for Watched<'_> {
     ghost Yields = { λ _ _. ⊤ };
 
     fn work(&self) -> bool {
-        self.arrivals.count_of(self.place) > 0
+        self.done.enter(self.place);
+        self.arrived.count_of(self.place) > 0
     }
 }
 
-// How often each job has arrived, a byte for each of eight jobs, the first lowest.
+// How often each of eight jobs was entered, a byte for each, the first lowest.
 #[derive(Drop)]
-struct Arrivals(AtomicU64);
+struct Roll(AtomicU64);
 
-impl Arrivals {
+impl Roll {
+    fn new() -> Roll {
+        Roll(AtomicU64::new(0))
+    }
+
+    fn enter(&self, job: u64) {
+        self.0.fetch_add(1 << (8 * job.min(7)), Ordering::SeqCst);
+    }
+
     fn count_of(&self, job: u64) -> u64 {
         self.0.load(Ordering::SeqCst) >> (8 * job.min(7)) & 0xff
     }
+
+    fn has_each_of_five_once(&self) -> bool {
+        self.0.load(Ordering::SeqCst) == 0x01_01_01_01_01
+    }
 }
 
-impl Gate for Arrivals {
+impl Gate for Roll {
     fn arrive(&self, job: u64) {
-        self.0.fetch_add(1 << (8 * job.min(7)), Ordering::SeqCst);
+        self.enter(job);
     }
 }
 
@@ -107,23 +121,25 @@ fn outcomes_stand_in_the_order_of_the_jobs(rt: HostRuntime) -> Result<(), Fail> 
 }
 
 #[test]
-fn each_job_arrives_once_and_before_its_work(rt: HostRuntime) -> Result<(), Fail> {
+fn each_job_arrives_and_is_then_done_once(rt: HostRuntime) -> Result<(), Fail> {
     for workers in 1..7 {
-        let arrivals = Arrivals(AtomicU64::new(0));
+        let (arrived, done) = (Roll::new(), Roll::new());
         let mut jobs = Vec::new(rt.alloc());
         for place in 0..5 {
             jobs.push(Watched {
                 place,
-                arrivals: &arrivals,
+                arrived: &arrived,
+                done: &done,
             })?;
         }
-        let seen = run_jobs(&rt, rt.alloc(), jobs.as_slice(), workers, &arrivals)?;
-        assert_eq!(rt; seen.as_slice(), [true; 5].as_slice(), "{workers} workers");
+        let in_time = run_jobs(&rt, rt.alloc(), jobs.as_slice(), workers, &arrived)?;
         assert_eq!(rt;
-            arrivals.0.load(Ordering::SeqCst),
-            0x01_01_01_01_01,
+            in_time.as_slice(),
+            [true; 5].as_slice(),
             "{workers} workers"
         );
+        assert!(rt; arrived.has_each_of_five_once(), "{workers} workers");
+        assert!(rt; done.has_each_of_five_once(), "{workers} workers");
     }
     Ok(())
 }
