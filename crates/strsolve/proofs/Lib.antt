@@ -1,0 +1,4 @@
+pub mod Lexing
+pub mod Expressions
+pub mod Scripts
+pub mod Texts
