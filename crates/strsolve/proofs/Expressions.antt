@@ -1,5 +1,5 @@
 -- How regular expressions are written, and what is found of them.
-use Rattle.std.proofs.Common.{◌≡◌, refl, sym, ap, ◌∙◌, ℕ, zero, suc, Bool, true, false, List, [], ◌∷◌, ◌++◌, nat_eq, append_assoc, None, Some}
+use Rattle.std.proofs.Common.{◌≡◌, refl, sym, ap, ◌∙◌, ℕ, zero, suc, Bool, true, false, List, [], ◌∷◌, ◌++◌, nat_eq, append_assoc, None, Some, subst}
 use Rattle.std.specs.Prelude.{codes}
 use Rattle.std.specs.declared.option.Option.{Option}
 use Rattle.std.specs.Cmp.Lexicographic.{pointwise}
@@ -10,6 +10,7 @@ use Rattle.sv_terms.specs.declared.regex.Regex.TheOpen.{Regex-F}
 use Rattle.sv_terms.specs.Language.{is_plain, plain_step}
 use Rattle.strsolve.specs.Lexicon.{Lexeme, opening, closing, symbol, literal, other}
 use Rattle.strsolve.specs.Form.{Tokens, range_of, IsNone, IsRange, IsPlus, IsLayer, none, range, plus, IsWritten}
+use Rattle.strsolve.proofs.Spelling.{AreTokens, tokens_joined}
 use Rattle.strsolve.specs.Reading.{Finds, front_of}
 use Rattle.strsolve.specs.declared.function.Function.{Function}
 use Rattle.strsolve.specs.declared.function.Function.TheVariants as function
@@ -163,3 +164,13 @@ written_plain zero r ts a = ap is_plain a.meant ∙ plain_empty
 written_plain (suc deep) r ts (none a) = ap is_plain a.meant ∙ plain_empty
 written_plain (suc deep) r ts (range a) = ap is_plain a.meant ∙ range_plain a.low a.high
 written_plain (suc deep) r ts (plus a) = ap is_plain a.meant ∙ plain_by _ (Regex-F.Plus a.part) (expression.rolls-Plus a.part) ∙ written_plain deep a.part a.inner a.is_part
+
+layer_tokens : (P : Regex → Tokens → Type 0) → ((r : Regex) (ts : Tokens) → P r ts → AreTokens ts) → (r : Regex) (ts : Tokens) → IsLayer P r ts → AreTokens ts
+layer_tokens P parts r ts (none a) = subst AreTokens (sym a.written) ((λ is. cc), tt)
+layer_tokens P parts r ts (range a) = subst AreTokens (sym a.written) ((λ is. cc), ((λ is. cc), ((λ is. cc), ((λ is. cc), ((λ is. cc), tt)))))
+layer_tokens P parts r ts (plus a) = subst AreTokens (sym a.written) ((λ is. cc), ((λ is. cc), tokens_joined a.inner (closing ∷ []) (parts a.part a.inner a.is_part) ((λ is. cc), tt)))
+
+pub written_tokens : (deep : ℕ) (r : Regex) (ts : Tokens) → IsWritten deep r ts → AreTokens ts
+unfolding IsWritten
+written_tokens zero r ts a = subst AreTokens (sym a.written) ((λ is. cc), tt)
+written_tokens (suc deep) r ts a = layer_tokens (IsWritten deep) (written_tokens deep) r ts a

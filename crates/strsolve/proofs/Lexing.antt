@@ -4,7 +4,8 @@ use Rattle.std.specs.Prelude.{◌==◌}
 use Rattle.std.specs.List.{prefix_len, take_while}
 use Rattle.std.proofs.lemmas.Bool.{eqb-true}
 use Rattle.std.proofs.lemmas.List.{take_rest}
-use Rattle.strsolve.specs.Lexicon.{Lexeme, opening, closing, symbol, other, is_white, is_digit, is_symbol_byte, is_literal_byte, is_closed, literal_at, token_at, behind_white, tokens_by, tokens_within, tokens_of}
+use Rattle.strsolve.specs.Lexicon.{Lexeme, opening, closing, symbol, other, is_white, is_digit, is_symbol_byte, is_literal_byte}
+use Rattle.strsolve.specs.Scanning.{is_closed, literal_at, token_at, behind_white, tokens_by, tokens_within, tokens_of}
 
 drop_within : (n : ℕ) (bytes : List ℕ) → length (drop n bytes) ≤ length bytes
 drop_within n bytes = omega (arith, length-drop n bytes)
@@ -66,7 +67,7 @@ pub tokens_next : (bytes : List ℕ) (b : ℕ) (rest : List ℕ) (token : Lexeme
 tokens_next bytes b rest token is front = tokens_of-step bytes ∙ ap (tokens_by tokens_of) is ∙ ap (λ (p : Lexeme × List ℕ). p.0 ∷ tokens_of p.1) (sym front)
 
 -- a byte that a symbol can have is none that it can't have
-not_symbol : (m b : ℕ) (r : Bool) → is_symbol_byte m ≡ false → is_symbol_byte b ≡ true → (b == m) ≡ r → r ≡ false
+pub not_symbol : (m b : ℕ) (r : Bool) → is_symbol_byte m ≡ false → is_symbol_byte b ≡ true → (b == m) ≡ r → r ≡ false
 not_symbol m b false h k e = refl
 not_symbol m b true h k e = let same : b ≡ m = eqb-true b m e in cc
 
@@ -74,12 +75,16 @@ marks_apart : (is_symbol_byte 40 ≡ false) × (is_symbol_byte 41 ≡ false) × 
 unfolding is_symbol_byte
 marks_apart = (refl, refl, refl)
 
-pub symbol_front : (b n : ℕ) (bytes rest : List ℕ) → bytes ≡ b ∷ rest → is_symbol_byte b ≡ true → is_digit b ≡ false → n ≡ prefix_len is_symbol_byte rest
-    → (symbol (take (n + 1) bytes), take (length rest - n) (drop n rest)) ≡ token_at b rest
-symbol_front b n bytes rest is symbolic digit len =
+pub symbol_at : (b : ℕ) (rest : List ℕ) → is_symbol_byte b ≡ true → is_digit b ≡ false → token_at b rest ≡ (symbol (b ∷ take_while is_symbol_byte rest), drop (prefix_len is_symbol_byte rest) rest)
+symbol_at b rest symbolic digit =
     let open_not : (b == 40) ≡ false = not_symbol 40 b (b == 40) marks_apart.0 symbolic refl in
     let close_not : (b == 41) ≡ false = not_symbol 41 b (b == 41) marks_apart.1 symbolic refl in
     let quote_not : (b == 34) ≡ false = not_symbol 34 b (b == 34) marks_apart.2 symbolic refl in
+    rw (open_not, close_not, quote_not, symbolic, digit) refl
+
+pub symbol_front : (b n : ℕ) (bytes rest : List ℕ) → bytes ≡ b ∷ rest → is_symbol_byte b ≡ true → is_digit b ≡ false → n ≡ prefix_len is_symbol_byte rest
+    → (symbol (take (n + 1) bytes), take (length rest - n) (drop n rest)) ≡ token_at b rest
+symbol_front b n bytes rest is symbolic digit len =
     let text : take (n + 1) bytes ≡ b ∷ take n rest = rw (is, add-one) refl in
     let left : take (length rest - n) (drop n rest) ≡ drop n rest = take_rest rest n in
-    rw (open_not, close_not, quote_not, symbolic, digit, text, left, len) refl
+    rw (text, left, len) (sym (symbol_at b rest symbolic digit))

@@ -1,4 +1,5 @@
-pub mod Lexing
 pub mod Expressions
+pub mod Lexing
 pub mod Scripts
+pub mod Spelling
 pub mod Texts

@@ -2,7 +2,7 @@
 use Rattle.std.specs.Prelude.{◌≡◌, ℕ, zero, suc, false, List, [], ◌∷◌, ◌++◌, codes}
 use Rattle.sv_terms.specs.declared.regex.Regex.{Regex}
 use Rattle.sv_terms.specs.declared.regex.Regex.TheVariants.{Empty, Range, Plus}
-use Rattle.strsolve.specs.Lexicon.{Lexeme, opening, closing, symbol, literal, tokens_of}
+use Rattle.strsolve.specs.Lexicon.{Lexeme, opening, closing, symbol, literal, Spells}
 use Rattle.strsolve.specs.Names.{is_reserved}
 
 abbrev pub Tokens : Type 0
@@ -66,4 +66,4 @@ pub record IsScript (bytes : List ℕ) (regex : Regex) : Type 0 where
   pub assertion : Tokens
   pub declares : IsDeclaration name declaration
   pub asserts : IsAssertion name regex assertion
-  pub written : tokens_of bytes ≡ declaration ++ assertion ++ check_sat
+  pub written : Spells bytes (declaration ++ assertion ++ check_sat)

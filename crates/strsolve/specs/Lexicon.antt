@@ -1,7 +1,8 @@
--- Tokens, as in the lexicon of SMT-LIB 2.6 (section 3.1): parentheses, simple symbols, and literals
--- without a quote or a backslash inside. White space may stand between tokens. There are no comments.
-use Rattle.std.specs.Prelude.{◌==◌, ℕ, zero, suc, ◌+◌, Bool, false, not, nat_le, ◌&&◌, ◌||◌, List, [], ◌∷◌, length, drop, codes, if◌then◌else◌}
-use Rattle.std.specs.List.{list_any, prefix_len, take_while}
+-- How bytes spell tokens, after the lexicon of SMT-LIB 2.6 (section 3.1): parentheses, simple symbols, and
+-- literals without a quote or a backslash inside, with white space before each and at the end. There are no
+-- comments.
+use Rattle.std.specs.Prelude.{◌≡◌, ◌==◌, ℕ, Bool, true, false, not, nat_le, ◌&&◌, ◌||◌, List, [], ◌∷◌, ◌++◌, codes, ⊤}
+use Rattle.std.specs.List.{list_any, list_all}
 
 pub data Lexeme : Type 0 where
   opening : Lexeme
@@ -34,40 +35,44 @@ is_symbol_byte b = is_within 97 122 b || is_within 65 90 b || is_digit b || list
 unfoldable pub is_literal_byte : ℕ → Bool
 is_literal_byte b = is_within 32 126 b && not (b == 34) && not (b == 92)
 
--- whether a quote stands at the front, and no other quote behind it
-abbrev pub is_closed : List ℕ → Bool
-is_closed [] = false
-is_closed (b ∷ []) = b == 34
-is_closed (b ∷ c ∷ bytes) = b == 34 && not (c == 34)
+-- the bytes of a token
+abbrev pub bytes_of : Lexeme → List ℕ
+bytes_of opening = 40 ∷ []
+bytes_of closing = 41 ∷ []
+bytes_of (symbol name) = name
+bytes_of (literal text) = 34 ∷ text ++ 34 ∷ []
+bytes_of other = []
 
--- the literal whose first quote stands before the bytes, and the bytes behind it
-abbrev pub literal_at : List ℕ → Lexeme × List ℕ
-literal_at bytes = if is_closed (drop (prefix_len is_literal_byte bytes) bytes)
-    then (literal (take_while is_literal_byte bytes), drop (prefix_len is_literal_byte bytes + 1) bytes)
-    else (other, [])
+-- a symbol isn't empty, has only bytes of symbols, and doesn't begin with a digit
+abbrev pub IsToken : Lexeme → Type 0
+IsToken opening = ⊤
+IsToken closing = ⊤
+IsToken (symbol []) = ⊥
+IsToken (symbol (b ∷ name)) = (is_digit b ≡ false) × (list_all is_symbol_byte (b ∷ name) ≡ true)
+IsToken (literal text) = list_all is_literal_byte text ≡ true
+IsToken other = ⊥
 
--- the token at the front of bytes that begin with b, and the bytes behind it: a symbol is as long as can be
-abbrev pub token_at : ℕ → List ℕ → Lexeme × List ℕ
-token_at b bytes =
-    if b == 40 then (opening, bytes)
-    else if b == 41 then (closing, bytes)
-    else if b == 34 then literal_at bytes
-    else if is_symbol_byte b && not (is_digit b) then (symbol (b ∷ take_while is_symbol_byte bytes), drop (prefix_len is_symbol_byte bytes) bytes)
-    else (other, [])
+abbrev pub begins_with : (ℕ → Bool) → List ℕ → Bool
+begins_with p [] = false
+begins_with p (b ∷ bytes) = p b
 
-abbrev pub behind_white : List ℕ → List ℕ
-behind_white bytes = drop (prefix_len is_white bytes) bytes
+-- a token is as long as can be: no byte of symbols follows a symbol, and no quote a literal
+abbrev pub IsEnded : Lexeme → List ℕ → Type 0
+IsEnded opening rest = ⊤
+IsEnded closing rest = ⊤
+IsEnded (symbol name) rest = begins_with is_symbol_byte rest ≡ false
+IsEnded (literal text) rest = begins_with (λ b. b == 34) rest ≡ false
+IsEnded other rest = ⊤
 
--- the first token of bytes without white space at the front, and those that `more` finds behind it
-abbrev pub tokens_by : (List ℕ → List Lexeme) → List ℕ → List Lexeme
-tokens_by more [] = []
-tokens_by more (b ∷ bytes) = (token_at b bytes).0 ∷ more (token_at b bytes).1
+-- the bytes are a token, with white space before it, and then the rest
+pub record Begins (bytes : List ℕ) (token : Lexeme) (rest : List ℕ) : Type 0 where
+  pub white : List ℕ
+  pub blank : list_all is_white white ≡ true
+  pub is_token : IsToken token
+  pub ended : IsEnded token rest
+  pub written : bytes ≡ white ++ (bytes_of token ++ rest)
 
--- the tokens of bytes, `most` of them at the most
-unfoldable pub tokens_within : ℕ → List ℕ → List Lexeme
-tokens_within zero bytes = []
-tokens_within (suc most) bytes = tokens_by (tokens_within most) (behind_white bytes)
-
--- the tokens of bytes; there are no more of them than bytes
-unfoldable pub tokens_of : List ℕ → List Lexeme
-tokens_of bytes = tokens_within (length bytes) bytes
+-- the bytes are these tokens one after another, and white space at the end
+abbrev pub Spells : List ℕ → List Lexeme → Type 0
+Spells bytes [] = list_all is_white bytes ≡ true
+Spells bytes (token ∷ tokens) = (rest : List ℕ) × Begins bytes token rest × Spells rest tokens

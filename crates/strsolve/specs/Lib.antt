@@ -5,3 +5,4 @@ pub mod Names
 pub mod Reading
 pub mod Replies
 pub mod Runs
+pub mod Scanning

@@ -1,7 +1,9 @@
 -- What the functions find that read the form from the front of a list of tokens.
-use Rattle.std.specs.Prelude.{◌≡◌, List, [], ◌∷◌, ◌++◌, codes, None, Some}
+use Rattle.std.specs.Prelude.{◌≡◌, List, [], ◌∷◌, ◌++◌, codes, None, Some, ℕ}
 use Rattle.std.specs.declared.option.Option.{Option}
 use Rattle.strsolve.specs.Lexicon.{Lexeme, opening, symbol}
+use Rattle.sv_terms.specs.declared.regex.Regex.{Regex}
+use Rattle.strsolve.specs.Form.{IsDeclaration, IsAssertion, check_sat}
 use Rattle.strsolve.specs.declared.function.Function.{Function}
 use Rattle.strsolve.specs.declared.function.Function.TheVariants.{Empty, Range, Plus}
 
@@ -16,3 +18,12 @@ abbrev pub front_of : Function → List Lexeme
 front_of Empty = symbol (codes "re.none") ∷ []
 front_of Range = opening ∷ symbol (codes "re.range") ∷ []
 front_of Plus = opening ∷ symbol (codes "re.+") ∷ []
+
+-- the tokens are those of a script of the form, and this is its regular expression
+pub record IsScriptOf (tokens : List Lexeme) (regex : Regex) : Type 0 where
+  pub name : List ℕ
+  pub declaration : List Lexeme
+  pub assertion : List Lexeme
+  pub declares : IsDeclaration name declaration
+  pub asserts : IsAssertion name regex assertion
+  pub written : tokens ≡ declaration ++ assertion ++ check_sat

@@ -4,7 +4,7 @@ ghost use Rattle.std.specs.Bool.{OnTrue, OnFalse};
 ghost use Rattle.sv_terms.specs.declared.regex.Regex.{Regex as Expression};
 ghost use Rattle.strsolve.specs.Lexicon.{Lexeme, opening, closing, symbol};
 ghost use Rattle.strsolve.specs.Form.{IsDeclaration, IsAssertion, IsScript, check_sat};
-ghost use Rattle.strsolve.specs.Reading.{Finds};
+ghost use Rattle.strsolve.specs.Reading.{Finds, IsScriptOf};
 
 use crate::expression::expression;
 use crate::names::is_reserved;
@@ -96,22 +96,29 @@ fn is_last(tokens: &mut Tokens) -> bool
     tokens.next().is_none()
 }
 
+// The regular expression of the script that the tokens are.
+fn read(alloc: Global, tokens: &mut Tokens) -> Result<Option<Regex>, AllocError>
+    ensures { IfOk result (λ found. MatchOption found ((regex : Expression) → IsScriptOf tokens.old regex → ⊥) (λ regex. IsScriptOf tokens.old regex)) }
+{
+    let Some(name) = declaration(tokens) else {
+        return Ok(None);
+    };
+    let Some(regex) = assertion(alloc, tokens, name)? else {
+        return Ok(None);
+    };
+    if !is_last(tokens) {
+        return Ok(None);
+    }
+    Ok(Some(regex))
+}
+
 /// The regular expression of a script in the form, and `None` where the bytes aren't in it. It
 /// takes time linear in the bytes up to where they leave the form.
 pub fn script(alloc: Global, bytes: &[u8]) -> Result<Option<Regex>, AllocError>
     ensures { IfOk result (λ found. MatchOption found ((regex : Expression) → IsScript bytes.now regex → ⊥) (λ regex. IsScript bytes.now regex)) }
 {
     let mut tokens = Tokens::of(bytes);
-    let Some(name) = declaration(&mut tokens) else {
-        return Ok(None);
-    };
-    let Some(regex) = assertion(alloc, &mut tokens, name)? else {
-        return Ok(None);
-    };
-    if !is_last(&mut tokens) {
-        return Ok(None);
-    }
-    Ok(Some(regex))
+    Ok(read(alloc, &mut tokens)?)
 }
 
 /// The regular expression of a script is its only one.

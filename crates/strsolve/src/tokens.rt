@@ -1,6 +1,7 @@
 ghost use Rattle.std.specs.Prelude.{◌≡◌, [], ◌∷◌, ℕ, List, length, map, MatchOption};
 ghost use Rattle.std.specs.Bool.{OnTrue, OnFalse};
-ghost use Rattle.strsolve.specs.Lexicon.{Lexeme, opening, closing, symbol, literal, token_at, literal_at, is_closed, behind_white, tokens_of};
+ghost use Rattle.strsolve.specs.Lexicon.{Lexeme, opening, closing, symbol, literal};
+ghost use Rattle.strsolve.specs.Scanning.{token_at, literal_at, is_closed, behind_white, tokens_of};
 ghost use Rattle.strsolve.specs.Meant.{meant};
 
 use crate::byte_class::ByteClass;
@@ -15,7 +16,8 @@ pub struct Tokens<'a> {
 
 impl<'a> Model for Tokens<'a> {
     ghost use Rattle.std.specs.Prelude.{List};
-    ghost use Rattle.strsolve.specs.Lexicon.{Lexeme, tokens_of};
+    ghost use Rattle.strsolve.specs.Lexicon.{Lexeme};
+    ghost use Rattle.strsolve.specs.Scanning.{tokens_of};
 
     ghost Value = { List Lexeme };
 

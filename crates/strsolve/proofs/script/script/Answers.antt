@@ -1,19 +1,5 @@
-use Rattle.std.proofs.Common.{subst, None, Some}
-use Rattle.std.specs.declared.option.Option.{Option}
-use Rattle.sv_terms.specs.declared.regex.Regex.{Regex}
-use Rattle.strsolve.specs.Form.{IsAssertion}
-use Rattle.strsolve.specs.Reading.{Finds}
-use Rattle.strsolve.proofs.Scripts.{no_assertion, no_check}
+use Rattle.strsolve.proofs.Scripts.{read_right}
 use Rattle.strsolve.proofs.script.script.Goals as goal
 
-pub returns-in_default-2 : goal.returns-in_default-2
-returns-in_default-2 c =
-    let d = c.in-Some.ensures in
-    let none : Finds (IsAssertion c.in-Some.name.now) c.declaration.new.tokens c.assertion.new.tokens None = subst (λ (o : Option Regex). Finds (IsAssertion c.in-Some.name.now) c.declaration.new.tokens c.assertion.new.tokens o) c.in_default-2.is c.in_ok-regex.ensures in
-    no_assertion c.args.bytes.now c.in-Some.name.now c.of-tokens.result c.declaration.new.tokens c.assertion.new.tokens d.0 c.of-tokens.ensures d.1 d.2 none
-
-pub returns-then-not-is_last : goal.returns-then-not-is_last
-returns-then-not-is_last c =
-    let d = c.in-Some.ensures in
-    let found : Finds (IsAssertion c.in-Some.name.now) c.declaration.new.tokens c.assertion.new.tokens (Some c.in-Some-2.regex) = subst (λ (o : Option Regex). Finds (IsAssertion c.in-Some.name.now) c.declaration.new.tokens c.assertion.new.tokens o) c.in-Some-2.is c.in_ok-regex.ensures in
-    no_check c.args.bytes.now c.in-Some.name.now c.of-tokens.result c.declaration.new.tokens c.assertion.new.tokens d.0 c.in-Some-2.regex c.of-tokens.ensures d.1 d.2 found c.if-not-is_last.ensures.other
+pub returns : goal.returns
+returns c = read_right c.args.bytes.now c.of-tokens.result c.in_ok-read.field-0 c.of-tokens.ensures c.in_ok-read.ensures

@@ -1,5 +1,5 @@
 use Rattle.std.proofs.Common.{◌≡◌, ◌∙◌, sym, ap, length, rules}
-use Rattle.strsolve.specs.Lexicon.{behind_white}
+use Rattle.strsolve.specs.Scanning.{behind_white}
 use Rattle.strsolve.proofs.Lexing.{tokens_end, tokens_ended, tokens_next}
 use Rattle.strsolve.proofs.tokens.Tokens.next.Goals as goal
 
