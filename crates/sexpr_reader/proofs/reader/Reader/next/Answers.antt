@@ -2,5 +2,5 @@ use Rattle.std.proofs.Common.{false}
 use Rattle.sexpr_reader.proofs.Nexts.{answers_of}
 use Rattle.sexpr_reader.proofs.reader.Reader.next.Goals as goal
 
-pub returns-clause-answers : goal.returns-clause-answers
-returns-clause-answers c = λ bytes given s. answers_of c.read_on.new.self bytes given c.read_on.result (c.read_on.ensures.steps false bytes given s) c.read_on.ensures.all c.read_on.ensures.start
+pub returns : goal.returns
+returns c = record { answers = λ bytes given s. answers_of c.read_on.new.self bytes given c.read_on.result (c.read_on.ensures.steps false bytes given s) c.read_on.ensures.all c.read_on.ensures.start }
