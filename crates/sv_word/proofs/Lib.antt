@@ -10,3 +10,4 @@ pub mod ReadLemmas
 pub mod SameLemmas
 pub mod SearchLemmas
 pub mod Slices
+pub mod Utf8Lemmas

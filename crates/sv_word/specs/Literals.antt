@@ -27,11 +27,11 @@ close_brace = 0x7D
 abbrev pub hex_len : List ℕ → ℕ
 hex_len bs = prefix_len is_ascii_hexdigit bs
 
--- `\u` and four digits: the character, and the number of bytes with the first two
+-- `\u` and four digits: the character, and the number of bytes of the whole escape
 abbrev pub four_digits : List ℕ → Option (ℕ × ℕ)
 four_digits bs = if nat_le 4 (hex_len bs) then Some (digits_value 16 (take 4 bs), 6) else None
 
--- `\u{`, one to five digits that write a character, and `}`: the character, and the number of bytes with the first three
+-- `\u{`, one to five digits that write a character, and `}`: the character, and the number of bytes of the whole escape
 abbrev pub braced_digits : List ℕ → Option (ℕ × ℕ)
 braced_digits bs =
     if is_within 1 5 (hex_len bs) && (slice_index bs (hex_len bs) == close_brace && nat_le (digits_value 16 (take (hex_len bs) bs)) 0x2FFFF)
@@ -42,7 +42,7 @@ abbrev pub number_of : List ℕ → Option (ℕ × ℕ)
 number_of [] = None
 number_of (b ∷ bs) = if b == open_brace then braced_digits bs else four_digits (b ∷ bs)
 
--- what stands behind a backslash, if the two are an escape
+-- what stands behind a backslash: the character, and the number of bytes with the backslash, if they are an escape
 abbrev pub escape_of : List ℕ → Option (ℕ × ℕ)
 escape_of [] = None
 escape_of (b ∷ bs) = if b == letter_u then number_of bs else None

@@ -1,5 +1,6 @@
 -- UTF-8 (RFC 3629; the Unicode Standard, table 3-7, well-formed byte sequences).
-use Rattle.std.specs.Prelude.{if◌then◌else◌, ◌==◌, ◌&&◌, ◌+◌, ◌-◌, ◌*◌, ℕ, Bool, nat_le, List, [], ◌∷◌, Option, Some, None}
+use Rattle.std.specs.Char.{IsScalar, encode_utf8}
+use Rattle.std.specs.Prelude.{◌≡◌, ◌≤◌, suc, ◌++◌, length, if◌then◌else◌, ◌==◌, ◌&&◌, ◌+◌, ◌-◌, ◌*◌, ℕ, Bool, nat_le, List, [], ◌∷◌, Option, Some, None}
 
 abbrev pub is_within : ℕ → ℕ → ℕ → Bool
 is_within low high b = nat_le low b && nat_le b high
@@ -37,3 +38,13 @@ code_point a bs =
     else (if is_within 0xF1 0xF3 a then four_bytes 0x80 0xBF a bs
     else (if a == 0xF4 then four_bytes 0x80 0x8F a bs
     else None)))))))
+
+-- the bytes `a` and `bs` begin with the UTF-8 of the code point `c`, `n` bytes long
+pub record BeginsWith (a : ℕ) (bs : List ℕ) (c n : ℕ) : Type 0 where
+  pub scalar : IsScalar c
+  pub high : 0x80 ≤ c
+  pub more : List ℕ
+  pub rest : List ℕ
+  pub written : encode_utf8 c ≡ a ∷ more
+  pub split : bs ≡ more ++ rest
+  pub len : n ≡ suc (length more)

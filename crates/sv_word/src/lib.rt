@@ -4,7 +4,8 @@
 //! A character is a number from 0 to 0x2FFFF, surrogate code points included, and a word is a
 //! list of characters (theory UnicodeStrings of SMT-LIB 2.6). `Word` keeps one in four bytes a
 //! character. `read_literal` gives the word that a string literal stands for, and `print_literal`
-//! the literal of a word; both are linear, and what is printed reads back.
+//! the literal of a word; both are linear, and what is printed reads back. UTF-8 in a literal is
+//! that of the standard library, to the byte.
 //!
 //! `Ranges` is a set of characters, kept as sorted pairs with a gap between any two, so that equal
 //! sets are one value. `meet`, `join` and `complement` are one walk over the pairs, `holds` is a
@@ -35,4 +36,5 @@ pub use pieces::cuts;
 pub use printing::{print_literal, reads_back};
 pub use ranges::Ranges;
 pub use reading::read_literal;
+pub use utf8::reads_utf8;
 pub use word::Word;

@@ -1,4 +1,6 @@
-use crate::{LiteralFault, Ranges, Word, cuts, print_literal, read_literal};
+use crate::{
+    LiteralFault, Ranges, Word, cuts, print_literal, read_literal, reads_back, reads_utf8,
+};
 use std::alloc::{AllocError, Global};
 use std::test::Fail;
 use sv_list::Copied;
@@ -132,6 +134,8 @@ fn words_change(rt: HostRuntime) -> Result<(), Fail> {
     assert_eq!(rt; copy.as_slice(), [0x61].as_slice());
     assert!(rt; copy < word && word < more);
     word.is_word();
+    reads_back(&word);
+    reads_utf8();
     Ok(())
 }
 

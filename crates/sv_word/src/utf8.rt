@@ -1,6 +1,6 @@
 //! UTF-8 from 0x80 on (RFC 3629; the Unicode Standard, table 3-7).
-ghost use Rattle.std.specs.Prelude.{◌≡◌, ◌+◌, ◌-◌, ◌≤◌, length, IfSome};
-ghost use Rattle.sv_word.specs.Utf8.{two_bytes, three_bytes, four_bytes, code_point};
+ghost use Rattle.std.specs.Prelude.{◌≡◌, ◌↔◌, ℕ, List, ◌+◌, ◌-◌, ◌≤◌, length, IfSome};
+ghost use Rattle.sv_word.specs.Utf8.{two_bytes, three_bytes, four_bytes, code_point, BeginsWith};
 
 // The code point at the front of the bytes `a`, at least 0x80, and `more`, with the number of its
 // bytes; `None` where they begin with no UTF-8.
@@ -75,3 +75,9 @@ fn bits(byte: u8, mark: u8) -> u32
 {
     u32::from(byte.saturating_sub(mark))
 }
+
+/// A law: the code points from 0x80 on that are read from bytes are exactly those whose UTF-8 the
+/// bytes begin with.
+pub fn reads_utf8()
+    ensures { (a c n : ℕ) (bs : List ℕ) → (code_point a bs ≡ Some (c, n)) ↔ BeginsWith a bs c n }
+{}
