@@ -3,4 +3,6 @@ pub mod Entries
 pub mod HasWords
 pub mod Adding
 pub mod Plains
-pub mod Words
+pub mod Matching
+pub mod Pairing
+pub mod ValueSorts

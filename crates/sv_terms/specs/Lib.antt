@@ -1,4 +1,10 @@
 pub mod Language
+pub mod Matches
+pub mod Meaning
 pub mod Names
+pub mod OnlyWords
 pub mod Opened
+pub mod Replacement
+pub mod Sorting
+pub mod Transduction
 pub mod Witness

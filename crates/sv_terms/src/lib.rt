@@ -33,7 +33,7 @@ mod witnesses;
 
 pub use entry::{Body, Entry};
 pub use inhabited::has_word;
-pub use laws::words_only;
+pub use laws::{decided, pairs_decided, valued, words_only};
 pub use model::Model;
 pub use name::Name;
 pub use op::Op;

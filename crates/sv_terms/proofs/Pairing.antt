@@ -1,0 +1,76 @@
+-- The test is true exactly of the pairs that a transducer relates.
+use Rattle.std.proofs.Common.{◌≡◌, refl, sym, ap, ◌∙◌, subst, ℕ, zero, suc, ◌≤◌, ◌<◌, List, [], ◌∷◌, ◌++◌, length, drop, get_or, ⊎_elim, ◌⊎◌, inl, inr, IsTrue, ◌↔◌, Bool, true, false, ◌&&◌, ◌||◌, arith, nat_eq, rules, Contains}
+use Rattle.std.specs.Prelude.{nat_le}
+use Rattle.std.specs.List.{list_any}
+use Rattle.std.specs.Cmp.Lexicographic.{pointwise}
+use Rattle.std.proofs.lemmas.Grind.{common_steps}
+use Rattle.sv_terms.specs.Language.{Word}
+use Rattle.sv_terms.specs.Replacement.{begins}
+use Rattle.sv_terms.specs.declared.transducer.Transducer.{Transducer}
+use Rattle.sv_terms.proofs.Matching.{and_both, and_make, or_one, or_left, or_right, le_of, of_le}
+use Rattle.sv_terms.specs.Transduction.{written_at, Writes, at_end, at_move, writes, Pairs}
+
+Contains-later : {X : Type 0} (y x : X) (xs : List X) → Contains xs x → Contains (y ∷ xs) x
+Contains-later y x xs c = (suc c.0, omega (arith, c.1), c.2)
+
+any_some : {X : Type 0} (p : X → Bool) (xs : List X) → IsTrue (list_any p xs) → (x : X) × Contains xs x × IsTrue (p x)
+any_some p [] h = cc
+any_some {X} p (y ∷ xs) h =
+    let here : IsTrue (p y) → (x : X) × Contains (y ∷ xs) x × IsTrue (p x) = λ a. (y, (0, omega arith, refl), a) in
+    let later : IsTrue (list_any p xs) → (x : X) × Contains (y ∷ xs) x × IsTrue (p x) = λ a. let k = any_some p xs a in (k.0, Contains-later y k.0 xs k.1, k.2) in
+    ⊎_elim here later (or_one _ _ h)
+
+some_any : {X : Type 0} (p : X → Bool) (xs : List X) (x : X) (k : ℕ) → k < length xs → get_or xs k x ≡ x → IsTrue (p x) → IsTrue (list_any p xs)
+some_any p [] x k h e a = absurd (omega arith)
+some_any p (y ∷ xs) x zero h e a = or_left _ _ (subst (λ z. IsTrue (p z)) (sym e) a)
+some_any p (y ∷ xs) x (suc k) h e a = or_right _ _ (some_any p xs x k (omega arith) e a)
+
+word_is : (v w : Word) → IsTrue (pointwise nat_eq v w) → v ≡ w
+word_is v w h = search (rules, h)
+
+is_word : (v w : Word) → v ≡ w → IsTrue (pointwise nat_eq v w)
+is_word v w e = search (rules, e)
+
+num_is : (a b : ℕ) → IsTrue (nat_eq a b) → a ≡ b
+num_is a b h = search (rules, h)
+
+is_num : (a b : ℕ) → a ≡ b → IsTrue (nat_eq a b)
+is_num a b e = search (rules, e)
+
+begins_is : (p w : Word) → IsTrue (begins p w) → w ≡ p ++ drop (length p) w
+begins_is [] w h = grind (arith, common_steps)
+begins_is (c ∷ p) [] h = cc
+begins_is (c ∷ p) (d ∷ w) h = let a = and_both (nat_eq c d) (begins p w) h in let e = begins_is p w a.1 in let g = num_is c d a.0 in cc
+
+begins_front : (p v : Word) → IsTrue (begins p (p ++ v))
+begins_front [] v = refl
+begins_front (c ∷ p) v = and_make (nat_eq c c) (begins p (p ++ v)) (is_num c c refl) (begins_front p v)
+
+drop_front : (p v : Word) → drop (length p) (p ++ v) ≡ v
+drop_front [] v = grind (arith, common_steps)
+drop_front (c ∷ p) v = drop_front p v
+
+writes_to : (t : Transducer) (s : ℕ) (r w : Word) → IsTrue (writes t s r w) → Writes t s r w
+writes_to t s [] w h =
+    let k = any_some (λ e. nat_eq e.0 s && pointwise nat_eq e.1 w) t.ends h in
+    let a = and_both (nat_eq k.0.0 s) (pointwise nat_eq k.0.1 w) k.2 in
+    let e : k.0 ≡ (s, w) = let n : k.0.0 ≡ s = num_is k.0.0 s a.0 in let m : k.0.1 ≡ w = word_is k.0.1 w a.1 in λ i. (n i, m i) in
+    at_end (subst (λ z. Contains t.ends z) e k.1)
+writes_to t s (c ∷ r) w h =
+    let k = any_some (λ e. nat_eq e.from s && nat_le e.lo c && nat_le c e.hi && begins (written_at c e.items) w && writes t e.to r (drop (length (written_at c e.items)) w)) t.edges h in
+    let a = and_both _ _ k.2 in
+    let b = and_both _ _ a.0 in
+    let d = and_both _ _ b.0 in
+    let f = and_both _ _ d.0 in
+    at_move k.0 (k.1, num_is _ _ f.0, le_of _ _ f.1, le_of _ _ d.1) (writes_to t k.0.to r _ a.1) (begins_is _ _ b.1)
+
+writes_from : (t : Transducer) (s : ℕ) (r w : Word) → Writes t s r w → IsTrue (writes t s r w)
+writes_from t s r w (at_end c) = some_any _ t.ends (s, w) c.0 c.1 c.2 (and_make _ _ (is_num s s refl) (is_word w w refl))
+writes_from t s r w (at_move {c = c} {r = r1} {rest = rest} e m x g) =
+    let p = written_at c e.items in
+    let tail : IsTrue (writes t e.to r1 (drop (length p) w)) = subst (λ z. IsTrue (writes t e.to r1 z)) (sym (ap (drop (length p)) g ∙ drop_front p rest)) (writes_from t e.to r1 rest x) in
+    let front : IsTrue (begins p w) = subst (λ z. IsTrue (begins p z)) (sym g) (begins_front p rest) in
+    some_any _ t.edges e m.0.0 m.0.1 m.0.2 (and_make _ _ (and_make _ _ (and_make _ _ (and_make _ _ (is_num _ _ m.1) (of_le _ _ m.2)) (of_le _ _ m.3)) front) tail)
+
+pub writes-Pairs : (t : Transducer) (r w : Word) → IsTrue (writes t t.start r w) ↔ Pairs t r w
+writes-Pairs t r w = (writes_to t t.start r w, writes_from t t.start r w)
