@@ -1,5 +1,3 @@
-ghost use Rattle.std.specs.Prelude.{pos, ◌≤ℤ◌};
-
 use crate::{Cutter, Net, NetEdge, System, Tree, closes};
 use std::alloc::{AllocError, Global};
 use std::test::Fail;
@@ -205,19 +203,22 @@ fn set_splits(rt: HostRuntime) -> Result<(), Fail> {
     Ok(())
 }
 
-/// A tree of 2,000 splits that leans to the low side at each `period`th of them, else to the high side.
-fn leaning_tree(alloc: Global, period: i128) -> Result<Tree, Fail>
-    requires { pos 1 ≤ℤ period }
-{
+/// A tree of 2,000 splits that leans to the low side or to the high side, at even and at odd depths.
+fn leaning_tree(alloc: Global, low_at_even: bool, low_at_odd: bool) -> Result<Tree, Fail> {
     let mut tree = farkas(alloc, [(0, 1), (1, 0), (2000, 0)].as_slice())?;
-    for at in 0..2000 {
+    for depth in 0..2000u32 {
         let leaf = farkas(alloc, [(0, 1)].as_slice())?;
-        let (low, high) = if at % period == 0 {
+        let leans_low = if depth % 2 == 0 {
+            low_at_even
+        } else {
+            low_at_odd
+        };
+        let (low, high) = if leans_low {
             (tree, leaf)
         } else {
             (leaf, tree)
         };
-        tree = split(alloc, 0, at, low, high)?;
+        tree = split(alloc, 0, i128::from(depth), low, high)?;
     }
     Ok(tree)
 }
@@ -227,9 +228,9 @@ fn deep_trees(rt: HostRuntime) -> Result<(), Fail> {
     let alloc = rt.alloc();
     let never = [(RowKind::Le, 1, 0, 0)];
     let system = system_of(alloc, 1, rows_of(alloc, never.as_slice())?);
-    for period in [1, 2, 5000] {
-        let tree = leaning_tree(alloc, period)?;
-        assert!(rt; closes(&system, &tree), "{period}");
+    for (even, odd) in [(true, true), (true, false), (false, false)] {
+        let tree = leaning_tree(alloc, even, odd)?;
+        assert!(rt; closes(&system, &tree), "{even} {odd}");
     }
     Ok(())
 }
