@@ -6,6 +6,9 @@ ghost use Rattle.farkas_check.specs.Fitting.{LeafFits};
 use crate::leaf::{Leaf, is_multiple};
 use sv_linear::Column;
 
+/// The least number that the coefficients of a sum may be divided by.
+const LEAST_DIVISOR: i128 = 2;
+
 /// Whether the multiplied rows add up to a constant above 0.
 pub fn is_farkas(leaf: &Leaf) -> bool
     ensures { IsTrue result ↔ (FarkasRule (leaf_rows leaf.now) leaf.now.multipliers.now × LeafFits (leaf_rows leaf.now) leaf.now.multipliers.now) }
@@ -26,7 +29,7 @@ pub fn is_farkas(leaf: &Leaf) -> bool
 pub fn is_divisor(leaf: &Leaf, divisor: i128) -> bool
     ensures { IsTrue result ↔ (DivisorRule (leaf_rows leaf.now) leaf.now.multipliers.now divisor × LeafFits (leaf_rows leaf.now) leaf.now.multipliers.now) }
 {
-    if divisor < 2 {
+    if divisor < LEAST_DIVISOR {
         return false;
     }
     if !leaf.has_equations() {

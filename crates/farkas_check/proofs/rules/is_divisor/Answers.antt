@@ -34,7 +34,7 @@ returns-in-Some c =
     let by = to_z-of_z w128 c.args.divisor c.ranges.divisor in
     let all = rw by at c.are_multiples.ensures in
     let e = rw (to_z-of_z w128 _ fits, by) at c.is_multiple.ensures in
-    let two : pos 2 ≤ℤ c.args.divisor = omega (arith, ints, c.if-divisor-lt2.false) in
+    let two : pos 2 ≤ℤ c.args.divisor = omega (arith, ints, c.if-divisor-lt-LEAST_DIVISOR.false) in
     divisor_told rows c.args.leaf.now.multipliers.now c.args.divisor _ equations two (all.0 c.if-not-are_multiples.false) c.in-Some.ensures.0
     (λ t d. not_both c.is_multiple.result t (e.1 (subst (Divides c.args.divisor) (sym c.in-Some.ensures.1) d)))
     (λ n. must_not c.is_multiple.result (λ t. n (subst (Divides c.args.divisor) c.in-Some.ensures.1 (e.0 t))))
