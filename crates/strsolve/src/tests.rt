@@ -161,7 +161,7 @@ fn other_forms_are_refused(rt: HostRuntime) -> Result<(), Fail> {
 #[test]
 fn faults_are_told(rt: HostRuntime) -> Result<(), Fail> {
     let alloc = rt.alloc();
-    for call in [0, 1, 2, 5] {
+    for call in [0, 1, 2, 3, 4, 5] {
         let outcome = run_over(&rt, alloc, FIRST, 20, (&[call], &[]), 3, b"")?;
         assert_eq!(rt; outcome.log.as_slice().len(), 0);
     }
