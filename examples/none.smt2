@@ -1,0 +1,3 @@
+(declare-const input String)
+(assert (str.in_re input (re.+ re.none)))
+(check-sat)
