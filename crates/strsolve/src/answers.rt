@@ -6,17 +6,16 @@ use crate::log::Log;
 use crate::reply::{ErrorKind, Reply};
 use crate::script::script;
 use std::alloc::{AllocError, Global};
-use sv_terms::{Regex, has_word};
+use sv_terms::{Regex, witness};
 
 // Whether the constant can have a value.
-fn verdict(regex: &Regex) -> Reply
+fn verdict(alloc: Global, regex: &Regex) -> Result<Reply, AllocError>
     requires { IsTrue (is_plain regex.now) }
-    ensures { IsVerdict regex.now result }
+    ensures { IfOk result (IsVerdict regex.now) }
 {
-    if has_word(regex) {
-        Reply::Sat
-    } else {
-        Reply::Unsat
+    match witness(alloc, regex)? {
+        Some(_) => Ok(Reply::Sat),
+        None => Ok(Reply::Unsat),
     }
 }
 
@@ -31,6 +30,6 @@ pub fn answers(alloc: Global, bytes: &[u8]) -> Result<Log, AllocError>
     };
     log.push(Reply::Success { printed: false })?;
     log.push(Reply::Success { printed: false })?;
-    log.push(verdict(&regex))?;
+    log.push(verdict(alloc, &regex)?)?;
     Ok(log)
 }

@@ -1,6 +1,5 @@
 pub mod Declaring
 pub mod Entries
-pub mod HasWords
 pub mod Adding
 pub mod Plains
 pub mod Matching

@@ -15,7 +15,6 @@
 #![tactic(auto)]
 
 mod entry;
-mod inhabited;
 mod laws;
 mod model;
 mod name;
@@ -32,7 +31,6 @@ mod value;
 mod witnesses;
 
 pub use entry::{Body, Entry};
-pub use inhabited::has_word;
 pub use laws::{decided, pairs_decided, valued, words_only};
 pub use model::Model;
 pub use name::Name;

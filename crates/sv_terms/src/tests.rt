@@ -1,7 +1,7 @@
 //! Witnesses, names, models, terms and symbols at concrete values.
 use crate::{
     Entry, Item, Model, Name, Op, Regex, Sort, Symbols, Term, TransEdge, Transducer, Value,
-    has_word, witness, words_only,
+    witness, words_only,
 };
 use std::alloc::{AllocError, Global};
 use std::test::Fail;
@@ -78,7 +78,6 @@ fn witnesses_of_plain_forms(rt: HostRuntime) -> Result<(), Fail> {
     ]?;
     for (regex, expected) in &rows {
         assert!(rt; regex.is_plain());
-        assert_eq!(rt; has_word(regex), expected.is_some(), "{regex:?}");
         let expected = match expected {
             Some(text) => Some(word(alloc, text)?),
             None => None,
