@@ -1,0 +1,7 @@
+use Rattle.std.proofs.Common.{◌≡◌, reverse, ap, sym, ◌∙◌}
+use Rattle.assert_stack.specs.Levels.{symbols_of}
+use Rattle.assert_stack.proofs.LevelLemmas.{symbols-at}
+use Rattle.assert_stack.proofs.stack.Stack.symbols.Goals as goal
+
+pub returns : goal.returns
+returns c = sym (ap symbols_of (sym c.self.view_is) ∙ symbols-at (reverse c.self.inside.marks) c.self.inside.symbols c.self.inside.live c.self.invariant.0)

@@ -1,0 +1,6 @@
+/// How many symbols and assertions there were when a level was pushed.
+#[derive(Clone, Copy, Drop)]
+pub struct Mark {
+    pub symbols: usize,
+    pub assertions: usize,
+}
