@@ -1,0 +1,33 @@
+ghost use Rattle.std.specs.Prelude.{◌≡◌, ℕ, ◌<◌, ◌≤◌, ◌↔◌, List, IfOk};
+ghost use Rattle.machine_core.specs.Graphs.{Accepts, graph_top, GraphRunsWithin, GraphPathsWithin};
+ghost use Rattle.trim_search.specs.Useful.{IsOnRun};
+
+use crate::explore::explore;
+use crate::numbering::Dense;
+use crate::rests::mark_rests;
+use crate::useful::Useful;
+use machine_core::Explicit;
+use std::alloc::{AllocError, Global};
+
+/// The machine without what lies on no run: the same language and the same start, and each state but
+/// the start is on some run. Linear in the machine.
+pub fn trim(alloc: Global, machine: &Explicit) -> Result<Explicit, AllocError>
+    ensures language { IfOk result (λ m. (word cost : List ℕ) → Accepts m word cost ↔ Accepts machine.now word cost) }
+    ensures registers { IfOk result (λ m. m.registers ≡ machine.now.registers) }
+    ensures used { IfOk result (λ m. (s : ℕ) → 0 < s → s < m.states → IsOnRun m s) }
+    ensures states { IfOk result (λ m. m.states ≤ machine.now.states) }
+    ensures top { IfOk result (λ m. graph_top m ≤ graph_top machine.now) }
+    ensures runs_within { IfOk result (λ m. (register slope base : ℕ) → GraphRunsWithin machine.now register slope base → GraphRunsWithin m register slope base) }
+    ensures paths_within { IfOk result (λ m. (register slope base : ℕ) → GraphPathsWithin machine.now register slope base → GraphPathsWithin m register slope base) }
+{
+    let marks = mark_rests(alloc, machine)?;
+    let useful = Useful {
+        machine,
+        marks: marks.as_slice(),
+    };
+    match explore(alloc, &useful, Dense::new(alloc), u64::MAX) {
+        Ok(built) => Ok(built.machine),
+        // There are fewer states than this limit.
+        Err(_) => Err(AllocError),
+    }
+}
