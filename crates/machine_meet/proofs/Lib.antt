@@ -1,0 +1,13 @@
+pub mod BuildEdges
+pub mod BuildRuns
+pub mod ConcatEdges
+pub mod JoinLemmas
+pub mod MeetBounds
+pub mod MeetRuns
+pub mod ProductLemmas
+pub mod StarEdges
+pub mod SumLemmas
+pub mod PlaceLemmas
+pub mod OptionLemmas
+pub mod PickLemmas
+pub mod SplitLemmas

@@ -1,0 +1,57 @@
+use Rattle.std.proofs.Common.{◌++◌, ◌∙◌, refl, ap, sym, subst, map, length, Contains, arith}
+use Rattle.std.proofs.lemmas.List.{take_all}
+use Rattle.machine_core.specs.Edges.{ending}
+use Rattle.machine_core.specs.EdgeLaws.{end_cost}
+use Rattle.machine_meet.specs.Builds.{placed_edge, placed_end, leaving_edge}
+use Rattle.machine_meet.proofs.BuildEdges.{moves-formed, branch-steps, branch-ends, read-in}
+use Rattle.machine_meet.proofs.unions.add_branch.Goals as goal
+
+pub leave-requires : goal.leave-requires
+leave-requires c =
+    let p = c.args.part.now in
+    let first = c.in_ok-place_edges.ensures.states in
+    let second = c.in_ok-place_ends.ensures.states in
+    let registers = c.in_ok-place_ends.ensures.registers ∙ c.in_ok-place_edges.ensures.registers in
+    let room = c.requires.room in
+    let limit = c.requires.fits in
+    record {
+      fits = omega arith;
+      from = c.place_ends.new.whole.started;
+      room = λ m i.
+          let f = moves-formed p.states p.registers p.edges p.ends p.formed 0 c.in_ok-moves.moves c.in_ok-moves.ensures.exact c.in_ok-moves.ensures.inhabited m (subst (λ l. Contains l m) c.as_slice.ensures i) in
+          let to = f.to in omega arith;
+      moves = λ m i.
+          let f = moves-formed p.states p.registers p.edges p.ends p.formed 0 c.in_ok-moves.moves c.in_ok-moves.ensures.exact c.in_ok-moves.ensures.inhabited m (subst (λ l. Contains l m) c.as_slice.ensures i) in
+          let to = f.to in
+          record { on = f.on; cost = f.cost ∙ c.requires.registers ∙ sym registers; to = omega arith };
+    }
+
+pub add_end-requires : goal.add_end-requires
+add_end-requires c =
+    let p = c.args.part.now in
+    let i = read-in c.in_ok-ends.ends c.as_slice-cost-items.result.now c.loop-cost.cost-index c.cost-item.result c.as_slice-cost-items.ensures c.loop-cost-test.true c.cost-item.is in
+    let last = (c.in_ok-ends.ensures c.cost-item.result).1 (i.0, c.cost-item.result, i.1, i.2, refl) in
+    let entries = (end_cost p.states p.registers p.edges p.ends p.formed 0 c.cost-item.result last).entries in
+    record {
+      at = c.loop-cost.whole.started;
+      cost = ap length c.in_ok-copy.ensures ∙ entries ∙ c.requires.registers
+          ∙ sym (c.loop-cost.invariant.registers ∙ c.in_ok-leave.ensures.registers ∙ c.in_ok-place_ends.ensures.registers ∙ c.in_ok-place_edges.ensures.registers);
+    }
+
+pub returns : goal.returns
+returns c =
+    let offset = c.args.offset in
+    let part = c.args.part.now in
+    let old = c.args.whole.now in
+    let edges = c.loop-cost.invariant.edges ∙ c.in_ok-leave.ensures.edges
+    ∙ ap (λ l. l ++ map (leaving_edge 0 offset) c.as_slice.result.now) (c.in_ok-place_ends.ensures.edges ∙ c.in_ok-place_edges.ensures.edges)
+    ∙ ap (λ l. (old.edges ++ map (placed_edge offset) part.edges) ++ map (leaving_edge 0 offset) l) c.as_slice.ensures in
+    let taken = take_all c.loop-cost.cost-index c.as_slice-cost-items.result.now c.loop-cost-test.false ∙ c.as_slice-cost-items.ensures in
+    let before = c.in_ok-leave.ensures.ends ∙ c.in_ok-place_ends.ensures.ends ∙ ap (λ l. l ++ map (placed_end offset) part.ends) c.in_ok-place_edges.ensures.ends in
+    let ends = c.loop-cost.invariant.ends ∙ ap (λ l. c.leave.new.whole.ends ++ map (ending 0) l) taken ∙ ap (λ l. l ++ map (ending 0) c.in_ok-ends.ends) before in
+    record {
+      states = c.loop-cost.invariant.states ∙ c.in_ok-leave.ensures.states ∙ c.in_ok-place_ends.ensures.states ∙ c.in_ok-place_edges.ensures.states;
+      registers = c.loop-cost.invariant.registers ∙ c.in_ok-leave.ensures.registers ∙ c.in_ok-place_ends.ensures.registers ∙ c.in_ok-place_edges.ensures.registers;
+      steps = branch-steps offset old.edges c.loop-cost.whole.edges part.edges c.in_ok-moves.moves edges c.in_ok-moves.ensures.exact;
+      ends = branch-ends offset old.ends c.loop-cost.whole.ends part.ends c.in_ok-ends.ends ends c.in_ok-ends.ensures;
+    }

@@ -1,0 +1,42 @@
+//! Machines made of machines.
+//!
+//! [`Meet`] reads a word with several machines together: **a pair of a word and a cost is one of the
+//! product exactly where each part reads the word at some cost, and these costs add up to the
+//! cost**. It is a machine that is explored state by state, so that whoever explores it pays for the
+//! states that are reached alone; a move list takes time linear in the pairs of a part's move and a
+//! move that the parts after it make together. [`split_run`] takes a run of the product apart into
+//! runs of its parts, whose costs add up to those of the run.
+//!
+//! [`union`], [`concat`] and [`star`] put machines with listed edges together, with exactly the pairs
+//! of the two, of one after the other, and of any number one after another. `union` and `star` take
+//! time and memory linear in the machines; `concat` also in the number of ends of the first times
+//! that of the moves and ends of the start of the second.
+//!
+//! ```
+//! // The words that both machines read.
+//! let parts = [first, second];
+//! let both = Meet::of(&parts);
+//! let moves = both.moves(alloc, &both.start(alloc)?)?;
+//! ```
+#![tactic(auto)]
+
+mod column;
+mod concats;
+mod join;
+mod laws;
+mod meet;
+mod options;
+mod pick;
+mod place;
+mod product;
+mod split;
+mod stars;
+mod sums;
+mod unions;
+
+pub use concats::concat;
+pub use laws::costs_of_meets_are_bounded;
+pub use meet::Meet;
+pub use split::split_run;
+pub use stars::star;
+pub use unions::union;
