@@ -1,0 +1,21 @@
+use Rattle.std.proofs.Common.{◌++◌, ◌∷◌, [], map, take, ap, sym, ◌∙◌}
+use Rattle.std.specs.List.{flat_map}
+use Rattle.std.proofs.lemmas.List.{map_push, flat_map_more}
+use Rattle.machine_core.specs.Places.{pick}
+use Rattle.subset_machine.specs.Spans.{on_of, spans_of}
+use Rattle.subset_machine.proofs.PlaceLemmas.{pick-more}
+use Rattle.subset_machine.proofs.leaving.take_apart.Goals as goal
+
+pub loop-place-preserved : goal.loop-place-preserved
+loop-place-preserved c =
+    let edges = c.args.edges.now in
+    let i = c.loop-place.place-index in
+    let e = c.index-edges-place.result in
+    let before = pick edges (take i c.args.places.now) in
+    let more = pick-more edges c.args.places.now i e c.requires c.loop-place-test.true c.index-edges-place.is in
+    record {
+      sets = c.in_ok-push.ensures.items ∙ ap (λ v. c.loop-place.sets.items ++ v ∷ []) c.in_ok-copy.ensures ∙ ap (λ l. l ++ e.on ∷ []) c.loop-place.invariant.sets
+          ∙ sym (map_push on_of before e) ∙ ap (map on_of) (sym more);
+      spans = c.in_ok-push_spans.ensures ∙ ap (λ l. l ++ spans_of e) c.loop-place.invariant.spans
+          ∙ flat_map_more spans_of [] before e ∙ ap (flat_map spans_of) (sym more);
+    }

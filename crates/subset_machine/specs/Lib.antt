@@ -1,0 +1,4 @@
+pub mod Subsets
+pub mod SubsetLaws
+pub mod Spans
+pub mod Groups

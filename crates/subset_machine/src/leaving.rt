@@ -1,0 +1,66 @@
+//! What leaves some states of a machine.
+ghost use Rattle.std.specs.Prelude.{◌≡◌, ℕ, ◌<◌, ◌++◌, length, map, flat_map, slice_get, Some, Contains, IfOk, OnOk};
+ghost use Rattle.machine_core.specs.Places.{pick};
+ghost use Rattle.subset_machine.specs.Spans.{places_from_some, span, spans_of, on_of};
+
+use machine_core::{Edge, Explicit};
+use std::alloc::{AllocError, Global};
+use sv_list::Copied;
+use sv_word::Ranges;
+
+/// A range of characters on which an edge leads to state `to`.
+#[derive(Clone, Copy)]
+pub struct Span {
+    pub low: u32,
+    pub high: u32,
+    pub to: u32,
+}
+
+/// Edges taken apart: their sets of characters, and the ranges of these with the target of each.
+#[derive(Drop)]
+pub struct Leaving {
+    pub sets: Vec<Ranges>,
+    pub spans: Vec<Span>,
+}
+
+/// The places of the edges that leave these states.
+pub fn places_of(alloc: Global, machine: &Explicit, list: &[u32]) -> Result<Vec<usize>, AllocError>
+    requires { (s : ℕ) → Contains list.now s → s < machine.now.states }
+    ensures { IfOk result (λ v. v.items ≡ places_from_some machine.now.edges list.now) }
+{
+    let mut places = Vec::new(alloc);
+    for s in list {
+        places.extend_from_slice(machine.edges_from(*s))?;
+    }
+    Ok(places)
+}
+
+/// Takes the edges at these places apart.
+pub fn take_apart(alloc: Global, edges: &[Edge], places: &[usize]) -> Result<Leaving, AllocError>
+    requires { (i p : ℕ) → slice_get places.now i ≡ Some p → p < length edges.now }
+    ensures sets { IfOk result (λ l. l.sets.items ≡ map on_of (pick edges.now places.now)) }
+    ensures spans { IfOk result (λ l. l.spans.items ≡ flat_map spans_of (pick edges.now places.now)) }
+{
+    let mut sets = Vec::new(alloc);
+    let mut spans = Vec::new(alloc);
+    for place in places {
+        let edge = &edges[*place];
+        sets.push(edge.on.copy(alloc)?)?;
+        push_spans(&mut spans, edge)?;
+    }
+    Ok(Leaving { sets, spans })
+}
+
+// Adds the ranges of an edge.
+fn push_spans(spans: &mut Vec<Span>, edge: &Edge) -> Result<(), AllocError>
+    ensures { OnOk result (spans.new.items ≡ spans.old.items ++ spans_of edge.now) }
+{
+    for pair in edge.on.as_slice() {
+        spans.push(Span {
+            low: pair.0,
+            high: pair.1,
+            to: edge.to,
+        })?;
+    }
+    Ok(())
+}

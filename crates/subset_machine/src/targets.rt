@@ -1,0 +1,52 @@
+//! Which states follow on which characters.
+ghost use Rattle.std.specs.Prelude.{◌≡◌, ◌++◌, map, Contains, IfOk, OnOk};
+ghost use Rattle.std.specs.List.Sorted.{IsNonDecreasingBy};
+ghost use Rattle.subset_machine.specs.Spans.{AreHits};
+ghost use Rattle.subset_machine.specs.Subsets.{ListsAll};
+
+use crate::leaving::Span;
+use crate::search::between;
+use std::alloc::{AllocError, Global};
+use sv_list::Items;
+
+/// The first character of each interval with each state that a range leads to on it, in the order of
+/// the characters. For h such pairs it takes time n log n for the n ranges and intervals, and h log h.
+pub fn hits_of(
+    alloc: Global,
+    spans: &[Span],
+    marks: &[(u32, u32)],
+) -> Result<Vec<(u32, u32)>, AllocError>
+    requires { IsNonDecreasingBy (λ m. m.0) marks.now }
+    ensures { IfOk result (λ v. AreHits spans.now marks.now v.items) }
+{
+    let mut hits = Vec::new(alloc);
+    for span in spans {
+        push_hits(&mut hits, *span, between(marks, span.low, span.high))?;
+    }
+    hits.sort_unstable();
+    Ok(hits)
+}
+
+// Adds what a range leads to on the first characters of these intervals.
+fn push_hits(hits: &mut Vec<(u32, u32)>, span: Span, marks: &[(u32, u32)]) -> Result<(), AllocError>
+    ensures { OnOk result (hits.new.items ≡ hits.old.items ++ map (λ m. (m.0, span.to)) marks.now) }
+{
+    for mark in marks {
+        hits.push((mark.0, span.to))?;
+    }
+    Ok(())
+}
+
+/// The states that follow on a character, each once and in order.
+pub fn target(alloc: Global, hits: &[(u32, u32)], first: u32) -> Result<Items<u32>, AllocError>
+    requires { IsNonDecreasingBy (λ h. h.0) hits.now }
+    ensures { IfOk result (ListsAll (λ t. Contains hits.now (first, t))) }
+{
+    let mut states = Vec::new(alloc);
+    for hit in between(hits, first, first) {
+        states.push(hit.1)?;
+    }
+    states.sort_unstable();
+    states.dedup();
+    Ok(Items::from_vec(states))
+}
