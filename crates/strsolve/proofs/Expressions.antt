@@ -1,6 +1,8 @@
 -- How regular expressions are written, and what is found of them.
-use Rattle.std.proofs.Common.{◌≡◌, refl, sym, ap, ◌∙◌, ℕ, zero, suc, Bool, true, false, List, [], ◌∷◌, ◌++◌, nat_eq, append_assoc, None, Some, subst}
-use Rattle.std.specs.Prelude.{codes}
+use Rattle.std.proofs.Common.{◌≡◌, Bor, refl, sym, ap, ◌∙◌, ℕ, zero, suc, Bool, true, false, cond, List, [], ◌∷◌, ◌++◌, nat_eq, append_assoc, None, Some, subst, map, inl, inr}
+use Rattle.std.specs.Prelude.{◌⊎◌, codes}
+use Rattle.std.specs.List.{list_all}
+use Rattle.std.specs.Map.{lookup}
 use Rattle.std.specs.declared.option.Option.{Option}
 use Rattle.std.specs.Cmp.Lexicographic.{pointwise}
 use Rattle.sv_terms.specs.declared.regex.Regex.{Regex, roll-Regex}
@@ -9,146 +11,202 @@ use Rattle.sv_terms.specs.declared.regex.Regex.TheFolds.{fold-roll-Regex, map-Re
 use Rattle.sv_terms.specs.declared.regex.Regex.TheOpen.{Regex-F}
 use Rattle.sv_terms.specs.Language.{is_plain, plain_step}
 use Rattle.strsolve.specs.Lexicon.{Lexeme, opening, closing, symbol, literal, other}
-use Rattle.strsolve.specs.Form.{Tokens, range_of, IsNone, IsRange, IsPlus, IsLayer, none, range, plus, IsWritten}
-use Rattle.strsolve.proofs.Spelling.{AreTokens, tokens_joined}
-use Rattle.strsolve.specs.Reading.{Finds, front_of}
+use Rattle.strsolve.specs.Form.{Tokens, range_of, constants, functions, unary, variadic, AreWritten, AreSome, IsConstant, IsText, IsRange, IsUnary, IsVariadic, AreArguments, IsApplication, IsWritten}
+use Rattle.strsolve.specs.Reading.{Finds, Closes}
+use Rattle.strsolve.specs.Meant.{meant}
+use Rattle.strsolve.specs.declared.token.Token.{Token}
+use Rattle.strsolve.specs.declared.token.Token.TheVariants as lexed
 use Rattle.strsolve.specs.declared.function.Function.{Function}
-use Rattle.strsolve.specs.declared.function.Function.TheVariants as function
+use Rattle.strsolve.specs.declared.function.Function.TheVariants as head
+use Rattle.strsolve.specs.declared.function.Unary.{Unary}
+use Rattle.strsolve.specs.declared.function.Unary.TheVariants as of_one
+use Rattle.strsolve.specs.declared.function.Variadic.{Variadic}
+use Rattle.strsolve.specs.declared.function.Variadic.TheVariants as of_some
+use Rattle.strsolve.proofs.Spelling.{AreTokens, tokens_joined}
+use Rattle.strsolve.proofs.Sequences.{starts, IsSure, IsBegun, fronts, no_start, all_alike, written_of_some}
 
-abbrev is_named : List ℕ → Lexeme → Bool
-is_named name (symbol found) = pointwise nat_eq found name
-is_named name opening = false
-is_named name closing = false
-is_named name (literal text) = false
-is_named name other = false
+abbrev Rule : Type 1
+Rule = Regex → Tokens → Type 0
 
-names_apart : symbol (codes "re.range") ≡ symbol (codes "re.+") → ⊥
-names_apart same = let e : false ≡ true = ap (is_named (codes "re.+")) same in cc
+-- what two names that are the same are looked up as
+named_alike : {X : Type 0} (entries : List (List ℕ × X)) (m n : List ℕ) (x y : X) → lookup (pointwise nat_eq m) entries ≡ Some x → lookup (pointwise nat_eq n) entries ≡ Some y → m ≡ n → x ≡ y
+named_alike entries m n x y a b e = let h : Some x ≡ Some y = sym a ∙ ap (λ (k : List ℕ). lookup (pointwise nat_eq k) entries) e ∙ b in cc
 
--- two fronts of one list, each equal to another
-fronts : (ts us vs ws rest more : Tokens) → ts ≡ vs → us ≡ ws → ts ++ rest ≡ us ++ more → vs ++ rest ≡ ws ++ more
-fronts ts us vs ws rest more a b e = ap (λ (l : Tokens). l ++ rest) (sym a) ∙ e ∙ ap (λ (l : Tokens). l ++ more) b
-
-none_none : (r s : Regex) (ts us rest more : Tokens) → IsNone r ts → IsNone s us → ts ++ rest ≡ us ++ more → (r ≡ s) × (rest ≡ more)
-none_none r s ts us rest more a b e = let h = fronts ts us _ _ rest more a.written b.written e in (a.meant ∙ sym b.meant, (cc))
-
-none_range : (r s : Regex) (ts us rest more : Tokens) → IsNone r ts → IsRange s us → ts ++ rest ≡ us ++ more → ⊥
-none_range r s ts us rest more a b e = let h = fronts ts us _ _ rest more a.written b.written e in cc
-
-none_plus : (P : Regex → Tokens → Type 0) (r s : Regex) (ts us rest more : Tokens) → IsNone r ts → IsPlus P s us → ts ++ rest ≡ us ++ more → ⊥
-none_plus P r s ts us rest more a b e = let h = fronts ts us _ _ rest more a.written b.written e in cc
-
-range_range : (r s : Regex) (ts us rest more : Tokens) → IsRange r ts → IsRange s us → ts ++ rest ≡ us ++ more → (r ≡ s) × (rest ≡ more)
-range_range r s ts us rest more a b e =
+constants_alike : (r s : Regex) (ts us rest more : Tokens) → IsConstant r ts → IsConstant s us → ts ++ rest ≡ us ++ more → (r ≡ s) × (rest ≡ more)
+constants_alike r s ts us rest more a b e =
     let h = fronts ts us _ _ rest more a.written b.written e in
-    let low : a.low ≡ b.low = cc in
-    let high : a.high ≡ b.high = cc in
-    (a.meant ∙ ap (λ (l : List ℕ). range_of l a.high) low ∙ ap (range_of b.low) high ∙ sym b.meant, (cc))
+    let name : a.name ≡ b.name = cc in
+    (named_alike constants a.name b.name r s a.named b.named name, (cc))
 
-range_plus : (P : Regex → Tokens → Type 0) (r s : Regex) (ts us rest more : Tokens) → IsRange r ts → IsPlus P s us → ts ++ rest ≡ us ++ more → ⊥
-range_plus P r s ts us rest more a b e =
+no_constant : (P : Rule) (r s : Regex) (ts us rest more : Tokens) → IsConstant r ts → IsApplication P s us → ts ++ rest ≡ us ++ more → ⊥
+no_constant P r s ts us rest more a b e = let h = fronts ts us _ _ rest more a.written b.written e in cc
+
+pub text_sure : IsSure IsText
+text_sure = record {
+  alike = λ r s ts us rest more a b e.
+      let h = fronts ts us _ _ rest more a.written b.written e in
+      let text : a.text ≡ b.text = cc in
+      (a.meant ∙ ap expression.Text text ∙ sym b.meant, (cc));
+}
+
+pub range_sure : IsSure IsRange
+range_sure = record {
+  alike = λ r s ts us rest more a b e.
+      let h = fronts ts us _ _ rest more a.written b.written e in
+      let low : a.low ≡ b.low = cc in
+      let high : a.high ≡ b.high = cc in
+      (a.meant ∙ ap (λ (l : List ℕ). range_of l a.high) low ∙ ap (range_of b.low) high ∙ sym b.meant, (cc));
+}
+
+-- arguments up to the end of their list
+arguments_alike : (P : Rule) → IsSure P → IsBegun P → (f : Function) (r s : Regex) (ts us rest more : Tokens) → AreArguments P f r ts → AreArguments P f s us → ts ++ closing ∷ rest ≡ us ++ closing ∷ more → (r ≡ s) × (closing ∷ rest ≡ closing ∷ more)
+arguments_alike P sure begun head.Text r s ts us rest more a b e = text_sure.alike r s ts us _ _ a b e
+arguments_alike P sure begun head.Range r s ts us rest more a b e = range_sure.alike r s ts us _ _ a b e
+arguments_alike P sure begun (head.Unary f) r s ts us rest more a b e =
+    let same = sure.alike a.part b.part ts us _ _ a.written b.written e in (a.meant ∙ ap (unary f) same.0 ∙ sym b.meant, same.1)
+arguments_alike P sure begun (head.Variadic f) r s ts us rest more a b e =
+    let same = all_alike P sure begun a.parts b.parts ts us (closing ∷ rest) (closing ∷ more) refl refl (written_of_some P a.parts ts a.written) (written_of_some P b.parts us b.written) e in
+    (a.meant ∙ ap (variadic f) same.0 ∙ sym b.meant, same.1)
+
+applications_alike : (P : Rule) → IsSure P → IsBegun P → (r s : Regex) (ts us rest more : Tokens) → IsApplication P r ts → IsApplication P s us → ts ++ rest ≡ us ++ more → (r ≡ s) × (rest ≡ more)
+applications_alike P sure begun r s ts us rest more a b e =
     let h = fronts ts us _ _ rest more a.written b.written e in
-    let same : symbol (codes "re.range") ≡ symbol (codes "re.+") = cc in names_apart same
+    let name : a.name ≡ b.name = cc in
+    let function : a.function ≡ b.function = named_alike functions a.name b.name a.function b.function a.named b.named name in
+    let inner : (a.arguments ++ closing ∷ []) ++ rest ≡ (b.arguments ++ closing ∷ []) ++ more = cc in
+    let same = arguments_alike P sure begun b.function r s a.arguments b.arguments rest more (subst (λ (f : Function). AreArguments P f r a.arguments) function a.meant) b.meant
+    (sym (append_assoc a.arguments (closing ∷ []) rest) ∙ inner ∙ append_assoc b.arguments (closing ∷ []) more) in
+    let behind = same.1 in (same.0, (cc))
 
--- what is written at the front of a list by a rule, and what stands behind it
-pub record IsSure (P : Regex → Tokens → Type 0) : Type 0 where
-  pub alike : (r s : Regex) (ts us rest more : Tokens) → P r ts → P s us → ts ++ rest ≡ us ++ more → (r ≡ s) × (rest ≡ more)
+layer_alike : (P : Rule) → IsSure P → IsBegun P → (r s : Regex) (ts us rest more : Tokens) → IsConstant r ts ⊎ IsApplication P r ts → IsConstant s us ⊎ IsApplication P s us → ts ++ rest ≡ us ++ more → (r ≡ s) × (rest ≡ more)
+layer_alike P sure begun r s ts us rest more (inl a) (inl b) e = constants_alike r s ts us rest more a b e
+layer_alike P sure begun r s ts us rest more (inl a) (inr b) e = absurd (no_constant P r s ts us rest more a b e)
+layer_alike P sure begun r s ts us rest more (inr a) (inl b) e = absurd (no_constant P s r us ts more rest b a (sym e))
+layer_alike P sure begun r s ts us rest more (inr a) (inr b) e = applications_alike P sure begun r s ts us rest more a b e
 
-plus_plus : (P : Regex → Tokens → Type 0) → IsSure P → (r s : Regex) (ts us rest more : Tokens) → IsPlus P r ts → IsPlus P s us → ts ++ rest ≡ us ++ more → (r ≡ s) × (rest ≡ more)
-plus_plus P sure r s ts us rest more a b e =
-    let h = fronts ts us _ _ rest more a.written b.written e in
-    let inner : (a.inner ++ closing ∷ []) ++ rest ≡ (b.inner ++ closing ∷ []) ++ more = cc in
-    let parts = sure.alike a.part b.part a.inner b.inner (closing ∷ rest) (closing ∷ more) a.is_part b.is_part (sym (append_assoc a.inner (closing ∷ []) rest) ∙ inner ∙ append_assoc b.inner (closing ∷ []) more) in
-    let behind = parts.1 in
-    (a.meant ∙ ap expression.Plus parts.0 ∙ sym b.meant, (cc))
-
-layer_sure : (P : Regex → Tokens → Type 0) → IsSure P → (r s : Regex) (ts us rest more : Tokens) → IsLayer P r ts → IsLayer P s us → ts ++ rest ≡ us ++ more → (r ≡ s) × (rest ≡ more)
-layer_sure P sure r s ts us rest more (none a) (none b) e = none_none r s ts us rest more a b e
-layer_sure P sure r s ts us rest more (none a) (range b) e = absurd (none_range r s ts us rest more a b e)
-layer_sure P sure r s ts us rest more (none a) (plus b) e = absurd (none_plus P r s ts us rest more a b e)
-layer_sure P sure r s ts us rest more (range a) (none b) e = absurd (none_range s r us ts more rest b a (sym e))
-layer_sure P sure r s ts us rest more (range a) (range b) e = range_range r s ts us rest more a b e
-layer_sure P sure r s ts us rest more (range a) (plus b) e = absurd (range_plus P r s ts us rest more a b e)
-layer_sure P sure r s ts us rest more (plus a) (none b) e = absurd (none_plus P s r us ts more rest b a (sym e))
-layer_sure P sure r s ts us rest more (plus a) (range b) e = absurd (range_plus P s r us ts more rest b a (sym e))
-layer_sure P sure r s ts us rest more (plus a) (plus b) e = plus_plus P sure r s ts us rest more a b e
+pub written_begun : (deep : ℕ) → IsBegun (IsWritten deep)
+unfolding IsWritten
+written_begun zero = record { begun = λ r ts a. ap starts a.written }
+written_begun (suc deep) = record { begun = λ r ts h. elim h [ inl a ↦ ap starts a.written | inr a ↦ ap starts a.written ] }
 
 pub written_sure : (deep : ℕ) → IsSure (IsWritten deep)
 unfolding IsWritten
-written_sure zero = record { alike = none_none }
-written_sure (suc deep) = record { alike = layer_sure (IsWritten deep) (written_sure deep) }
+written_sure zero = record { alike = constants_alike }
+written_sure (suc deep) = record { alike = layer_alike (IsWritten deep) (written_sure deep) (written_begun deep) }
 
--- the function at the front of what is written
-layer_front : (P : Regex → Tokens → Type 0) (r : Regex) (ts rest old : Tokens) → IsLayer P r ts → old ≡ ts ++ rest → (f : Function) × (more : Tokens) × (old ≡ front_of f ++ more)
-layer_front P r ts rest old (none a) e = (function.Empty, rest, e ∙ ap (λ (l : Tokens). l ++ rest) a.written)
-layer_front P r ts rest old (range a) e = (function.Range, literal a.low ∷ literal a.high ∷ closing ∷ rest, e ∙ ap (λ (l : Tokens). l ++ rest) a.written)
-layer_front P r ts rest old (plus a) e = (function.Plus, (a.inner ++ closing ∷ []) ++ rest, e ∙ ap (λ (l : Tokens). l ++ rest) a.written)
+-- a name at the front
+constant_found : (name : List ℕ) (mid : Tokens) (r : Regex) → Some r ≡ lookup (pointwise nat_eq name) constants → IsConstant r (symbol name ∷ [])
+constant_found name mid r is = record { name = name; named = sym is; written = refl }
 
-pub written_front : (deep : ℕ) (r : Regex) (ts rest old : Tokens) → IsWritten deep r ts → old ≡ ts ++ rest → (f : Function) × (more : Tokens) × (old ≡ front_of f ++ more)
+other_constant : (name : List ℕ) (mid : Tokens) (r : Regex) (ts rest : Tokens) → None ≡ lookup (pointwise nat_eq name) constants → IsConstant r ts → symbol name ∷ mid ≡ ts ++ rest → ⊥
+other_constant name mid r ts rest is a e =
+    let h : symbol name ∷ mid ≡ symbol a.name ∷ rest = e ∙ ap (λ (l : Tokens). l ++ rest) a.written in
+    let same : name ≡ a.name = cc in
+    let k : None ≡ Some r = is ∙ ap (λ (n : List ℕ). lookup (pointwise nat_eq n) constants) same ∙ a.named in cc
+
+named_list : (P : Rule) (name : List ℕ) (mid : Tokens) (r : Regex) (ts rest : Tokens) → IsApplication P r ts → symbol name ∷ mid ≡ ts ++ rest → ⊥
+named_list P name mid r ts rest a e = let h = e ∙ ap (λ (l : Tokens). l ++ rest) a.written in cc
+
+pub finds_constant : (deep : ℕ) (name : List ℕ) (mid : Tokens) (found : Option Regex) → found ≡ lookup (pointwise nat_eq name) constants → Finds (IsWritten deep) (symbol name ∷ mid) mid found
 unfolding IsWritten
-written_front zero r ts rest old a e = layer_front (λ s us. ⊥) r ts rest old (none a) e
-written_front (suc deep) r ts rest old a e = layer_front (IsWritten deep) r ts rest old a e
-
--- `re.none`
-pub finds_none : (deep : ℕ) (old new : Tokens) → old ≡ front_of function.Empty ++ new → Finds (IsWritten deep) old new (Some expression.Empty)
-unfolding IsWritten
-finds_none zero old new e = (front_of function.Empty, record { meant = refl; written = refl }, e)
-finds_none (suc deep) old new e = (front_of function.Empty, none (record { meant = refl; written = refl }), e)
+finds_constant zero name mid None is = λ r ts rest a e. other_constant name mid r ts rest is a e
+finds_constant zero name mid (Some r) is = (symbol name ∷ [], constant_found name mid r is, refl)
+finds_constant (suc deep) name mid None is = λ r ts rest h e. elim h [ inl a ↦ other_constant name mid r ts rest is a e | inr a ↦ named_list (IsWritten deep) name mid r ts rest a e ]
+finds_constant (suc deep) name mid (Some r) is = (symbol name ∷ [], inl (constant_found name mid r is), refl)
 
 -- no list may be open
-pub finds_no_list : (f : Function) (old mid new : Tokens) → (f ≡ function.Empty → ⊥) → old ≡ front_of f ++ mid → Finds (IsWritten 0) old new None
+opening_constant : (mid : Tokens) (r : Regex) (ts rest : Tokens) → IsConstant r ts → opening ∷ mid ≡ ts ++ rest → ⊥
+opening_constant mid r ts rest a e = let h = e ∙ ap (λ (l : Tokens). l ++ rest) a.written in cc
+
+pub finds_no_list : (deep : ℕ) (mid new : Tokens) → deep ≡ 0 → Finds (IsWritten deep) (opening ∷ mid) new None
 unfolding IsWritten
-finds_no_list function.Empty old mid new h e = absurd (h refl)
-finds_no_list function.Range old mid new h e = λ r ts rest a is. let k : ts ++ rest ≡ (symbol (codes "re.none") ∷ []) ++ rest = ap (λ (l : Tokens). l ++ rest) a.written in cc
-finds_no_list function.Plus old mid new h e = λ r ts rest a is. let k : ts ++ rest ≡ (symbol (codes "re.none") ∷ []) ++ rest = ap (λ (l : Tokens). l ++ rest) a.written in cc
+finds_no_list zero mid new is = λ r ts rest a e. opening_constant mid r ts rest a e
+finds_no_list (suc deep) mid new is = absurd (cc)
 
-layer_range : (P : Regex → Tokens → Type 0) (r : Regex) (ts rest mid : Tokens) → IsLayer P r ts → front_of function.Range ++ mid ≡ ts ++ rest → IsRange r ts
-layer_range P r ts rest mid (none a) e = let k : ts ++ rest ≡ (symbol (codes "re.none") ∷ []) ++ rest = ap (λ (l : Tokens). l ++ rest) a.written in absurd (cc)
-layer_range P r ts rest mid (range a) e = a
-layer_range P r ts rest mid (plus a) e =
-    let k : front_of function.Range ++ mid ≡ front_of function.Plus ++ ((a.inner ++ closing ∷ []) ++ rest) = e ∙ ap (λ (l : Tokens). l ++ rest) a.written in
-    let same : symbol (codes "re.range") ≡ symbol (codes "re.+") = cc in absurd (names_apart same)
-
-pub finds_range : (deep : ℕ) (old mid new : Tokens) (found : Option Regex) → old ≡ front_of function.Range ++ mid → Finds IsRange (front_of function.Range ++ mid) new found → Finds (IsWritten (suc deep)) old new found
+layer_list : (less : ℕ) (mid new : Tokens) (found : Option Regex) → Finds (IsApplication (IsWritten less)) (opening ∷ mid) new found → Finds (IsWritten (suc less)) (opening ∷ mid) new found
 unfolding IsWritten
-finds_range deep old mid new None e h = λ r ts rest a is. h r ts rest (layer_range (IsWritten deep) r ts rest mid a (sym e ∙ is)) (sym e ∙ is)
-finds_range deep old mid new (Some r) e h = (h.0, range h.1, e ∙ h.2)
+layer_list less mid new None f = λ r ts rest k e. elim k [ inl a ↦ opening_constant mid r ts rest a e | inr a ↦ f r ts rest a e ]
+layer_list less mid new (Some r) f = (f.0, inr f.1, f.2)
 
-layer_plus : (P : Regex → Tokens → Type 0) (r : Regex) (ts rest mid : Tokens) → IsLayer P r ts → front_of function.Plus ++ mid ≡ ts ++ rest → (s : Regex) × (us : Tokens) × P s us × (mid ≡ us ++ closing ∷ rest)
-layer_plus P r ts rest mid (none a) e = let k : ts ++ rest ≡ (symbol (codes "re.none") ∷ []) ++ rest = ap (λ (l : Tokens). l ++ rest) a.written in absurd (cc)
-layer_plus P r ts rest mid (range a) e =
-    let k : front_of function.Plus ++ mid ≡ front_of function.Range ++ literal a.low ∷ literal a.high ∷ closing ∷ rest = e ∙ ap (λ (l : Tokens). l ++ rest) a.written in
-    let same : symbol (codes "re.range") ≡ symbol (codes "re.+") = cc in absurd (names_apart same)
-layer_plus P r ts rest mid (plus a) e =
-    let k : front_of function.Plus ++ mid ≡ front_of function.Plus ++ ((a.inner ++ closing ∷ []) ++ rest) = e ∙ ap (λ (l : Tokens). l ++ rest) a.written in
-    let inner : mid ≡ (a.inner ++ closing ∷ []) ++ rest = cc in
-    (a.part, a.inner, a.is_part, inner ∙ append_assoc a.inner (closing ∷ []) rest)
+pub finds_list : (deep less : ℕ) (mid new : Tokens) (found : Option Regex) → suc less ≡ deep → Finds (IsApplication (IsWritten less)) (opening ∷ mid) new found → Finds (IsWritten deep) (opening ∷ mid) new found
+finds_list deep less mid new found is h = subst (λ (n : ℕ). Finds (IsWritten n) (opening ∷ mid) new found) is (layer_list less mid new found h)
 
--- `(re.+ R)` without R
-pub finds_no_part : (deep : ℕ) (old mid mid2 new : Tokens) → old ≡ front_of function.Plus ++ mid → Finds (IsWritten deep) mid mid2 None → Finds (IsWritten (suc deep)) old new None
-unfolding IsWritten
-finds_no_part deep old mid mid2 new e h = λ r ts rest a is. let p = layer_plus (IsWritten deep) r ts rest mid a (sym e ∙ is) in h p.0 p.1 (closing ∷ rest) p.2 p.3
+pub at_token : (deep : ℕ) (token kind : Token) (mid new : Tokens) (found : Option Regex) → token ≡ kind → Finds (IsWritten deep) (meant kind ∷ mid) new found → Finds (IsWritten deep) (meant token ∷ mid) new found
+at_token deep token kind mid new found is h = subst (λ (k : Token). Finds (IsWritten deep) (meant k ∷ mid) new found) (sym is) h
 
--- the same without the last parenthesis
-pub finds_no_end : (deep : ℕ) (part : Regex) (old mid mid2 new : Tokens) → old ≡ front_of function.Plus ++ mid → Finds (IsWritten deep) mid mid2 (Some part) → ((rest : Tokens) → mid2 ≡ closing ∷ rest → ⊥) → Finds (IsWritten (suc deep)) old new None
-unfolding IsWritten
-finds_no_end deep part old mid mid2 new e h no_end = λ r ts rest a is.
-    let p = layer_plus (IsWritten deep) r ts rest mid a (sym e ∙ is) in
-    no_end rest ((written_sure deep).alike part p.0 h.0 p.1 mid2 (closing ∷ rest) h.1 p.2 (sym h.2 ∙ p.3)).1
+-- no expression begins with another token
+pub no_token : (deep : ℕ) (token : Token) (mid new : Tokens) → (token ≡ lexed.Open → ⊥) → ((name : Bor (List ℕ)) → token ≡ lexed.Symbol name → ⊥) → Finds (IsWritten deep) (meant token ∷ mid) new None
+no_token deep lexed.Open mid new h k = absurd (h refl)
+no_token deep (lexed.Symbol name) mid new h k = absurd (k name refl)
+no_token deep lexed.Close mid new h k = no_start (IsWritten deep) (written_begun deep) (closing ∷ mid) new refl
+no_token deep (lexed.Literal text) mid new h k = no_start (IsWritten deep) (written_begun deep) (literal text.now ∷ mid) new refl
+no_token deep lexed.Other mid new h k = no_start (IsWritten deep) (written_begun deep) (other ∷ mid) new refl
 
-pub finds_plus : (deep : ℕ) (part : Regex) (old mid mid2 new : Tokens) → old ≡ front_of function.Plus ++ mid → Finds (IsWritten deep) mid mid2 (Some part) → mid2 ≡ closing ∷ new → Finds (IsWritten (suc deep)) old new (Some (expression.Plus part))
-unfolding IsWritten
-finds_plus deep part old mid mid2 new e h end = (
-  front_of function.Plus ++ (h.0 ++ closing ∷ []),
-  plus (record { part = part; inner = h.0; is_part = h.1; meant = refl; written = refl }),
-  e ∙ ap (λ (l : Tokens). front_of function.Plus ++ l) (h.2 ∙ ap (λ (l : Tokens). h.0 ++ l) end ∙ sym (append_assoc h.0 (closing ∷ []) new)),
-)
+-- an application whose first parenthesis was taken
+inside : (P : Rule) (mid : Tokens) (r : Regex) (ts rest : Tokens) (a : IsApplication P r ts) → opening ∷ mid ≡ ts ++ rest → mid ≡ symbol a.name ∷ (a.arguments ++ closing ∷ []) ++ rest
+inside P mid r ts rest a e = let h = e ∙ ap (λ (l : Tokens). l ++ rest) a.written in cc
+
+pub no_name : (P : Rule) (mid new : Tokens) → ((name : List ℕ) (rest : Tokens) → mid ≡ symbol name ∷ rest → ⊥) → Finds (IsApplication P) (opening ∷ mid) new None
+no_name P mid new h = λ r ts rest a e. h a.name ((a.arguments ++ closing ∷ []) ++ rest) (inside P mid r ts rest a e)
+
+pub no_function : (P : Rule) (name : List ℕ) (mid mid2 new : Tokens) → mid ≡ symbol name ∷ mid2 → None ≡ lookup (pointwise nat_eq name) functions → Finds (IsApplication P) (opening ∷ mid) new None
+no_function P name mid mid2 new at is = λ r ts rest a e.
+    let h = sym at ∙ inside P mid r ts rest a e in
+    let same : name ≡ a.name = cc in
+    let k : None ≡ Some a.function = is ∙ ap (λ (n : List ℕ). lookup (pointwise nat_eq n) functions) same ∙ a.named in cc
+
+pub finds_application : (P : Rule) (name : List ℕ) (f : Function) (mid mid2 new : Tokens) (found : Option Regex) → mid ≡ symbol name ∷ mid2 → Some f ≡ lookup (pointwise nat_eq name) functions → Finds (Closes (AreArguments P f)) mid2 new found → Finds (IsApplication P) (opening ∷ mid) new found
+finds_application P name f mid mid2 new None at is h = λ r ts rest a e.
+    let k = sym at ∙ inside P mid r ts rest a e in
+    let same : name ≡ a.name = cc in
+    let behind : mid2 ≡ (a.arguments ++ closing ∷ []) ++ rest = cc in
+    let function : a.function ≡ f = named_alike functions a.name name a.function f a.named (sym is) (sym same) in
+    h r (a.arguments ++ closing ∷ []) rest (record { inner = a.arguments; is_written = subst (λ (g : Function). AreArguments P g r a.arguments) function a.meant; ended = refl }) behind
+finds_application P name f mid mid2 new (Some r) at is h =
+    let c = h.1 in (
+      opening ∷ symbol name ∷ c.inner ++ closing ∷ [],
+      record { name = name; function = f; arguments = c.inner; named = sym is; meant = c.is_written; written = refl },
+      ap (λ (l : Tokens). opening ∷ l) (at ∙ ap (λ (l : Tokens). symbol name ∷ l) (h.2 ∙ ap (λ (l : Tokens). l ++ new) c.ended)),
+    )
+
+pub at_function : (P : Rule) (f g : Function) (old new : Tokens) (found : Option Regex) → f ≡ g → Finds (Closes (AreArguments P g)) old new found → Finds (Closes (AreArguments P f)) old new found
+at_function P f g old new found is h = subst (λ (k : Function). Finds (Closes (AreArguments P k)) old new found) (sym is) h
+
+pub part_of_unary : (P : Rule) (f : Unary) (r : Regex) (ts : Tokens) → IsUnary P f r ts → (part : Regex) × P part ts
+part_of_unary P f r ts a = (a.part, a.written)
+
+pub unary_of_part : (P : Rule) (f : Unary) (part r : Regex) → r ≡ unary f part → (ts : Tokens) → P part ts → IsUnary P f r ts
+unary_of_part P f part r is ts a = record { part = part; meant = is; written = a }
+
+pub parts_of_variadic : (P : Rule) (f : Variadic) (r : Regex) (ts : Tokens) → IsVariadic P f r ts → (parts : List Regex) × AreSome P parts ts
+parts_of_variadic P f r ts a = (a.parts, a.written)
+
+pub variadic_of_parts : (P : Rule) (f : Variadic) (parts : List Regex) (r : Regex) → r ≡ variadic f parts → (ts : Tokens) → AreSome P parts ts → IsVariadic P f r ts
+variadic_of_parts P f parts r is ts a = record { parts = parts; meant = is; written = a }
 
 plain_by : (r : Regex) (x : Regex-F Regex) → roll-Regex x ≡ r → is_plain r ≡ plain_step (map-Regex Regex Bool is_plain x)
 plain_by r x e = ap is_plain (sym e) ∙ fold-roll-Regex Bool plain_step x
 
 plain_empty : is_plain expression.Empty ≡ true
 plain_empty = plain_by _ Regex-F.Empty expression.rolls-Empty
+
+plain_if : (test : Bool) (here : Regex) (others : Option Regex) (r : Regex) → is_plain here ≡ true → ((s : Regex) → others ≡ Some s → is_plain s ≡ true) → cond test (Some here) others ≡ Some r → is_plain r ≡ true
+plain_if true here others r a b e = let same : here ≡ r = cc in ap is_plain (sym same) ∙ a
+plain_if false here others r a b e = b r e
+
+nothing_plain : (r : Regex) → None ≡ Some r → is_plain r ≡ true
+nothing_plain r e = absurd (cc)
+
+constant_plain : (name : List ℕ) (r : Regex) → lookup (pointwise nat_eq name) constants ≡ Some r → is_plain r ≡ true
+constant_plain name r e =
+    let is_none = pointwise nat_eq name (codes "re.none") in
+    let is_all = pointwise nat_eq name (codes "re.all") in
+    let is_any = pointwise nat_eq name (codes "re.allchar") in
+    let third : Option Regex = cond is_any (Some expression.AnyChar) None in
+    let second : Option Regex = cond is_all (Some expression.All) third in
+    plain_if is_none expression.Empty second r plain_empty
+    (λ s. plain_if is_all expression.All third s (plain_by expression.All Regex-F.All expression.rolls-All)
+    (λ t. plain_if is_any expression.AnyChar None t (plain_by expression.AnyChar Regex-F.AnyChar expression.rolls-AnyChar) nothing_plain)) e
 
 range_plain : (low high : List ℕ) → is_plain (range_of low high) ≡ true
 range_plain [] high = plain_empty
@@ -157,20 +215,44 @@ range_plain (l ∷ []) (h ∷ []) = plain_by _ (Regex-F.Range l h) (expression.r
 range_plain (l ∷ []) (h ∷ k ∷ high) = plain_empty
 range_plain (l ∷ m ∷ low) high = plain_empty
 
+unary_plain : (f : Unary) (part : Regex) → is_plain part ≡ true → is_plain (unary f part) ≡ true
+unary_plain of_one.Star part h = plain_by _ (Regex-F.Star part) (expression.rolls-Star part) ∙ h
+unary_plain of_one.Plus part h = plain_by _ (Regex-F.Plus part) (expression.rolls-Plus part) ∙ h
+unary_plain of_one.Opt part h = plain_by _ (Regex-F.Opt part) (expression.rolls-Opt part) ∙ h
+
+variadic_plain : (f : Variadic) (parts : List Regex) → list_all (λ b. b) (map is_plain parts) ≡ true → is_plain (variadic f parts) ≡ true
+variadic_plain of_some.Concat parts h = plain_by _ (Regex-F.Concat parts) (expression.rolls-Concat parts) ∙ h
+variadic_plain of_some.Union parts h = plain_by _ (Regex-F.Union parts) (expression.rolls-Union parts) ∙ h
+
+parts_plain : (P : Rule) → ((r : Regex) (ts : Tokens) → P r ts → is_plain r ≡ true) → (parts : List Regex) (ts : Tokens) → AreWritten P parts ts → list_all (λ b. b) (map is_plain parts) ≡ true
+parts_plain P plain [] ts a = refl
+parts_plain P plain (p ∷ ps) ts a = let first = plain p a.0 a.2 in let others = parts_plain P plain ps a.1 a.3 in rw first others
+
+arguments_plain : (P : Rule) → ((r : Regex) (ts : Tokens) → P r ts → is_plain r ≡ true) → (f : Function) (r : Regex) (ts : Tokens) → AreArguments P f r ts → is_plain r ≡ true
+arguments_plain P plain head.Text r ts a = ap is_plain a.meant ∙ plain_by _ (Regex-F.Text a.text) (expression.rolls-Text a.text)
+arguments_plain P plain head.Range r ts a = ap is_plain a.meant ∙ range_plain a.low a.high
+arguments_plain P plain (head.Unary f) r ts a = ap is_plain a.meant ∙ unary_plain f a.part (plain a.part ts a.written)
+arguments_plain P plain (head.Variadic f) r ts a = ap is_plain a.meant ∙ variadic_plain f a.parts (parts_plain P plain a.parts ts (written_of_some P a.parts ts a.written))
+
 -- no intersection, difference, complement or loop can be written
 pub written_plain : (deep : ℕ) (r : Regex) (ts : Tokens) → IsWritten deep r ts → is_plain r ≡ true
 unfolding IsWritten
-written_plain zero r ts a = ap is_plain a.meant ∙ plain_empty
-written_plain (suc deep) r ts (none a) = ap is_plain a.meant ∙ plain_empty
-written_plain (suc deep) r ts (range a) = ap is_plain a.meant ∙ range_plain a.low a.high
-written_plain (suc deep) r ts (plus a) = ap is_plain a.meant ∙ plain_by _ (Regex-F.Plus a.part) (expression.rolls-Plus a.part) ∙ written_plain deep a.part a.inner a.is_part
+written_plain zero r ts a = constant_plain a.name r a.named
+written_plain (suc deep) r ts (inl a) = constant_plain a.name r a.named
+written_plain (suc deep) r ts (inr a) = arguments_plain (IsWritten deep) (written_plain deep) a.function r a.arguments a.meant
 
-layer_tokens : (P : Regex → Tokens → Type 0) → ((r : Regex) (ts : Tokens) → P r ts → AreTokens ts) → (r : Regex) (ts : Tokens) → IsLayer P r ts → AreTokens ts
-layer_tokens P parts r ts (none a) = subst AreTokens (sym a.written) ((λ is. cc), tt)
-layer_tokens P parts r ts (range a) = subst AreTokens (sym a.written) ((λ is. cc), ((λ is. cc), ((λ is. cc), ((λ is. cc), ((λ is. cc), tt)))))
-layer_tokens P parts r ts (plus a) = subst AreTokens (sym a.written) ((λ is. cc), ((λ is. cc), tokens_joined a.inner (closing ∷ []) (parts a.part a.inner a.is_part) ((λ is. cc), tt)))
+parts_tokens : {A : Type 0} (P : A → Tokens → Type 0) → ((r : A) (ts : Tokens) → P r ts → AreTokens ts) → (parts : List A) (ts : Tokens) → AreWritten P parts ts → AreTokens ts
+parts_tokens P clean [] ts a = subst AreTokens (sym a) tt
+parts_tokens P clean (p ∷ ps) ts a = subst AreTokens (sym a.4) (tokens_joined a.0 a.1 (clean p a.0 a.2) (parts_tokens P clean ps a.1 a.3))
+
+arguments_tokens : (P : Rule) → ((r : Regex) (ts : Tokens) → P r ts → AreTokens ts) → (f : Function) (r : Regex) (ts : Tokens) → AreArguments P f r ts → AreTokens ts
+arguments_tokens P clean head.Text r ts a = subst AreTokens (sym a.written) ((λ is. cc), tt)
+arguments_tokens P clean head.Range r ts a = subst AreTokens (sym a.written) ((λ is. cc), ((λ is. cc), tt))
+arguments_tokens P clean (head.Unary f) r ts a = clean a.part ts a.written
+arguments_tokens P clean (head.Variadic f) r ts a = parts_tokens P clean a.parts ts (written_of_some P a.parts ts a.written)
 
 pub written_tokens : (deep : ℕ) (r : Regex) (ts : Tokens) → IsWritten deep r ts → AreTokens ts
 unfolding IsWritten
 written_tokens zero r ts a = subst AreTokens (sym a.written) ((λ is. cc), tt)
-written_tokens (suc deep) r ts a = layer_tokens (IsWritten deep) (written_tokens deep) r ts a
+written_tokens (suc deep) r ts (inl a) = subst AreTokens (sym a.written) ((λ is. cc), tt)
+written_tokens (suc deep) r ts (inr a) = subst AreTokens (sym a.written) ((λ is. cc), ((λ is. cc), tokens_joined a.arguments (closing ∷ []) (arguments_tokens (IsWritten deep) (written_tokens deep) a.function r a.arguments a.meant) ((λ is. cc), tt)))

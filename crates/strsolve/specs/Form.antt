@@ -1,7 +1,15 @@
 -- The form of script that is answered: one constant, one membership, one check.
-use Rattle.std.specs.Prelude.{◌≡◌, ℕ, zero, suc, false, List, [], ◌∷◌, ◌++◌, codes}
+use Rattle.std.specs.Prelude.{◌≡◌, ◌⊎◌, ℕ, zero, suc, nat_eq, false, List, [], ◌∷◌, ◌++◌, codes, Some}
+use Rattle.std.specs.Map.{lookup}
+use Rattle.std.specs.Cmp.Lexicographic.{pointwise}
 use Rattle.sv_terms.specs.declared.regex.Regex.{Regex}
-use Rattle.sv_terms.specs.declared.regex.Regex.TheVariants.{Empty, Range, Plus}
+use Rattle.sv_terms.specs.declared.regex.Regex.TheVariants.{Empty, All, AnyChar, Text, Range, Concat, Union, Star, Plus, Opt}
+use Rattle.strsolve.specs.declared.function.Function.{Function}
+use Rattle.strsolve.specs.declared.function.Function.TheVariants as head
+use Rattle.strsolve.specs.declared.function.Unary.{Unary}
+use Rattle.strsolve.specs.declared.function.Unary.TheVariants as of_one
+use Rattle.strsolve.specs.declared.function.Variadic.{Variadic}
+use Rattle.strsolve.specs.declared.function.Variadic.TheVariants as of_some
 use Rattle.strsolve.specs.Lexicon.{Lexeme, opening, closing, symbol, literal, Spells}
 use Rattle.strsolve.specs.Names.{is_reserved}
 
@@ -13,36 +21,87 @@ abbrev pub range_of : List ℕ → List ℕ → Regex
 range_of (low ∷ []) (high ∷ []) = Range low high
 range_of low high = Empty
 
--- `re.none`
-pub record IsNone (regex : Regex) (tokens : Tokens) : Type 0 where
-  pub meant : regex ≡ Empty
-  pub written : tokens ≡ symbol (codes "re.none") ∷ []
+-- the regular expressions that are one name
+abbrev pub constants : List (List ℕ × Regex)
+constants = (codes "re.none", Empty) ∷ (codes "re.all", All) ∷ (codes "re.allchar", AnyChar) ∷ []
 
--- `(re.range L L)`
+-- the functions that regular expressions are written with, by name
+abbrev pub functions : List (List ℕ × Function)
+functions =
+    (codes "str.to_re", head.Text) ∷ (codes "re.range", head.Range) ∷ (codes "re.++", head.Variadic of_some.Concat) ∷ (codes "re.union", head.Variadic of_some.Union) ∷
+    (codes "re.*", head.Unary of_one.Star) ∷ (codes "re.+", head.Unary of_one.Plus) ∷ (codes "re.opt", head.Unary of_one.Opt) ∷ []
+
+abbrev pub unary : Unary → Regex → Regex
+unary of_one.Star part = Star part
+unary of_one.Plus part = Plus part
+unary of_one.Opt part = Opt part
+
+abbrev pub variadic : Variadic → List Regex → Regex
+variadic of_some.Concat parts = Concat parts
+variadic of_some.Union parts = Union parts
+
+-- a name alone
+pub record IsConstant (regex : Regex) (tokens : Tokens) : Type 0 where
+  pub name : List ℕ
+  pub named : lookup (pointwise nat_eq name) constants ≡ Some regex
+  pub written : tokens ≡ symbol name ∷ []
+
+-- `L`, for the word that has its bytes as characters
+pub record IsText (regex : Regex) (tokens : Tokens) : Type 0 where
+  pub text : List ℕ
+  pub meant : regex ≡ Text text
+  pub written : tokens ≡ literal text ∷ []
+
+-- `L L`
 pub record IsRange (regex : Regex) (tokens : Tokens) : Type 0 where
   pub low : List ℕ
   pub high : List ℕ
   pub meant : regex ≡ range_of low high
-  pub written : tokens ≡ opening ∷ symbol (codes "re.range") ∷ literal low ∷ literal high ∷ closing ∷ []
+  pub written : tokens ≡ literal low ∷ literal high ∷ []
 
--- `(re.+ R)`, where it is known how R is written
-pub record IsPlus (IsPart : Regex → Tokens → Type 0) (regex : Regex) (tokens : Tokens) : Type 0 where
+module _ {A : Type 0} (IsPart : A → Tokens → Type 0) where
+  -- parts one after another, where it is known how each is written
+  abbrev pub AreWritten : List A → Tokens → Type 0
+  AreWritten [] tokens = tokens ≡ []
+  AreWritten (part ∷ parts) tokens = (first : Tokens) × (more : Tokens) × IsPart part first × AreWritten parts more × (tokens ≡ first ++ more)
+
+  -- the same, at least one
+  abbrev pub AreSome : List A → Tokens → Type 0
+  AreSome [] tokens = ⊥
+  AreSome (part ∷ parts) tokens = AreWritten (part ∷ parts) tokens
+
+-- `R`, for what a function makes of it
+pub record IsUnary (IsPart : Regex → Tokens → Type 0) (f : Unary) (regex : Regex) (tokens : Tokens) : Type 0 where
   pub part : Regex
-  pub inner : Tokens
-  pub is_part : IsPart part inner
-  pub meant : regex ≡ Plus part
-  pub written : tokens ≡ opening ∷ symbol (codes "re.+") ∷ inner ++ closing ∷ []
+  pub meant : regex ≡ unary f part
+  pub written : IsPart part tokens
 
--- a regular expression of one of the three forms, where it is known how its parts are written
-pub data IsLayer (IsPart : Regex → Tokens → Type 0) (regex : Regex) (tokens : Tokens) : Type 0 where
-  none : IsNone regex tokens → IsLayer IsPart regex tokens
-  range : IsRange regex tokens → IsLayer IsPart regex tokens
-  plus : IsPlus IsPart regex tokens → IsLayer IsPart regex tokens
+-- `R ..`, at least one, for what a function makes of them
+pub record IsVariadic (IsPart : Regex → Tokens → Type 0) (f : Variadic) (regex : Regex) (tokens : Tokens) : Type 0 where
+  pub parts : List Regex
+  pub meant : regex ≡ variadic f parts
+  pub written : AreSome IsPart parts tokens
+
+-- what stands behind a function's name
+abbrev pub AreArguments : (Regex → Tokens → Type 0) → Function → Regex → Tokens → Type 0
+AreArguments IsPart head.Text = IsText
+AreArguments IsPart head.Range = IsRange
+AreArguments IsPart (head.Unary f) = IsUnary IsPart f
+AreArguments IsPart (head.Variadic f) = IsVariadic IsPart f
+
+-- `(F ..)`, where it is known how the parts are written
+pub record IsApplication (IsPart : Regex → Tokens → Type 0) (regex : Regex) (tokens : Tokens) : Type 0 where
+  pub name : List ℕ
+  pub function : Function
+  pub arguments : Tokens
+  pub named : lookup (pointwise nat_eq name) functions ≡ Some function
+  pub meant : AreArguments IsPart function regex arguments
+  pub written : tokens ≡ opening ∷ symbol name ∷ arguments ++ closing ∷ []
 
 -- how a regular expression is written, with at most so many lists inside one another
 unfoldable pub IsWritten : ℕ → Regex → Tokens → Type 0
-IsWritten zero regex tokens = IsNone regex tokens
-IsWritten (suc deep) regex tokens = IsLayer (IsWritten deep) regex tokens
+IsWritten zero regex tokens = IsConstant regex tokens
+IsWritten (suc deep) regex tokens = IsConstant regex tokens ⊎ IsApplication (IsWritten deep) regex tokens
 
 -- `(declare-const N String)`
 pub record IsDeclaration (name : List ℕ) (tokens : Tokens) : Type 0 where

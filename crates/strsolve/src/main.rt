@@ -8,11 +8,12 @@
 //!
 //! The form is three lists with white space between tokens, `(declare-const N String)`,
 //! `(assert (str.in_re N R))` and `(check-sat)`, where N isn't reserved, and R is `re.none`,
-//! `(re.range L L)` or `(re.+ R)` with at most 1,000 lists inside one another. It is defined on
-//! bytes, apart from the code that reads it.
+//! `re.all`, `re.allchar`, `(str.to_re L)`, `(re.range L L)`, or one of `re.++`, `re.union`,
+//! `re.*`, `re.+` and `re.opt` over such R, with at most 1,000 lists inside one another. It is
+//! defined on bytes, apart from the code that reads it. A word of the command line is answered by
+//! how the program is called, with status 2.
 //!
-//! A run takes time and memory linear in its input: the source is read to its end first. Nothing
-//! else takes memory but a node for each `re.+`.
+//! A run takes time and memory linear in its input: the source is read to its end first.
 //!
 //! ```text
 //! $ strsolve < examples/first.smt2

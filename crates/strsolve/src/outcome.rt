@@ -6,6 +6,9 @@ pub const ANSWERED: u8 = 0;
 /// Every command was answered, and some of them with an error.
 pub const ERROR_ANSWERED: u8 = 1;
 
+/// There was a word.
+pub const WRONG_WORDS: u8 = 2;
+
 /// The source failed.
 pub const READ_FAILED: u8 = 3;
 

@@ -98,6 +98,14 @@ fn expressions_are_answered(rt: HostRuntime) -> Result<(), Fail> {
         (b"(re.range \"a\" \"bc\")", b"unsat\n"),
         (b"(re.range\"(\"\t\";\")", b"sat\n"),
         (b"(re.+ re.none)", b"unsat\n"),
+        (b"re.all", b"sat\n"),
+        (b"re.allchar", b"sat\n"),
+        (b"(str.to_re \"\")", b"sat\n"),
+        (b"(re.++ re.all)", b"sat\n"),
+        (b"(re.++ (str.to_re \"a\") re.none)", b"unsat\n"),
+        (b"(re.union re.none (re.opt re.none))", b"sat\n"),
+        (b"(re.union re.none (re.++ re.none re.all))", b"unsat\n"),
+        (b"(re.* re.none)", b"sat\n"),
     ] {
         answered(&rt, alloc, &script_of(alloc, inner, 0)?, taken)?;
     }
@@ -142,7 +150,7 @@ fn other_forms_are_refused(rt: HostRuntime) -> Result<(), Fail> {
         b"(declare-const x String)(assert (str.in_re x re.none))(check-sat))",
         b"(declare-const x String)(assert (str.in_re x re.none))(check-sat)(exit)",
         b"(declare-const x String)(assert (str.in_re x re.none))(check-sat); end",
-        b"(declare-const x String)(assert (str.in_re x re.all))(check-sat)",
+        b"(declare-const x String)(assert (str.in_re x re.any))(check-sat)",
     ] {
         refused(&rt, alloc, script)?;
     }
@@ -152,6 +160,12 @@ fn other_forms_are_refused(rt: HostRuntime) -> Result<(), Fail> {
         b"(re.range \"\x7f\" \"c\")",
         b"(re.range \"a\" \"c)",
         b"(re.+re.none)",
+        b"(re.++)",
+        b"(re.union)",
+        b"(re.opt re.all re.all)",
+        b"(str.to_re \"a\" \"b\")",
+        b"(re.union re.all",
+        b"(re.comp re.all)",
     ] {
         refused(&rt, alloc, &script_of(alloc, inner, 0)?)?;
     }
@@ -167,6 +181,25 @@ fn faults_are_told(rt: HostRuntime) -> Result<(), Fail> {
     }
     for (call, taken) in [(0, b"".as_slice()), (1, b"sa"), (2, b"sat\n")] {
         run_over(&rt, alloc, FIRST, 2, (&[], &[call]), 4, taken)?;
+    }
+    Ok(())
+}
+
+#[test]
+fn words_are_refused(rt: HostRuntime) -> Result<(), Fail> {
+    let alloc = rt.alloc();
+    let usage =
+        b"(error \"usage: strsolve [--workers N] [FILE] | strsolve [--workers N] --generate SEED --size N\")\n";
+    for (fails, status) in [([].as_slice(), 2), ([0].as_slice(), 4)] {
+        let mut words = Words::new(alloc);
+        words.push(alloc, "first.smt2")?;
+        let mut source = MemSource::new(None, FIRST.to_vec(alloc)?, Vec::new(alloc), 4096);
+        let mut sink = MemSink::new(alloc, fails.to_vec(alloc)?, 4096);
+        let outcome = run(&rt, alloc, &words, &mut source, &mut sink);
+        assert_eq!(rt; outcome.status, status);
+        assert_eq!(rt; outcome.log.as_slice().len(), 0);
+        let taken = if status == 2 { usage.as_slice() } else { b"" };
+        assert_eq!(rt; sink.taken(), taken);
     }
     Ok(())
 }

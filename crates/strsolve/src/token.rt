@@ -1,4 +1,7 @@
 ghost use Rattle.std.specs.Prelude.{◌≡◌};
+ghost use Rattle.std.specs.Bool.{OnTrue, OnFalse};
+ghost use Rattle.strsolve.specs.Lexicon.{closing};
+ghost use Rattle.strsolve.specs.Meant.{meant};
 
 /// A token at its place in the input.
 #[derive(Clone, Copy, Debug)]
@@ -11,4 +14,14 @@ pub enum Token<'a> {
     Literal(&'a [u8]),
     /// What none of these begins.
     Other,
+}
+
+impl<'a> Token<'a> {
+    /// Whether it is a parenthesis that closes.
+    pub fn is_close(self) -> bool
+        ensures same { OnTrue result (meant self.entry ≡ closing) }
+        ensures other { OnFalse result (meant self.entry ≡ closing → ⊥) }
+    {
+        matches!(self, Token::Close)
+    }
 }

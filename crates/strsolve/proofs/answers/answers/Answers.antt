@@ -19,5 +19,5 @@ verdict-requires c =
 pub returns : goal.returns
 returns c =
     let s : IsScript c.args.bytes.now c.in-Some.regex = subst (λ (o : Option Regex). MatchOption o ((regex : Regex) → IsScript c.args.bytes.now regex → ⊥) (λ (regex : Regex). IsScript c.args.bytes.now regex)) c.in-Some.is c.in_ok-regex.ensures in
-    let log : c.push-4.new.self ≡ replies_with c.verdict.result = three _ _ _ _ _ _ _ c.new-log.ensures c.in_ok-push-2.ensures.ok c.in_ok-push-3.ensures.ok c.in_ok-push-4.ensures.ok in
-    checked c.in-Some.regex c.verdict.result s c.verdict.ensures log
+    let log : c.push-4.new.self ≡ replies_with c.in_ok-verdict.field-0 = three _ _ _ _ _ _ _ c.new-log.ensures c.in_ok-push-2.ensures.ok c.in_ok-push-3.ensures.ok c.in_ok-push-4.ensures.ok in
+    checked c.in-Some.regex c.in_ok-verdict.field-0 s c.in_ok-verdict.ensures log

@@ -3,7 +3,7 @@ use Rattle.std.specs.Prelude.{◌⊎◌}
 use Rattle.std.specs.Io.KnownBytes.{Consumes}
 use Rattle.std.specs.declared.option.Option.{Option}
 use Rattle.strsolve.specs.Replies.{Answers}
-use Rattle.strsolve.proofs.top.run.Goals as goal
+use Rattle.strsolve.proofs.top.answer_script.Goals as goal
 
 -- no status of a written log is that of a failed read
 not_read_failed : (status : ℕ) → (status ≡ 0) ⊎ (status ≡ 1) ⊎ (status ≡ 4) ⊎ (status ≡ 5) → status ≡ 3 → ⊥
