@@ -1,0 +1,126 @@
+ghost use Rattle.std.specs.Prelude.{◌≡◌, map, Some, IfOk, IsTrue, IsSome};
+ghost use Rattle.std.specs.List.{list_all, list_any};
+ghost use Rattle.sv_terms.specs.Meaning.{tested, val};
+ghost use Rattle.sv_terms.specs.Matches.{matches};
+ghost use Rattle.sv_terms.specs.Sorting.{is_opaque, is_valued, sort_of};
+ghost use Rattle.term_eval.specs.Evaluation.{Answers, evaluated, in_turn, is_plain, or_opaque, value_or_fault};
+
+use crate::fault::EvalFault;
+use crate::functions::apply;
+use regex_match::contains;
+use std::alloc::Global;
+use sv_list::Items;
+use sv_terms::{Model, Regex, Term, Value, decided};
+
+/// The value of a term whose functions stand at arguments of their ranks and whose constants have
+/// values of their sorts in the model. No transducer stands in it.
+///
+/// Time and memory are those of its functions: linear in the values, but for `distinct`, which
+/// compares each two, for `str.contains`, `str.replace` and `str.replace_all`, which compare the
+/// pattern at each place, and for `str.in_re` (see `regex_match`). The stack grows with the nesting.
+///
+/// # Errors
+///
+/// `Opaque` exactly where an opaque part stands in the term. Else `Past` exactly where a step of the
+/// arithmetic leaves 128 bits: the first from the left, the arguments of a function before its own
+/// steps; a difference is a product of its right side and -1, and then a sum.
+#[tactic(auto, using(crate::proofs::Evaluating::evaluating))]
+pub fn eval(alloc: Global, term: &Term, model: &Model) -> Result<Value, EvalFault>
+    requires sorted { IsSome (sort_of term.now) }
+    requires valued { IsTrue (is_valued model.now term.now) }
+    requires plain { IsTrue (is_plain term.now) }
+    ensures answer { Answers (value_or_fault model.now term.now) result }
+    ensures value { IfOk result (λ v. val model.now term.now ≡ Some v) }
+{
+    if has_opaque(term) {
+        return Err(EvalFault::Opaque);
+    }
+    Ok(value_of(alloc, term, model)?)
+}
+
+// Whether an opaque part stands in the term.
+#[cycle(has_opaque)]
+#[tactic(auto, using(crate::proofs::Opaques::opaques))]
+fn has_opaque(term: &Term) -> bool
+    ensures { result ≡ is_opaque term.now }
+{
+    match term {
+        Term::Truth(_) => false,
+        Term::Number(_) => false,
+        Term::Text(_) => false,
+        Term::Constant(_, _) => false,
+        Term::Apply(_, terms) => some_opaque(terms.as_slice()),
+        Term::InRe(term, _) => has_opaque(term.get()),
+        Term::Related(_, read, written) => has_opaque(read.get()) || has_opaque(written.get()),
+        Term::Opaque(_) => true,
+    }
+}
+
+#[cycle(has_opaque)]
+#[tactic(auto, using(crate::proofs::Opaques::opaques))]
+fn some_opaque(terms: &[Term]) -> bool
+    ensures { result ≡ list_any is_opaque terms.now }
+{
+    for term in terms {
+        if has_opaque(term) {
+            return true;
+        }
+    }
+    false
+}
+
+// `str.in_re`
+#[tactic(auto, using(crate::proofs::Evaluating::evaluating))]
+fn is_member(alloc: Global, value: &Value, regex: &Regex) -> Result<Value, EvalFault>
+    ensures { Answers (or_opaque (tested (matches regex.now) (Some value.now))) result }
+{
+    match value {
+        Value::Text(word) => {
+            decided();
+            Ok(Value::Truth(contains(alloc, regex, word)?))
+        }
+        _ => Err(EvalFault::Opaque),
+    }
+}
+
+// The value, or the first fault.
+#[cycle(value_of)]
+#[tactic(auto, using(crate::proofs::Evaluating::evaluating))]
+fn value_of(alloc: Global, term: &Term, model: &Model) -> Result<Value, EvalFault>
+    ensures { IsTrue (is_plain term.now) → Answers (evaluated model.now term.now) result }
+{
+    match term {
+        Term::Truth(b) => Ok(Value::Truth(*b)),
+        Term::Number(n) => Ok(Value::Number(*n)),
+        Term::Text(word) => Ok(Value::Text(word.copy(alloc)?)),
+        Term::Constant(name, _) => match model.get(name) {
+            Some(value) => Ok(value.copy(alloc)?),
+            None => Err(EvalFault::Opaque),
+        },
+        Term::Apply(op, terms) => match values_of(alloc, terms.as_slice(), model) {
+            Ok(arguments) => apply(alloc, *op, arguments.as_slice()),
+            Err(fault) => Err(fault),
+        },
+        Term::InRe(term, regex) => match value_of(alloc, term.get(), model) {
+            Ok(value) => is_member(alloc, &value, regex),
+            Err(fault) => Err(fault),
+        },
+        Term::Related(_, _, _) => Err(EvalFault::Opaque),
+        Term::Opaque(_) => Err(EvalFault::Opaque),
+    }
+}
+
+#[cycle(value_of)]
+#[tactic(auto, using(crate::proofs::Evaluating::evaluating))]
+fn values_of(alloc: Global, terms: &[Term], model: &Model) -> Result<Items<Value>, EvalFault>
+    ensures { IsTrue (list_all is_plain terms.now) → Answers (in_turn (map (evaluated model.now) terms.now)) result }
+{
+    let mut all = Items::new(alloc);
+    for term in terms {
+        match value_of(alloc, term, model) {
+            Ok(value) => all.push(value)?,
+            Err(fault) => return Err(fault),
+        }
+    }
+    Ok(all)
+}

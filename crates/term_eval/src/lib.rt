@@ -1,0 +1,24 @@
+//! The value of a term under a model.
+//!
+//! The central fact is the definition `value_or_fault`: Opaque where an opaque part stands in the term,
+//! else the first step of the arithmetic that leaves 128 bits, else the value. Where it is a value, that
+//! is the term's meaning over numbers without bound.
+//!
+//! ```text
+//! let length = eval(alloc, &term, &model)?; // Value::Number(3) for (str.len "abc")
+//! ```
+#![tactic(auto)]
+
+mod collected;
+mod comparing;
+mod evaluation;
+mod fault;
+mod functions;
+mod strings;
+mod sums;
+#[cfg(test)]
+mod tests;
+mod truths;
+
+pub use evaluation::eval;
+pub use fault::EvalFault;
