@@ -23,14 +23,11 @@ use Rattle.strsolve.specs.declared.function.Unary.TheVariants as of_one
 use Rattle.strsolve.specs.declared.function.Variadic.{Variadic}
 use Rattle.strsolve.specs.declared.function.Variadic.TheVariants as of_some
 use Rattle.strsolve.proofs.Spelling.{AreTokens, tokens_joined}
+use Rattle.strsolve.proofs.Lists.{named_alike, IsBodySure, lists_alike}
 use Rattle.strsolve.proofs.Sequences.{starts, IsSure, IsBegun, fronts, no_start, all_alike, written_of_some}
 
 abbrev Rule : Type 1
 Rule = Regex → Tokens → Type 0
-
--- what two names that are the same are looked up as
-named_alike : {X : Type 0} (entries : List (List ℕ × X)) (m n : List ℕ) (x y : X) → lookup (pointwise nat_eq m) entries ≡ Some x → lookup (pointwise nat_eq n) entries ≡ Some y → m ≡ n → x ≡ y
-named_alike entries m n x y a b e = let h : Some x ≡ Some y = sym a ∙ ap (λ (k : List ℕ). lookup (pointwise nat_eq k) entries) e ∙ b in cc
 
 constants_alike : (r s : Regex) (ts us rest more : Tokens) → IsConstant r ts → IsConstant s us → ts ++ rest ≡ us ++ more → (r ≡ s) × (rest ≡ more)
 constants_alike r s ts us rest more a b e =
@@ -68,21 +65,14 @@ arguments_alike P sure begun (head.Variadic f) r s ts us rest more a b e =
     let same = all_alike P sure begun a.parts b.parts ts us (closing ∷ rest) (closing ∷ more) refl refl (written_of_some P a.parts ts a.written) (written_of_some P b.parts us b.written) e in
     (a.meant ∙ ap (variadic f) same.0 ∙ sym b.meant, same.1)
 
-applications_alike : (P : Rule) → IsSure P → IsBegun P → (r s : Regex) (ts us rest more : Tokens) → IsApplication P r ts → IsApplication P s us → ts ++ rest ≡ us ++ more → (r ≡ s) × (rest ≡ more)
-applications_alike P sure begun r s ts us rest more a b e =
-    let h = fronts ts us _ _ rest more a.written b.written e in
-    let name : a.name ≡ b.name = cc in
-    let function : a.function ≡ b.function = named_alike functions a.name b.name a.function b.function a.named b.named name in
-    let inner : (a.arguments ++ closing ∷ []) ++ rest ≡ (b.arguments ++ closing ∷ []) ++ more = cc in
-    let same = arguments_alike P sure begun b.function r s a.arguments b.arguments rest more (subst (λ (f : Function). AreArguments P f r a.arguments) function a.meant) b.meant
-    (sym (append_assoc a.arguments (closing ∷ []) rest) ∙ inner ∙ append_assoc b.arguments (closing ∷ []) more) in
-    let behind = same.1 in (same.0, (cc))
+arguments_sure : (P : Rule) → IsSure P → IsBegun P → IsBodySure (AreArguments P)
+arguments_sure P sure begun = record { alike = arguments_alike P sure begun }
 
 layer_alike : (P : Rule) → IsSure P → IsBegun P → (r s : Regex) (ts us rest more : Tokens) → IsConstant r ts ⊎ IsApplication P r ts → IsConstant s us ⊎ IsApplication P s us → ts ++ rest ≡ us ++ more → (r ≡ s) × (rest ≡ more)
 layer_alike P sure begun r s ts us rest more (inl a) (inl b) e = constants_alike r s ts us rest more a b e
 layer_alike P sure begun r s ts us rest more (inl a) (inr b) e = absurd (no_constant P r s ts us rest more a b e)
 layer_alike P sure begun r s ts us rest more (inr a) (inl b) e = absurd (no_constant P s r us ts more rest b a (sym e))
-layer_alike P sure begun r s ts us rest more (inr a) (inr b) e = applications_alike P sure begun r s ts us rest more a b e
+layer_alike P sure begun r s ts us rest more (inr a) (inr b) e = lists_alike functions (AreArguments P) (arguments_sure P sure begun) r s ts us rest more a b e
 
 pub written_begun : (deep : ℕ) → IsBegun (IsWritten deep)
 unfolding IsWritten
@@ -128,8 +118,8 @@ unfolding IsWritten
 layer_list less mid new None f = λ r ts rest k e. elim k [ inl a ↦ opening_constant mid r ts rest a e | inr a ↦ f r ts rest a e ]
 layer_list less mid new (Some r) f = (f.0, inr f.1, f.2)
 
-pub finds_list : (deep less : ℕ) (mid new : Tokens) (found : Option Regex) → suc less ≡ deep → Finds (IsApplication (IsWritten less)) (opening ∷ mid) new found → Finds (IsWritten deep) (opening ∷ mid) new found
-finds_list deep less mid new found is h = subst (λ (n : ℕ). Finds (IsWritten n) (opening ∷ mid) new found) is (layer_list less mid new found h)
+pub finds_deeper : (deep less : ℕ) (mid new : Tokens) (found : Option Regex) → suc less ≡ deep → Finds (IsApplication (IsWritten less)) (opening ∷ mid) new found → Finds (IsWritten deep) (opening ∷ mid) new found
+finds_deeper deep less mid new found is h = subst (λ (n : ℕ). Finds (IsWritten n) (opening ∷ mid) new found) is (layer_list less mid new found h)
 
 pub at_token : (deep : ℕ) (token kind : Token) (mid new : Tokens) (found : Option Regex) → token ≡ kind → Finds (IsWritten deep) (meant kind ∷ mid) new found → Finds (IsWritten deep) (meant token ∷ mid) new found
 at_token deep token kind mid new found is h = subst (λ (k : Token). Finds (IsWritten deep) (meant k ∷ mid) new found) (sym is) h
@@ -141,36 +131,6 @@ no_token deep (lexed.Symbol name) mid new h k = absurd (k name refl)
 no_token deep lexed.Close mid new h k = no_start (IsWritten deep) (written_begun deep) (closing ∷ mid) new refl
 no_token deep (lexed.Literal text) mid new h k = no_start (IsWritten deep) (written_begun deep) (literal text.now ∷ mid) new refl
 no_token deep lexed.Other mid new h k = no_start (IsWritten deep) (written_begun deep) (other ∷ mid) new refl
-
--- an application whose first parenthesis was taken
-inside : (P : Rule) (mid : Tokens) (r : Regex) (ts rest : Tokens) (a : IsApplication P r ts) → opening ∷ mid ≡ ts ++ rest → mid ≡ symbol a.name ∷ (a.arguments ++ closing ∷ []) ++ rest
-inside P mid r ts rest a e = let h = e ∙ ap (λ (l : Tokens). l ++ rest) a.written in cc
-
-pub no_name : (P : Rule) (mid new : Tokens) → ((name : List ℕ) (rest : Tokens) → mid ≡ symbol name ∷ rest → ⊥) → Finds (IsApplication P) (opening ∷ mid) new None
-no_name P mid new h = λ r ts rest a e. h a.name ((a.arguments ++ closing ∷ []) ++ rest) (inside P mid r ts rest a e)
-
-pub no_function : (P : Rule) (name : List ℕ) (mid mid2 new : Tokens) → mid ≡ symbol name ∷ mid2 → None ≡ lookup (pointwise nat_eq name) functions → Finds (IsApplication P) (opening ∷ mid) new None
-no_function P name mid mid2 new at is = λ r ts rest a e.
-    let h = sym at ∙ inside P mid r ts rest a e in
-    let same : name ≡ a.name = cc in
-    let k : None ≡ Some a.function = is ∙ ap (λ (n : List ℕ). lookup (pointwise nat_eq n) functions) same ∙ a.named in cc
-
-pub finds_application : (P : Rule) (name : List ℕ) (f : Function) (mid mid2 new : Tokens) (found : Option Regex) → mid ≡ symbol name ∷ mid2 → Some f ≡ lookup (pointwise nat_eq name) functions → Finds (Closes (AreArguments P f)) mid2 new found → Finds (IsApplication P) (opening ∷ mid) new found
-finds_application P name f mid mid2 new None at is h = λ r ts rest a e.
-    let k = sym at ∙ inside P mid r ts rest a e in
-    let same : name ≡ a.name = cc in
-    let behind : mid2 ≡ (a.arguments ++ closing ∷ []) ++ rest = cc in
-    let function : a.function ≡ f = named_alike functions a.name name a.function f a.named (sym is) (sym same) in
-    h r (a.arguments ++ closing ∷ []) rest (record { inner = a.arguments; is_written = subst (λ (g : Function). AreArguments P g r a.arguments) function a.meant; ended = refl }) behind
-finds_application P name f mid mid2 new (Some r) at is h =
-    let c = h.1 in (
-      opening ∷ symbol name ∷ c.inner ++ closing ∷ [],
-      record { name = name; function = f; arguments = c.inner; named = sym is; meant = c.is_written; written = refl },
-      ap (λ (l : Tokens). opening ∷ l) (at ∙ ap (λ (l : Tokens). symbol name ∷ l) (h.2 ∙ ap (λ (l : Tokens). l ++ new) c.ended)),
-    )
-
-pub at_function : (P : Rule) (f g : Function) (old new : Tokens) (found : Option Regex) → f ≡ g → Finds (Closes (AreArguments P g)) old new found → Finds (Closes (AreArguments P f)) old new found
-at_function P f g old new found is h = subst (λ (k : Function). Finds (Closes (AreArguments P k)) old new found) (sym is) h
 
 pub part_of_unary : (P : Rule) (f : Unary) (r : Regex) (ts : Tokens) → IsUnary P f r ts → (part : Regex) × P part ts
 part_of_unary P f r ts a = (a.part, a.written)
@@ -239,9 +199,9 @@ pub written_plain : (deep : ℕ) (r : Regex) (ts : Tokens) → IsWritten deep r 
 unfolding IsWritten
 written_plain zero r ts a = constant_plain a.name r a.named
 written_plain (suc deep) r ts (inl a) = constant_plain a.name r a.named
-written_plain (suc deep) r ts (inr a) = arguments_plain (IsWritten deep) (written_plain deep) a.function r a.arguments a.meant
+written_plain (suc deep) r ts (inr a) = arguments_plain (IsWritten deep) (written_plain deep) a.head r a.body a.meant
 
-parts_tokens : {A : Type 0} (P : A → Tokens → Type 0) → ((r : A) (ts : Tokens) → P r ts → AreTokens ts) → (parts : List A) (ts : Tokens) → AreWritten P parts ts → AreTokens ts
+pub parts_tokens : {A : Type 0} (P : A → Tokens → Type 0) → ((r : A) (ts : Tokens) → P r ts → AreTokens ts) → (parts : List A) (ts : Tokens) → AreWritten P parts ts → AreTokens ts
 parts_tokens P clean [] ts a = subst AreTokens (sym a) tt
 parts_tokens P clean (p ∷ ps) ts a = subst AreTokens (sym a.4) (tokens_joined a.0 a.1 (clean p a.0 a.2) (parts_tokens P clean ps a.1 a.3))
 
@@ -255,4 +215,4 @@ pub written_tokens : (deep : ℕ) (r : Regex) (ts : Tokens) → IsWritten deep r
 unfolding IsWritten
 written_tokens zero r ts a = subst AreTokens (sym a.written) ((λ is. cc), tt)
 written_tokens (suc deep) r ts (inl a) = subst AreTokens (sym a.written) ((λ is. cc), tt)
-written_tokens (suc deep) r ts (inr a) = subst AreTokens (sym a.written) ((λ is. cc), ((λ is. cc), tokens_joined a.arguments (closing ∷ []) (arguments_tokens (IsWritten deep) (written_tokens deep) a.function r a.arguments a.meant) ((λ is. cc), tt)))
+written_tokens (suc deep) r ts (inr a) = subst AreTokens (sym a.written) ((λ is. cc), ((λ is. cc), tokens_joined a.body (closing ∷ []) (arguments_tokens (IsWritten deep) (written_tokens deep) a.head r a.body a.meant) ((λ is. cc), tt)))

@@ -1,5 +1,10 @@
+pub mod Commands
+pub mod Entries
 pub mod Expressions
 pub mod Lexing
+pub mod Lists
+pub mod Models
+pub mod Sayings
 pub mod Scripts
 pub mod Sequences
 pub mod Spelling

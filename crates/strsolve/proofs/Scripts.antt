@@ -1,110 +1,174 @@
--- Scripts of the form, command by command.
-use Rattle.std.proofs.Common.{◌≡◌, refl, sym, ap, ◌∙◌, subst, ℕ, List, [], ◌∷◌, ◌++◌, append_assoc, true, None, Some, MatchOption}
-use Rattle.std.specs.Prelude.{codes}
+-- Commands one after another, and the script that they are.
+use Rattle.std.proofs.Common.{◌≡◌, refl, sym, ap, ◌∙◌, subst, ℕ, Bool, true, false, List, [], ◌∷◌, ◌++◌, append_assoc, append-nil, None, Some, is_some, MatchOption}
 use Rattle.std.specs.declared.option.Option.{Option}
+use Rattle.std.specs.Map.{keys_of, lookup}
+use Rattle.std.specs.Cmp.Lexicographic.{pointwise}
 use Rattle.sv_terms.specs.declared.regex.Regex.{Regex}
 use Rattle.sv_terms.specs.Language.{is_plain}
-use Rattle.strsolve.specs.Lexicon.{opening, closing, symbol}
+use Rattle.strsolve.specs.Lexicon.{Lexeme}
 use Rattle.strsolve.specs.Scanning.{tokens_of}
-use Rattle.strsolve.specs.Form.{Tokens, IsWritten, IsDeclaration, IsAssertion, check_sat, IsScript}
-use Rattle.strsolve.specs.Reading.{Finds, IsScriptOf}
-use Rattle.strsolve.proofs.Expressions.{written_sure, written_plain, written_tokens}
-use Rattle.strsolve.proofs.Spelling.{AreTokens, tokens_joined, spelled, unspelled}
+use Rattle.strsolve.specs.Form.{Tokens, AreWritten, IsList}
+use Rattle.strsolve.specs.Commands.{Constants, Said, IsCommand, IsBody, IsScript, asserted, said}
+use Rattle.strsolve.specs.Reading.{Finds, Advances, IsScriptOf, ArePlain, said_at, silent_to}
+use Rattle.strsolve.specs.Replies.{silent}
+use Rattle.strsolve.specs.declared.command.Command.{Command}
+use Rattle.strsolve.specs.declared.command.Command.TheVariants.{Declare, Assert, CheckSat, GetModel}
+use Rattle.strsolve.specs.declared.command.Keyword.{Keyword}
+use Rattle.strsolve.specs.declared.command.Keyword.TheVariants as keyword
+use Rattle.strsolve.specs.declared.draft.Script.{Script}
+use Rattle.strsolve.specs.declared.draft.Stage.{Stage}
+use Rattle.strsolve.specs.declared.draft.Stage.TheVariants as stage
+use Rattle.strsolve.specs.declared.reply.Reply.{Reply}
+use Rattle.strsolve.proofs.Spelling.{spelled, unspelled}
+use Rattle.strsolve.proofs.Sequences.{IsRead, IsBehind, starts, starts_on, behind, nothing_left, all_alike, read_none, read_more}
+use Rattle.strsolve.proofs.Expressions.{parts_tokens, written_plain}
+use Rattle.strsolve.proofs.Commands.{command_sure, command_begun, command_tokens}
+use Rattle.strsolve.proofs.Sayings.{AllPlain, said_left}
 
-declaration_alike : (m n : List ℕ) (ts us rest more : Tokens) → IsDeclaration m ts → IsDeclaration n us → ts ++ rest ≡ us ++ more → (m ≡ n) × (rest ≡ more)
-declaration_alike m n ts us rest more a b e =
-    let h = ap (λ (l : Tokens). l ++ rest) (sym a.written) ∙ e ∙ ap (λ (l : Tokens). l ++ more) b.written in ((cc), (cc))
+-- commands were read, which left this, and these replies
+pub record IsDraft (old : Tokens) (at : Stage) (constants : Constants) (log : List Reply) (now : Tokens) : Type 0 where
+  pub commands : List Command
+  pub read : IsRead IsCommand old commands now
+  pub ahead : (more : List Command) → said (commands ++ more) ≡ said_at at constants more
+  pub silence : log ≡ silent commands
 
--- the front of an assertion, up to its regular expression
-abbrev pub membership : List ℕ → Tokens
-membership name = opening ∷ symbol (codes "assert") ∷ opening ∷ symbol (codes "str.in_re") ∷ symbol name ∷ []
+opened : (more : List Command) → said more ≡ said_at stage.Opened [] more
+opened [] = refl
+opened (Declare name ∷ more) = refl
+opened (Assert name regex ∷ more) = refl
+opened (CheckSat ∷ more) = refl
+opened (GetModel ∷ more) = refl
 
--- an assertion at the front, taken apart
-assertion_parts : (name : List ℕ) (r : Regex) (ts rest old : Tokens) (a : IsAssertion name r ts) → old ≡ ts ++ rest → old ≡ membership name ++ (a.inner ++ closing ∷ closing ∷ rest)
-assertion_parts name r ts rest old a e = e ∙ ap (λ (l : Tokens). l ++ rest) a.written ∙ ap (λ (l : Tokens). membership name ++ l) (append_assoc a.inner (closing ∷ closing ∷ []) rest)
+pub no_draft : (old : Tokens) (at : Stage) (constants : Constants) (log : List Reply) → at ≡ stage.Opened → constants ≡ [] → log ≡ [] → IsDraft old at constants log old
+no_draft old at constants log is empty quiet =
+    record {
+      commands = [];
+      read = read_none IsCommand old [] refl;
+      ahead = λ more. opened more ∙ ap (λ (s : Stage). said_at s [] more) (sym is) ∙ ap (λ (l : Constants). said_at at l more) (sym empty);
+      silence = quiet;
+    }
 
-assertion_alike : (name : List ℕ) (r s : Regex) (ts us rest more : Tokens) → IsAssertion name r ts → IsAssertion name s us → ts ++ rest ≡ us ++ more → (r ≡ s) × (rest ≡ more)
-assertion_alike name r s ts us rest more a b e =
-    let h : membership name ++ (a.inner ++ closing ∷ closing ∷ rest) ≡ membership name ++ (b.inner ++ closing ∷ closing ∷ more) = sym (assertion_parts name r ts rest (ts ++ rest) a refl) ∙ assertion_parts name s us more (ts ++ rest) b e in
-    let inner : a.inner ++ closing ∷ closing ∷ rest ≡ b.inner ++ closing ∷ closing ∷ more = cc in
-    let parts = (written_sure 1000).alike r s a.inner b.inner (closing ∷ closing ∷ rest) (closing ∷ closing ∷ more) a.is_part b.is_part inner in
-    let behind = parts.1 in (parts.0, (cc))
+silent_more : (commands more : List Command) → silent (commands ++ more) ≡ silent commands ++ silent more
+silent_more [] more = refl
+silent_more (Declare name ∷ commands) more = ap (λ (l : List Reply). silent_to (Declare name) ++ l) (silent_more commands more)
+silent_more (Assert name regex ∷ commands) more = ap (λ (l : List Reply). silent_to (Assert name regex) ++ l) (silent_more commands more)
+silent_more (CheckSat ∷ commands) more = silent_more commands more
+silent_more (GetModel ∷ commands) more = silent_more commands more
 
--- an assertion without its end
-pub no_end : (name : List ℕ) (found : Regex) (old mid mid2 new : Tokens) → old ≡ membership name ++ mid → Finds (IsWritten 1000) mid mid2 (Some found) → ((rest : Tokens) → mid2 ≡ closing ∷ closing ∷ rest → ⊥) → Finds (IsAssertion name) old new None
-no_end name found old mid mid2 new e h end = λ r ts rest a is.
-    let k : membership name ++ mid ≡ membership name ++ (a.inner ++ closing ∷ closing ∷ rest) = sym e ∙ assertion_parts name r ts rest old a is in
-    let inner : mid ≡ a.inner ++ closing ∷ closing ∷ rest = cc in
-    end rest ((written_sure 1000).alike found r h.0 a.inner mid2 (closing ∷ closing ∷ rest) h.1 a.is_part (sym h.2 ∙ inner)).1
+pub draft_more : (old now new : Tokens) (at at2 : Stage) (constants constants2 : Constants) (log log2 : List Reply) (command : Command) → IsDraft old at constants log now → Finds IsCommand now new (Some command) → Advances at constants command true at2 constants2 → log2 ≡ log ++ silent_to command → IsDraft old at2 constants2 log2 new
+draft_more old now new at at2 constants constants2 log log2 command d f advances is =
+    record {
+      commands = d.commands ++ command ∷ [];
+      read = read_more IsCommand old now new d.commands (d.commands ++ command ∷ []) command d.read f refl;
+      ahead = λ more. ap said (append_assoc d.commands (command ∷ []) more) ∙ d.ahead (command ∷ more) ∙ advances more;
+      silence = is ∙ ap (λ (l : List Reply). l ++ silent_to command) d.silence ∙ sym (silent_more d.commands (command ∷ []));
+    }
 
-pub assertion_found : (name : List ℕ) (found : Regex) (old mid mid2 new : Tokens) → old ≡ membership name ++ mid → Finds (IsWritten 1000) mid mid2 (Some found) → mid2 ≡ closing ∷ closing ∷ new → Finds (IsAssertion name) old new (Some found)
-assertion_found name found old mid mid2 new e h end = (
-  membership name ++ (h.0 ++ closing ∷ closing ∷ []),
-  record { inner = h.0; is_part = h.1; written = refl },
-  e ∙ ap (λ (l : Tokens). membership name ++ l) (h.2 ∙ ap (λ (l : Tokens). h.0 ++ l) end ∙ sym (append_assoc h.0 (closing ∷ closing ∷ []) new)),
+-- what another script has behind the commands that were read
+script_behind : (old now : Tokens) (at : Stage) (constants : Constants) (log : List Reply) → (d : IsDraft old at constants log now) → (all : List Command) (saying : Said) → IsScriptOf old all saying → IsBehind IsCommand d.commands all now []
+script_behind old now at constants log d all saying s =
+    behind IsCommand command_sure command_begun d.commands all d.read.done now old [] refl d.read.are s.are (sym d.read.split ∙ sym (append-nil old))
+
+pub no_command : (old now mid new : Tokens) (token : Lexeme) (at : Stage) (constants : Constants) (log : List Reply) → IsDraft old at constants log now → now ≡ token ∷ mid → Finds IsCommand (token ∷ mid) new None → (all : List Command) (saying : Said) → IsScriptOf old all saying → ⊥
+no_command old now mid new token at constants log d is none all saying s =
+    let r = script_behind old now at constants log d all saying s in left r.left r.inner r.are (sym is ∙ r.split)
+  where
+    left : (qs : List Command) (inner : Tokens) → AreWritten IsCommand qs inner → token ∷ mid ≡ inner ++ [] → ⊥
+    left [] inner a e = let k : token ∷ mid ≡ [] = e ∙ ap (λ (l : Tokens). l ++ []) a in cc
+    left (q ∷ qs) inner a e = none q a.0 (a.1 ++ []) a.2 (e ∙ ap (λ (l : Tokens). l ++ []) a.4 ∙ append_assoc a.0 a.1 [])
+
+pub refused : (old now new : Tokens) (at at2 : Stage) (constants constants2 : Constants) (log : List Reply) (command : Command) → IsDraft old at constants log now → Finds IsCommand now new (Some command) → Advances at constants command false at2 constants2 → (all : List Command) (saying : Said) → IsScriptOf old all saying → ⊥
+refused old now new at at2 constants constants2 log command d f advances all saying s =
+    let r = script_behind old now at constants log d all saying s in left r.left r.inner r.are r.joined r.split
+  where
+    left : (qs : List Command) (inner : Tokens) → AreWritten IsCommand qs inner → all ≡ d.commands ++ qs → now ≡ inner ++ [] → ⊥
+    left [] inner a joined e =
+        let some : starts now ≡ true = ap starts f.2 ∙ starts_on f.0 new (command_begun.begun command f.0 f.1) in
+        let none : starts now ≡ false = ap starts (e ∙ ap (λ (l : Tokens). l ++ []) a) in cc
+    left (q ∷ qs) inner a joined e =
+        let same = command_sure.alike command q f.0 a.0 new (a.1 ++ []) f.1 a.2 (sym f.2 ∙ e ∙ ap (λ (l : Tokens). l ++ []) a.4 ∙ append_assoc a.0 a.1 []) in
+        let none : None ≡ Some saying = sym (d.ahead (q ∷ qs) ∙ ap (λ (c : Command). said_at at constants (c ∷ qs)) (sym same.0) ∙ advances qs) ∙ ap said (sym joined) ∙ s.meant in cc
+
+-- all commands were read
+all_read : (old now : Tokens) (at : Stage) (constants : Constants) (log : List Reply) → (d : IsDraft old at constants log now) → now ≡ [] → (all : List Command) (saying : Said) → IsScriptOf old all saying → said_at at constants [] ≡ Some saying
+all_read old now at constants log d end all saying s =
+    let r = script_behind old now at constants log d all saying s in
+    let none = nothing_left IsCommand command_begun r.left r.inner now [] (ap starts end) r.are r.split in
+    sym (d.ahead []) ∙ ap said (ap (λ (l : List Command). d.commands ++ l) (sym none.0) ∙ sym r.joined) ∙ s.meant
+
+pub unfinished : (old now : Tokens) (at : Stage) (constants : Constants) (log : List Reply) → IsDraft old at constants log now → now ≡ [] → said_at at constants [] ≡ None → (all : List Command) (saying : Said) → IsScriptOf old all saying → ⊥
+unfinished old now at constants log d end none all saying s = let e : None ≡ Some saying = sym none ∙ all_read old now at constants log d end all saying s in cc
+
+pub finished : (old now : Tokens) (at : Stage) (constants : Constants) (log log2 : List Reply) (saying : Said) → IsDraft old at constants log now → now ≡ [] → said_at at constants [] ≡ Some saying → log2 ≡ log → (commands : List Command) × IsScriptOf old commands saying × (log2 ≡ silent commands)
+finished old now at constants log log2 saying d end some is = (
+  d.commands,
+  record {
+    are = subst (λ (l : Tokens). AreWritten IsCommand d.commands l) (sym (d.read.split ∙ ap (λ (l : Tokens). d.read.done ++ l) end ∙ append-nil d.read.done)) d.read.are;
+    meant = ap said (sym (append-nil d.commands)) ∙ d.ahead [] ∙ some;
+  },
+  is ∙ d.silence,
 )
 
--- the assertion of a script, behind the declaration that was found
-asserted : (name : List ℕ) (old mid declaration : Tokens) → IsDeclaration name declaration → old ≡ declaration ++ mid → (r : Regex) (s : IsScriptOf old r) → IsAssertion name r s.assertion × (mid ≡ s.assertion ++ check_sat)
-asserted name old mid declaration found at r s =
-    let all : declaration ++ mid ≡ s.declaration ++ (s.assertion ++ check_sat) = sym at ∙ s.written ∙ append_assoc s.declaration s.assertion check_sat in
-    let same = declaration_alike name s.name declaration s.declaration mid (s.assertion ++ check_sat) found s.declares all in
-    (subst (λ (n : List ℕ). IsAssertion n r s.assertion) (sym same.0) s.asserts, same.1)
-
-pub no_assertion : (name : List ℕ) (old mid mid2 declaration : Tokens) → IsDeclaration name declaration → old ≡ declaration ++ mid → Finds (IsAssertion name) mid mid2 None → (r : Regex) → IsScriptOf old r → ⊥
-no_assertion name old mid mid2 declaration found at none r s =
-    let p = asserted name old mid declaration found at r s in none r s.assertion check_sat p.0 p.1
-
-pub no_check : (name : List ℕ) (old mid mid2 declaration : Tokens) (r : Regex) → IsDeclaration name declaration → old ≡ declaration ++ mid → Finds (IsAssertion name) mid mid2 (Some r) → (mid2 ≡ check_sat → ⊥) → (other : Regex) → IsScriptOf old other → ⊥
-no_check name old mid mid2 declaration r found at h none other s =
-    let p = asserted name old mid declaration found at other s in
-    none (assertion_alike name r other h.0 s.assertion mid2 check_sat h.1 p.0 (sym h.2 ∙ p.1)).1
-
--- the regular expression of a script is its only one
-alike : (old : Tokens) (r s : Regex) → IsScriptOf old r → IsScriptOf old s → r ≡ s
-alike old r s a b =
-    let p = asserted a.name old (a.assertion ++ check_sat) a.declaration a.declares (a.written ∙ append_assoc a.declaration a.assertion check_sat) s b in
-    (assertion_alike a.name r s a.assertion b.assertion check_sat check_sat a.asserts p.0 p.1).0
-
 -- a script is one by the tokens that are found in it
-found_in : (bytes : List ℕ) (r : Regex) → IsScript bytes r → IsScriptOf (tokens_of bytes) r
-found_in bytes r s =
+found_in : (bytes : List ℕ) (commands : List Command) (saying : Said) → IsScript bytes commands saying → IsScriptOf (tokens_of bytes) commands saying
+found_in bytes commands saying s = record { are = subst (λ (l : Tokens). AreWritten IsCommand commands l) (sym (spelled bytes s.tokens s.written)) s.are; meant = s.meant }
+
+spelled_by : (bytes : List ℕ) (commands : List Command) (saying : Said) → IsScriptOf (tokens_of bytes) commands saying → IsScript bytes commands saying
+spelled_by bytes commands saying s =
     record {
-      name = s.name;
-      declaration = s.declaration;
-      assertion = s.assertion;
-      declares = s.declares;
-      asserts = s.asserts;
-      written = spelled bytes (s.declaration ++ s.assertion ++ check_sat) s.written;
+      tokens = tokens_of bytes;
+      are = s.are;
+      meant = s.meant;
+      written = unspelled (tokens_of bytes) bytes refl (parts_tokens IsCommand command_tokens commands (tokens_of bytes) s.are);
     }
 
-declaration_tokens : (name : List ℕ) (ts : Tokens) → IsDeclaration name ts → AreTokens ts
-declaration_tokens name ts a = subst AreTokens (sym a.written) ((λ is. cc), ((λ is. cc), ((λ is. cc), ((λ is. cc), ((λ is. cc), tt)))))
+pub not_read : (bytes : List ℕ) (old : Tokens) → old ≡ tokens_of bytes → ((commands : List Command) (saying : Said) → IsScriptOf old commands saying → ⊥) → (commands : List Command) (saying : Said) → IsScript bytes commands saying → ⊥
+not_read bytes old is none commands saying s = none commands saying (subst (λ (l : Tokens). IsScriptOf l commands saying) (sym is) (found_in bytes commands saying s))
 
-assertion_tokens : (name : List ℕ) (r : Regex) (ts : Tokens) → IsAssertion name r ts → AreTokens ts
-assertion_tokens name r ts a =
-    subst AreTokens (sym a.written)
-    ((λ is. cc), ((λ is. cc), ((λ is. cc), ((λ is. cc), ((λ is. cc), tokens_joined a.inner (closing ∷ closing ∷ []) (written_tokens 1000 r a.inner a.is_part) ((λ is. cc), ((λ is. cc), tt)))))))
+pub read_right : (bytes : List ℕ) (old : Tokens) (saying : Said) (log : List Reply) → old ≡ tokens_of bytes → (commands : List Command) × IsScriptOf old commands saying × (log ≡ silent commands) → (commands : List Command) × IsScript bytes commands saying × (log ≡ silent commands)
+read_right bytes old saying log is r = (r.0, spelled_by bytes r.0 saying (subst (λ (l : Tokens). IsScriptOf l r.0 saying) is r.1), r.2)
 
-spelled_by : (bytes : List ℕ) (r : Regex) → IsScriptOf (tokens_of bytes) r → IsScript bytes r
-spelled_by bytes r s =
-    record {
-      name = s.name;
-      declaration = s.declaration;
-      assertion = s.assertion;
-      declares = s.declares;
-      asserts = s.asserts;
-      written = unspelled (s.declaration ++ s.assertion ++ check_sat) bytes s.written
-          (tokens_joined (s.declaration ++ s.assertion) check_sat (tokens_joined s.declaration s.assertion (declaration_tokens s.name s.declaration s.declares) (assertion_tokens s.name r s.assertion s.asserts)) ((λ is. cc), ((λ is. cc), ((λ is. cc), tt))));
-    }
+pub script_alike : (bytes : List ℕ) (commands others : List Command) (saying other : Said) → IsScript bytes commands saying → IsScript bytes others other → commands ≡ others
+script_alike bytes commands others saying other a b =
+    let one = found_in bytes commands saying a in
+    let two = found_in bytes others other b in
+    (all_alike IsCommand command_sure command_begun commands others (tokens_of bytes) (tokens_of bytes) [] [] refl refl one.are two.are refl).0
 
--- what is read from the tokens is right for the bytes
-pub read_right : (bytes : List ℕ) (old : Tokens) (found : Option Regex) → old ≡ tokens_of bytes → MatchOption found ((r : Regex) → IsScriptOf old r → ⊥) (λ (r : Regex). IsScriptOf old r) → MatchOption found ((r : Regex) → IsScript bytes r → ⊥) (λ (r : Regex). IsScript bytes r)
-read_right bytes old None is h = λ r s. h r (subst (λ (ts : Tokens). IsScriptOf ts r) (sym is) (found_in bytes r s))
-read_right bytes old (Some r) is h = spelled_by bytes r (subst (λ (ts : Tokens). IsScriptOf ts r) is h)
+-- what is asserted is plain
+body_plain : (k : Keyword) (c : Command) (ts : Tokens) → IsBody k c ts → AllPlain (asserted (c ∷ []))
+body_plain keyword.DeclareConst c ts a = subst (λ (d : Command). AllPlain (asserted (d ∷ []))) (sym a.meant) tt
+body_plain keyword.Assert c ts a = subst (λ (d : Command). AllPlain (asserted (d ∷ []))) (sym a.meant) (written_plain 1000 a.regex a.inner a.is_part, tt)
+body_plain keyword.CheckSat c ts a = subst (λ (d : Command). AllPlain (asserted (d ∷ []))) (sym a.meant) tt
+body_plain keyword.GetModel c ts a = subst (λ (d : Command). AllPlain (asserted (d ∷ []))) (sym a.meant) tt
 
-pub script_alike : (bytes : List ℕ) (r s : Regex) → IsScript bytes r → IsScript bytes s → r ≡ s
-script_alike bytes r s a b = alike (tokens_of bytes) r s (found_in bytes r a) (found_in bytes s b)
+plain_joined : (c : Command) (commands : List Command) → AllPlain (asserted (c ∷ [])) → AllPlain (asserted commands) → AllPlain (asserted (c ∷ commands))
+plain_joined (Declare name) commands a b = b
+plain_joined (Assert name regex) commands a b = (a.0, b)
+plain_joined CheckSat commands a b = b
+plain_joined GetModel commands a b = b
 
-pub script_plain : (bytes : List ℕ) (r : Regex) → IsScript bytes r → is_plain r ≡ true
-script_plain bytes r s = written_plain 1000 r s.asserts.inner s.asserts.is_part
+commands_plain : (commands : List Command) (ts : Tokens) → AreWritten IsCommand commands ts → AllPlain (asserted commands)
+commands_plain [] ts a = tt
+commands_plain (c ∷ commands) ts a = let l = a.2 in plain_joined c commands (body_plain l.head c l.body l.meant) (commands_plain commands a.1 a.3)
+
+pub constants_plain : (bytes : List ℕ) (commands : List Command) (constants : Constants) (asks : Bool) → IsScript bytes commands (constants, asks) → ArePlain constants
+constants_plain bytes commands constants asks s = (said_left commands constants asks s.meant).plain tt (commands_plain commands s.tokens s.are)
+
+-- what is known where the tokens end
+pub finish_right : (old now : Tokens) (at : Stage) (constants : Constants) (log : List Reply) (found : Option Script) → IsDraft old at constants log now → now ≡ []
+    → MatchOption found (said_at at constants [] ≡ None) (λ (s : Script). (said_at at constants [] ≡ Some (s.constants.entries, s.asks)) × (s.log ≡ log))
+    → MatchOption found ((commands : List Command) (saying : Said) → IsScriptOf old commands saying → ⊥) (λ (s : Script). (commands : List Command) × IsScriptOf old commands (s.constants.entries, s.asks) × (s.log ≡ silent commands))
+finish_right old now at constants log None d end h = λ commands saying s. unfinished old now at constants log d end h commands saying s
+finish_right old now at constants log (Some script) d end h = finished old now at constants log script.log (script.constants.entries, script.asks) d end h.0 h.1
+
+pub script_right : (bytes : List ℕ) (old : Tokens) (found : Option Script) → old ≡ tokens_of bytes
+    → MatchOption found ((commands : List Command) (saying : Said) → IsScriptOf old commands saying → ⊥) (λ (s : Script). (commands : List Command) × IsScriptOf old commands (s.constants.entries, s.asks) × (s.log ≡ silent commands))
+    → MatchOption found ((commands : List Command) (saying : Said) → IsScript bytes commands saying → ⊥) (λ (s : Script). (commands : List Command) × IsScript bytes commands (s.constants.entries, s.asks) × (s.log ≡ silent commands))
+script_right bytes old None is h = λ commands saying s. not_read bytes old is h commands saying s
+script_right bytes old (Some script) is h = read_right bytes old (script.constants.entries, script.asks) script.log is h
+
+pub some_script : (bytes : List ℕ) (found : Option Script) (script : Script) → found ≡ Some script
+    → MatchOption found ((commands : List Command) (saying : Said) → IsScript bytes commands saying → ⊥) (λ (s : Script). (commands : List Command) × IsScript bytes commands (s.constants.entries, s.asks) × (s.log ≡ silent commands))
+    → (commands : List Command) × IsScript bytes commands (script.constants.entries, script.asks) × (script.log ≡ silent commands)
+some_script bytes found script is h =
+    subst (λ (o : Option Script). MatchOption o ((commands : List Command) (saying : Said) → IsScript bytes commands saying → ⊥) (λ (s : Script). (commands : List Command) × IsScript bytes commands (s.constants.entries, s.asks) × (s.log ≡ silent commands))) is h

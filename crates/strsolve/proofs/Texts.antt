@@ -55,3 +55,9 @@ printed_all a b log left h none = subst (Appends a b) (sym (h.all ∙ ap (λ (l 
 
 pub front_of_all : (a b : Option (List ℕ)) (text : List ℕ) → Appends a b text → (count : ℕ) × Appends a b (take count text)
 front_of_all a b text took = (length text, subst (Appends a b) (sym (take-length text)) took)
+
+-- before the next reply
+pub printed_so_far : (a b : Option (List ℕ)) (log left : List Reply) → IsPrinted a b log left → (count : ℕ) × Appends a b (take count (texts_of log))
+printed_so_far a b log left h =
+    let cut : take (length h.done) (texts_of log) ≡ h.done = ap (λ (l : List ℕ). take (length h.done) l) h.all ∙ take-append_seam h.done (texts_of left) in
+    (length h.done, subst (Appends a b) (sym cut) h.took)

@@ -1,5 +1,5 @@
--- The form of script that is answered: one constant, one membership, one check.
-use Rattle.std.specs.Prelude.{◌≡◌, ◌⊎◌, ℕ, zero, suc, nat_eq, false, List, [], ◌∷◌, ◌++◌, codes, Some}
+-- How the regular expressions of the form are written.
+use Rattle.std.specs.Prelude.{◌≡◌, ◌⊎◌, ℕ, zero, suc, nat_eq, List, [], ◌∷◌, ◌++◌, codes, Some}
 use Rattle.std.specs.Map.{lookup}
 use Rattle.std.specs.Cmp.Lexicographic.{pointwise}
 use Rattle.sv_terms.specs.declared.regex.Regex.{Regex}
@@ -10,8 +10,7 @@ use Rattle.strsolve.specs.declared.function.Unary.{Unary}
 use Rattle.strsolve.specs.declared.function.Unary.TheVariants as of_one
 use Rattle.strsolve.specs.declared.function.Variadic.{Variadic}
 use Rattle.strsolve.specs.declared.function.Variadic.TheVariants as of_some
-use Rattle.strsolve.specs.Lexicon.{Lexeme, opening, closing, symbol, literal, Spells}
-use Rattle.strsolve.specs.Names.{is_reserved}
+use Rattle.strsolve.specs.Lexicon.{Lexeme, opening, closing, symbol, literal}
 
 abbrev pub Tokens : Type 0
 Tokens = List Lexeme
@@ -89,40 +88,20 @@ AreArguments IsPart head.Range = IsRange
 AreArguments IsPart (head.Unary f) = IsUnary IsPart f
 AreArguments IsPart (head.Variadic f) = IsVariadic IsPart f
 
--- `(F ..)`, where it is known how the parts are written
-pub record IsApplication (IsPart : Regex → Tokens → Type 0) (regex : Regex) (tokens : Tokens) : Type 0 where
+-- `(F ..)`: a list that begins with a name of the table, where it is known what stands behind each
+pub record IsList {A F : Type 0} (table : List (List ℕ × F)) (IsBody : F → A → Tokens → Type 0) (a : A) (tokens : Tokens) : Type 0 where
   pub name : List ℕ
-  pub function : Function
-  pub arguments : Tokens
-  pub named : lookup (pointwise nat_eq name) functions ≡ Some function
-  pub meant : AreArguments IsPart function regex arguments
-  pub written : tokens ≡ opening ∷ symbol name ∷ arguments ++ closing ∷ []
+  pub head : F
+  pub body : Tokens
+  pub named : lookup (pointwise nat_eq name) table ≡ Some head
+  pub meant : IsBody head a body
+  pub written : tokens ≡ opening ∷ symbol name ∷ body ++ closing ∷ []
+
+-- a function applied to its arguments, where it is known how the parts are written
+abbrev pub IsApplication : (Regex → Tokens → Type 0) → Regex → Tokens → Type 0
+IsApplication IsPart = IsList functions (AreArguments IsPart)
 
 -- how a regular expression is written, with at most so many lists inside one another
 unfoldable pub IsWritten : ℕ → Regex → Tokens → Type 0
 IsWritten zero regex tokens = IsConstant regex tokens
 IsWritten (suc deep) regex tokens = IsConstant regex tokens ⊎ IsApplication (IsWritten deep) regex tokens
-
--- `(declare-const N String)`
-pub record IsDeclaration (name : List ℕ) (tokens : Tokens) : Type 0 where
-  pub free : is_reserved name ≡ false
-  pub written : tokens ≡ opening ∷ symbol (codes "declare-const") ∷ symbol name ∷ symbol (codes "String") ∷ closing ∷ []
-
--- `(assert (str.in_re N R))`, with R at most 1,000 lists deep
-pub record IsAssertion (name : List ℕ) (regex : Regex) (tokens : Tokens) : Type 0 where
-  pub inner : Tokens
-  pub is_part : IsWritten 1000 regex inner
-  pub written : tokens ≡ opening ∷ symbol (codes "assert") ∷ opening ∷ symbol (codes "str.in_re") ∷ symbol name ∷ inner ++ closing ∷ closing ∷ []
-
--- `(check-sat)`
-abbrev pub check_sat : Tokens
-check_sat = opening ∷ symbol (codes "check-sat") ∷ closing ∷ []
-
--- the bytes are a script of the form, and this is its regular expression
-pub record IsScript (bytes : List ℕ) (regex : Regex) : Type 0 where
-  pub name : List ℕ
-  pub declaration : Tokens
-  pub assertion : Tokens
-  pub declares : IsDeclaration name declaration
-  pub asserts : IsAssertion name regex assertion
-  pub written : Spells bytes (declaration ++ assertion ++ check_sat)

@@ -19,7 +19,7 @@ pub const WRITE_FAILED: u8 = 4;
 pub const NO_MEMORY: u8 = 5;
 
 /// What a run ends with: the status of the process, and the replies.
-#[derive(Debug, Drop)]
+#[derive(Drop)]
 pub struct Run {
     pub status: u8,
     pub log: Log,

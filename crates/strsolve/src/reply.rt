@@ -1,38 +1,34 @@
 ghost use Rattle.std.specs.Prelude.{◌≡◌};
-ghost use Rattle.strsolve.specs.Replies.{text_of, is_error};
+ghost use Rattle.strsolve.specs.Replies.{is_error};
+
+use sv_list::Items;
+use sv_terms::{Model, Name};
+use sv_word::Word;
 
 /// Why a command was refused.
 #[derive(Clone, Copy, Debug, PartialEq, Eq)]
 pub enum ErrorKind {
     /// The script isn't of a form that is answered yet.
     NotBuilt,
+    /// The last check found no values.
+    NoModel,
 }
 
 /// The answer to a command.
-#[derive(Clone, Copy, Debug, PartialEq, Eq)]
+#[derive(Drop)]
 pub enum Reply {
     Success { printed: bool },
     Error(ErrorKind),
-    Sat,
+    /// The model makes every assertion true.
+    Sat(Model),
     Unsat,
+    /// The constants with their words, in order of declaration.
+    Definitions(Items<(Name, Word)>),
 }
 
 impl Reply {
-    /// The printed reply: one line, or nothing for a success that isn't printed.
-    pub fn text(self) -> &'static str
-        ensures { result.now ≡ text_of self }
-    {
-        match self {
-            Reply::Success { printed: false } => "",
-            Reply::Success { printed: true } => "success\n",
-            Reply::Error(ErrorKind::NotBuilt) => "(error \"not built\")\n",
-            Reply::Sat => "sat\n",
-            Reply::Unsat => "unsat\n",
-        }
-    }
-
-    pub fn is_error(self) -> bool
-        ensures { result ≡ is_error self }
+    pub fn is_error(&self) -> bool
+        ensures { result ≡ is_error self.now }
     {
         matches!(self, Reply::Error(_))
     }

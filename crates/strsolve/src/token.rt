@@ -1,6 +1,6 @@
 ghost use Rattle.std.specs.Prelude.{◌≡◌};
 ghost use Rattle.std.specs.Bool.{OnTrue, OnFalse};
-ghost use Rattle.strsolve.specs.Lexicon.{closing};
+ghost use Rattle.strsolve.specs.Lexicon.{closing, opening};
 ghost use Rattle.strsolve.specs.Meant.{meant};
 
 /// A token at its place in the input.
@@ -17,6 +17,14 @@ pub enum Token<'a> {
 }
 
 impl<'a> Token<'a> {
+    /// Whether it is a parenthesis that opens.
+    pub fn is_open(self) -> bool
+        ensures same { OnTrue result (meant self.entry ≡ opening) }
+        ensures other { OnFalse result (meant self.entry ≡ opening → ⊥) }
+    {
+        matches!(self, Token::Open)
+    }
+
     /// Whether it is a parenthesis that closes.
     pub fn is_close(self) -> bool
         ensures same { OnTrue result (meant self.entry ≡ closing) }

@@ -35,7 +35,7 @@ fn refuse_words<K: Sink>(sink: &mut K) -> u8
 }
 
 // Writes the printed replies, and says how that went.
-fn status_of<K: Sink>(sink: &mut K, log: &Log) -> u8
+fn status_of<K: Sink>(alloc: Global, sink: &mut K, log: &Log) -> u8
     ensures statuses { (result ≡ 0) ⊎ (result ≡ 1) ⊎ (result ≡ 4) ⊎ (result ≡ 5) }
     ensures right { result ≡ 0 → has_error log.now ≡ false }
     ensures error { result ≡ 1 → has_error log.now ≡ true }
@@ -43,7 +43,7 @@ fn status_of<K: Sink>(sink: &mut K, log: &Log) -> u8
     ensures front { (count : ℕ) × Appends (K.taken sink.old) (K.taken sink.new) (take count (texts_of log.now)) }
     ensures failed { result ≡ 4 → Rose (K.faults sink.old) (K.faults sink.new) }
 {
-    match print_all(sink, log) {
+    match print_all(alloc, sink, log) {
         Ok(()) => {
             if log.has_error() {
                 ERROR_ANSWERED
@@ -98,7 +98,7 @@ fn answer_script<S: Source, K: Sink>(alloc: Global, source: &mut S, sink: &mut K
     }
     match answers(alloc, &script) {
         Ok(log) => {
-            let status = status_of(sink, &log);
+            let status = status_of(alloc, sink, &log);
             Run { status, log }
         }
         Err(_) => Run {

@@ -1,23 +1,26 @@
-use Rattle.std.proofs.Common.{◌≡◌, ◌∷◌, ◌++◌, [], ◌∙◌, ap, subst, MatchOption, List}
+use Rattle.std.proofs.Common.{◌≡◌, subst, None, Some, MatchOption}
 use Rattle.std.specs.declared.option.Option.{Option}
-use Rattle.sv_terms.specs.declared.regex.Regex.{Regex}
-use Rattle.strsolve.specs.Form.{IsScript}
-use Rattle.strsolve.specs.declared.reply.Reply.{Reply}
-use Rattle.strsolve.specs.Replies.{replies_with, checked}
-use Rattle.strsolve.proofs.Scripts.{script_plain}
+use Rattle.strsolve.specs.Reading.{SomeConstantEmpty}
+use Rattle.strsolve.specs.Replies.{Values, AreValues}
+use Rattle.strsolve.proofs.Models.{sat_right, unsat_right}
+use Rattle.strsolve.proofs.Scripts.{constants_plain, some_script}
 use Rattle.strsolve.proofs.answers.answers.Goals as goal
+use Rattle.strsolve.proofs.answers.answers.Goals.{in-Some-2+in_ok-sat-in-Some-2, in-None+in_ok-unsat-in-None}
 
--- three replies one after another
-three : (a b c d : List Reply) (x y z : Reply) → a ≡ [] → b ≡ a ++ x ∷ [] → c ≡ b ++ y ∷ [] → d ≡ c ++ z ∷ [] → d ≡ x ∷ y ∷ z ∷ []
-three a b c d x y z e f g h = h ∙ ap (λ (l : List Reply). l ++ z ∷ []) (g ∙ ap (λ (l : List Reply). l ++ y ∷ []) (f ∙ ap (λ (l : List Reply). l ++ x ∷ []) e))
-
-pub verdict-requires : goal.verdict-requires
-verdict-requires c =
-    let s : IsScript c.args.bytes.now c.in-Some.regex = subst (λ (o : Option Regex). MatchOption o ((regex : Regex) → IsScript c.args.bytes.now regex → ⊥) (λ (regex : Regex). IsScript c.args.bytes.now regex)) c.in-Some.is c.in_ok-regex.ensures in
-    script_plain c.args.bytes.now c.in-Some.regex s
+pub values-requires : goal.values-requires
+values-requires c =
+    let s = some_script c.args.bytes.now c.in_ok-script.field-0 c.in-Some.script c.in-Some.is c.in_ok-script.ensures in
+    constants_plain c.args.bytes.now s.0 c.in-Some.script.constants.entries c.in-Some.script.asks s.1
 
 pub returns : goal.returns
 returns c =
-    let s : IsScript c.args.bytes.now c.in-Some.regex = subst (λ (o : Option Regex). MatchOption o ((regex : Regex) → IsScript c.args.bytes.now regex → ⊥) (λ (regex : Regex). IsScript c.args.bytes.now regex)) c.in-Some.is c.in_ok-regex.ensures in
-    let log : c.push-4.new.self ≡ replies_with c.in_ok-verdict.field-0 = three _ _ _ _ _ _ _ c.new-log.ensures c.in_ok-push-2.ensures.ok c.in_ok-push-3.ensures.ok c.in_ok-push-4.ensures.ok in
-    checked c.in-Some.regex c.in_ok-verdict.field-0 s c.in_ok-verdict.ensures log
+    let s = some_script c.args.bytes.now c.in_ok-script.field-0 c.in-Some.script c.in-Some.is c.in_ok-script.ensures in
+    let constants = c.in-Some.script.constants.entries in
+    elim c.match-branch-5.branch [
+      | in-Some-2+in_ok-sat-in-Some-2 w ↦
+          let values = subst (λ (found : Option Values). MatchOption found (SomeConstantEmpty constants) (λ model. AreValues constants model)) w.in-Some-2.is c.in_ok-model.ensures in
+          rw w.log-is (sat_right c.args.bytes.now s.0 constants c.in-Some.script.asks w.in-Some-2.model c.in-Some.script.log w.sat.new.log s.1 values s.2 w.in_ok-sat-in-Some-2.ensures)
+      | in-None+in_ok-unsat-in-None w ↦
+          let none = subst (λ (found : Option Values). MatchOption found (SomeConstantEmpty constants) (λ model. AreValues constants model)) w.in-None.is c.in_ok-model.ensures in
+          rw w.log-is (unsat_right c.args.bytes.now s.0 constants c.in-Some.script.asks c.in-Some.script.log w.unsat.new.log s.1 none s.2 w.in_ok-unsat-in-None.ensures)
+    ]

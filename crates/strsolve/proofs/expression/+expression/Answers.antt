@@ -2,52 +2,53 @@ use Rattle.std.proofs.Common.{◌≡◌, ◌∷◌, ◌∙◌, ◌-◌, suc, ref
 use Rattle.sv_terms.specs.declared.regex.Regex.{Regex}
 use Rattle.strsolve.specs.Lexicon.{Lexeme, closing}
 use Rattle.strsolve.specs.Meant.{meant}
-use Rattle.strsolve.specs.Form.{AreSome, IsUnary, IsVariadic, IsWritten}
+use Rattle.strsolve.specs.Form.{functions, AreArguments, AreSome, IsUnary, IsVariadic, IsWritten}
 use Rattle.strsolve.specs.Reading.{Finds, Closes}
 use Rattle.strsolve.specs.declared.function.Function.TheVariants as head
 use Rattle.strsolve.specs.declared.token.Token.TheVariants as token
 use Rattle.strsolve.proofs.Sequences.{starts, found_as, found_at, found_shorter, no_start, closes_found, closes_no_end, made, made_none, some_no_end, some_empty, some_found, some_no_part, read_more}
-use Rattle.strsolve.proofs.Expressions.{written_sure, written_begun, finds_constant, finds_no_list, finds_list, at_token, no_token, finds_application, at_function, part_of_unary, unary_of_part, parts_of_variadic, variadic_of_parts}
+use Rattle.strsolve.proofs.Expressions.{written_sure, written_begun, finds_constant, finds_no_list, finds_deeper, at_token, no_token, part_of_unary, unary_of_part, parts_of_variadic, variadic_of_parts}
+use Rattle.strsolve.proofs.Lists.{finds_list, at_head}
 use Rattle.strsolve.proofs.expression.+expression.Goals as goal
 
 pub application-returns : goal.application-returns
 application-returns t c =
-    finds_application (IsWritten c.args.deep) c.in-Some.name.now c.in-Some-function.function c.args.tokens.now c.symbol.new.self c.applied.new.tokens c.in_ok-applied.field-0
+    finds_list functions (AreArguments (IsWritten c.args.deep)) c.in-Some.name.now c.in-Some-function.function c.args.tokens.now c.symbol.new.self c.applied.new.tokens c.in_ok-applied.field-0
     c.in-Some.ensures c.in-Some-function.ensures c.in_ok-applied.ensures
 
 pub applied-returns-in_ok-text-in-Text : goal.applied-returns-in_ok-text-in-Text
 applied-returns-in_ok-text-in-Text t c =
-    at_function (IsWritten c.args.deep) c.args.function head.Text c.args.tokens.now c.text.new.tokens c.in_ok-text-in-Text.field-0 c.in-Text.is c.in_ok-text-in-Text.ensures
+    at_head functions (AreArguments (IsWritten c.args.deep)) c.args.function head.Text c.args.tokens.now c.text.new.tokens c.in_ok-text-in-Text.field-0 c.in-Text.is c.in_ok-text-in-Text.ensures
 
 pub applied-returns-in-Range : goal.applied-returns-in-Range
 applied-returns-in-Range t c =
-    at_function (IsWritten c.args.deep) c.args.function head.Range c.args.tokens.now c.range.new.tokens c.range.result c.in-Range.is c.range.ensures
+    at_head functions (AreArguments (IsWritten c.args.deep)) c.args.function head.Range c.args.tokens.now c.range.new.tokens c.range.result c.in-Range.is c.range.ensures
 
 pub applied-returns-in-Some : goal.applied-returns-in-Some
 applied-returns-in-Some t c =
     let found = found_as (Closes (IsWritten c.args.deep)) c.args.tokens.now c.part.new.tokens c.in_ok-part-in-Unary.field-0 (Some c.in-Some.part) c.in-Some.is c.in_ok-part-in-Unary.ensures in
-    at_function (IsWritten c.args.deep) c.args.function (head.Unary c.in-Unary.function) c.args.tokens.now c.part.new.tokens (Some c.unary.result) c.in-Unary.is
+    at_head functions (AreArguments (IsWritten c.args.deep)) c.args.function (head.Unary c.in-Unary.function) c.args.tokens.now c.part.new.tokens (Some c.unary.result) c.in-Unary.is
     (made (IsWritten c.args.deep) (IsUnary (IsWritten c.args.deep) c.in-Unary.function) c.in-Some.part c.unary.result
     (unary_of_part (IsWritten c.args.deep) c.in-Unary.function c.in-Some.part c.unary.result c.unary.ensures) c.args.tokens.now c.part.new.tokens found)
 
 pub applied-returns-in-None : goal.applied-returns-in-None
 applied-returns-in-None t c =
     let found = found_as (Closes (IsWritten c.args.deep)) c.args.tokens.now c.part.new.tokens c.in_ok-part-in-Unary.field-0 None c.in-None.is c.in_ok-part-in-Unary.ensures in
-    at_function (IsWritten c.args.deep) c.args.function (head.Unary c.in-Unary.function) c.args.tokens.now c.part.new.tokens None c.in-Unary.is
+    at_head functions (AreArguments (IsWritten c.args.deep)) c.args.function (head.Unary c.in-Unary.function) c.args.tokens.now c.part.new.tokens None c.in-Unary.is
     (made_none (IsWritten c.args.deep) (IsUnary (IsWritten c.args.deep) c.in-Unary.function)
     (part_of_unary (IsWritten c.args.deep) c.in-Unary.function) c.args.tokens.now c.part.new.tokens c.part.new.tokens found)
 
 pub applied-returns-in-Some-2 : goal.applied-returns-in-Some-2
 applied-returns-in-Some-2 t c =
     let found = found_as (Closes (AreSome (IsWritten c.args.deep))) c.args.tokens.now c.parts.new.tokens c.in_ok-parts-in-Variadic.field-0 (Some c.in-Some-2.parts) c.in-Some-2.is c.in_ok-parts-in-Variadic.ensures in
-    at_function (IsWritten c.args.deep) c.args.function (head.Variadic c.in-Variadic.function) c.args.tokens.now c.parts.new.tokens (Some c.variadic.result) c.in-Variadic.is
+    at_head functions (AreArguments (IsWritten c.args.deep)) c.args.function (head.Variadic c.in-Variadic.function) c.args.tokens.now c.parts.new.tokens (Some c.variadic.result) c.in-Variadic.is
     (made (AreSome (IsWritten c.args.deep)) (IsVariadic (IsWritten c.args.deep) c.in-Variadic.function) c.in-Some-2.parts c.variadic.result
     (variadic_of_parts (IsWritten c.args.deep) c.in-Variadic.function c.in-Some-2.parts c.variadic.result c.variadic.ensures) c.args.tokens.now c.parts.new.tokens found)
 
 pub applied-returns-in-None-2 : goal.applied-returns-in-None-2
 applied-returns-in-None-2 t c =
     let found = found_as (Closes (AreSome (IsWritten c.args.deep))) c.args.tokens.now c.parts.new.tokens c.in_ok-parts-in-Variadic.field-0 None c.in-None-2.is c.in_ok-parts-in-Variadic.ensures in
-    at_function (IsWritten c.args.deep) c.args.function (head.Variadic c.in-Variadic.function) c.args.tokens.now c.parts.new.tokens None c.in-Variadic.is
+    at_head functions (AreArguments (IsWritten c.args.deep)) c.args.function (head.Variadic c.in-Variadic.function) c.args.tokens.now c.parts.new.tokens None c.in-Variadic.is
     (made_none (AreSome (IsWritten c.args.deep)) (IsVariadic (IsWritten c.args.deep) c.in-Variadic.function)
     (parts_of_variadic (IsWritten c.args.deep) c.in-Variadic.function) c.args.tokens.now c.parts.new.tokens c.parts.new.tokens found)
 
@@ -68,7 +69,7 @@ pub expression_at-returns-in_ok-application-in-Open : goal.expression_at-returns
 expression_at-returns-in_ok-application-in-Open t c =
     let deep : suc (c.args.deep - 1) ≡ c.args.deep = omega arith in
     at_token c.args.deep c.args.token token.Open c.args.tokens.now c.application.new.tokens c.in_ok-application-in-Open.field-0 c.in-Open.is
-    (finds_list c.args.deep (c.args.deep - 1) c.args.tokens.now c.application.new.tokens c.in_ok-application-in-Open.field-0 deep c.in_ok-application-in-Open.ensures)
+    (finds_deeper c.args.deep (c.args.deep - 1) c.args.tokens.now c.application.new.tokens c.in_ok-application-in-Open.field-0 deep c.in_ok-application-in-Open.ensures)
 
 pub expression_at-returns-in_default : goal.expression_at-returns-in_default
 expression_at-returns-in_default t c = no_token c.args.deep c.args.token c.args.tokens.now c.args.tokens.now c.in_default.not-Open c.in_default.not-Symbol
