@@ -1,0 +1,5 @@
+(declare-const x String)
+(declare-const y String)
+(assert (str.in_re x (str.to_re "ab")))
+(check-sat)
+(get-model)
