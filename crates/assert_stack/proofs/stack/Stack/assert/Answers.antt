@@ -7,9 +7,11 @@ use Rattle.assert_stack.proofs.stack.Stack.assert.Goals as goal
 
 pub invariant_of-self : goal.invariant_of-self
 invariant_of-self c =
-    let s = c.self.inside in
-    (either_way (λ (l : List Term). AreMarks (reverse s.marks) (length s.symbols) (length l)) c.push.result s.live c.push.new.self (c.args.term ∷ []) c.push.ensures.ok c.push.ensures.err c.self.invariant.0
-        (marks-asserted (reverse s.marks) (length s.symbols) s.live (c.args.term ∷ []) c.self.invariant.0), c.self.invariant.1)
+    let s = c.self.inside in (
+      either_way (λ (l : List Term). AreMarks (reverse s.marks) (length s.symbols) (length l)) c.push.result s.live c.push.new.self (c.args.term ∷ []) c.push.ensures.ok c.push.ensures.err c.self.invariant.0
+          (marks-asserted (reverse s.marks) (length s.symbols) s.live (c.args.term ∷ []) c.self.invariant.0),
+      c.self.invariant.1,
+    )
 
 pub returns-clause-ok : goal.returns-clause-ok
 returns-clause-ok c =

@@ -14,9 +14,11 @@ declare-requires c =
 
 pub invariant_of-self : goal.invariant_of-self
 invariant_of-self c =
-    let s = c.self.inside in
-    (either_way (λ (l : List Symbol). AreMarks (reverse s.marks) (length l) (length s.live)) c.declare.result s.symbols c.declare.new.self ((c.args.name, c.args.entry) ∷ []) c.declare.ensures.ok c.declare.ensures.err c.self.invariant.0
-        (marks-declared (reverse s.marks) s.symbols ((c.args.name, c.args.entry) ∷ []) (length s.live) c.self.invariant.0), c.self.invariant.1)
+    let s = c.self.inside in (
+      either_way (λ (l : List Symbol). AreMarks (reverse s.marks) (length l) (length s.live)) c.declare.result s.symbols c.declare.new.self ((c.args.name, c.args.entry) ∷ []) c.declare.ensures.ok c.declare.ensures.err c.self.invariant.0
+          (marks-declared (reverse s.marks) s.symbols ((c.args.name, c.args.entry) ∷ []) (length s.live) c.self.invariant.0),
+      c.self.invariant.1,
+    )
 
 pub returns-clause-ok : goal.returns-clause-ok
 returns-clause-ok c =
