@@ -2,6 +2,7 @@ pub mod BuildEdges
 pub mod BuildRuns
 pub mod ConcatEdges
 pub mod JoinLemmas
+pub mod OverlapLemmas
 pub mod MeetBounds
 pub mod MeetRuns
 pub mod ProductLemmas
@@ -11,3 +12,4 @@ pub mod PlaceLemmas
 pub mod OptionLemmas
 pub mod PickLemmas
 pub mod SplitLemmas
+pub mod TestLemmas

@@ -1,13 +1,13 @@
 -- One cost out of each list.
-use Rattle.std.proofs.Common.{◌≡◌, ℕ, zero, suc, ◌+◌, ◌<◌, ◌≤◌, List, [], ◌∷◌, ◌++◌, length, take, get_or, slice_index, Any, Some, None, Option, refl, ap, sym, ◌∙◌, subst, arith, inl, inr}
+use Rattle.std.proofs.Common.{◌≡◌, ℕ, zero, suc, ◌+◌, ◌<◌, ◌≤◌, List, [], ◌∷◌, ◌++◌, length, take, reverse, get_or, slice_index, Any, Some, None, Option, refl, ap, sym, ◌∙◌, subst, arith, inl, inr}
 use Rattle.machine_core.specs.Costs.{add_costs, zeros}
 use Rattle.machine_core.specs.CostLaws.{add_costs-length, add_costs-entry, zeros-length, zeros-entry}
 use Rattle.std.proofs.Common.{add-one}
-use Rattle.std.proofs.lemmas.List.{length-take-le, take_all}
+use Rattle.std.proofs.lemmas.List.{length-take-le, take_all, reverse-append}
 use Rattle.machine_core.specs.Lists.{Any-none, Any-here, Any-cases, Any-push_cases}
 use Rattle.machine_meet.proofs.JoinLemmas.{take-push}
 use Rattle.machine_meet.specs.Products.{sum_costs}
-use Rattle.machine_meet.specs.Splits.{Picks, IsPick, AreWide, IsRest}
+use Rattle.machine_meet.specs.Splits.{Picks, IsPick, AreWide, IsRest, turned}
 
 -- the costs that are picked out of lists of costs of this width have their sum in it
 pub picked-length : (width : ℕ) (os : List (List (List ℕ))) (ks : List (List ℕ)) → AreWide width os → Picks os ks → length (sum_costs width ks) ≡ width
@@ -85,6 +85,17 @@ pub after-some : (cost want left : List ℕ) (rest : List (List (List ℕ))) (ks
 after-some cost want left rest ks all l p e =
     subst (λ x. IsPick ((cost ∷ []) ∷ rest) want (Some x)) (sym e)
     ((Any-here (λ x. x ≡ cost) cost [] refl, p.0), ap (add_costs cost) (subst (λ m. sum_costs m ks ≡ left) l.0 p.1) ∙ l.1)
+
+-- the same, where the costs are listed from the last one
+pub after-turned : (cost want left : List ℕ) (rest : List (List (List ℕ))) (ks all : List (List ℕ)) → IsRest want cost left
+    → IsPick rest left (Some (reverse ks)) → all ≡ ks ++ cost ∷ [] → IsPick ((cost ∷ []) ∷ rest) want (Some (reverse all))
+after-turned cost want left rest ks all l p e = after-some cost want left rest (reverse ks) (reverse all) l p (ap reverse e ∙ reverse-append ks (cost ∷ []))
+
+-- without lists there is nothing to turn round
+pub none-turned : (want : List ℕ) (picked : Option (List (List ℕ))) → IsPick [] want picked → IsPick [] want (turned picked)
+none-turned want None p = p
+none-turned want (Some []) p = p
+none-turned want (Some (k ∷ ks)) p = absurd p.0
 
 -- no cost of these goes with costs of the others
 abbrev pub NoneOf : List (List ℕ) → List (List (List ℕ)) → List ℕ → Type 0

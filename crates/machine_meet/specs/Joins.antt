@@ -25,11 +25,6 @@ pub record CanAdd (a b : List ℕ) : Type 0 where
 abbrev pub AreInhabited : {S : Type 0} → List (Move S) → Type 0
 AreInhabited moves = All (λ m. IsInhabited m.on) moves
 
--- `new` has the moves of `old` and what `head` makes with one of the tails, and no others
-abbrev pub AddsJoins : {S : Type 0} → Move S → List (Move (List S)) → List (Move (List S)) → List (Move (List S)) → Type 0
-AddsJoins {S} head tails old new = (c : ℕ) (cost : List ℕ) (to : List S) →
-    Any (Moves c cost to) new ↔ (Any (Moves c cost to) old ⊎ Any (Joins c cost to head) tails)
-
 -- these are the moves that one of the heads makes with one of the tails
 abbrev pub AreJoins : {S : Type 0} → List (Move S) → List (Move (List S)) → List (Move (List S)) → Type 0
 AreJoins {S} heads tails all = (c : ℕ) (cost : List ℕ) (to : List S) →

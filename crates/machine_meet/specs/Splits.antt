@@ -1,5 +1,5 @@
 -- A run of a product, split into runs of its parts.
-use Rattle.std.specs.Prelude.{◌≡◌, ℕ, suc, ◌↔◌, ⊤, List, [], ◌∷◌, length, slice_get, Some, Any, Option, MatchOption}
+use Rattle.std.specs.Prelude.{◌≡◌, ℕ, suc, ◌↔◌, ⊤, List, [], ◌∷◌, length, reverse, slice_get, Some, None, Any, Option, MatchOption}
 use Rattle.machine_core.specs.declared.run.Run.{Run}
 use Rattle.machine_core.specs.Costs.{add_costs}
 use Rattle.machine_core.specs.Runs.{IsRun}
@@ -17,6 +17,11 @@ abbrev pub IsPick : List (List (List ℕ)) → List ℕ → Option (List (List �
 IsPick options want picked = MatchOption picked
     ((ks : List (List ℕ)) → Picks options ks → sum_costs (length want) ks ≡ want → ⊥)
     (λ ks. Picks options ks × (sum_costs (length want) ks ≡ want))
+
+-- what was picked, the other way round
+abbrev pub turned : {X : Type 0} → Option (List X) → Option (List X)
+turned None = None
+turned (Some xs) = Some (reverse xs)
 
 -- each cost of the lists has one number for each of so many registers
 abbrev pub AreWide : ℕ → List (List (List ℕ)) → Type 0

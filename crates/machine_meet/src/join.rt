@@ -1,10 +1,11 @@
 //! The moves of two machines, joined.
-ghost use Rattle.std.specs.Prelude.{◌≡◌, ℕ, ◌+◌, ◌<◌, ◌≤◌, ◌^◌, ◌↔◌, ◌⊎◌, ◌&&◌, [], ◌∷◌, ◌++◌, List, length, IfOk, OnOk, MatchOption, All, Any, Contains, false};
+ghost use Rattle.std.specs.Prelude.{◌≡◌, ℕ, ◌+◌, ◌<◌, ◌≤◌, ◌^◌, ◌↔◌, ◌&&◌, [], ◌∷◌, List, length, IfOk, All, Any, Contains, IsTrue};
 ghost use Rattle.sv_word.specs.Ranges.{in_ranges, IsInhabited};
 ghost use Rattle.machine_core.specs.declared.machine.Move.{Move};
 ghost use Rattle.machine_core.specs.Moves.{Moves};
-ghost use Rattle.machine_meet.specs.Joins.{IsJoin, CanAdd, AreInhabited, AddsJoins, AreJoins};
+ghost use Rattle.machine_meet.specs.Joins.{IsJoin, CanAdd, AreInhabited, AreJoins};
 
+use crate::overlaps::meeting;
 use machine_core::{Move, State};
 use std::alloc::{AllocError, Global};
 use sv_list::{Copied, Items};
@@ -21,65 +22,27 @@ fn cons<S: State>(alloc: Global, head: &S, tail: &Items<S>) -> Result<Items<S>, 
     Ok(all)
 }
 
-// The move that both make, where some character is on both.
+// The move that both make, which have some character in common.
 fn join<S: State>(
     alloc: Global,
     head: &Move<S>,
     tail: &Move<Items<S>>,
-) -> Result<Option<Move<Items<S>>>, AllocError>
-    requires { CanAdd head.now.cost tail.now.cost }
-    ensures { IfOk result (λ o. MatchOption o ((c : ℕ) → (in_ranges head.now.on c && in_ranges tail.now.on c) ≡ false) (IsJoin head.now tail.now)) }
+) -> Result<Move<Items<S>>, AllocError>
+    requires add { CanAdd head.now.cost tail.now.cost }
+    requires meet { (c : ℕ) × IsTrue (in_ranges head.now.on c) × IsTrue (in_ranges tail.now.on c) }
+    ensures { IfOk result (IsJoin head.now tail.now) }
 {
     let on = head.on.meet(alloc, &tail.on)?;
-    if on.is_empty() {
-        return Ok(None);
-    }
-    Ok(Some(Move {
+    let _characters = on.as_slice();
+    Ok(Move {
         on,
         cost: head.cost.add(alloc, &tail.cost)?,
         to: cons(alloc, &head.to, &tail.to)?,
-    }))
+    })
 }
 
-// Joins one move with another.
-fn join_one<S: State>(
-    alloc: Global,
-    head: &Move<S>,
-    tail: &Move<Items<S>>,
-    all: &mut Items<Move<Items<S>>>,
-) -> Result<(), AllocError>
-    requires add { CanAdd head.now.cost tail.now.cost }
-    requires inhabited { AreInhabited all.old }
-    ensures exact { OnOk result (AddsJoins head.now (tail.now ∷ []) all.old all.new) }
-    ensures inhabited { AreInhabited all.new }
-{
-    match join(alloc, head, tail)? {
-        None => Ok(()),
-        Some(m) => {
-            all.push(m)?;
-            Ok(())
-        }
-    }
-}
-
-// Joins one move with each of the others.
-fn join_each<S: State>(
-    alloc: Global,
-    head: &Move<S>,
-    tails: &[Move<Items<S>>],
-    all: &mut Items<Move<Items<S>>>,
-) -> Result<(), AllocError>
-    requires add { (t : Move (List S)) → Contains tails.now t → CanAdd head.now.cost t.cost }
-    requires inhabited { AreInhabited all.old }
-    ensures exact { OnOk result (AddsJoins head.now tails.now all.old all.new) }
-    ensures inhabited { AreInhabited all.new }
-{
-    for tail in tails {
-        join_one(alloc, head, tail, all)?;
-    }
-    Ok(())
-}
-
+/// The moves that one of `heads` and one of `tails` make together, in their order: first that of the
+/// heads, then that of the tails. Each two moves that meet are joined once, and no others are tried.
 pub fn join_all<S: State>(
     alloc: Global,
     heads: &[Move<S>],
@@ -89,9 +52,10 @@ pub fn join_all<S: State>(
     ensures exact { IfOk result (AreJoins heads.now tails.now) }
     ensures inhabited { IfOk result AreInhabited }
 {
+    let pairs = meeting(alloc, heads, tails)?;
     let mut all = Items::new(alloc);
-    for head in heads {
-        join_each(alloc, head, tails, &mut all)?;
+    for (head, tail) in pairs.as_slice() {
+        all.push(join(alloc, &heads[*head], &tails[*tail])?)?;
     }
     Ok(all)
 }

@@ -3,9 +3,10 @@
 //! [`Meet`] reads a word with several machines together: **a pair of a word and a cost is one of the
 //! product exactly where each part reads the word at some cost, and these costs add up to the
 //! cost**. It is a machine that is explored state by state, so that whoever explores it pays for the
-//! states that are reached alone; a move list takes time linear in the pairs of a part's move and a
-//! move that the parts after it make together. [`split_run`] takes a run of the product apart into
-//! runs of its parts, whose costs add up to those of the run.
+//! states that are reached alone. A move list costs near the number of the pairs of a part's move and a
+//! move of the parts after it that read a character in common, and the order of their intervals.
+//! [`split_run`] takes a run of the product apart into runs of its parts, whose costs add up to those
+//! of the run.
 //!
 //! [`union`], [`concat`] and [`star`] put machines with listed edges together, with exactly the pairs
 //! of the two, of one after the other, and of any number one after another. `union` and `star` take
@@ -26,12 +27,15 @@ mod join;
 mod laws;
 mod meet;
 mod options;
+mod overlaps;
 mod pick;
 mod place;
 mod product;
 mod split;
 mod stars;
 mod sums;
+#[cfg(test)]
+mod tests;
 mod unions;
 
 pub use concats::concat;

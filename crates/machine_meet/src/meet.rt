@@ -13,10 +13,11 @@ use sv_list::Items;
 /// A state is a list with one state of each part, in the order of the parts. Without parts it has
 /// every word and no registers.
 ///
-/// The moves are joined from the last part on: each move of a part is intersected once with each move
-/// that the parts after it make together, and what has no character in common is left out at once. A
-/// move list takes time linear in the number of these pairs. Where no move is left no further part is
-/// asked, so a part with few moves is best put last.
+/// The moves are joined from the last part on. Each move of a part is intersected once with each move
+/// of the parts after it that reads a character of it, and no others are tried: the intervals of both
+/// are sorted, and searched for those that begin within one of the other side. For n intervals, of
+/// which k pairs overlap, that is n log n and k log k for each part, and the intersections. Where no
+/// move is left no further part is asked, so a part with few moves is best put last.
 #[derive(Drop)]
 pub struct Meet<'a, P: Machine> {
     pub parts: &'a [P],

@@ -1,6 +1,6 @@
 //! One cost out of each list, so that they add up to a given cost.
-ghost use Rattle.std.specs.Prelude.{◌≡◌, [], ◌∷◌, length, IfOk};
-ghost use Rattle.machine_meet.specs.Splits.{IsPick, AreWide, IsLeft};
+ghost use Rattle.std.specs.Prelude.{◌≡◌, [], ◌∷◌, ◌++◌, length, reverse, IfOk};
+ghost use Rattle.machine_meet.specs.Splits.{IsPick, AreWide, IsLeft, turned};
 
 use machine_core::Cost;
 use std::alloc::{AllocError, Global};
@@ -35,18 +35,8 @@ fn pick_none(alloc: Global, want: &Cost) -> Option<Items<Cost>>
     Some(Items::new(alloc))
 }
 
-// These costs with one in front of them.
-fn in_front(alloc: Global, cost: &Cost, costs: Items<Cost>) -> Result<Items<Cost>, AllocError>
-    ensures { IfOk result (λ all. all ≡ cost.now ∷ costs) }
-{
-    let mut all = Items::new(alloc);
-    all.push(cost.copy(alloc)?)?;
-    all.append(costs)?;
-    Ok(all)
-}
-
-// This cost, and one out of each list of the rest.
-#[cycle(pick)]
+// This cost, and one out of each list of the rest, the last one first.
+#[cycle(pick_back)]
 fn pick_after(
     alloc: Global,
     cost: &Cost,
@@ -54,19 +44,19 @@ fn pick_after(
     want: &Cost,
 ) -> Result<Option<Items<Cost>>, AllocError>
     ensures { IfOk result (λ picked. length cost.now ≡ length want.now → AreWide (length want.now) rest.now
-        → IsPick ((cost.now ∷ []) ∷ rest.now) want.now picked) }
+        → IsPick ((cost.now ∷ []) ∷ rest.now) want.now (turned picked)) }
 {
     match left_of(alloc, want, cost)? {
         None => Ok(None),
-        Some(left) => match pick(alloc, rest, &left)? {
+        Some(left) => match pick_back(alloc, rest, &left)? {
             None => Ok(None),
-            Some(costs) => Ok(Some(in_front(alloc, cost, costs)?)),
+            Some(costs) => Ok(Some(add_last(alloc, costs, cost)?)),
         },
     }
 }
 
-// One of the costs, and one out of each list of the rest.
-#[cycle(pick)]
+// One of the costs, and one out of each list of the rest, the last one first.
+#[cycle(pick_back)]
 fn pick_one_of(
     alloc: Global,
     costs: &[Cost],
@@ -74,7 +64,7 @@ fn pick_one_of(
     want: &Cost,
 ) -> Result<Option<Items<Cost>>, AllocError>
     ensures { IfOk result (λ picked. AreWide (length want.now) (costs.now ∷ rest.now)
-        → IsPick (costs.now ∷ rest.now) want.now picked) }
+        → IsPick (costs.now ∷ rest.now) want.now (turned picked)) }
 {
     for cost in costs {
         if let Some(picked) = pick_after(alloc, cost, rest, want)? {
@@ -84,12 +74,44 @@ fn pick_one_of(
     Ok(None)
 }
 
+// One cost out of each list, the last one first: each is added once what comes behind it is found.
+#[cycle(pick_back)]
+fn pick_back(
+    alloc: Global,
+    options: &[Items<Cost>],
+    want: &Cost,
+) -> Result<Option<Items<Cost>>, AllocError>
+    ensures { IfOk result (λ picked. AreWide (length want.now) options.now → IsPick options.now want.now (turned picked)) }
+{
+    match options {
+        [] => Ok(pick_none(alloc, want)),
+        [first, rest @ ..] => pick_one_of(alloc, first.as_slice(), rest, want),
+    }
+}
+
+// The costs and a copy of one more.
+fn add_last(alloc: Global, costs: Items<Cost>, cost: &Cost) -> Result<Items<Cost>, AllocError>
+    ensures { IfOk result (λ all. all ≡ costs ++ cost.now ∷ []) }
+{
+    let mut all = costs;
+    all.push(cost.copy(alloc)?)?;
+    Ok(all)
+}
+
+// The costs the other way round.
+fn turn(costs: Items<Cost>) -> Items<Cost>
+    ensures { result ≡ reverse costs }
+{
+    let mut turned = costs.into_vec();
+    turned.reverse();
+    Items::from_vec(turned)
+}
+
 /// One cost out of each list, which add up to `want`; `None` exactly where no such costs do.
 ///
 /// What is greater than what is left of `want` is passed over at once. At the worst it tries each way
 /// to take a cost out of each of the first lists; such a choice is a subset sum, so nothing is known
-/// that is fast for all numbers.
-#[cycle(pick)]
+/// that is fast for all numbers. Each cost of the answer is copied once.
 pub fn pick(
     alloc: Global,
     options: &[Items<Cost>],
@@ -97,8 +119,8 @@ pub fn pick(
 ) -> Result<Option<Items<Cost>>, AllocError>
     ensures { IfOk result (λ picked. AreWide (length want.now) options.now → IsPick options.now want.now picked) }
 {
-    match options {
-        [] => Ok(pick_none(alloc, want)),
-        [first, rest @ ..] => pick_one_of(alloc, first.as_slice(), rest, want),
+    match pick_back(alloc, options, want)? {
+        None => Ok(None),
+        Some(costs) => Ok(Some(turn(costs))),
     }
 }

@@ -103,8 +103,7 @@ fn part_run<S: Copied>(
 /// In each step the moves of each part are listed once. Where a part makes the step at several costs
 /// they are tried in turn, without those that are greater than what is left of the step's cost. With
 /// one cost for each part that is linear in the parts; it never takes more tries than the number of
-/// parts times that of the product's moves for the step. The copies of a step's costs are quadratic
-/// in the number of parts.
+/// parts times that of the product's moves for the step.
 pub fn split_run<P: Machine>(
     alloc: Global,
     meet: &Meet<P>,

@@ -1,0 +1,275 @@
+-- The moves of two lists that read a character in common, by their intervals.
+use Rattle.std.proofs.Common.{◌≡◌, ℕ, zero, suc, ◌+◌, ◌-◌, ◌<◌, ◌≤◌, ◌⊎◌, inl, inr, ◌↔◌, ◌&&◌, Bool, true, false, List, [], ◌∷◌, ◌++◌, length, map, take, drop, get_or, slice_get, Some, Any, Contains, IsTrue, refl, sym, ap, ◌∙◌, subst, arith}
+use Rattle.std.specs.Cmp.{and_equiv, on_equiv, nat_eq_equiv, IsEquivalence}
+use Rattle.std.specs.List.{dedup}
+use Rattle.std.specs.List.Retain.{IsFiltered, DiffersFromLast}
+use Rattle.std.specs.List.Sorted.{IsPartitionPoint, IsPermutation}
+use Rattle.std.specs.Prelude.{nat_lt, nat_le}
+use Rattle.std.proofs.lemmas.Bool.Decides.{nat_tests}
+use Rattle.std.proofs.lemmas.List.{get_or-take, get_or-drop, length-take, length-drop, take_more, take_all}
+use Rattle.std.proofs.lemmas.List.Elements.{Contains-append_left, Contains-append_right, Contains-append_cases}
+use Rattle.std.proofs.lemmas.List.Filters.{dedup_is}
+use Rattle.std.proofs.lemmas.List.Folds.{Any-from_list_any, list_any-from_Any}
+use Rattle.std.proofs.lemmas.List.Kept.{Contains-dedup, Contains-from_dedup}
+use Rattle.std.proofs.lemmas.List.Sorted.{Contains-permutation, IsPermutation-sym}
+use Rattle.std.proofs.lemmas.Option.{slice_get_within}
+use Rattle.sv_word.specs.Pairs.{pair_eq}
+use Rattle.sv_word.specs.Ranges.{in_ranges, IsApartFrom, IsInhabited}
+use Rattle.machine_core.specs.Lists.{Any-none, Any-append_left, Any-append_right, Any-push_cases, Any-here, Any-contains, Any-map, Any-from_map, contained, Contains-here}
+use Rattle.machine_core.specs.declared.machine.Move.{Move}
+use Rattle.machine_meet.specs.declared.overlaps.Span.{Span}
+use Rattle.machine_meet.specs.Overlaps.{Meets, span, IsSpan, Begins}
+
+below-or : (a b : ℕ) → (a < b) ⊎ (b ≤ a)
+below-or a b = grind arith
+
+-- an element of a list under a function
+module _ {X Y : Type 0} (f : X → Y) where
+  image : (xs : List X) (y : Y) → Contains (map f xs) y → (x : X) × Contains xs x × (f x ≡ y)
+  image xs y h = contained (λ x. f x ≡ y) xs (Any-from_map f (λ z. z ≡ y) xs (Any-contains (λ z. z ≡ y) (map f xs) y h refl))
+
+  in-image : (xs : List X) (x : X) (y : Y) → Contains xs x → f x ≡ y → Contains (map f xs) y
+  in-image xs x y h e =
+      let a = contained (λ z. z ≡ y) (map f xs) (Any-map f (λ z. z ≡ y) xs (Any-contains (λ x. f x ≡ y) xs x h e)) in
+      subst (Contains (map f xs)) a.2 a.1
+
+-- what a partition point bounds
+module _ {X : Type 0} (p : X → Bool) (xs : List X) (i : ℕ) (inside : i ≤ length xs) (point : IsPartitionPoint (λ y. p y ≡ true) (λ y. p y ≡ false) xs i) where
+  passing : (x : X) → Contains (take i xs) x ↔ (Contains xs x × (p x ≡ true))
+  passing x = (
+    λ h.
+        let lt : h.0 < i = (let l = h.1 in omega (arith, length-take i xs)) in
+        let same = sym (get_or-take i xs h.0 x lt) ∙ h.2 in
+        ((h.0, omega arith, same), subst (λ y. p y ≡ true) same (point.0 h.0 x (omega arith) lt)),
+    λ h. elim (below-or h.0.0 i) [
+      | inl lt ↦ (h.0.0, (let l = h.0.1 in omega (arith, length-take i xs)), get_or-take i xs h.0.0 x lt ∙ h.0.2)
+      | inr le ↦ let f = subst (λ y. p y ≡ false) h.0.2 (point.1 h.0.0 x le h.0.1) in let t = h.1 in absurd (cc)
+    ],
+  )
+
+  failing : (x : X) → Contains (drop i xs) x ↔ (Contains xs x × (p x ≡ false))
+  failing x = (
+    λ h.
+        let lt : i + h.0 < length xs = (let l = h.1 in omega (arith, length-drop i xs)) in
+        let same = sym (get_or-drop i xs h.0 x) ∙ h.2 in
+        ((i + h.0, lt, same), subst (λ y. p y ≡ false) same (point.1 (i + h.0) x (omega arith) lt)),
+    λ h. elim (below-or h.0.0 i) [
+      | inl lt ↦ let t = subst (λ y. p y ≡ true) h.0.2 (point.0 h.0.0 x (omega arith) lt) in let f = h.1 in absurd (cc)
+      | inr le ↦
+          let k : ℕ = h.0.0 - i in
+          let at : i + k ≡ h.0.0 = omega arith in
+          (k, (let l = h.0.1 in omega (arith, length-drop i xs)), get_or-drop i xs k x ∙ ap (λ n. get_or xs n x) at ∙ h.0.2)
+    ],
+  )
+
+at-least : (low n : ℕ) → nat_lt n low ≡ false → low ≤ n
+at-least low n e = grind (arith, nat_tests)
+
+at-most : (high n : ℕ) → nat_le n high ≡ true → n ≤ high
+at-most high n e = grind (arith, nat_tests)
+
+not-below : (low n : ℕ) → low ≤ n → nat_lt n low ≡ false
+not-below low n h = grind (arith, nat_tests)
+
+is-at-most : (high n : ℕ) → n ≤ high → nat_le n high ≡ true
+is-at-most high n h = grind (arith, nat_tests)
+
+-- what two searches leave of intervals in the order of their first characters
+pub beginning-exact : (spans from out : List Span) (low high i j : ℕ)
+    → i ≤ length spans → IsPartitionPoint (λ (y : Span). nat_lt y.low low ≡ true) (λ (y : Span). nat_lt y.low low ≡ false) spans i → from ≡ drop i spans
+    → j ≤ length from → IsPartitionPoint (λ (y : Span). nat_le y.low high ≡ true) (λ (y : Span). nat_le y.low high ≡ false) from j → out ≡ take j from
+    → (s : Span) → Contains out s ↔ (Contains spans s × (low ≤ s.low) × (s.low ≤ high))
+beginning-exact spans from out low high i j l1 p1 e1 l2 p2 e2 s =
+    let rest = failing (λ (y : Span). nat_lt y.low low) spans i l1 p1 s in
+    let front = passing (λ (y : Span). nat_le y.low high) from j l2 p2 s in (
+      λ h.
+          let a = front.0 (subst (λ l. Contains l s) e2 h) in
+          let b = rest.0 (subst (λ l. Contains l s) e1 a.0) in
+          (b.0, at-least low s.low b.1, at-most high s.low a.1),
+      λ h. subst (λ l. Contains l s) (sym e2) (front.1 (subst (λ l. Contains l s) (sym e1) (rest.1 (h.0, not-below low s.low h.1)), is-at-most high s.low h.2)),
+    )
+
+-- a character lies in a set where it lies in one of its pairs
+from-tests : (a b c : ℕ) → (nat_le a c && nat_le c b) ≡ true → (a ≤ c) × (c ≤ b)
+from-tests a b c h = grind (arith, nat_tests)
+
+to-tests : (a b c : ℕ) → a ≤ c → c ≤ b → (nat_le a c && nat_le c b) ≡ true
+to-tests a b c l h = grind (arith, nat_tests)
+
+pair-of : (rs : List (ℕ × ℕ)) (c : ℕ) → IsTrue (in_ranges rs c) → (p : ℕ × ℕ) × Contains rs p × (p.0 ≤ c) × (c ≤ p.1)
+pair-of rs c h =
+    let P : ℕ × ℕ → Type 0 = λ p. (nat_le p.0 c && nat_le c p.1) ≡ true in
+    let a = contained P rs (Any-from_list_any (λ p. nat_le p.0 c && nat_le c p.1) rs h) in
+    let t = from-tests a.0.0 a.0.1 c a.2 in
+    (a.0, a.1, t.0, t.1)
+
+in-pair : (rs : List (ℕ × ℕ)) (c : ℕ) (p : ℕ × ℕ) → Contains rs p → p.0 ≤ c → c ≤ p.1 → IsTrue (in_ranges rs c)
+in-pair rs c p i l h =
+    let P : ℕ × ℕ → Type 0 = λ p. (nat_le p.0 c && nat_le c p.1) ≡ true in
+    list_any-from_Any (λ p. nat_le p.0 c && nat_le c p.1) rs (Any-contains P rs p i (to-tests p.0 p.1 c l h))
+
+-- no pair of a set of characters is turned round
+pub pairs-forward : (low : ℕ) (rs : List (ℕ × ℕ)) → IsApartFrom low rs → (p : ℕ × ℕ) → Contains rs p → p.0 ≤ p.1
+pairs-forward low [] apart p (k, lt, e) = absurd (omega arith)
+pairs-forward low (q ∷ rs) apart p (zero, lt, e) = subst (λ (x : ℕ × ℕ). x.0 ≤ x.1) e apart.1
+pairs-forward low (q ∷ rs) apart p (suc k, lt, e) = pairs-forward (q.1 + 2) rs apart.3 p (k, omega arith, e)
+
+-- where some character lies in a set the least one does
+pub some-inhabits : (low : ℕ) (rs : List (ℕ × ℕ)) (c : ℕ) → IsApartFrom low rs → IsTrue (in_ranges rs c) → IsInhabited rs
+some-inhabits low [] c apart h = cc
+some-inhabits low (p ∷ rs) c apart h = in-pair (p ∷ rs) p.0 p (Contains-here p rs) (omega arith) apart.1
+
+-- the intervals of the moves before a place
+abbrev pub HasSpans : {S : Type 0} → List (Move S) → ℕ → List Span → Type 0
+HasSpans moves n spans = (s : Span) → Contains spans s ↔ ((s.place < n) × IsSpan moves s)
+
+module _ {S : Type 0} (moves : List (Move S)) where
+  pub spans-none : HasSpans moves 0 []
+  spans-none s = (λ h. let l = h.1 in absurd (omega arith), λ h. let l = h.0 in absurd (omega arith))
+
+  pub spans-more : (spans new : List Span) (n : ℕ) (m : Move S) → slice_get moves n ≡ Some m → ((p : ℕ × ℕ) → Contains m.on p → p.0 ≤ p.1)
+      → new ≡ spans ++ map (span n) m.on → HasSpans moves n spans → HasSpans moves (n + 1) new
+  spans-more spans new n m at forward made before s = (
+    λ h. elim (Contains-append_cases spans (map (span n) m.on) s (subst (λ l. Contains l s) made h)) [
+      | inl i ↦ let b = (before s).0 i in let l = b.0 in (omega arith, b.1)
+      | inr i ↦
+          let p = image (span n) m.on s i in
+          subst (λ (x : Span). (x.place < n + 1) × IsSpan moves x) p.2 (omega arith, (m, at, p.1, forward p.0 p.1))
+    ],
+    λ h. subst (λ l. Contains l s) (sym made) (elim (below-or s.place n) [
+      | inl lt ↦ Contains-append_left spans (map (span n) m.on) s ((before s).1 (lt, h.1))
+      | inr le ↦
+          let l = h.0 in
+          let same : s.place ≡ n = omega arith in
+          let found : slice_get moves n ≡ Some h.1.0 = subst (λ k. slice_get moves k ≡ Some h.1.0) same h.1.1 in
+          let one : h.1.0 ≡ m = cc in
+          let held : Contains m.on (s.low, s.high) = subst (λ (x : Move S). Contains x.on (s.low, s.high)) one h.1.2 in
+          let is : span n (s.low, s.high) ≡ s = ap (λ (k : ℕ). span k (s.low, s.high)) (sym same) in
+          Contains-append_right spans (map (span n) m.on) s (in-image (span n) m.on (s.low, s.high) s held is)
+    ]),
+  )
+
+  pub spans-done : (spans sorted : List Span) (n : ℕ) → length moves ≤ n → IsPermutation spans sorted → HasSpans moves n spans
+      → (s : Span) → Contains sorted s ↔ IsSpan moves s
+  spans-done spans sorted n le perm has s = (
+    λ h. ((has s).0 (Contains-permutation sorted spans s (IsPermutation-sym spans sorted perm) h)).1,
+    λ h. let lt = slice_get_within moves s.place h.0 h.1 in Contains-permutation spans sorted s perm ((has s).1 (omega arith, h)),
+  )
+
+-- pairs of places where an interval begins within another one
+abbrev pub AreBegun : List Span → List Span → List (ℕ × ℕ) → Type 0
+AreBegun around spans pairs = (i j : ℕ) → Contains pairs (i, j) ↔ Begins around spans i j
+
+abbrev pub with_place : ℕ → Span → ℕ × ℕ
+with_place place s = (place, s.place)
+
+module _ (spans : List Span) where
+  abbrev Inner : Span → ℕ → Span → Type 0
+  Inner a j b = (b.place ≡ j) × (a.low ≤ b.low) × (b.low ≤ a.high)
+
+  abbrev Outer : ℕ → ℕ → Span → Type 0
+  Outer i j a = (a.place ≡ i) × Any (Inner a j) spans
+
+  pub begun-none : AreBegun [] spans []
+  begun-none i j = (λ h. let l = h.1 in absurd (omega arith), λ h. absurd (Any-none (Outer i j) h))
+
+  pub begun-more : (around window : List Span) (pairs new : List (ℕ × ℕ)) (n : ℕ) (a d : Span) → n < length around → a ≡ get_or around n d
+      → ((s : Span) → Contains window s ↔ (Contains spans s × (a.low ≤ s.low) × (s.low ≤ a.high)))
+      → new ≡ pairs ++ map (with_place a.place) window → AreBegun (take n around) spans pairs → AreBegun (take (n + 1) around) spans new
+  begun-more around window pairs new n a d lt is within made before i j =
+      let grown : take (n + 1) around ≡ take n around ++ a ∷ [] = take_more around n d lt ∙ ap (λ y. take n around ++ y ∷ []) (sym is) in (
+        λ h. subst (Any (Outer i j)) (sym grown) (elim (Contains-append_cases pairs (map (with_place a.place) window) (i, j) (subst (λ l. Contains l (i, j)) made h)) [
+          | inl k ↦ Any-append_left (Outer i j) (take n around) (a ∷ []) ((before i j).0 k)
+          | inr k ↦
+              let b = image (with_place a.place) window (i, j) k in
+              let w = (within b.0).0 b.1 in
+              let first : a.place ≡ i = ap (λ (p : ℕ × ℕ). p.0) b.2 in
+              let second : b.0.place ≡ j = ap (λ (p : ℕ × ℕ). p.1) b.2 in
+              Any-append_right (Outer i j) (take n around) (a ∷ []) (Any-here (Outer i j) a [] (first, Any-contains (Inner a j) spans b.0 w.0 (second, w.1, w.2)))
+        ]),
+        λ h. subst (λ l. Contains l (i, j)) (sym made) (elim (Any-push_cases (Outer i j) (take n around) a (subst (Any (Outer i j)) grown h)) [
+          | inl k ↦ Contains-append_left pairs (map (with_place a.place) window) (i, j) ((before i j).1 k)
+          | inr o ↦
+              let b = contained (Inner a j) spans o.1 in
+              let k = (within b.0).1 (b.1, b.2.1, b.2.2) in
+              let same : with_place a.place b.0 ≡ (i, j) = ap (λ (x : ℕ). (x, b.0.place)) o.0 ∙ ap (λ (x : ℕ). (i, x)) b.2.0 in
+              Contains-append_right pairs (map (with_place a.place) window) (i, j) (in-image (with_place a.place) window b.0 (i, j) k same)
+        ]),
+      )
+
+  pub begun-done : (around : List Span) (pairs : List (ℕ × ℕ)) (n : ℕ) → length around ≤ n → AreBegun (take n around) spans pairs → AreBegun around spans pairs
+  begun-done around pairs n le h = subst (λ l. AreBegun l spans pairs) (take_all n around le) h
+
+-- moves of which intervals overlap read a character in common
+module _ {S T : Type 0} (heads : List (Move S)) (tails : List (Move T)) (hs ts : List Span)
+    (heads-are : (s : Span) → Contains hs s ↔ IsSpan heads s) (tails-are : (s : Span) → Contains ts s ↔ IsSpan tails s) where
+  begins-meet : (i j : ℕ) → Begins hs ts i j → Meets heads tails i j
+  begins-meet i j h =
+      let a = contained (Outer ts i j) hs h in
+      let b = contained (Inner ts a.0 j) ts a.2.1 in
+      let m = (heads-are a.0).0 a.1 in
+      let o = (tails-are b.0).0 b.1 in (
+        m.0,
+        o.0,
+        b.0.low,
+        subst (λ k. slice_get heads k ≡ Some m.0) a.2.0 m.1,
+        subst (λ k. slice_get tails k ≡ Some o.0) b.2.0 o.1,
+        in-pair m.0.on b.0.low (a.0.low, a.0.high) m.2 b.2.1 b.2.2,
+        in-pair o.0.on b.0.low (b.0.low, b.0.high) o.2 (omega arith) o.3,
+      )
+
+  -- and the other way round one of two such intervals begins within the other one
+  meet-begins : (i j : ℕ) → Meets heads tails i j → Begins hs ts i j ⊎ Begins ts hs j i
+  meet-begins i j m =
+      let p = pair-of m.0.on m.2 m.5 in
+      let q = pair-of m.1.on m.2 m.6 in
+      let pl = p.2 in
+      let ph = p.3 in
+      let ql = q.2 in
+      let qh = q.3 in
+      let a = (heads-are (span i p.0)).1 (m.0, m.3, p.1, omega arith) in
+      let b = (tails-are (span j q.0)).1 (m.1, m.4, q.1, omega arith) in
+      elim (below-or q.0.0 p.0.0) [
+        | inl lt ↦ inr (Any-contains (Outer hs j i) ts (span j q.0) b (refl, Any-contains (Inner hs (span j q.0) i) hs (span i p.0) a (refl, omega arith, omega arith)))
+        | inr le ↦ inl (Any-contains (Outer ts i j) hs (span i p.0) a (refl, Any-contains (Inner ts (span i p.0) j) ts (span j q.0) b (refl, le, omega arith)))
+      ]
+
+abbrev pub swapped : ℕ × ℕ → ℕ × ℕ
+swapped p = (p.1, p.0)
+
+pair-equal : IsEquivalence pair_eq
+pair-equal = and_equiv (on_equiv (λ (t : ℕ × ℕ). t.0) nat_eq_equiv) (on_equiv (λ (t : ℕ × ℕ). t.1) nat_eq_equiv)
+
+pair-same : (p q : ℕ × ℕ) → pair_eq p q ≡ true → p ≡ q
+pair-same p q e =
+    let first : p.0 ≡ q.0 = grind (arith, nat_tests) in
+    let second : p.1 ≡ q.1 = grind (arith, nat_tests) in
+    ap (λ (x : ℕ). (x, p.1)) first ∙ ap (λ (y : ℕ). (q.0, y)) second
+
+pub meeting-done : {S T : Type 0} (heads : List (Move S)) (tails : List (Move T)) (hs ts : List Span) (first others pairs sorted out : List (ℕ × ℕ))
+    → ((s : Span) → Contains hs s ↔ IsSpan heads s) → ((s : Span) → Contains ts s ↔ IsSpan tails s)
+    → AreBegun hs ts first → AreBegun ts hs others → pairs ≡ first ++ map swapped others
+    → IsPermutation pairs sorted → IsFiltered (DiffersFromLast pair_eq) [] sorted out
+    → (i j : ℕ) → Contains out (i, j) ↔ Meets heads tails i j
+meeting-done heads tails hs ts first others pairs sorted out heads-are tails-are first-are others-are made perm filtered i j =
+    let is : out ≡ dedup pair_eq sorted = dedup_is pair_eq sorted out filtered in (
+      λ h.
+          let a = Contains-from_dedup pair_eq sorted (i, j) (subst (λ l. Contains l (i, j)) is h) in
+          let b = subst (λ l. Contains l (i, j)) made (Contains-permutation sorted pairs (i, j) (IsPermutation-sym pairs sorted perm) a) in
+          elim (Contains-append_cases first (map swapped others) (i, j) b) [
+            | inl k ↦ begins-meet heads tails hs ts heads-are tails-are i j ((first-are i j).0 k)
+            | inr k ↦
+                let p = image swapped others (i, j) k in
+                let one : p.0.1 ≡ i = ap (λ (x : ℕ × ℕ). x.0) p.2 in
+                let two : p.0.0 ≡ j = ap (λ (x : ℕ × ℕ). x.1) p.2 in
+                let o = subst (Contains others) (ap (λ (x : ℕ). (x, p.0.1)) two ∙ ap (λ (x : ℕ). (j, x)) one) p.1 in
+                let m = begins-meet tails heads ts hs tails-are heads-are j i ((others-are j i).0 o) in
+                (m.1, m.0, m.2, m.4, m.3, m.6, m.5)
+          ],
+      λ m.
+          let both : Contains pairs (i, j) = subst (λ l. Contains l (i, j)) (sym made) (elim (meet-begins heads tails hs ts heads-are tails-are i j m) [
+            | inl b ↦ Contains-append_left first (map swapped others) (i, j) ((first-are i j).1 b)
+            | inr b ↦ Contains-append_right first (map swapped others) (i, j) (in-image swapped others (j, i) (i, j) ((others-are j i).1 b) refl)
+          ]) in
+          subst (λ l. Contains l (i, j)) (sym is) (Contains-dedup pair-equal pair-same sorted (i, j) (Contains-permutation pairs sorted (i, j) perm both)),
+    )
