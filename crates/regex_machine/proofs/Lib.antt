@@ -1,0 +1,16 @@
+pub mod Cut
+pub mod Sizes
+pub mod WordLemmas
+pub mod StepLemmas
+pub mod LetterLemmas
+pub mod ChoiceLemmas
+pub mod ChainLemmas
+pub mod ChainMoves
+pub mod ChoiceMoves
+pub mod CopyMoves
+pub mod CopyLemmas
+pub mod PieceLemmas
+pub mod CopyLanguage
+pub mod LanguageLemmas
+pub mod MeetLemmas
+pub mod SideLemmas

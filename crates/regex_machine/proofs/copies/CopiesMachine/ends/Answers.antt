@@ -1,0 +1,25 @@
+use Rattle.std.proofs.Common.{[]}
+use Rattle.machine_core.specs.Edges.{EndsAt}
+use Rattle.regex_machine.proofs.WordLemmas.{surely, never}
+use Rattle.regex_machine.proofs.CopyMoves.{own-ends, copy-ends, copy-ends_not, in-copy}
+use Rattle.regex_machine.proofs.copies.CopiesMachine.ends.Goals as goal
+
+pub returns-then-copy-self : goal.returns-then-copy-self
+returns-then-copy-self c =
+    let s = c.args.self.now in
+    let at = c.args.at.now in
+    own-ends s.part.now s.least s.most s.again s.empty at.0 at.1 c.in_ok-start.start c.are_enough-enough.result c.if-copy-self.true c.are_enough-enough.ensures c.in_ok-start.ensures
+
+pub returns-then-not-may_end : goal.returns-then-not-may_end
+returns-then-not-may_end c =
+    let s = c.args.self.now in
+    let at = c.args.at.now in
+    copy-ends_not s.part.now s.least s.most s.again s.empty at.0 at.1 (in-copy s.part.now s.most at c.requires c.if-copy-self.false) c.in_ok-none.none
+    (never c.may_end.result (EndsAt s.part.now.ends at.1 []) c.may_end.ensures c.if-not-may_end.true) c.in_ok-none.ensures
+
+pub returns : goal.returns
+returns c =
+    let s = c.args.self.now in
+    let at = c.args.at.now in
+    copy-ends s.part.now s.least s.most s.again s.empty at.0 at.1 (in-copy s.part.now s.most at c.requires c.if-copy-self.false) c.in_ok-costs.costs c.are_enough-last.result
+    (surely c.may_end.result (EndsAt s.part.now.ends at.1 []) c.may_end.ensures c.if-not-may_end.false) c.are_enough-last.ensures c.in_ok-costs.ensures

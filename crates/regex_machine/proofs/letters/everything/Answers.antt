@@ -1,0 +1,14 @@
+use Rattle.std.proofs.Common.{◌∙◌}
+use Rattle.regex_machine.proofs.LetterLemmas.{everything-reads, only-edge, only-end}
+use Rattle.regex_machine.proofs.letters.everything.Goals as goal
+
+pub returns : goal.returns
+returns c =
+    let m = c.in_ok-machine.machine in
+    let one = c.add_edge.new.self in
+    let two = c.add_end.new.self in
+    let on = c.in_ok-on.on in
+    everything-reads on c.in_ok-on.ensures.set two
+    (c.in_ok-add_end.ensures.registers ∙ c.in_ok-add_edge.ensures.registers ∙ c.in_ok-machine.ensures.registers)
+    (c.in_ok-add_end.ensures.edges ∙ only-edge m.edges one.edges 0 on c.new-cost.result 0 c.in_ok-add_edge.ensures.ok c.in_ok-machine.ensures.edges c.new-cost.ensures)
+    (only-end one.ends two.ends 0 c.new-last.result c.in_ok-add_end.ensures.ok (c.in_ok-add_edge.ensures.ends ∙ c.in_ok-machine.ensures.ends) c.new-last.ensures)

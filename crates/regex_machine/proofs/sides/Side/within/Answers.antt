@@ -1,0 +1,5 @@
+use Rattle.regex_machine.proofs.SideLemmas.{side-within}
+use Rattle.regex_machine.proofs.sides.Side.within.Goals as goal
+
+pub returns : goal.returns
+returns c = side-within c.args.part.now c.requires

@@ -1,0 +1,31 @@
+-- Machines without registers, and their words.
+use Rattle.std.specs.Prelude.{◌≡◌, ◌↔◌, ⊤, List, [], ◌∷◌, Contains}
+use Rattle.machine_core.specs.declared.graph.Graph.{Graph}
+use Rattle.machine_core.specs.Graphs.{Accepts}
+use Rattle.sv_word.specs.Words.{IsWord}
+use Rattle.sv_terms.specs.Language.{Word, Language, In}
+use Rattle.sv_terms.specs.declared.regex.Regex.{Regex}
+
+-- the words of a machine without registers
+abbrev pub WordsOf : Graph → Language
+WordsOf m w = Accepts m w []
+
+-- the machine has no registers, and these words
+pub record Reads (L : Word → Type 0) (m : Graph) : Type 0 where
+  pub plain : m.registers ≡ 0
+  pub words : (w : Word) → WordsOf m w ↔ L w
+
+-- none of the machines has registers
+abbrev pub ArePlain : List Graph → Type 0
+ArePlain ms = (m : Graph) → Contains ms m → m.registers ≡ 0
+
+-- each machine has the words of the expression at its place
+abbrev pub AreMade : List Regex → List Graph → Type 0
+AreMade [] [] = ⊤
+AreMade [] (m ∷ ms) = ⊥
+AreMade (r ∷ rs) [] = ⊥
+AreMade (r ∷ rs) (m ∷ ms) = Reads (In r) m × AreMade rs ms
+
+-- a machine with the words that aren't those of the other
+abbrev pub IsOther : Graph → Graph → Type 0
+IsOther m n = Reads (λ w. IsWord w × (WordsOf m w → ⊥)) n

@@ -1,0 +1,9 @@
+pub mod Bounds
+pub mod Joined
+pub mod Stepped
+pub mod Chosen
+pub mod Chained
+pub mod Copied
+pub mod Laws
+pub mod Sided
+pub mod OtherSides

@@ -1,0 +1,153 @@
+ghost use Rattle.std.specs.Prelude.{◌≡◌, ℕ, ◌≤◌, ◌<◌, ◌↔◌, [], IsTrue, IfOk};
+ghost use Rattle.machine_core.specs.Edges.{EndsAt};
+ghost use Rattle.machine_meet.specs.Joins.{AreInhabited};
+ghost use Rattle.sv_terms.specs.Language.{Word};
+ghost use Rattle.regex_machine.specs.Joined.{WordsOf};
+ghost use Rattle.regex_machine.specs.Copied.{Copied as CopiedWords, IsNext, AreEnough, IsCopyState, CopyEnds, CopySteps, CopiesRead, copy_start};
+ghost use Rattle.regex_machine.specs.Laws.{no-cost, copy-first, copy-state, copy-character};
+
+use crate::stepping::{Place, add_steps, ends_if, may_end, steps_of};
+use machine_core::{Cost, Explicit, Machine, Move};
+use std::alloc::{AllocError, Global};
+use sv_list::Items;
+
+/// Copies of a machine, one after another, by a machine that is explored state by state.
+///
+/// A state is a copy and a state in it, and `(most, 0)` a start of its own, which nothing leads to. A
+/// word of k pieces that aren't empty goes through the first k copies, so that each state has the moves
+/// of at most two.
+#[derive(Drop)]
+pub struct Copies<'a> {
+    pub part: &'a Explicit,
+    /// From this number of copies on a word may end.
+    pub least: u32,
+    /// The number of copies.
+    pub most: u32,
+    /// Whether the last copy may come again and again.
+    pub again: bool,
+    /// Whether the part reads the empty word.
+    pub empty: bool,
+    ghost plain: { part.now.registers ≡ 0 },
+    ghost some: { 0 < most },
+}
+
+impl<'a> Copies<'a> {
+    /// From `least` to `most` words of the part, one after another, or `least` and more where they may
+    /// come `again`.
+    pub fn of(part: &'a Explicit, least: u32, most: u32, again: bool) -> Self
+        requires plain { part.now.registers ≡ 0 }
+        requires some { 0 < most }
+        requires order { least ≤ most }
+        requires once { IsTrue again → most ≡ 1 }
+        ensures { (w : Word) → CopiesRead result.part.now result.least result.most result.again result.empty w ↔ CopiedWords (WordsOf part.now) least most again w }
+    {
+        let empty = may_end(part, 0);
+        Copies {
+            part,
+            least,
+            most,
+            again,
+            empty,
+        }
+    }
+
+    // The copy after this one.
+    fn next(&self, copy: u32) -> Option<u32>
+        requires { copy < self.now.most }
+        ensures { IsNext self.now.most self.now.again copy result }
+    {
+        let most = self.most;
+        if copy + 1 < most {
+            return Some(copy + 1);
+        }
+        if self.again {
+            return Some(copy);
+        }
+        None
+    }
+
+    // Whether so many copies are enough.
+    fn are_enough(&self, copies: u32) -> bool
+        ensures { IsTrue result ↔ AreEnough self.now.least self.now.empty copies }
+    {
+        if self.empty {
+            return true;
+        }
+        self.least <= copies
+    }
+}
+
+impl<'a> Machine for Copies<'a> {
+    type St = Place;
+
+    ghost width = { λ m. 0 };
+
+    ghost is_state = { λ m. IsCopyState m.part.now m.most };
+
+    ghost first = { λ m. copy_start m.least m.most m.empty };
+
+    ghost ends_with = { λ m. CopyEnds m.part.now m.least m.most m.empty };
+
+    ghost steps_to = { λ m. CopySteps m.part.now m.most m.again };
+
+    ghost top = { λ m. 0 };
+
+    ghost first_is_state = { λ m. copy-first m.part.now m.least m.most m.empty m.some };
+
+    ghost step_is_state = { λ m s t c cost h step. copy-state m.part.now m.most m.again m.some s c cost t step };
+
+    ghost step_character = { λ m s t c cost h step. copy-character m.part.now m.most m.again s c cost t step };
+
+    ghost step_cost = { λ m s t c cost h step. no-cost cost step.0 };
+
+    ghost end_cost = { λ m s cost h end. no-cost cost end.0 };
+
+    fn registers(&self) -> usize {
+        0
+    }
+
+    fn start(&self, _alloc: Global) -> Result<Place, AllocError> {
+        if self.empty {
+            return Ok((0, 0));
+        }
+        if self.least > 0 {
+            return Ok((0, 0));
+        }
+        Ok((self.most, 0))
+    }
+
+    fn ends(&self, alloc: Global, at: &Place) -> Result<Items<Cost>, AllocError> {
+        let (copy, state) = *at;
+        if copy == self.most {
+            let enough = self.are_enough(0);
+            let start = ends_if(alloc, enough)?;
+            return Ok(start);
+        }
+        if !may_end(self.part, state) {
+            let none = ends_if(alloc, false)?;
+            return Ok(none);
+        }
+        let last = self.are_enough(copy + 1);
+        let costs = ends_if(alloc, last)?;
+        Ok(costs)
+    }
+
+    fn moves(&self, alloc: Global, at: &Place) -> Result<Items<Move<Place>>, AllocError> {
+        let (copy, state) = *at;
+        if copy == self.most {
+            let first = steps_of(alloc, self.part, 0, 0)?;
+            return Ok(first);
+        }
+        let mut all = steps_of(alloc, self.part, state, copy)?;
+        if !may_end(self.part, state) {
+            return Ok(all);
+        }
+        match self.next(copy) {
+            None => Ok(all),
+            Some(next) => {
+                add_steps(alloc, &mut all, self.part, 0, next)?;
+                Ok(all)
+            }
+        }
+    }
+}

@@ -1,0 +1,20 @@
+ghost use Rattle.std.specs.Prelude.{◌≡◌, ℕ, ◌≤◌, [], IfOk};
+ghost use Rattle.machine_core.specs.Language.{RunsFrom};
+ghost use Rattle.regex_machine.specs.Joined.{Reads};
+
+use machine_core::{Explicit, Machine};
+use std::alloc::Global;
+use trim_search::{BuildFault, materialise};
+
+/// A machine without registers, as one with listed edges that has its words and one state for each
+/// state that is reached. `States` where they are more than `limit`.
+pub fn explored<M: Machine>(alloc: Global, machine: &M, limit: u64) -> Result<Explicit, BuildFault>
+    requires { M.width machine.now ≡ 0 }
+    ensures reads { IfOk result (Reads (λ w. RunsFrom (M.ends_with machine.now) (M.steps_to machine.now) (M.first machine.now) w [])) }
+    ensures within { IfOk result (λ m. m.states ≤ limit) }
+{
+    match materialise(alloc, machine, limit) {
+        Ok(built) => Ok(built.machine),
+        Err(fault) => Err(fault),
+    }
+}

@@ -1,0 +1,118 @@
+ghost use Rattle.std.specs.Prelude.{◌≡◌, [], ◌∷◌, true, false, map, IfOk};
+ghost use Rattle.regex_machine.specs.Sided.{IsSideState, SideEnds, SideSteps, IsSide, listed, side-first, side-state, side-character, side-cost, side-end};
+
+use crate::stepping::{ends_if, may_end};
+use machine_core::{Cost, Explicit, Machine, Move};
+use std::alloc::{AllocError, Global};
+use subset_machine::Subset;
+use sv_list::Items;
+
+/// The words of a machine, or all others, by a machine that is explored state by state.
+///
+/// Its states are lists of states: of one for the words of the machine, and for the others the lists of
+/// the subset construction. So both kinds can be met with each other.
+#[derive(Drop)]
+pub struct Side<'a> {
+    pub part: &'a Explicit,
+    /// Whether the words are those that aren't the part's.
+    pub others: bool,
+    ghost plain: { part.now.registers ≡ 0 },
+}
+
+impl<'a> Side<'a> {
+    /// The words of the part.
+    pub fn within(part: &'a Explicit) -> Self
+        requires { part.now.registers ≡ 0 }
+        ensures { IsSide false part.now result.others result.part.now }
+    {
+        Side {
+            part,
+            others: false,
+        }
+    }
+
+    /// The words that aren't the part's.
+    pub fn outside(part: &'a Explicit) -> Self
+        requires { part.now.registers ≡ 0 }
+        ensures { IsSide true part.now result.others result.part.now }
+    {
+        // Its clause says which words these are.
+        let _others = Subset::of(part, true);
+        Side { part, others: true }
+    }
+}
+
+// The moves, to lists of one state.
+fn to_lists(alloc: Global, moves: Items<Move<u32>>) -> Result<Items<Move<Items<u32>>>, AllocError>
+    ensures { IfOk result (λ all. all ≡ map listed moves) }
+{
+    let mut all = Items::new(alloc);
+    for step in moves.into_vec() {
+        all.push(Move {
+            on: step.on,
+            cost: step.cost,
+            to: Items::from_slice(alloc, &[step.to])?,
+        })?;
+    }
+    Ok(all)
+}
+
+impl<'a> Machine for Side<'a> {
+    type St = Items<u32>;
+
+    ghost width = { λ m. 0 };
+
+    ghost is_state = { λ m. IsSideState m.others m.part.now };
+
+    ghost first = { λ m. 0 ∷ [] };
+
+    ghost ends_with = { λ m. SideEnds m.others m.part.now };
+
+    ghost steps_to = { λ m. SideSteps m.others m.part.now };
+
+    ghost top = { λ m. 0 };
+
+    ghost first_is_state = { λ m. side-first m.others m.part.now };
+
+    ghost step_is_state = { λ m s t c cost h step. side-state m.others m.part.now s c cost t step };
+
+    ghost step_character = { λ m s t c cost h step. side-character m.others m.part.now s c cost t step };
+
+    ghost step_cost = { λ m s t c cost h step. side-cost m.others m.part.now s c cost t step };
+
+    ghost end_cost = { λ m s cost h end. side-end m.others m.part.now s cost end };
+
+    fn registers(&self) -> usize {
+        0
+    }
+
+    fn start(&self, alloc: Global) -> Result<Items<u32>, AllocError> {
+        Items::from_slice(alloc, &[0])
+    }
+
+    fn ends(&self, alloc: Global, at: &Items<u32>) -> Result<Items<Cost>, AllocError> {
+        let others = self.others;
+        if others {
+            let subset = Subset::of(self.part, true);
+            let known = subset.ends(alloc, at)?;
+            return Ok(known);
+        }
+        let list = at.as_slice();
+        let may = may_end(self.part, list[0]);
+        let costs = ends_if(alloc, may)?;
+        Ok(costs)
+    }
+
+    fn moves(&self, alloc: Global, at: &Items<u32>) -> Result<Items<Move<Items<u32>>>, AllocError> {
+        let others = self.others;
+        if others {
+            let subset = Subset::of(self.part, true);
+            let next = subset.moves(alloc, at)?;
+            return Ok(next);
+        }
+        let list = at.as_slice();
+        let steps = self.part.moves(alloc, &list[0])?;
+        let all = to_lists(alloc, steps)?;
+        Ok(all)
+    }
+}
