@@ -16,6 +16,8 @@ mod fault;
 mod functions;
 mod strings;
 mod sums;
+#[cfg(test)]
+mod tests;
 mod truths;
 
 pub use evaluation::eval;
