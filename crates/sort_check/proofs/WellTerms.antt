@@ -1,0 +1,278 @@
+-- Sorts, constants and transducers of a term by its parts, and of a term with arguments put in.
+use Rattle.std.proofs.Common.{◌≡◌, refl, sym, ap, ◌∙◌, subst, map, Bool, true, false, ◌&&◌, IsTrue, All, ℕ, zero, suc, ℤ, List, [], ◌∷◌, Option, Some, None, nat_eq, arith}
+use Rattle.std.specs.List.{list_all}
+use Rattle.std.specs.Map.{lookup}
+use Rattle.std.specs.Option.{option_map}
+use Rattle.std.specs.Cmp.Lexicographic.{pointwise}
+use Rattle.sv_terms.specs.declared.op.Op.{Op}
+use Rattle.sv_terms.specs.declared.regex.Regex.{Regex}
+use Rattle.sv_terms.specs.declared.sort.Sort.{Sort}
+use Rattle.sv_terms.specs.declared.sort.Sort.TheVariants as sort
+use Rattle.sv_terms.specs.declared.term.Term.{Term, roll-Term}
+use Rattle.sv_terms.specs.declared.term.Term.TheVariants as v
+use Rattle.sv_terms.specs.declared.term.Term.TheOpen.{Term-F}
+use Rattle.sv_terms.specs.declared.term.Term.TheFolds.{map-Term, ind-Term, fold-Term, fold-roll-Term}
+use Rattle.sv_terms.specs.declared.transducer.Transducer.{Transducer}
+use Rattle.sv_terms.specs.Language.{Word}
+use Rattle.sv_terms.specs.Meaning.{Named, all_of}
+use Rattle.sv_terms.specs.Sorting.{applied_sort, applied_sort_if, tested_sort, sort_step, sort_of, is_of, valued_step, is_valued}
+use Rattle.sort_check.specs.Bodies.{op_sort, layer_sort, or_constant, put_in_layer, put_in}
+use Rattle.sort_check.specs.Signature.{Name, same_name}
+use Rattle.sort_check.specs.WellFormed.{plain_step, is_plain, constants_step, constants_are}
+
+pub both : (a b : Bool) → IsTrue (a && b) → IsTrue a × IsTrue b
+both true b h = (refl, h)
+both false b h = cc
+
+pub both-make : (a b : Bool) → IsTrue a → IsTrue b → IsTrue (a && b)
+both-make true b h g = g
+both-make false b h g = cc
+
+-- P of each
+abbrev pub Each : {A : Type 0} → (A → Type 0) → List A → Type 0
+Each P [] = Unit {0}
+Each P (a ∷ as_) = P a × Each P as_
+
+module _ {A : Type 0} (P : A → Type 0) where
+  pub each-all : (xs : List A) → Each P xs → All P xs
+  each-all [] h k d l = absurd (omega arith)
+  each-all (x ∷ xs) h zero d l = h.0
+  each-all (x ∷ xs) h (suc k) d l = each-all xs h.1 k d (omega arith)
+
+  pub all-each : (xs : List A) → All P xs → Each P xs
+  all-each [] h = tt
+  all-each (x ∷ xs) h = (h 0 x (omega arith), all-each xs (λ k d l. h (suc k) d (omega arith)))
+
+-- a fold of a term by those of its parts
+at : {A : Type 0} (f : Term-F A → A) (t : Term) (x : Term-F Term) → roll-Term x ≡ t → fold-Term A f t ≡ f (map-Term Term A (fold-Term A f) x)
+at {A} f t x e = ap (fold-Term A f) (sym e) ∙ fold-roll-Term A f x
+
+-- induction over terms
+module _ (P : Term → Type 0)
+    (truth : (b : Bool) → P (v.Truth b)) (number : (n : ℤ) → P (v.Number n)) (text : (w : Word) → P (v.Text w)) (constant : (n : List ℕ) (s : Sort) → P (v.Constant n s))
+    (apply : (o : Op) (ts : List Term) → Each P ts → P (v.Apply o ts)) (member : (t : Term) (r : Regex) → P t → P (v.InRe t r))
+    (relate : (m : Transducer) (t u : Term) → P t → P u → P (v.Related m t u)) (opaque : (s : Sort) → P (v.Opaque s)) where
+  abbrev Sure : Type 0
+  Sure = (t : Term) × P t
+
+  each : (ys : List Sure) → Each P (map (λ y. y.0) ys)
+  each [] = tt
+  each (y ∷ ys) = (y.1, each ys)
+
+  layer : (y : Term-F Sure) → P (roll-Term (map-Term Sure Term (λ e. e.0) y))
+  layer (Term-F.Truth b) = subst P (sym (v.rolls-Truth b)) (truth b)
+  layer (Term-F.Number n) = subst P (sym (v.rolls-Number n)) (number n)
+  layer (Term-F.Text w) = subst P (sym (v.rolls-Text w)) (text w)
+  layer (Term-F.Constant n s) = subst P (sym (v.rolls-Constant n s)) (constant n s)
+  layer (Term-F.Apply o ys) = subst P (sym (v.rolls-Apply o (map (λ y. y.0) ys))) (apply o (map (λ y. y.0) ys) (each ys))
+  layer (Term-F.InRe y r) = subst P (sym (v.rolls-InRe y.0 r)) (member y.0 r y.1)
+  layer (Term-F.Related m y z) = subst P (sym (v.rolls-Related m y.0 z.0)) (relate m y.0 z.0 y.1 z.1)
+  layer (Term-F.Opaque s) = subst P (sym (v.rolls-Opaque s)) (opaque s)
+
+  pub induct : (t : Term) → P t
+  induct = ind-Term P (λ x y is. subst (λ z. P (roll-Term z)) is (layer y))
+
+-- the sort that a term shows by its outermost part
+abbrev pub term_sort : Term → Sort
+term_sort = fold-Term Sort layer_sort
+
+-- a term of this sort, without transducers, whose constants are known
+pub record Fit (known : Name → Sort → Bool) (s : Sort) (t : Term) : Type 0 where
+  pub sorted : sort_of t ≡ Some s
+  pub shown : term_sort t ≡ s
+  pub constants : IsTrue (constants_are known t)
+  pub plain : IsTrue (is_plain t)
+
+module _ (known : Name → Sort → Bool) where
+  pub fit-truth : (b : Bool) → Fit known sort.Bool (v.Truth b)
+  fit-truth b = let r = v.rolls-Truth b in let x : Term-F Term = Term-F.Truth b in
+      record { sorted = at sort_step _ x r; shown = at layer_sort _ x r; constants = at (constants_step known) _ x r; plain = at plain_step _ x r }
+
+  pub fit-number : (n : ℤ) → Fit known sort.Int (v.Number n)
+  fit-number n = let r = v.rolls-Number n in let x : Term-F Term = Term-F.Number n in
+      record { sorted = at sort_step _ x r; shown = at layer_sort _ x r; constants = at (constants_step known) _ x r; plain = at plain_step _ x r }
+
+  pub fit-text : (w : Word) → Fit known sort.String (v.Text w)
+  fit-text w = let r = v.rolls-Text w in let x : Term-F Term = Term-F.Text w in
+      record { sorted = at sort_step _ x r; shown = at layer_sort _ x r; constants = at (constants_step known) _ x r; plain = at plain_step _ x r }
+
+  pub fit-constant : (n : Name) (s : Sort) → IsTrue (known n s) → Fit known s (v.Constant n s)
+  fit-constant n s k = let r = v.rolls-Constant n s in let x : Term-F Term = Term-F.Constant n s in
+      record { sorted = at sort_step _ x r; shown = at layer_sort _ x r; constants = at (constants_step known) _ x r ∙ k; plain = at plain_step _ x r }
+
+  pub fit-opaque : (s : Sort) → Fit known s (v.Opaque s)
+  fit-opaque s = let r = v.rolls-Opaque s in let x : Term-F Term = Term-F.Opaque s in
+      record { sorted = at sort_step _ x r; shown = at layer_sort _ x r; constants = at (constants_step known) _ x r; plain = at plain_step _ x r }
+
+  pub fit-member : (t : Term) (m : Regex) → Fit known sort.String t → Fit known sort.Bool (v.InRe t m)
+  fit-member t m f = let r = v.rolls-InRe t m in let x : Term-F Term = Term-F.InRe t m in
+      record { sorted = at sort_step _ x r ∙ ap tested_sort f.sorted; shown = at layer_sort _ x r; constants = at (constants_step known) _ x r ∙ f.constants; plain = at plain_step _ x r ∙ f.plain }
+
+  -- terms of these sorts, one after another
+  abbrev pub Fits : List Sort → List Term → Type 0
+  Fits [] [] = Unit {0}
+  Fits (s ∷ ss) (t ∷ ts) = Fit known s t × Fits ss ts
+  Fits _ _ = ⊥
+
+  each-sorted : (ss : List Sort) (ts : List Term) → Fits ss ts → all_of (map sort_of ts) ≡ Some ss
+  each-sorted [] [] fs = refl
+  each-sorted [] (t ∷ ts) fs = absurd fs
+  each-sorted (s ∷ ss) [] fs = absurd fs
+  each-sorted (s ∷ ss) (t ∷ ts) fs = ap (λ o. all_of (o ∷ map sort_of ts)) fs.0.sorted ∙ ap (option_map (λ q. s ∷ q)) (each-sorted ss ts fs.1)
+
+  each-constants : (ss : List Sort) (ts : List Term) → Fits ss ts → IsTrue (list_all (λ b. b) (map (constants_are known) ts))
+  each-constants [] [] fs = refl
+  each-constants [] (t ∷ ts) fs = absurd fs
+  each-constants (s ∷ ss) [] fs = absurd fs
+  each-constants (s ∷ ss) (t ∷ ts) fs = both-make (constants_are known t) (list_all (λ b. b) (map (constants_are known) ts)) fs.0.constants (each-constants ss ts fs.1)
+
+  each-plain : (ss : List Sort) (ts : List Term) → Fits ss ts → IsTrue (list_all (λ b. b) (map is_plain ts))
+  each-plain [] [] fs = refl
+  each-plain [] (t ∷ ts) fs = absurd fs
+  each-plain (s ∷ ss) [] fs = absurd fs
+  each-plain (s ∷ ss) (t ∷ ts) fs = both-make (is_plain t) (list_all (λ b. b) (map is_plain ts)) fs.0.plain (each-plain ss ts fs.1)
+
+  pub fit-apply : (o : Op) (ss : List Sort) (ts : List Term) → Fits ss ts → applied_sort o ss ≡ Some (op_sort o) → Fit known (op_sort o) (v.Apply o ts)
+  fit-apply o ss ts fs e = let r = v.rolls-Apply o ts in let x : Term-F Term = Term-F.Apply o ts in
+      record { sorted = at sort_step _ x r ∙ ap (applied_sort_if o) (each-sorted ss ts fs) ∙ e; shown = at layer_sort _ x r; constants = at (constants_step known) _ x r ∙ each-constants ss ts fs; plain = at plain_step _ x r ∙ each-plain ss ts fs }
+
+-- what is known in one place is known in another
+module _ (p q : Name → Sort → Bool) (le : (n : Name) (s : Sort) → IsTrue (p n s) → IsTrue (q n s)) where
+  abbrev Weaker : Term → Type 0
+  Weaker t = IsTrue (constants_are p t) → IsTrue (constants_are q t)
+
+  weaker-each : (ts : List Term) → Each Weaker ts → IsTrue (list_all (λ b. b) (map (constants_are p) ts)) → IsTrue (list_all (λ b. b) (map (constants_are q) ts))
+  weaker-each [] w h = refl
+  weaker-each (t ∷ ts) w h =
+      let b = both (constants_are p t) (list_all (λ b. b) (map (constants_are p) ts)) h in
+      both-make (constants_are q t) (list_all (λ b. b) (map (constants_are q) ts)) (w.0 b.0) (weaker-each ts w.1 b.1)
+
+  from : (t : Term) (x : Term-F Term) → roll-Term x ≡ t → IsTrue (constants_are p t) → IsTrue (constants_step p (map-Term Term Bool (constants_are p) x))
+  from t x r h = sym (at (constants_step p) t x r) ∙ h
+
+  pub weaker : (t : Term) → Weaker t
+  weaker = induct Weaker
+      (λ b h. at (constants_step q) _ (Term-F.Truth b) (v.rolls-Truth b))
+      (λ n h. at (constants_step q) _ (Term-F.Number n) (v.rolls-Number n))
+      (λ w h. at (constants_step q) _ (Term-F.Text w) (v.rolls-Text w))
+      (λ n s h. at (constants_step q) _ (Term-F.Constant n s) (v.rolls-Constant n s) ∙ le n s (from _ (Term-F.Constant n s) (v.rolls-Constant n s) h))
+      (λ o ts w h. at (constants_step q) _ (Term-F.Apply o ts) (v.rolls-Apply o ts) ∙ weaker-each ts w (from _ (Term-F.Apply o ts) (v.rolls-Apply o ts) h))
+      (λ t r w h. at (constants_step q) _ (Term-F.InRe t r) (v.rolls-InRe t r) ∙ w (from _ (Term-F.InRe t r) (v.rolls-InRe t r) h))
+      (λ m t u w z h.
+      let b = both (constants_are p t) (constants_are p u) (from _ (Term-F.Related m t u) (v.rolls-Related m t u) h) in
+      at (constants_step q) _ (Term-F.Related m t u) (v.rolls-Related m t u) ∙ both-make (constants_are q t) (constants_are q u) (w b.0) (z b.1))
+      (λ s h. at (constants_step q) _ (Term-F.Opaque s) (v.rolls-Opaque s))
+
+  pub fit-weaker : (s : Sort) (t : Term) → Fit p s t → Fit q s t
+  fit-weaker s t f = record { sorted = f.sorted; shown = f.shown; constants = weaker t f.constants; plain = f.plain }
+
+-- arguments in the place of constants of their sorts
+module _ (p q : Name → Sort → Bool) (found : Name → Option Term) (put : (n : Name) (s : Sort) → IsTrue (p n s) → Fit q s (or_constant n s (found n))) where
+  record IsPut (t : Term) : Type 0 where
+    sorted : sort_of (put_in found t) ≡ sort_of t
+    shown : term_sort (put_in found t) ≡ term_sort t
+    constants : IsTrue (constants_are q (put_in found t))
+    plain : IsTrue (is_plain (put_in found t))
+
+  abbrev Puts : Term → Type 0
+  Puts t = IsTrue (constants_are p t) → IsTrue (is_plain t) → IsPut t
+
+  -- the term with arguments put in is u, which is made of the layer y as t is of the layer x
+  made : (t u : Term) (x y : Term-F Term) → roll-Term x ≡ t → roll-Term y ≡ u → put_in found t ≡ u
+      → sort_step (map-Term Term (Option Sort) sort_of y) ≡ sort_step (map-Term Term (Option Sort) sort_of x)
+      → layer_sort (map-Term Term Sort term_sort y) ≡ layer_sort (map-Term Term Sort term_sort x)
+      → IsTrue (constants_step q (map-Term Term Bool (constants_are q) y)) → IsTrue (plain_step (map-Term Term Bool is_plain y)) → IsPut t
+  made t u x y r s e a b c d = record {
+    sorted = ap sort_of e ∙ at sort_step u y s ∙ a ∙ sym (at sort_step t x r);
+    shown = ap term_sort e ∙ at layer_sort u y s ∙ b ∙ sym (at layer_sort t x r);
+    constants = ap (constants_are q) e ∙ at (constants_step q) u y s ∙ c;
+    plain = ap is_plain e ∙ at plain_step u y s ∙ d;
+  }
+
+  put-at : (t : Term) (x : Term-F Term) → roll-Term x ≡ t → put_in found t ≡ put_in_layer found (map-Term Term Term (put_in found) x)
+  put-at t x r = at (put_in_layer found) t x r
+
+  record ArePut (ts : List Term) : Type 0 where
+    sorted : all_of (map sort_of (map (put_in found) ts)) ≡ all_of (map sort_of ts)
+    constants : IsTrue (list_all (λ b. b) (map (constants_are q) (map (put_in found) ts)))
+    plain : IsTrue (list_all (λ b. b) (map is_plain (map (put_in found) ts)))
+
+  all-sorted : (o p : Option Sort) (os ps : List (Option Sort)) → o ≡ p → all_of os ≡ all_of ps → all_of (o ∷ os) ≡ all_of (p ∷ ps)
+  all-sorted None p os ps e f = ap (λ z. all_of (z ∷ ps)) e
+  all-sorted (Some s) p os ps e f = ap (option_map (λ q. s ∷ q)) f ∙ ap (λ z. all_of (z ∷ ps)) e
+
+  put-each : (ts : List Term) → Each Puts ts → IsTrue (list_all (λ b. b) (map (constants_are p) ts)) → IsTrue (list_all (λ b. b) (map is_plain ts)) → ArePut ts
+  put-each [] w h g = record { sorted = refl; constants = refl; plain = refl }
+  put-each (t ∷ ts) w h g =
+      let b = both (constants_are p t) (list_all (λ b. b) (map (constants_are p) ts)) h in
+      let c = both (is_plain t) (list_all (λ b. b) (map is_plain ts)) g in
+      let one = w.0 b.0 c.0 in
+      let rest = put-each ts w.1 b.1 c.1 in
+      record {
+        sorted = all-sorted (sort_of (put_in found t)) (sort_of t) (map sort_of (map (put_in found) ts)) (map sort_of ts) one.sorted rest.sorted;
+        constants = both-make (constants_are q (put_in found t)) (list_all (λ b. b) (map (constants_are q) (map (put_in found) ts))) one.constants rest.constants;
+        plain = both-make (is_plain (put_in found t)) (list_all (λ b. b) (map is_plain (map (put_in found) ts))) one.plain rest.plain;
+      }
+
+  put-constant : (n : Name) (s : Sort) → Puts (v.Constant n s)
+  put-constant n s h g =
+      let r = v.rolls-Constant n s in
+      let x : Term-F Term = Term-F.Constant n s in
+      let e = put-at _ x r in
+      let f = put n s (sym (at (constants_step p) _ x r) ∙ h) in
+      record {
+        sorted = ap sort_of e ∙ f.sorted ∙ sym (at sort_step _ x r);
+        shown = ap term_sort e ∙ f.shown ∙ sym (at layer_sort _ x r);
+        constants = ap (constants_are q) e ∙ f.constants;
+        plain = ap is_plain e ∙ f.plain;
+      }
+
+  put-apply : (o : Op) (ts : List Term) → Each Puts ts → Puts (v.Apply o ts)
+  put-apply o ts w h g =
+      let r = v.rolls-Apply o ts in
+      let x : Term-F Term = Term-F.Apply o ts in
+      let us = map (put_in found) ts in
+      let f = put-each ts w (sym (at (constants_step p) _ x r) ∙ h) (sym (at plain_step _ x r) ∙ g) in
+      made _ (v.Apply o us) x (Term-F.Apply o us) r (v.rolls-Apply o us) (put-at _ x r) (ap (applied_sort_if o) f.sorted) refl f.constants f.plain
+
+  put-member : (t : Term) (m : Regex) → Puts t → Puts (v.InRe t m)
+  put-member t m w h g =
+      let r = v.rolls-InRe t m in
+      let x : Term-F Term = Term-F.InRe t m in
+      let u = put_in found t in
+      let f = w (sym (at (constants_step p) _ x r) ∙ h) (sym (at plain_step _ x r) ∙ g) in
+      made _ (v.InRe u m) x (Term-F.InRe u m) r (v.rolls-InRe u m) (put-at _ x r) (ap tested_sort f.sorted) refl f.constants f.plain
+
+  put-related : (m : Transducer) (t u : Term) → Puts t → Puts u → Puts (v.Related m t u)
+  put-related m t u w z h g = let f : false ≡ true = sym (at plain_step _ (Term-F.Related m t u) (v.rolls-Related m t u)) ∙ g in absurd (cc)
+
+  puts : (t : Term) → Puts t
+  puts = induct Puts
+      (λ b h g. let r = v.rolls-Truth b in let x : Term-F Term = Term-F.Truth b in made _ _ x x r r (put-at _ x r) refl refl refl refl)
+      (λ n h g. let r = v.rolls-Number n in let x : Term-F Term = Term-F.Number n in made _ _ x x r r (put-at _ x r) refl refl refl refl)
+      (λ w h g. let r = v.rolls-Text w in let x : Term-F Term = Term-F.Text w in made _ _ x x r r (put-at _ x r) refl refl refl refl)
+      put-constant
+      put-apply
+      put-member
+      put-related
+      (λ s h g. let r = v.rolls-Opaque s in let x : Term-F Term = Term-F.Opaque s in made _ _ x x r r (put-at _ x r) refl refl refl refl)
+
+  pub fit-put : (s : Sort) (t : Term) → Fit p s t → Fit q s (put_in found t)
+  fit-put s t f = let k = puts t f.constants f.plain in record { sorted = k.sorted ∙ f.sorted; shown = k.shown ∙ f.shown; constants = k.constants; plain = k.plain }
+
+-- constants that have values of their sorts
+module _ (known : Name → Sort → Bool) (values : Named) (given : (n : Name) (s : Sort) → IsTrue (known n s) → IsTrue (is_of s (lookup (pointwise nat_eq n) values))) where
+  valued-layer : (x : Term-F Bool) → valued_step values x ≡ constants_step (λ n s. is_of s (lookup (pointwise nat_eq n) values)) x
+  valued-layer (Term-F.Truth b) = refl
+  valued-layer (Term-F.Number n) = refl
+  valued-layer (Term-F.Text w) = refl
+  valued-layer (Term-F.Constant n s) = refl
+  valued-layer (Term-F.Apply o bs) = refl
+  valued-layer (Term-F.InRe b r) = refl
+  valued-layer (Term-F.Related m b c) = refl
+  valued-layer (Term-F.Opaque s) = refl
+
+  pub known-valued : (t : Term) → IsTrue (constants_are known t) → IsTrue (is_valued values t)
+  known-valued t h =
+      let e : constants_step (λ n s. is_of s (lookup (pointwise nat_eq n) values)) ≡ valued_step values = λ i x. sym (valued-layer x) i in
+      subst (λ f. IsTrue (fold-Term Bool f t)) e (weaker known (λ n s. is_of s (lookup (pointwise nat_eq n) values)) given t h)

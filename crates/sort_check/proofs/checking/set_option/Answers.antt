@@ -1,0 +1,7 @@
+use Rattle.std.proofs.Common.{rules, sym, arith}
+use Rattle.sort_check.proofs.Counted.{set_option-few, set_option-many}
+use Rattle.sort_check.proofs.checking.set_option.Goals as goal
+use Rattle.sort_check.proofs.checking.set_option.Goals.{in_default-via-then-parts-lt2, in_default-via-else-parts-lt2+else-parts-lt3}
+
+pub returns-in_default : goal.returns-in_default
+returns-in_default c = elim c.in_default.branch [ in_default-via-then-parts-lt2 w ↦ sym (set_option-few c.args.parts.now (search rules)) | in_default-via-else-parts-lt2+else-parts-lt3 w ↦ sym (set_option-many c.args.parts.now (search rules)) ]

@@ -1,0 +1,12 @@
+use Rattle.std.proofs.Common.{◌≡◌, ◌≤◌, length, drop}
+use Rattle.sort_check.specs.Drafts.{shown}
+use Rattle.sort_check.specs.Signature.{Name}
+use Rattle.sort_check.specs.Weights.{place_of}
+use Rattle.sort_check.proofs.Placing.{shifted}
+use Rattle.sort_check.proofs.places.Places.of.Given as goal
+
+abbrev pub invariant-loop-i : goal.invariant-loop-i
+invariant-loop-i l = (l.i ≤ length l.parameters) × ((n : Name) → shown n l.places ≡ shifted l.i (place_of n (drop l.i l.parameters)))
+
+abbrev pub decreases-loop-i : goal.decreases-loop-i
+decreases-loop-i l = l.i

@@ -1,0 +1,11 @@
+use Rattle.std.proofs.Common.{refl, ◌∙◌, ap, false}
+use Rattle.sort_check.specs.declared.weight.Factor.TheVariants.{Known}
+use Rattle.sv_terms.specs.declared.sort.Sort.TheVariants.{RegLan}
+use Rattle.sort_check.specs.declared.weight.Weight.{Weight}
+use Rattle.std.proofs.Common.{true, List}
+use Rattle.sort_check.specs.Weights.{around, counted}
+use Rattle.sort_check.proofs.Sums.{map-as-it-is}
+use Rattle.sort_check.proofs.weight.combined_weight.Goals as goal
+
+pub returns : goal.returns
+returns c = c.around.ensures ∙ ap (around RegLan Known true) (map-as-it-is (counted false) (λ w. refl) c.args.weights.now)

@@ -1,0 +1,215 @@
+-- The command that an item is, or its first fault (SMT-LIB 2.6, section 3.9). What is looked for stands in this order, each over the whole item: its written form; declared names; sorts; numerals; the walk over its terms; the size of the terms; their sorts.
+use Rattle.std.specs.Prelude.{ℕ, Bool, true, false, ◌&&◌, not, List, [], ◌∷◌, ◌++◌, map, Option, Some, None, Result, Ok, Err, codes, if◌then◌else◌}
+use Rattle.std.specs.List.{list_all}
+use Rattle.std.specs.Map.{lookup}
+use Rattle.sexpr_reader.specs.declared.sexpr.Sexpr.{Sexpr}
+use Rattle.sv_terms.specs.Sorting.{same_sort}
+use Rattle.sv_terms.specs.declared.entry.Body.{Body}
+use Rattle.sv_terms.specs.declared.entry.Entry.TheVariants as entry
+use Rattle.sv_terms.specs.declared.sort.Sort.{Sort}
+use Rattle.sv_terms.specs.declared.sort.Sort.TheVariants as sort
+use Rattle.sv_terms.specs.declared.term.Term.{Term}
+use Rattle.sort_check.specs.declared.check_fault.CheckFault.{CheckFault}
+use Rattle.sort_check.specs.declared.check_fault.CheckFault.TheVariants as fault
+use Rattle.sort_check.specs.declared.commands.Command.{Command}
+use Rattle.sort_check.specs.declared.commands.Command.TheVariants as command
+use Rattle.sort_check.specs.declared.pass.Pass.TheVariants as pass
+use Rattle.sort_check.specs.declared.verb.Verb.{Verb}
+use Rattle.sort_check.specs.declared.verb.Verb.TheVariants as verb
+use Rattle.sort_check.specs.Binders.{is_variable, are_all, bound_names, repeats, variables, is_language_sort}
+use Rattle.sort_check.specs.Bodies.{body_sort, term_of, parameter_name, is_escaped}
+use Rattle.sort_check.specs.Faults.{and_then, ◌>>◌, need, refuse, or_fault}
+use Rattle.sort_check.specs.Form.{Form, Forms, end, ◌⨾◌, raw}
+use Rattle.sort_check.specs.Meant.{Names, settled, parameters_of}
+use Rattle.sort_check.specs.Passes.{at_variables, looked, looked_all}
+use Rattle.sort_check.specs.Signature.{Name, same_name, stands_in, is_reserved, is_some}
+use Rattle.sort_check.specs.Tokens.{symbol, word, digits, keyword, literal_text, listed, is_too_large, level, is_sort_form, sort_of}
+
+-- the words of the commands that declare and assert, and of the others
+abbrev pub script_verbs : List (Name × Verb)
+script_verbs = (codes "set-logic", verb.SetLogic) ∷ (codes "set-info", verb.SetInfo) ∷ (codes "set-option", verb.SetOption)
+    ∷ (codes "declare-const", verb.DeclareConst) ∷ (codes "declare-fun", verb.DeclareFun) ∷ (codes "define-fun", verb.DefineFun)
+    ∷ (codes "assert", verb.Assert) ∷ (codes "get-value", verb.GetValue) ∷ []
+
+abbrev pub session_verbs : List (Name × Verb)
+session_verbs = (codes "push", verb.Push) ∷ (codes "pop", verb.Pop)
+    ∷ (codes "check-sat", verb.CheckSat) ∷ (codes "get-model", verb.GetModel) ∷ (codes "get-info", verb.GetInfo)
+    ∷ (codes "echo", verb.Echo) ∷ (codes "reset", verb.Reset)
+    ∷ (codes "reset-assertions", verb.ResetAssertions) ∷ (codes "exit", verb.Exit) ∷ []
+
+abbrev pub verbs : List (Name × Verb)
+verbs = script_verbs ++ session_verbs
+
+-- `true` or `false`
+abbrev pub truths : List (Name × Bool)
+truths = (codes "true", true) ∷ (codes "false", false) ∷ []
+
+abbrev pub truth_named : Option Name → Option Bool
+truth_named (Some n) = lookup (same_name n) truths
+truth_named None = None
+
+abbrev pub truth : Form → Option Bool
+truth f = truth_named (symbol f)
+
+-- a command without parts
+abbrev pub plain : Command → Forms → Result Command CheckFault
+plain c end = Ok c
+plain c _ = Err fault.Shape
+
+abbrev pub set_logic : Forms → Result Command CheckFault
+set_logic (n ⨾ end) = need (is_some (symbol n)) fault.Shape >> Ok command.Inform
+set_logic _ = Err fault.Shape
+
+-- a keyword, and anything
+abbrev pub set_info : Forms → Result Command CheckFault
+set_info end = Err fault.Shape
+set_info (k ⨾ rest) = need (is_some (keyword k)) fault.Shape >> Ok command.Inform
+
+abbrev pub option_set : Option Name → Option Bool → Command
+option_set None b = command.Unsupported
+option_set (Some k) None = command.Unsupported
+option_set (Some k) (Some b) =
+    if same_name k (codes ":print-success") then command.PrintSuccess b else
+    if stands_in (codes ":produce-models" ∷ codes ":produce-unsat-cores" ∷ codes ":produce-proofs" ∷ []) k then command.Produce b else command.Unsupported
+
+-- an option that is known, with a truth value; any other is unsupported
+abbrev pub set_option : Forms → Result Command CheckFault
+set_option (k ⨾ b ⨾ end) = Ok (option_set (keyword k) (truth b))
+set_option _ = Ok command.Unsupported
+
+-- a name that may be declared
+abbrev pub free : Names → Name → Result Unit CheckFault
+free symbols n = refuse (is_escaped n) fault.Shape >> refuse (is_reserved n) fault.Reserved >> refuse (is_some (lookup (same_name n) symbols)) fault.Declared
+
+abbrev pub declared_as : Name → Sort → Result Command CheckFault
+declared_as n s = refuse (same_sort sort.RegLan s) fault.Sort >> Ok (command.Declare n s)
+
+-- a name and a sort
+abbrev pub declaration : Names → Form → Form → Result Command CheckFault
+declaration symbols n s = need (is_sort_form s) fault.Shape >> and_then (λ n. free symbols n >> and_then (declared_as n) (or_fault fault.Unknown (sort_of s))) (or_fault fault.Shape (symbol n))
+
+abbrev pub declare_const : Names → Forms → Result Command CheckFault
+declare_const symbols (n ⨾ s ⨾ end) = declaration symbols n s
+declare_const symbols _ = Err fault.Shape
+
+abbrev pub is_empty : Option Forms → Bool
+is_empty (Some end) = true
+is_empty _ = false
+
+-- without parameters alone
+abbrev pub declare_fun : Names → Forms → Result Command CheckFault
+declare_fun symbols (n ⨾ ps ⨾ s ⨾ end) = need (is_empty (listed ps)) fault.Shape >> declaration symbols n s
+declare_fun symbols _ = Err fault.Shape
+
+-- the four passes over terms
+abbrev pub passed : Forms → Result Unit CheckFault
+passed ts = looked_all pass.Names ts >> looked_all pass.Sorts ts >> looked_all pass.Languages ts >> looked_all pass.Numbers ts
+
+-- the parameters as they stand in the body
+abbrev pub parameters : Forms → List (Name × Sort)
+parameters ps = map (λ p. (parameter_name p.0, p.1)) (variables ps)
+
+abbrev pub defined : Name → Forms → Sort → List Body → Result Command CheckFault
+defined n ps s (b ∷ []) = need (same_sort s (body_sort b)) fault.Sort >> Ok (command.Define n (entry.Macro (parameters ps) b))
+defined n ps s _ = Err fault.Shape
+
+-- what is looked for in a definition before its body is walked
+abbrev pub passed_definition : Forms → Form → Form → Result Unit CheckFault
+passed_definition ps s t =
+    refuse (repeats (bound_names ps)) fault.Declared >> looked pass.Names t
+    >> at_variables pass.Sorts ps >> need (is_some (sort_of s)) fault.Unknown >> looked pass.Sorts t
+    >> at_variables pass.Languages ps >> looked pass.Languages t
+    >> looked pass.Numbers t
+
+-- the definition of a sort that is known
+abbrev pub settled_definition : Names → Name → Forms → Form → Sort → Result Command CheckFault
+settled_definition symbols n ps t s = and_then (defined n ps s) (settled symbols (parameters_of ps) (t ⨾ end))
+
+-- a name, parameters, a sort and a body
+abbrev pub definition : Names → Name → Forms → Form → Form → Result Command CheckFault
+definition symbols n ps s t = free symbols n >> passed_definition ps s t >> and_then (settled_definition symbols n ps t) (or_fault fault.Unknown (sort_of s))
+
+abbrev pub define_fun : Names → Forms → Result Command CheckFault
+define_fun symbols (n ⨾ ps ⨾ s ⨾ t ⨾ end) = and_then (λ ps. need (are_all is_variable ps && is_sort_form s) fault.Shape >> and_then (λ n. definition symbols n ps s t) (or_fault fault.Shape (symbol n))) (or_fault fault.Shape (listed ps))
+define_fun symbols _ = Err fault.Shape
+
+abbrev pub asserted : List Body → Result Command CheckFault
+asserted (b ∷ []) = need (same_sort sort.Bool (body_sort b)) fault.Sort >> Ok (command.Assert (term_of b))
+asserted _ = Err fault.Shape
+
+-- one term
+abbrev pub assertion : Names → Forms → Result Command CheckFault
+assertion symbols (t ⨾ end) = passed (t ⨾ end) >> and_then asserted (settled symbols [] (t ⨾ end))
+assertion symbols _ = Err fault.Shape
+
+-- a number of levels
+abbrev pub levels : (ℕ → Command) → Option (List ℕ) → Result Command CheckFault
+levels make None = Err fault.Shape
+levels make (Some ds) = refuse (is_too_large ds) fault.Number >> Ok (make (level ds))
+
+-- which is 1 where it isn't written
+abbrev pub stepped : (ℕ → Command) → Forms → Result Command CheckFault
+stepped make end = Ok (make 1)
+stepped make (n ⨾ end) = levels make (digits n)
+stepped make _ = Err fault.Shape
+
+-- the terms beside their s-expressions
+abbrev pub beside : Forms → List Body → List (Sexpr × Term)
+beside (t ⨾ ts) (b ∷ bs) = (raw t, term_of b) ∷ beside ts bs
+beside _ _ = []
+
+abbrev pub has_values : Sort → Bool
+has_values s = not (same_sort sort.RegLan s)
+
+abbrev pub valued : Forms → List Body → Result Command CheckFault
+valued ts bs = need (list_all has_values (map body_sort bs)) fault.Sort >> Ok (command.GetValue (beside ts bs))
+
+-- one or more terms
+abbrev pub values : Names → Forms → Result Command CheckFault
+values symbols end = Err fault.Shape
+values symbols (t ⨾ ts) = passed (t ⨾ ts) >> and_then (valued (t ⨾ ts)) (settled symbols [] (t ⨾ ts))
+
+abbrev pub get_value : Names → Forms → Result Command CheckFault
+get_value symbols (ts ⨾ end) = and_then (values symbols) (or_fault fault.Shape (listed ts))
+get_value symbols _ = Err fault.Shape
+
+abbrev pub get_info : Forms → Result Command CheckFault
+get_info (k ⨾ end) = and_then (λ k. Ok (command.GetInfo k)) (or_fault fault.Shape (keyword k))
+get_info _ = Err fault.Shape
+
+abbrev pub echo : Forms → Result Command CheckFault
+echo (l ⨾ end) = and_then (λ l. Ok (command.Echo l)) (or_fault fault.Shape (literal_text l))
+echo _ = Err fault.Shape
+
+-- a command by its word
+abbrev pub commanded : Names → Option Verb → Forms → Result Command CheckFault
+commanded symbols None parts = Ok command.Unsupported
+commanded symbols (Some verb.SetLogic) parts = set_logic parts
+commanded symbols (Some verb.SetInfo) parts = set_info parts
+commanded symbols (Some verb.SetOption) parts = set_option parts
+commanded symbols (Some verb.DeclareConst) parts = declare_const symbols parts
+commanded symbols (Some verb.DeclareFun) parts = declare_fun symbols parts
+commanded symbols (Some verb.DefineFun) parts = define_fun symbols parts
+commanded symbols (Some verb.Assert) parts = assertion symbols parts
+commanded symbols (Some verb.Push) parts = stepped command.Push parts
+commanded symbols (Some verb.Pop) parts = stepped command.Pop parts
+commanded symbols (Some verb.CheckSat) parts = plain command.CheckSat parts
+commanded symbols (Some verb.GetModel) parts = plain command.GetModel parts
+commanded symbols (Some verb.GetValue) parts = get_value symbols parts
+commanded symbols (Some verb.GetInfo) parts = get_info parts
+commanded symbols (Some verb.Echo) parts = echo parts
+commanded symbols (Some verb.Reset) parts = plain command.Reset parts
+commanded symbols (Some verb.ResetAssertions) parts = plain command.ResetAssertions parts
+commanded symbols (Some verb.Exit) parts = plain command.Exit parts
+
+abbrev pub verb_of : Option Name → Option Verb
+verb_of (Some w) = lookup (same_name w) verbs
+verb_of None = None
+
+abbrev pub begun : Names → Forms → Result Command CheckFault
+begun symbols end = Err fault.Shape
+begun symbols (w ⨾ parts) = need (is_some (symbol w)) fault.Shape >> commanded symbols (verb_of (word w)) parts
+
+-- a list that begins with a symbol; a word between bars is no command's
+abbrev pub checked : Names → Form → Result Command CheckFault
+checked symbols f = and_then (begun symbols) (or_fault fault.Shape (listed f))

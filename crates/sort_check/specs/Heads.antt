@@ -1,0 +1,10 @@
+-- What an identifier stands for, as the walk holds it.
+use Rattle.sort_check.specs.declared.head.Head.{Head as Held}
+use Rattle.sort_check.specs.declared.head.Head.TheVariants as v
+use Rattle.sort_check.specs.Meant.{Head, theory, constant, macro, machine}
+
+abbrev pub kept : Held → Head
+kept (v.Theory f) = theory f
+kept (v.Constant n s) = constant n s
+kept (v.Macro parameters b) = macro parameters.now b.now
+kept (v.Machine t) = machine t.now

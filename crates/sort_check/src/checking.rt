@@ -1,0 +1,548 @@
+// The command that an item is.
+ghost use Rattle.std.specs.Prelude.{◌≡◌, ℕ, [], ◌∷◌, Some, Ok, Err, IfOk, IfErr, map};
+ghost use Rattle.std.specs.List.{list_all};
+ghost use Rattle.sv_terms.specs.Names.{symbol_name};
+ghost use Rattle.sort_check.specs.declared.commands.Command.{Command as AnyCommand};
+ghost use Rattle.sort_check.specs.Binders as v;
+ghost use Rattle.sort_check.specs.Bodies as b;
+ghost use Rattle.sort_check.specs.Checking as c;
+ghost use Rattle.sort_check.specs.Faults.{Answers, made_of};
+ghost use Rattle.sort_check.specs.Form.{Forms, seen, forms};
+ghost use Rattle.sort_check.specs.Tokens as t;
+
+use crate::applying::{body_sort, into_term};
+use crate::binder::{are_parameters, repeats, variables};
+use crate::check_fault::CheckFault;
+use crate::commands::Command;
+use crate::pass::Pass;
+use crate::passes::{at_variables, look, pass_over};
+use crate::rank::same_sort;
+use crate::scope::parameter_name;
+use crate::signature::{is_reserved, sort_of, truth, verb};
+use crate::token::{
+    digits, is_sort_form, keyword, level, listed, literal_text, symbol, unquoted, word,
+};
+use crate::verb::Verb;
+use crate::walk::{settled, settled_one};
+use sexpr_reader::Sexpr;
+use std::alloc::{AllocError, Global};
+use sv_list::{Copied, Items};
+use sv_terms::{Body, Entry, Name, Sort, Symbols, Term};
+
+#[tactic(auto, using(crate::proofs::Counted::commands))]
+fn plain(made: Command, parts: &[Sexpr]) -> Result<Command, CheckFault>
+    ensures { result ≡ c.plain made (forms (map seen parts.now)) }
+{
+    match parts {
+        [] => Ok(made),
+        _ => Err(CheckFault::Shape),
+    }
+}
+
+#[tactic(auto, using(crate::proofs::Counted::commands))]
+fn set_logic(parts: &[Sexpr]) -> Result<Command, CheckFault>
+    ensures { result ≡ c.set_logic (forms (map seen parts.now)) }
+{
+    match parts {
+        [name] => {
+            if symbol(name).is_some() {
+                Ok(Command::Inform)
+            } else {
+                Err(CheckFault::Shape)
+            }
+        }
+        _ => Err(CheckFault::Shape),
+    }
+}
+
+#[tactic(auto, using(crate::proofs::Counted::commands))]
+fn set_info(parts: &[Sexpr]) -> Result<Command, CheckFault>
+    ensures { result ≡ c.set_info (forms (map seen parts.now)) }
+{
+    match parts {
+        [] => Err(CheckFault::Shape),
+        [first, ..] => {
+            if keyword(first).is_some() {
+                Ok(Command::Inform)
+            } else {
+                Err(CheckFault::Shape)
+            }
+        }
+    }
+}
+
+fn known_option(keyword: &[u8], value: bool) -> Command
+    ensures { result ≡ c.option_set (Some keyword.now) (Some value) }
+{
+    if keyword == b":print-success".as_slice() {
+        return Command::PrintSuccess(value);
+    }
+    if keyword == b":produce-models".as_slice()
+        || keyword == b":produce-unsat-cores".as_slice()
+        || keyword == b":produce-proofs".as_slice()
+    {
+        return Command::Produce(value);
+    }
+    Command::Unsupported
+}
+
+fn option_set(first: &Sexpr, second: &Sexpr) -> Command
+    ensures { result ≡ c.option_set (t.keyword (seen first.now)) (c.truth (seen second.now)) }
+{
+    match keyword(first) {
+        Some(keyword) => match truth(second) {
+            Some(value) => known_option(keyword, value),
+            None => Command::Unsupported,
+        },
+        None => Command::Unsupported,
+    }
+}
+
+#[tactic(auto, using(crate::proofs::Counted::commands))]
+fn set_option(parts: &[Sexpr]) -> Result<Command, CheckFault>
+    ensures { result ≡ c.set_option (forms (map seen parts.now)) }
+{
+    match parts {
+        [first, second] => Ok(option_set(first, second)),
+        _ => Ok(Command::Unsupported),
+    }
+}
+
+/// Whether parameters stand under such names: it begins with a backslash.
+fn is_escaped(name: &[u8]) -> bool
+    ensures { result ≡ b.is_escaped name.now }
+{
+    match name {
+        [first, ..] => *first == b'\\',
+        [] => false,
+    }
+}
+
+/// A name that may be declared.
+fn free(alloc: Global, symbols: &Symbols, text: &[u8]) -> Result<Name, CheckFault>
+    ensures ok { IfOk result (λ n. (n ≡ symbol_name text.now) × (c.free symbols.now n ≡ Ok tt)) }
+    ensures err { IfErr result (λ f. Answers (c.free symbols.now (symbol_name text.now)) (Err f)) }
+{
+    let name = unquoted(text);
+    if is_escaped(name) {
+        return Err(CheckFault::Shape);
+    }
+    if is_reserved(name) {
+        return Err(CheckFault::Reserved);
+    }
+    let name = Name::of(alloc, text)?;
+    match symbols.get(&name) {
+        Some(_) => Err(CheckFault::Declared),
+        None => Ok(name),
+    }
+}
+
+fn declared_as(name: Name, sort: Sort) -> Result<Command, CheckFault>
+    ensures { result ≡ c.declared_as name sort }
+{
+    match sort {
+        Sort::RegLan => Err(CheckFault::Sort),
+        _ => Ok(Command::Declare(name, sort)),
+    }
+}
+
+#[tactic(auto, using(crate::proofs::Answering::answering))]
+fn declaration(
+    alloc: Global,
+    symbols: &Symbols,
+    name: &Sexpr,
+    sort: &Sexpr,
+) -> Result<Command, CheckFault>
+    ensures { Answers (c.declaration symbols.now (seen name.now) (seen sort.now)) result }
+{
+    if !is_sort_form(sort) {
+        return Err(CheckFault::Shape);
+    }
+    match symbol(name) {
+        Some(text) => match free(alloc, symbols, text) {
+            Ok(name) => match sort_of(sort) {
+                Some(sort) => declared_as(name, sort),
+                None => Err(CheckFault::Unknown),
+            },
+            Err(fault) => Err(fault),
+        },
+        None => Err(CheckFault::Shape),
+    }
+}
+
+#[tactic(auto, using(crate::proofs::Counted::commands))]
+fn declare_const(alloc: Global, symbols: &Symbols, parts: &[Sexpr]) -> Result<Command, CheckFault>
+    ensures { Answers (c.declare_const symbols.now (forms (map seen parts.now))) result }
+{
+    match parts {
+        [name, sort] => declaration(alloc, symbols, name, sort),
+        _ => Err(CheckFault::Shape),
+    }
+}
+
+#[tactic(auto, using(crate::proofs::Answering::emptiness))]
+fn is_empty_list(item: &Sexpr) -> bool
+    ensures { result ≡ c.is_empty (t.listed (seen item.now)) }
+{
+    match item {
+        Sexpr::List(items) => match items.as_slice() {
+            [] => true,
+            _ => false,
+        },
+        Sexpr::Atom(_, _) => false,
+    }
+}
+
+#[tactic(auto, using(crate::proofs::Counted::commands))]
+fn declare_fun(alloc: Global, symbols: &Symbols, parts: &[Sexpr]) -> Result<Command, CheckFault>
+    ensures { Answers (c.declare_fun symbols.now (forms (map seen parts.now))) result }
+{
+    match parts {
+        [name, parameters, sort] => {
+            if is_empty_list(parameters) {
+                declaration(alloc, symbols, name, sort)
+            } else {
+                Err(CheckFault::Shape)
+            }
+        }
+        _ => Err(CheckFault::Shape),
+    }
+}
+
+/// The parameters of a macro as they stand in its body: under names with a backslash before them,
+/// which no symbol has.
+fn escaped(alloc: Global, variables: &[(Name, Sort)]) -> Result<Items<(Name, Sort)>, AllocError>
+    ensures { IfOk result (λ ps. ps ≡ map (λ p. (b.parameter_name p.0, p.1)) variables.now) }
+{
+    let mut all = Items::new(alloc);
+    for variable in variables {
+        all.push((parameter_name(alloc, &variable.0)?, variable.1))?;
+    }
+    Ok(all)
+}
+
+/// What is looked for in a definition before its body is walked.
+#[tactic(auto, using(crate::proofs::Answering::answering))]
+fn pass_definition(
+    alloc: Global,
+    parameters: &[Sexpr],
+    sort: &Sexpr,
+    body: &Sexpr,
+) -> Result<(), CheckFault>
+    ensures { Answers (c.passed_definition (forms (map seen parameters.now)) (seen sort.now) (seen body.now)) result }
+{
+    if repeats(alloc, parameters)? {
+        return Err(CheckFault::Declared);
+    }
+    look(alloc, Pass::Names, body)?;
+    at_variables(Pass::Sorts, parameters)?;
+    if sort_of(sort).is_none() {
+        return Err(CheckFault::Unknown);
+    }
+    look(alloc, Pass::Sorts, body)?;
+    at_variables(Pass::Languages, parameters)?;
+    look(alloc, Pass::Languages, body)?;
+    look(alloc, Pass::Numbers, body)
+}
+
+/// A macro of this body.
+fn defined(
+    alloc: Global,
+    name: Name,
+    variables: &[(Name, Sort)],
+    sort: Sort,
+    body: Body,
+) -> Result<Command, CheckFault>
+    ensures { (ps : Forms) → variables.now ≡ v.variables ps → Answers (c.defined name ps sort (body ∷ [])) result }
+{
+    if !same_sort(sort, body_sort(&body)) {
+        return Err(CheckFault::Sort);
+    }
+    let parameters = escaped(alloc, variables)?;
+    Ok(Command::Define(name, Entry::Macro { parameters, body }))
+}
+
+#[tactic(auto, using(crate::proofs::Answering::answering))]
+fn settled_definition(
+    alloc: Global,
+    symbols: &Symbols,
+    name: Name,
+    parameters: &[Sexpr],
+    sort: Sort,
+    body: &Sexpr,
+) -> Result<Command, CheckFault>
+    ensures { Answers (c.settled_definition symbols.now name (forms (map seen parameters.now)) (seen body.now) sort) result }
+{
+    let variables = variables(alloc, parameters)?;
+    match settled_one(alloc, symbols, variables.as_slice(), body) {
+        Ok(body) => defined(alloc, name, variables.as_slice(), sort, body),
+        Err(fault) => Err(fault),
+    }
+}
+
+#[tactic(auto, using(crate::proofs::Answering::answering))]
+fn definition(
+    alloc: Global,
+    symbols: &Symbols,
+    text: &[u8],
+    parameters: &[Sexpr],
+    sort: &Sexpr,
+    body: &Sexpr,
+) -> Result<Command, CheckFault>
+    ensures { Answers (c.definition symbols.now (symbol_name text.now) (forms (map seen parameters.now)) (seen sort.now) (seen body.now)) result }
+{
+    match free(alloc, symbols, text) {
+        Ok(name) => match pass_definition(alloc, parameters, sort, body) {
+            Ok(()) => match sort_of(sort) {
+                Some(sort) => settled_definition(alloc, symbols, name, parameters, sort, body),
+                None => Err(CheckFault::Unknown),
+            },
+            Err(fault) => Err(fault),
+        },
+        Err(fault) => Err(fault),
+    }
+}
+
+#[tactic(auto, using(crate::proofs::Counted::commands))]
+fn define_fun(alloc: Global, symbols: &Symbols, parts: &[Sexpr]) -> Result<Command, CheckFault>
+    ensures { Answers (c.define_fun symbols.now (forms (map seen parts.now))) result }
+{
+    match parts {
+        [name, parameters, sort, body] => match listed(parameters) {
+            Some(parameters) => {
+                if !are_parameters(parameters) || !is_sort_form(sort) {
+                    return Err(CheckFault::Shape);
+                }
+                match symbol(name) {
+                    Some(text) => definition(alloc, symbols, text, parameters, sort, body),
+                    None => Err(CheckFault::Shape),
+                }
+            }
+            None => Err(CheckFault::Shape),
+        },
+        _ => Err(CheckFault::Shape),
+    }
+}
+
+fn asserted(body: Body) -> Result<Command, CheckFault>
+    ensures { result ≡ c.asserted (body ∷ []) }
+{
+    if same_sort(Sort::Bool, body_sort(&body)) {
+        Ok(Command::Assert(into_term(body)))
+    } else {
+        Err(CheckFault::Sort)
+    }
+}
+
+#[tactic(auto, using(crate::proofs::Answering::asserting))]
+fn assertion(alloc: Global, symbols: &Symbols, parts: &[Sexpr]) -> Result<Command, CheckFault>
+    ensures { Answers (c.assertion symbols.now (forms (map seen parts.now))) result }
+{
+    match parts {
+        [term] => match pass_over(alloc, parts) {
+            Ok(()) => match settled_one(alloc, symbols, &[], term) {
+                Ok(body) => asserted(body),
+                Err(fault) => Err(fault),
+            },
+            Err(fault) => Err(fault),
+        },
+        _ => Err(CheckFault::Shape),
+    }
+}
+
+/// A number of levels.
+fn levels(part: &Sexpr) -> Result<u32, CheckFault>
+    ensures { (make : ℕ → AnyCommand) → made_of make result ≡ c.levels make (t.digits (seen part.now)) }
+{
+    match digits(part) {
+        Some(digits) => match level(digits) {
+            Some(n) => Ok(n),
+            None => Err(CheckFault::Number),
+        },
+        None => Err(CheckFault::Shape),
+    }
+}
+
+#[tactic(auto, using(crate::proofs::Counted::commands))]
+fn stepped(parts: &[Sexpr]) -> Result<u32, CheckFault>
+    ensures { (make : ℕ → AnyCommand) → made_of make result ≡ c.stepped make (forms (map seen parts.now)) }
+{
+    match parts {
+        [] => Ok(1),
+        [n] => levels(n),
+        _ => Err(CheckFault::Shape),
+    }
+}
+
+/// Whether none is a regular expression.
+#[tactic(auto, using(crate::proofs::Sorts::sorts))]
+fn are_terms(bodies: &[Body]) -> bool
+    ensures { result ≡ list_all c.has_values (map b.body_sort bodies.now) }
+{
+    for body in bodies {
+        if same_sort(Sort::RegLan, body_sort(body)) {
+            return false;
+        }
+    }
+    true
+}
+
+/// Each term beside its s-expression.
+#[tactic(auto, using(crate::proofs::Pairing::pairing))]
+fn beside(
+    alloc: Global,
+    items: &[Sexpr],
+    bodies: Items<Body>,
+) -> Result<Items<(Sexpr, Term)>, AllocError>
+    ensures { IfOk result (λ all. all ≡ c.beside (forms (map seen items.now)) bodies) }
+{
+    let mut all = Items::new(alloc);
+    for body in bodies.into_vec() {
+        let i = all.len();
+        if i >= items.len() {
+            return Ok(all);
+        }
+        all.push((items[i].copy(alloc)?, into_term(body)))?;
+    }
+    Ok(all)
+}
+
+#[tactic(auto, using(crate::proofs::Answering::answering))]
+fn valued(alloc: Global, items: &[Sexpr], bodies: Items<Body>) -> Result<Command, CheckFault>
+    ensures { Answers (c.valued (forms (map seen items.now)) bodies) result }
+{
+    if !are_terms(bodies.as_slice()) {
+        return Err(CheckFault::Sort);
+    }
+    Ok(Command::GetValue(beside(alloc, items, bodies)?))
+}
+
+#[tactic(auto, using(crate::proofs::Answering::valuing))]
+fn values(alloc: Global, symbols: &Symbols, items: &[Sexpr]) -> Result<Command, CheckFault>
+    ensures { Answers (c.values symbols.now (forms (map seen items.now))) result }
+{
+    if items.is_empty() {
+        return Err(CheckFault::Shape);
+    }
+    match pass_over(alloc, items) {
+        Ok(()) => match settled(alloc, symbols, &[], items) {
+            Ok(bodies) => valued(alloc, items, bodies),
+            Err(fault) => Err(fault),
+        },
+        Err(fault) => Err(fault),
+    }
+}
+
+#[tactic(auto, using(crate::proofs::Counted::commands))]
+fn get_value(alloc: Global, symbols: &Symbols, parts: &[Sexpr]) -> Result<Command, CheckFault>
+    ensures { Answers (c.get_value symbols.now (forms (map seen parts.now))) result }
+{
+    match parts {
+        [terms] => match listed(terms) {
+            Some(terms) => values(alloc, symbols, terms),
+            None => Err(CheckFault::Shape),
+        },
+        _ => Err(CheckFault::Shape),
+    }
+}
+
+#[tactic(auto, using(crate::proofs::Counted::commands))]
+fn get_info(alloc: Global, parts: &[Sexpr]) -> Result<Command, CheckFault>
+    ensures { Answers (c.get_info (forms (map seen parts.now))) result }
+{
+    match parts {
+        [part] => match keyword(part) {
+            Some(keyword) => Ok(Command::GetInfo(Items::from_slice(alloc, keyword)?)),
+            None => Err(CheckFault::Shape),
+        },
+        _ => Err(CheckFault::Shape),
+    }
+}
+
+#[tactic(auto, using(crate::proofs::Counted::commands))]
+fn echo(alloc: Global, parts: &[Sexpr]) -> Result<Command, CheckFault>
+    ensures { Answers (c.echo (forms (map seen parts.now))) result }
+{
+    match parts {
+        [part] => match literal_text(part) {
+            Some(text) => Ok(Command::Echo(Items::from_slice(alloc, text)?)),
+            None => Err(CheckFault::Shape),
+        },
+        _ => Err(CheckFault::Shape),
+    }
+}
+
+fn commanded(
+    alloc: Global,
+    symbols: &Symbols,
+    verb: Verb,
+    parts: &[Sexpr],
+) -> Result<Command, CheckFault>
+    ensures { Answers (c.commanded symbols.now (Some verb) (forms (map seen parts.now))) result }
+{
+    match verb {
+        Verb::SetLogic => set_logic(parts),
+        Verb::SetInfo => set_info(parts),
+        Verb::SetOption => set_option(parts),
+        Verb::DeclareConst => declare_const(alloc, symbols, parts),
+        Verb::DeclareFun => declare_fun(alloc, symbols, parts),
+        Verb::DefineFun => define_fun(alloc, symbols, parts),
+        Verb::Assert => assertion(alloc, symbols, parts),
+        Verb::Push => Ok(Command::Push(stepped(parts)?)),
+        Verb::Pop => Ok(Command::Pop(stepped(parts)?)),
+        Verb::CheckSat => plain(Command::CheckSat, parts),
+        Verb::GetModel => plain(Command::GetModel, parts),
+        Verb::GetValue => get_value(alloc, symbols, parts),
+        Verb::GetInfo => get_info(alloc, parts),
+        Verb::Echo => echo(alloc, parts),
+        Verb::Reset => plain(Command::Reset, parts),
+        Verb::ResetAssertions => plain(Command::ResetAssertions, parts),
+        Verb::Exit => plain(Command::Exit, parts),
+    }
+}
+
+#[tactic(auto, using(crate::proofs::Counted::commands))]
+fn begun(alloc: Global, symbols: &Symbols, items: &[Sexpr]) -> Result<Command, CheckFault>
+    ensures { Answers (c.begun symbols.now (forms (map seen items.now))) result }
+{
+    match items {
+        [] => Err(CheckFault::Shape),
+        [first, parts @ ..] => {
+            if symbol(first).is_none() {
+                return Err(CheckFault::Shape);
+            }
+            match verb_of(first) {
+                Some(verb) => commanded(alloc, symbols, verb, parts),
+                None => Ok(Command::Unsupported),
+            }
+        }
+    }
+}
+
+fn verb_of(first: &Sexpr) -> Option<Verb>
+    ensures { result ≡ c.verb_of (t.word (seen first.now)) }
+{
+    match word(first) {
+        Some(word) => verb(word),
+        None => None,
+    }
+}
+
+/// The command that an item is under these symbols, with its terms sorted and `let` and macros put
+/// in, or the first fault that it has.
+///
+/// The faults are looked for one after another, each over the whole item: Shape of the command;
+/// Reserved and Declared names; Unknown sorts, and variables of sort RegLan; Numbers; then the walk
+/// over the terms, in which the head of a term comes before the number of its arguments, these from
+/// left to right, and their sorts; Size; and the Sort of the whole (SMT-LIB 2.6, sections 3.6 and 3.9).
+///
+/// Time is linear in the item, the bodies of the macros that it calls, and the terms that it
+/// answers. Stack is linear in the nesting.
+pub fn command(alloc: Global, symbols: &Symbols, item: &Sexpr) -> Result<Command, CheckFault>
+    ensures { Answers (c.checked symbols.now (seen item.now)) result }
+{
+    match listed(item) {
+        Some(items) => begun(alloc, symbols, items),
+        None => Err(CheckFault::Shape),
+    }
+}

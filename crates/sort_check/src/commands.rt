@@ -1,0 +1,39 @@
+use sexpr_reader::Sexpr;
+use sv_list::Items;
+use sv_terms::{Entry, Name, Sort, Term};
+
+/// A command of SMT-LIB 2.6 with its sorted terms, `let` and macros put in.
+#[derive(Debug, Drop)]
+pub enum Command {
+    /// `set-logic` or `set-info`, which have no effect.
+    Inform,
+    /// `(set-option :print-success B)`
+    PrintSuccess(bool),
+    /// `set-option` of `:produce-models`, `:produce-unsat-cores` or `:produce-proofs`.
+    Produce(bool),
+    /// `declare-const`, or `declare-fun` without parameters.
+    Declare(Name, Sort),
+    /// `define-fun`: the name and its macro. Each parameter `p` stands as `\\p`, in the list of the
+    /// parameters and in the body. No symbol holds a backslash, so that a parameter is never taken
+    /// for a declared constant of its name, which the body of another macro may bring in.
+    Define(Name, Entry),
+    /// `assert` of a term of sort Bool.
+    Assert(Term),
+    /// `push` of so many levels; more than 4,294,967,295 stand as that number.
+    Push(u32),
+    /// `pop` of so many levels; more than 4,294,967,295 stand as that number.
+    Pop(u32),
+    CheckSat,
+    GetModel,
+    /// `get-value` of one or more terms, each beside its s-expression as it was read.
+    GetValue(Items<(Sexpr, Term)>),
+    /// `get-info` of this keyword, colon included.
+    GetInfo(Items<u8>),
+    /// `echo` of this literal as it stood, quotes included.
+    Echo(Items<u8>),
+    Reset,
+    ResetAssertions,
+    Exit,
+    /// Any other list that begins with a symbol.
+    Unsupported,
+}

@@ -1,0 +1,201 @@
+// What an identifier stands for where it is no variable.
+ghost use Rattle.std.specs.Prelude.{◌≡◌, Some, map};
+ghost use Rattle.std.specs.Map.{lookup};
+ghost use Rattle.sv_terms.specs.Names.{symbol_name};
+ghost use Rattle.sort_check.specs.declared.check_fault.CheckFault.TheVariants.{Unknown};
+ghost use Rattle.sort_check.specs.Faults.{Answers, made_of, or_fault};
+ghost use Rattle.sort_check.specs.Form.{seen, forms};
+ghost use Rattle.sort_check.specs.Heads as h;
+ghost use Rattle.sort_check.specs.Meant as m;
+ghost use Rattle.sort_check.specs.Signature.{same_name};
+ghost use Rattle.sort_check.specs.Tokens as t;
+
+use crate::check_fault::CheckFault;
+use crate::function::{Function, Takes};
+use crate::opening::Opening;
+use crate::rank::{are_of, takes_count, takes_sorts};
+use crate::signature::{character, function, is_indexed, loop_from};
+use crate::token::{character_token, digits, number, opening, symbol, unquoted};
+use crate::weight::Weight;
+use sexpr_reader::Sexpr;
+use std::alloc::Global;
+use sv_terms::{Body, Entry, Name, Sort, Symbols, Transducer};
+
+/// What an identifier stands for where it is no variable.
+#[derive(Drop)]
+pub enum Head<'a> {
+    Theory(Function),
+    Constant(Name, Sort),
+    Macro(&'a [(Name, Sort)], &'a Body),
+    Machine(&'a Transducer),
+}
+
+/// The function of the theories, or what was declared, of this name. Time is linear in the name.
+pub fn named<'a>(alloc: Global, symbols: &'a Symbols, text: &[u8]) -> Result<Head<'a>, CheckFault>
+    ensures { Answers (m.named symbols.now (symbol_name text.now)) (made_of h.kept result) }
+{
+    if is_indexed(unquoted(text)) {
+        return Err(CheckFault::Index);
+    }
+    match function(unquoted(text)) {
+        Some(function) => Ok(Head::Theory(function)),
+        None => declared(symbols, Name::of(alloc, text)?),
+    }
+}
+
+fn declared<'a>(symbols: &'a Symbols, name: Name) -> Result<Head<'a>, CheckFault>
+    ensures { made_of h.kept result ≡ or_fault Unknown (m.mapped (m.of_entry name) (lookup (same_name name) symbols.now)) }
+{
+    match symbols.get(&name) {
+        Some(Entry::Constant(sort)) => Ok(Head::Constant(name, *sort)),
+        Some(Entry::Macro { parameters, body }) => { Ok(Head::Macro(parameters.as_slice(), body)) }
+        Some(Entry::Machine(transducer)) => Ok(Head::Machine(transducer)),
+        None => Err(CheckFault::Unknown),
+    }
+}
+
+/// An index: a numeral up to 65,535.
+fn index(item: &Sexpr) -> Result<u32, CheckFault>
+    ensures { result ≡ m.index_of (t.digits (seen item.now)) }
+{
+    match digits(item) {
+        Some(digits) => match number(digits) {
+            Some(n) => {
+                if n > 65535 {
+                    Err(CheckFault::Index)
+                } else {
+                    Ok(n as u32)
+                }
+            }
+            None => Err(CheckFault::Number),
+        },
+        None => Err(CheckFault::Index),
+    }
+}
+
+#[tactic(auto, using(crate::proofs::Shapes::indices))]
+fn power(indices: &[Sexpr]) -> Result<Function, CheckFault>
+    ensures { result ≡ m.powered (forms (map seen indices.now)) }
+{
+    match indices {
+        [n] => {
+            let n = index(n)?;
+            Ok(loop_from(n, n))
+        }
+        _ => Err(CheckFault::Index),
+    }
+}
+
+#[tactic(auto, using(crate::proofs::Shapes::indices))]
+fn looped(indices: &[Sexpr]) -> Result<Function, CheckFault>
+    ensures { result ≡ m.looped (forms (map seen indices.now)) }
+{
+    match indices {
+        [i, j] => {
+            let i = index(i)?;
+            let j = index(j)?;
+            Ok(loop_from(i, j))
+        }
+        _ => Err(CheckFault::Index),
+    }
+}
+
+#[tactic(auto, using(crate::proofs::Shapes::indices))]
+fn charred(indices: &[Sexpr]) -> Result<Function, CheckFault>
+    ensures { result ≡ m.charred (forms (map seen indices.now)) }
+{
+    match indices {
+        [token] => match character_token(token) {
+            Some(c) => Ok(character(c)),
+            None => Err(CheckFault::Index),
+        },
+        _ => Err(CheckFault::Index),
+    }
+}
+
+/// The function that stands behind `_`. An index that the symbol doesn't take is Index.
+#[tactic(auto, using(crate::proofs::Shapes::indices))]
+pub fn identified(alloc: Global, symbols: &Symbols, parts: &[Sexpr]) -> Result<Function, CheckFault>
+    ensures { Answers (m.identified symbols.now (forms (map seen parts.now))) result }
+{
+    match parts {
+        [] => Err(CheckFault::Shape),
+        [name, indices @ ..] => match symbol(name) {
+            Some(text) => indexed(alloc, symbols, text, indices),
+            None => Err(CheckFault::Shape),
+        },
+    }
+}
+
+fn indexed(
+    alloc: Global,
+    symbols: &Symbols,
+    text: &[u8],
+    indices: &[Sexpr],
+) -> Result<Function, CheckFault>
+    ensures { Answers (m.indexed symbols.now (Some (symbol_name text.now)) (forms (map seen indices.now))) result }
+{
+    let name = unquoted(text);
+    if name == b"re.^".as_slice() {
+        return power(indices);
+    }
+    if name == b"re.loop".as_slice() {
+        return looped(indices);
+    }
+    if name == b"char".as_slice() {
+        return charred(indices);
+    }
+    match named(alloc, symbols, text) {
+        Ok(_) => Err(CheckFault::Index),
+        Err(fault) => Err(fault),
+    }
+}
+
+/// What an application begins with.
+pub fn head_of<'a>(
+    alloc: Global,
+    symbols: &'a Symbols,
+    first: &Sexpr,
+) -> Result<Head<'a>, CheckFault>
+    ensures { Answers (m.head symbols.now (seen first.now)) (made_of h.kept result) }
+{
+    match first {
+        Sexpr::Atom(_, _) => match symbol(first) {
+            Some(text) => named(alloc, symbols, text),
+            None => Err(CheckFault::Shape),
+        },
+        Sexpr::List(items) => match items.as_slice() {
+            [] => Err(CheckFault::Shape),
+            [under, parts @ ..] => match opening(under) {
+                Opening::Identifier => Ok(Head::Theory(identified(alloc, symbols, parts)?)),
+                _ => Err(CheckFault::Shape),
+            },
+        },
+    }
+}
+
+impl Head<'_> {
+    /// Whether so many arguments are taken.
+    pub fn takes_count(&self, n: usize) -> bool
+        ensures { result ≡ m.head_count (h.kept self.now) n }
+    {
+        match self {
+            Head::Theory(function) => takes_count(function.takes, n),
+            Head::Constant(_, _) => n == 0,
+            Head::Macro(parameters, _) => n == parameters.len(),
+            Head::Machine(_) => n == 2,
+        }
+    }
+
+    /// Whether arguments of these weights are taken, by their sorts. Linear in their number.
+    pub fn takes_sorts(&self, weights: &[Weight]) -> bool
+        ensures { result ≡ m.head_sorts (h.kept self.now) (map (λ w. w.sort) weights.now) }
+    {
+        match self {
+            Head::Theory(function) => takes_sorts(function.takes, weights),
+            Head::Constant(_, _) => takes_sorts(Takes::Nothing, weights),
+            Head::Macro(parameters, _) => are_of(parameters, weights),
+            Head::Machine(_) => { takes_sorts(Takes::Two(Sort::String, Sort::String), weights) }
+        }
+    }
+}

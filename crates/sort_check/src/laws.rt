@@ -1,0 +1,51 @@
+//! Laws of the definitions. Each is a function whose clauses are the law, and which does nothing.
+ghost use Rattle.std.specs.Prelude.{◌≡◌, IsTrue, ℕ, List, [], ◌++◌, All, Ok, Some, take};
+ghost use Rattle.std.specs.Map.{lookup};
+ghost use Rattle.sexpr_reader.specs.declared.sexpr.Sexpr.{Sexpr as AnySexpr};
+ghost use Rattle.sv_terms.specs.Meaning.{Named};
+ghost use Rattle.sv_terms.specs.Sorting.{is_valued};
+ghost use Rattle.sv_terms.specs.declared.entry.Entry.{Entry as AnyEntry};
+ghost use Rattle.sv_terms.specs.declared.entry.Entry.TheVariants as entry;
+ghost use Rattle.sv_terms.specs.declared.sort.Sort.{Sort as AnySort};
+ghost use Rattle.sv_terms.specs.declared.sort.Sort.TheVariants as sort;
+ghost use Rattle.sv_terms.specs.declared.term.Term.{Term as AnyTerm};
+ghost use Rattle.sort_check.specs.declared.commands.Command.TheVariants as command;
+ghost use Rattle.sort_check.specs.Checking.{checked};
+ghost use Rattle.sort_check.specs.Form.{Form};
+ghost use Rattle.sort_check.specs.Meant.{Names};
+ghost use Rattle.sort_check.specs.Signature.{Name, same_name};
+ghost use Rattle.sort_check.specs.WellFormed.{is_well_formed, constants_known, is_entry, AreGiven, IsTermOf, IsWritten, IsAdded};
+
+/// No names are well formed, and so are the first ones of those that are.
+pub fn well_formed_first()
+    ensures empty { IsTrue (is_well_formed []) }
+    ensures prefix { (xs ys : Names) → IsTrue (is_well_formed (xs ++ ys)) → IsTrue (is_well_formed xs) }
+    ensures taken { (n : ℕ) (symbols : Names) → IsTrue (is_well_formed symbols) → IsTrue (is_well_formed (take n symbols)) }
+{}
+
+/// Of well formed names each is found under its name, and stands for what may be declared: a
+/// constant of a sort other than RegLan, or a macro.
+pub fn well_formed_entries()
+    ensures allowed { (symbols : Names) → IsTrue (is_well_formed symbols) → All (λ e. IsTrue (is_entry symbols e.1)) symbols }
+    ensures found { (symbols : Names) → IsTrue (is_well_formed symbols) → All (λ e. lookup (same_name e.0) symbols ≡ Some e.1) symbols }
+{}
+
+/// Under well formed names a term that is asserted has sort Bool, and one whose value is asked for
+/// has a sort other than RegLan; its constants are declared, and no transducer stands in it.
+pub fn terms_sorted()
+    ensures asserted { (symbols : Names) (item : Form) (term : AnyTerm) → IsTrue (is_well_formed symbols) → checked symbols item ≡ Ok (command.Assert term) → IsTermOf symbols sort.Bool term }
+    ensures values { (symbols : Names) (item : Form) (terms : List (AnySexpr × AnyTerm)) → IsTrue (is_well_formed symbols) → checked symbols item ≡ Ok (command.GetValue terms) → All (λ p. IsWritten symbols p.1) terms }
+{}
+
+/// A name that an item declares or defines is new, and well formed names stay so with it.
+pub fn well_formed_more()
+    ensures declared { (symbols : Names) (item : Form) (name : Name) (s : AnySort) → IsTrue (is_well_formed symbols) → checked symbols item ≡ Ok (command.Declare name s) → IsAdded symbols name (entry.Constant s) }
+    ensures defined { (symbols : Names) (item : Form) (name : Name) (e : AnyEntry) → IsTrue (is_well_formed symbols) → checked symbols item ≡ Ok (command.Define name e) → IsAdded symbols name e }
+{}
+
+/// Constants that are declared stay so when more names are, and have values of their sorts where
+/// each declared constant has one.
+pub fn constants_valued()
+    ensures kept { (xs ys : Names) (term : AnyTerm) → IsTrue (constants_known xs term) → IsTrue (constants_known (xs ++ ys) term) }
+    ensures valued { (values : Named) (symbols : Names) (term : AnyTerm) → AreGiven values symbols → IsTrue (constants_known symbols term) → IsTrue (is_valued values term) }
+{}
