@@ -1,21 +1,27 @@
 //! The top call: from the words, a source and a sink to a status.
-ghost use Rattle.std.specs.Prelude.{◌≡◌, ◌≤◌, ◌⊎◌, ℕ, [], take, None, true, false};
+ghost use Rattle.std.specs.Prelude.{◌≡◌, ◌≤◌, ◌⊎◌, ◌∷◌, ◌++◌, ℕ, List, [], take, None, Some, true, false, slice_get, is_some};
 ghost use Rattle.std.specs.Io.KnownBytes.{Appends};
+ghost use Rattle.std.specs.Option.{option_map};
+ghost use Rattle.std.specs.declared.option.Option.{Option as Optional};
 ghost use Rattle.sv_io.specs.Counts.{Rose};
 ghost use Rattle.sv_io.specs.Names.{IsOwn};
-ghost use Rattle.strsolve.specs.Replies.{has_error, texts_of};
-ghost use Rattle.strsolve.specs.Runs.{IsAnswered, IsCutShort, IsFront, IsRefused, IsUnanswered, usage};
+ghost use Rattle.smt_session.specs.declared.reply.Reply.{Reply as AnyReply};
+ghost use Rattle.strsolve.specs.CommandLine.{named, usage};
+ghost use Rattle.strsolve.specs.Runs.{IsAnswered, IsFront, IsRefused, IsUnfinished};
+ghost use Rattle.strsolve.specs.Scripts.{IsTrueBehind, has_error};
+ghost use Rattle.strsolve.specs.Standing.{Ended};
 
-use crate::answers::answers;
+use crate::answering::Answering;
+use crate::command_line::are_taken;
 use crate::log::Log;
-use crate::outcome::{
-    ANSWERED, ERROR_ANSWERED, NO_MEMORY, READ_FAILED, Run, WRITE_FAILED, WRONG_WORDS,
-};
-use crate::printing::print_all;
-use crate::transfer::{ReadFault, read_all, write_all};
+use crate::outcome::{Ending, NO_MEMORY, Outcome, Run, WRITE_FAILED, WRONG_WORDS};
+use crate::transfer::write_all;
 use std::alloc::Global;
 use std::thread::Threads;
 use sv_io::{Sink, SinkFault, Source, Words};
+
+/// How many bytes are asked for at once.
+const PIECE: usize = 1 << 16;
 
 const USAGE: &str =
     "(error \"usage: strsolve [--workers N] [FILE] | strsolve [--workers N] --generate SEED --size N\")\n";
@@ -34,86 +40,86 @@ fn refuse_words<K: Sink>(sink: &mut K) -> u8
     }
 }
 
-// Writes the printed replies, and says how that went.
-fn status_of<K: Sink>(alloc: Global, sink: &mut K, log: &Log) -> u8
-    ensures statuses { (result ≡ 0) ⊎ (result ≡ 1) ⊎ (result ≡ 4) ⊎ (result ≡ 5) }
-    ensures right { result ≡ 0 → has_error log.now ≡ false }
-    ensures error { result ≡ 1 → has_error log.now ≡ true }
-    ensures whole { (result ≡ 0) ⊎ (result ≡ 1) → Appends (K.taken sink.old) (K.taken sink.new) (texts_of log.now) }
-    ensures front { (count : ℕ) × Appends (K.taken sink.old) (K.taken sink.new) (take count (texts_of log.now)) }
-    ensures failed { result ≡ 4 → Rose (K.faults sink.old) (K.faults sink.new) }
+// Answers each item as soon as it is whole, and reads on.
+fn answer_source<S: Source, K: Sink>(alloc: Global, source: &mut S, sink: &mut K) -> Outcome
+    requires { S.is_open source.old ≡ true }
+    ensures went { Ended (S.left source.old) (S.left source.new) (K.taken sink.old) (K.taken sink.new) result.log result.ending }
+    ensures unread { result.ending ≡ Ending.ReadFailed → Rose (S.faults source.old) (S.faults source.new) }
+    ensures unwritten { result.ending ≡ Ending.WriteFailed → Rose (K.faults sink.old) (K.faults sink.new) }
+    ensures open { S.is_open source.new ≡ true }
+    ensures astray { S.is_astray source.new ≡ S.is_astray source.old }
 {
-    match print_all(alloc, sink, log) {
-        Ok(()) => {
-            if log.has_error() {
-                ERROR_ANSWERED
-            } else {
-                ANSWERED
+    let mut answering = Answering::new(alloc);
+    let mut buffer = [0u8; PIECE];
+    'pieces: loop {
+        let count = match source.read(&mut buffer) {
+            Ok(count) => count,
+            Err(_) => {
+                return Outcome {
+                    ending: Ending::ReadFailed,
+                    log: answering.into_log(),
+                };
+            }
+        };
+        if count == 0 {
+            let ending = answering.answer_rest(alloc, sink);
+            return Outcome {
+                ending,
+                log: answering.into_log(),
+            };
+        }
+        match answering.feed(&buffer[..count]) {
+            Ok(()) => {}
+            Err(_) => {
+                return Outcome {
+                    ending: Ending::NoMemory,
+                    log: answering.into_log(),
+                };
             }
         }
-        Err(SinkFault::Failed) => WRITE_FAILED,
-        Err(SinkFault::Memory(_)) => NO_MEMORY,
+        match answering.answer_whole(alloc, sink) {
+            None => {}
+            Some(ending) => {
+                return Outcome {
+                    ending,
+                    log: answering.into_log(),
+                };
+            }
+        }
     }
 }
 
-// Answers the script that the source gives, and writes the printed replies.
-fn answer_script<S: Source, K: Sink>(alloc: Global, source: &mut S, sink: &mut K) -> Run
+// Answers the script that the source gives, opened with this name or none.
+fn answer_script<S: Source, K: Sink>(
+    alloc: Global,
+    name: Option<&str>,
+    source: &mut S,
+    sink: &mut K,
+) -> Outcome
     requires { S.is_open source.old ≡ false }
-    ensures statuses { (result.status ≡ 0) ⊎ (result.status ≡ 1) ⊎ (result.status ≡ 3) ⊎ (result.status ≡ 4) ⊎ (result.status ≡ 5) }
-    ensures answered { (result.status ≡ 0) ⊎ (result.status ≡ 1) → IsAnswered (S.left source.old) (S.left source.new) (K.taken sink.old) (K.taken sink.new) result.log }
-    ensures right { result.status ≡ 0 → has_error result.log ≡ false }
-    ensures error { result.status ≡ 1 → has_error result.log ≡ true }
-    ensures read_fault { result.status ≡ 3 → Rose (S.faults source.old) (S.faults source.new) × IsUnanswered (S.left source.old) (S.left source.new) (K.taken sink.old) (K.taken sink.new) result.log }
-    ensures write_fault { result.status ≡ 4 → Rose (K.faults sink.old) (K.faults sink.new) × IsCutShort (S.left source.old) (S.left source.new) (K.taken sink.old) (K.taken sink.new) result.log }
-    ensures front { IsFront (S.left source.old) (S.left source.new) (K.taken sink.old) (K.taken sink.new) result.log }
-    ensures open { (result.status ≡ 0) ⊎ (result.status ≡ 1) → S.is_open source.new ≡ true }
-    ensures name { (result.status ≡ 0) ⊎ (result.status ≡ 1) → IsOwn (S.own_name source.old) None }
-    ensures astray { IsOwn (S.own_name source.old) None → S.is_astray source.new ≡ S.is_astray source.old }
+    ensures went { Ended (S.left source.old) (S.left source.new) (K.taken sink.old) (K.taken sink.new) result.log result.ending }
+    ensures unread { result.ending ≡ Ending.ReadFailed → Rose (S.faults source.old) (S.faults source.new) }
+    ensures unwritten { result.ending ≡ Ending.WriteFailed → Rose (K.faults sink.old) (K.faults sink.new) }
+    ensures open { result.ending ≡ Ending.Answered → (S.is_open source.new ≡ true) × IsOwn (S.own_name source.old) (option_map (λ text. text.now) name.entry) }
+    ensures astray { IsOwn (S.own_name source.old) (option_map (λ text. text.now) name.entry) → S.is_astray source.new ≡ S.is_astray source.old }
 {
-    let none = Log::new(alloc);
-    match source.open(None) {
-        Ok(()) => {}
-        Err(_) => {
-            return Run {
-                status: READ_FAILED,
-                log: none,
-            };
-        }
-    }
-    let mut script = Vec::new(alloc);
-    match read_all(source, &mut script) {
-        Ok(()) => {}
-        Err(ReadFault::Failed) => {
-            return Run {
-                status: READ_FAILED,
-                log: none,
-            };
-        }
-        Err(ReadFault::Memory(_)) => {
-            return Run {
-                status: NO_MEMORY,
-                log: none,
-            };
-        }
-    }
-    match answers(alloc, &script) {
-        Ok(log) => {
-            let status = status_of(alloc, sink, &log);
-            Run { status, log }
-        }
-        Err(_) => Run {
-            status: NO_MEMORY,
-            log: none,
+    match source.open(name) {
+        Ok(()) => answer_source(alloc, source, sink),
+        Err(_) => Outcome {
+            ending: Ending::ReadFailed,
+            log: Answering::new(alloc).into_log(),
         },
     }
 }
 
-/// Answers the script that the source gives, opened with no name, and writes the printed replies
-/// to the sink. There must be no words: where there is one, the source isn't touched, and the sink
-/// gets one line that says how the program is called.
+/// Answers the script that the source gives, and writes each printed reply before the next command.
 ///
-/// Takes time and memory linear in the bytes read, and stack in the nesting of their regular
-/// expressions.
+/// The words are none, or one that doesn't begin with a `-`: the name that the source is opened
+/// with. With any others the source isn't touched, and the sink gets one line that says how the
+/// program is called.
+///
+/// Takes time and memory in the bytes of the longest item, and what its commands take: the source
+/// is read in pieces, and each item is answered as soon as it is whole.
 pub fn run<R: Threads + Sync, S: Source, K: Sink>(
     _rt: &R,
     alloc: Global,
@@ -126,23 +132,26 @@ pub fn run<R: Threads + Sync, S: Source, K: Sink>(
     ensures answered { (result.status ≡ 0) ⊎ (result.status ≡ 1) → IsAnswered (S.left source.old) (S.left source.new) (K.taken sink.old) (K.taken sink.new) result.log }
     ensures right { result.status ≡ 0 → has_error result.log ≡ false }
     ensures error { result.status ≡ 1 → has_error result.log ≡ true }
-    ensures wrong_words { result.status ≡ 2 → (words.now ≡ [] → ⊥) × Appends (K.taken sink.old) (K.taken sink.new) usage }
-    ensures words { (words.now ≡ [] → ⊥) → (result.status ≡ 2) ⊎ (result.status ≡ 4) ⊎ (result.status ≡ 5) }
-    ensures refused { (words.now ≡ [] → ⊥) → (source.new ≡ source.old) × IsRefused (K.taken sink.old) (K.taken sink.new) result.log }
-    ensures read_fault { result.status ≡ 3 → Rose (S.faults source.old) (S.faults source.new) × IsUnanswered (S.left source.old) (S.left source.new) (K.taken sink.old) (K.taken sink.new) result.log }
+    ensures verdicts { (early late : List AnyReply) (verdict : AnyReply) → result.log ≡ early ++ verdict ∷ late → IsTrueBehind early verdict }
+    ensures wrong_words { result.status ≡ 2 → (named words.now ≡ None) × Appends (K.taken sink.old) (K.taken sink.new) usage }
+    ensures words { named words.now ≡ None → (result.status ≡ 2) ⊎ (result.status ≡ 4) ⊎ (result.status ≡ 5) }
+    ensures refused { named words.now ≡ None → (source.new ≡ source.old) × IsRefused (K.taken sink.old) (K.taken sink.new) result.log }
+    ensures read_fault { result.status ≡ 3 → Rose (S.faults source.old) (S.faults source.new) × IsUnfinished (S.left source.old) (S.left source.new) (K.taken sink.old) (K.taken sink.new) result.log }
     ensures write_fault { result.status ≡ 4 → Rose (K.faults sink.old) (K.faults sink.new) }
-    ensures cut_short { words.now ≡ [] → result.status ≡ 4 → IsCutShort (S.left source.old) (S.left source.new) (K.taken sink.old) (K.taken sink.new) result.log }
-    ensures front { words.now ≡ [] → IsFront (S.left source.old) (S.left source.new) (K.taken sink.old) (K.taken sink.new) result.log }
+    ensures front { is_some (named words.now) ≡ true → IsFront (S.left source.old) (S.left source.new) (K.taken sink.old) (K.taken sink.new) result.log }
     ensures open { (result.status ≡ 0) ⊎ (result.status ≡ 1) → S.is_open source.new ≡ true }
-    ensures name { (result.status ≡ 0) ⊎ (result.status ≡ 1) → IsOwn (S.own_name source.old) None }
-    ensures astray { IsOwn (S.own_name source.old) None → S.is_astray source.new ≡ S.is_astray source.old }
+    ensures name { (result.status ≡ 0) ⊎ (result.status ≡ 1) → (name : Optional (List ℕ)) × (named words.now ≡ Some name) × IsOwn (S.own_name source.old) name }
+    ensures astray { (name : Optional (List ℕ)) → named words.now ≡ Some name → IsOwn (S.own_name source.old) name → S.is_astray source.new ≡ S.is_astray source.old }
 {
-    if words.len() > 0 {
+    if !are_taken(words) {
         let status = refuse_words(sink);
         return Run {
             status,
             log: Log::new(alloc),
         };
     }
-    answer_script(alloc, source, sink)
+    let outcome = answer_script(alloc, words.get(0), source, sink);
+    let status = outcome.status();
+    let Outcome { log, .. } = outcome;
+    Run { status, log }
 }

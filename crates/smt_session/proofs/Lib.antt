@@ -1,0 +1,6 @@
+mod Memberships
+mod Models
+mod Names
+mod Soundness
+mod Spacing
+mod Valued

@@ -1,0 +1,41 @@
+-- What holds of the levels and the kept verdict of each session. Nothing public rests on it.
+use Rattle.std.specs.Prelude.{IsTrue, IsSome, All, ⊤, List, [], ◌∷◌, Option, Some, None}
+use Rattle.std.specs.List.{AllByRecursion}
+use Rattle.assert_stack.specs.Levels.{Level, symbols_of}
+use Rattle.sexpr_reader.specs.declared.sexpr.Sexpr.{Sexpr}
+use Rattle.sort_check.specs.WellFormed.{is_well_formed, AreGiven, IsTermOf, IsWritten, IsAdded}
+use Rattle.sort_check.specs.declared.commands.Command.{Command}
+use Rattle.sort_check.specs.declared.commands.Command.TheVariants as command
+use Rattle.sv_terms.specs.Meaning.{Named}
+use Rattle.sv_terms.specs.Sorting.{is_valued, sort_of}
+use Rattle.sv_terms.specs.declared.entry.Entry.TheVariants as entry
+use Rattle.sv_terms.specs.declared.sort.Sort.TheVariants as sort
+use Rattle.sv_terms.specs.declared.term.Term.{Term}
+use Rattle.term_eval.specs.Evaluation.{is_plain}
+use Rattle.smt_session.specs.declared.session.Kept.{Kept}
+use Rattle.smt_session.specs.declared.session.Kept.TheVariants as kept
+
+-- from each level outward the names are well formed, and each assertion is a term of sort Bool over them
+abbrev pub AreSound : List Level → Type 0
+AreSound [] = ⊤
+AreSound (level ∷ outer) = IsTrue (is_well_formed (symbols_of (level ∷ outer))) × AllByRecursion (IsTermOf (symbols_of (level ∷ outer)) sort.Bool) level.1 × AreSound outer
+
+-- a kept model has a value for each declared constant
+abbrev pub IsKeptOf : List Level → Option Kept → Type 0
+IsKeptOf levels (Some (kept.Sat values)) = AreGiven values (symbols_of levels)
+IsKeptOf levels (Some kept.Unsat) = ⊤
+IsKeptOf levels None = ⊤
+
+-- what is known of a command under these levels
+abbrev pub Fits : List Level → Command → Type 0
+Fits levels (command.Declare name s) = IsAdded (symbols_of levels) name (entry.Constant s)
+Fits levels (command.Define name e) = IsAdded (symbols_of levels) name e
+Fits levels (command.Assert term) = IsTermOf (symbols_of levels) sort.Bool term
+Fits levels (command.GetValue items) = All (λ (p : Sexpr × Term). IsWritten (symbols_of levels) p.1) items
+Fits levels _ = ⊤
+
+-- a term that may be evaluated
+pub record IsAsked (values : Named) (term : Term) : Type 0 where
+  pub sorted : IsSome (sort_of term)
+  pub valued : IsTrue (is_valued values term)
+  pub plain : IsTrue (is_plain term)

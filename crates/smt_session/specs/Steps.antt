@@ -1,0 +1,160 @@
+-- What a session answers to an item and what it is afterwards, a row for each command (SMT-LIB 2.6, sections 4.1 and 4.2). Of `check-sat` a right verdict is asked; every other reply is a function of the session and the item.
+use Rattle.std.specs.Prelude.{◌≡◌, ℕ, ◌+◌, ◌-◌, Bool, true, false, nat_eq, nat_le, nat_lt, List, [], ◌∷◌, ◌++◌, length, drop, map, Option, None, Some, Result, Ok, Err, codes, if◌then◌else◌}
+use Rattle.std.specs.Cmp.Lexicographic.{pointwise}
+use Rattle.assert_stack.specs.Levels.{Level, empty, symbols_of, live, pushed, declared, asserted}
+use Rattle.sexpr_reader.specs.declared.sexpr.Sexpr.{Sexpr}
+use Rattle.sort_check.specs.Checking.{checked}
+use Rattle.sort_check.specs.Form.{seen}
+use Rattle.sort_check.specs.declared.check_fault.CheckFault.{CheckFault}
+use Rattle.sort_check.specs.declared.commands.Command.{Command}
+use Rattle.sort_check.specs.declared.commands.Command.TheVariants as command
+use Rattle.sv_terms.specs.Meaning.{Named}
+use Rattle.sv_terms.specs.Sorting.{kind}
+use Rattle.sv_terms.specs.declared.entry.Entry.TheVariants as entry
+use Rattle.sv_terms.specs.declared.sort.Sort.{Sort}
+use Rattle.sv_terms.specs.declared.term.Term.{Term}
+use Rattle.sv_terms.specs.declared.value.Value.{Value}
+use Rattle.term_eval.specs.Evaluation.{value_or_fault}
+use Rattle.term_eval.specs.declared.fault.EvalFault.{EvalFault}
+use Rattle.smt_session.specs.declared.error_kind.ErrorKind.{ErrorKind}
+use Rattle.smt_session.specs.declared.error_kind.ErrorKind.TheVariants as error
+use Rattle.smt_session.specs.declared.info.Info.TheVariants as info
+use Rattle.smt_session.specs.declared.reply.Reply.{Reply}
+use Rattle.smt_session.specs.declared.reply.Reply.TheVariants as reply
+use Rattle.smt_session.specs.declared.session.Kept.{Kept}
+use Rattle.smt_session.specs.declared.session.Kept.TheVariants as kept
+use Rattle.smt_session.specs.Refusals.{of_check, of_value}
+use Rattle.smt_session.specs.Verdicts.{IsRightModel, HasNoValues, IsBuilt}
+
+-- the levels, the innermost first; the verdict that is kept, if one is; whether successes are printed; whether `exit` was answered
+pub record State : Type 0 where
+  pub levels : List Level
+  pub verdict : Option Kept
+  pub prints : Bool
+  pub ended : Bool
+
+abbrev pub state : List Level → Option Kept → Bool → Bool → State
+state ls k p e = record { levels = ls; verdict = k; prints = p; ended = e }
+
+-- a session at its start
+abbrev pub opened : State
+opened = state (empty ∷ []) None false false
+
+-- other levels, where the kept verdict is dropped
+abbrev pub changed : List Level → State → State
+changed ls s = state ls None s.prints s.ended
+
+abbrev pub with_verdict : Kept → State → State
+with_verdict k s = state s.levels (Some k) s.prints s.ended
+
+abbrev pub printing : Bool → State → State
+printing b s = state s.levels s.verdict b s.ended
+
+abbrev pub after_exit : State → State
+after_exit s = state s.levels s.verdict s.prints true
+
+-- the reply and the session behind it
+abbrev pub Outcome : Type 0
+Outcome = Reply × State
+
+-- this reply, and this session behind it
+abbrev pub Gives : Outcome → Reply → State → Type 0
+Gives outcome r t = (r ≡ outcome.0) × (t ≡ outcome.1)
+
+-- a success, printed where the session behind it prints successes
+abbrev pub succeeds : State → Outcome
+succeeds s = (reply.Success s.prints, s)
+
+abbrev pub refuses : ErrorKind → State → Outcome
+refuses kind s = (reply.Error kind, s)
+
+-- at most 65,535 levels beside the outermost one
+abbrev pub pushes : ℕ → State → Outcome
+pushes n s = if nat_le (length s.levels + n) 65536 then succeeds (changed (pushed n s.levels) s) else refuses error.Levels s
+
+-- the outermost level stays
+abbrev pub pops : ℕ → State → Outcome
+pops n s = if nat_lt n (length s.levels) then succeeds (changed (drop n s.levels) s) else refuses error.NoSuchLevel s
+
+abbrev pub definitions_of : Named → List (List ℕ × Sort × Value)
+definitions_of values = map (λ v. (v.0, kind v.1, v.1)) values
+
+abbrev pub model_reply : Option Kept → Reply
+model_reply (Some (kept.Sat values)) = reply.Definitions (definitions_of values)
+model_reply (Some kept.Unsat) = reply.Error error.NoModel
+model_reply None = reply.Error error.NoModel
+
+abbrev pub same_keyword : List ℕ → List ℕ → Bool
+same_keyword k other = pointwise nat_eq k other
+
+-- what is known of the program; no verdict is `unknown` as yet, so that there is no reason for one
+abbrev pub info_reply : State → List ℕ → Reply
+info_reply s k =
+    if same_keyword k (codes ":name") then reply.Info info.Name else
+    if same_keyword k (codes ":version") then reply.Info info.Version else
+    if same_keyword k (codes ":error-behavior") then reply.Info info.ErrorBehavior else
+    if same_keyword k (codes ":assertion-stack-levels") then reply.Info (info.AssertionStackLevels (length s.levels - 1)) else
+    if same_keyword k (codes ":reason-unknown") then reply.Error error.NoReason else reply.Unsupported
+
+-- the terms' values, each beside the s-expression as it was read
+abbrev pub AreValued : Named → List (Sexpr × Term) → List (Sexpr × Value) → Type 0
+AreValued values [] vs = vs ≡ []
+AreValued values (item ∷ items) vs = (v : Value) × (rest : List (Sexpr × Value)) × (value_or_fault values item.1 ≡ Ok v) × AreValued values items rest × (vs ≡ (item.0, v) ∷ rest)
+
+-- the first term from the left that has no value, and why
+pub record IsFirstFault (values : Named) (items : List (Sexpr × Term)) (kind : ErrorKind) : Type 0 where
+  pub before : List (Sexpr × Term)
+  pub item : Sexpr × Term
+  pub after : List (Sexpr × Term)
+  pub parts : items ≡ before ++ item ∷ after
+  pub earlier : List (Sexpr × Value)
+  pub valued : AreValued values before earlier
+  pub fault : EvalFault
+  pub faulty : value_or_fault values item.1 ≡ Err fault
+  pub told : of_value fault ≡ Some kind
+
+abbrev pub AnswersValues : Named → List (Sexpr × Term) → Reply → Type 0
+AnswersValues values items (reply.Values vs) = AreValued values items vs
+AnswersValues values items (reply.Error kind) = IsFirstFault values items kind
+AnswersValues values items _ = ⊥
+
+-- the values need a kept `sat`
+abbrev pub AnswersTerms : Option Kept → List (Sexpr × Term) → Reply → Type 0
+AnswersTerms (Some (kept.Sat values)) items r = AnswersValues values items r
+AnswersTerms (Some kept.Unsat) items r = r ≡ reply.Error error.NoModel
+AnswersTerms None items r = r ≡ reply.Error error.NoModel
+
+-- a right verdict on the live assertions, which is kept; or `not built`, exactly where there is none as yet
+abbrev pub Checks : State → Reply → State → Type 0
+Checks s (reply.Sat values) t = IsBuilt (live s.levels) × IsRightModel (symbols_of s.levels) (live s.levels) values × (t ≡ with_verdict (kept.Sat values) s)
+Checks s reply.Unsat t = IsBuilt (live s.levels) × HasNoValues (live s.levels) × (t ≡ with_verdict kept.Unsat s)
+Checks s (reply.Error kind) t = (kind ≡ error.NotBuilt) × (IsBuilt (live s.levels) → ⊥) × (t ≡ s)
+Checks s _ t = ⊥
+
+-- the reply to a command, and the session behind it
+abbrev pub Does : State → Command → Reply → State → Type 0
+Does s command.Inform r t = Gives (succeeds s) r t
+Does s (command.PrintSuccess b) r t = Gives (succeeds (printing b s)) r t
+Does s (command.Produce b) r t = Gives (succeeds s) r t
+Does s (command.Declare name sort) r t = Gives (succeeds (changed (declared name (entry.Constant sort) s.levels) s)) r t
+Does s (command.Define name e) r t = Gives (succeeds (changed (declared name e s.levels) s)) r t
+Does s (command.Assert term) r t = Gives (succeeds (changed (asserted term s.levels) s)) r t
+Does s (command.Push n) r t = Gives (pushes n s) r t
+Does s (command.Pop n) r t = Gives (pops n s) r t
+Does s command.CheckSat r t = Checks s r t
+Does s command.GetModel r t = Gives (model_reply s.verdict, s) r t
+Does s (command.GetValue items) r t = AnswersTerms s.verdict items r × (t ≡ s)
+Does s (command.GetInfo k) r t = Gives (info_reply s k, s) r t
+Does s (command.Echo text) r t = Gives (reply.Echo text, s) r t
+Does s command.Reset r t = Gives (succeeds opened) r t
+Does s command.ResetAssertions r t = Gives (succeeds (changed (empty ∷ []) s)) r t
+Does s command.Exit r t = Gives (succeeds (after_exit s)) r t
+Does s command.Unsupported r t = Gives (reply.Unsupported, s) r t
+
+abbrev pub Performs : State → Result Command CheckFault → Reply → State → Type 0
+Performs s (Ok c) r t = Does s c r t
+Performs s (Err fault) r t = (kind : ErrorKind) × (of_check fault ≡ Some kind) × Gives (refuses kind s) r t
+
+-- the command that an item is is done; an item with a fault is refused
+abbrev pub Steps : State → Sexpr → Reply → State → Type 0
+Steps s item r t = Performs s (checked (symbols_of s.levels) (seen item)) r t

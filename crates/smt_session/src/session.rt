@@ -1,0 +1,274 @@
+//! The session, and what it does at each command.
+ghost use Rattle.std.specs.Prelude.{◌≡◌, [], ◌∷◌, All, IfOk, OnErr};
+ghost use Rattle.sexpr_reader.specs.declared.sexpr.Sexpr.{Sexpr as AnySexpr};
+ghost use Rattle.sort_check.specs.WellFormed.{IsAdded, IsTermOf, IsWritten};
+ghost use Rattle.assert_stack.specs.Levels.{asserted, declared, empty, symbols_of};
+ghost use Rattle.sv_terms.specs.declared.sort.Sort.TheVariants as sort;
+ghost use Rattle.sv_terms.specs.declared.term.Term.{Term as AnyTerm};
+ghost use Rattle.smt_session.specs.Standing.{Fits};
+ghost use Rattle.smt_session.specs.Steps.{AnswersTerms, Checks, Does, Gives, Steps, after_exit, changed, info_reply, model_reply, opened, pops, printing, pushes, succeeds};
+ghost use Rattle.smt_session.specs.declared.reply.Reply.TheVariants.{Success};
+
+use crate::check::{Verdict, verdict_of};
+use crate::error_kind::ErrorKind;
+use crate::info::Info;
+use crate::reply::Reply;
+use crate::values::{definitions, values};
+use assert_stack::{Stack, StackFault};
+use sexpr_reader::Sexpr;
+use sort_check::{
+    Command, command, constants_valued, terms_sorted, well_formed_entries, well_formed_more,
+};
+use std::alloc::{AllocError, Global};
+use sv_list::Items;
+use sv_terms::{Entry, Model, Name, Term};
+
+/// The verdict of the last `check-sat`, until something changes what it was on.
+#[derive(Drop)]
+pub enum Kept {
+    Sat(Model),
+    Unsat,
+}
+
+/// A session: its levels, the verdict that it keeps, whether successes are printed, and whether
+/// `exit` was answered.
+///
+/// Contracts see these four, the levels as those of the stack.
+#[derive(Drop)]
+pub struct Session {
+    stack: Stack,
+    verdict: Option<Kept>,
+    prints: bool,
+    ended: bool,
+}
+
+impl std::marker::Model for Session {
+    ghost use Rattle.std.specs.Coded.{codes};
+    ghost use Rattle.sv_terms.specs.contracts.regex.Regex as regex;
+    ghost use Rattle.sv_terms.specs.contracts.term.Term as term;
+    ghost use Rattle.smt_session.specs.Steps.{State, state};
+    ghost use Rattle.smt_session.specs.Standing.{AreSound, IsKeptOf};
+
+    ghost Value = { State };
+
+    ghost coded = { Prim.hlevel (codes, regex.the_row.coded, term.the_row.coded) };
+
+    ghost view = { λ s. state s.stack s.verdict s.prints s.ended };
+
+    ghost invariant = { λ s. AreSound s.stack × IsKeptOf s.stack s.verdict };
+}
+
+impl Session {
+    /// A session at its start. It takes no memory.
+    pub fn new(alloc: Global) -> Session
+        ensures { result ≡ opened }
+    {
+        Session {
+            stack: Stack::new(alloc),
+            verdict: None,
+            prints: false,
+            ended: false,
+        }
+    }
+
+    /// Whether `exit` was answered.
+    pub fn ended(&self) -> bool
+        ensures { result ≡ self.now.ended }
+    {
+        self.ended
+    }
+
+    /// The reply to an item, which is done (SMT-LIB 2.6, section 4.2). Where the reply is an error or
+    /// `unsupported`, and where memory is wanting, the session is what it was.
+    ///
+    /// It costs what checking the item and its command cost: `push` and `pop` what they put and take
+    /// away, `check-sat` the live assertions and symbols and the words that it finds, `get-model` and
+    /// `get-value` what they answer.
+    pub fn step(&mut self, alloc: Global, item: &Sexpr) -> Result<Reply, AllocError>
+        ensures ok { IfOk result (λ reply. Steps self.old item.now reply self.new) }
+        ensures err { OnErr result (self.new ≡ self.old) }
+    {
+        terms_sorted();
+        well_formed_more();
+        match command(alloc, self.stack.symbols(), item) {
+            Ok(command) => self.perform(alloc, command),
+            Err(fault) => Ok(Reply::Error(ErrorKind::of_check(fault)?)),
+        }
+    }
+
+    // Does the command.
+    fn perform(&mut self, alloc: Global, command: Command) -> Result<Reply, AllocError>
+        requires { Fits self.old.levels command }
+        ensures ok { IfOk result (λ reply. Does self.old command reply self.new) }
+        ensures err { OnErr result (self.new ≡ self.old) }
+    {
+        match command {
+            Command::Inform => Ok(self.success()),
+            Command::PrintSuccess(prints) => Ok(self.print_success(prints)),
+            Command::Produce(_) => Ok(self.success()),
+            Command::Declare(name, sort) => self.declare(name, Entry::Constant(sort)),
+            Command::Define(name, entry) => self.declare(name, entry),
+            Command::Assert(term) => self.assert(term),
+            Command::Push(n) => self.push(n),
+            Command::Pop(n) => Ok(self.pop(n)),
+            Command::CheckSat => self.check_sat(alloc),
+            Command::GetModel => self.model(alloc),
+            Command::GetValue(items) => self.values(alloc, items),
+            Command::GetInfo(keyword) => Ok(self.info(keyword.as_slice())),
+            Command::Echo(text) => Ok(Reply::Echo(text)),
+            Command::Reset => Ok(self.reset()),
+            Command::ResetAssertions => Ok(self.reset_assertions()),
+            Command::Exit => Ok(self.exit()),
+            Command::Unsupported => Ok(Reply::Unsupported),
+        }
+    }
+
+    fn success(&self) -> Reply
+        ensures { result ≡ Success self.now.prints }
+    {
+        Reply::Success {
+            printed: self.prints,
+        }
+    }
+
+    fn print_success(&mut self, prints: bool) -> Reply
+        ensures { Gives (succeeds (printing prints self.old)) result self.new }
+    {
+        self.prints = prints;
+        self.success()
+    }
+
+    fn declare(&mut self, name: Name, entry: Entry) -> Result<Reply, AllocError>
+        requires { IsAdded (symbols_of self.old.levels) name entry }
+        ensures ok { IfOk result (λ reply. Gives (succeeds (changed (declared name entry self.old.levels) self.old)) reply self.new) }
+        ensures err { OnErr result (self.new ≡ self.old) }
+    {
+        constants_valued();
+        self.stack.declare(name, entry)?;
+        self.verdict = None;
+        Ok(self.success())
+    }
+
+    fn assert(&mut self, term: Term) -> Result<Reply, AllocError>
+        requires { IsTermOf (symbols_of self.old.levels) sort.Bool term }
+        ensures ok { IfOk result (λ reply. Gives (succeeds (changed (asserted term self.old.levels) self.old)) reply self.new) }
+        ensures err { OnErr result (self.new ≡ self.old) }
+    {
+        self.stack.assert(term)?;
+        self.verdict = None;
+        Ok(self.success())
+    }
+
+    fn push(&mut self, n: u32) -> Result<Reply, AllocError>
+        ensures ok { IfOk result (λ reply. Gives (pushes n self.old) reply self.new) }
+        ensures err { OnErr result (self.new ≡ self.old) }
+    {
+        match self.stack.push(n) {
+            Ok(()) => {
+                self.verdict = None;
+                Ok(self.success())
+            }
+            Err(StackFault::Full(_)) => Ok(Reply::Error(ErrorKind::Levels)),
+            Err(StackFault::Memory(error)) => Err(error),
+        }
+    }
+
+    fn pop(&mut self, n: u32) -> Reply
+        ensures { Gives (pops n self.old) result self.new }
+    {
+        match self.stack.pop(n) {
+            Ok(()) => {
+                self.verdict = None;
+                self.success()
+            }
+            Err(_) => Reply::Error(ErrorKind::NoSuchLevel),
+        }
+    }
+
+    fn check_sat(&mut self, alloc: Global) -> Result<Reply, AllocError>
+        ensures ok { IfOk result (λ reply. Checks self.old reply self.new) }
+        ensures err { OnErr result (self.new ≡ self.old) }
+    {
+        constants_valued();
+        well_formed_entries();
+        match verdict_of(alloc, self.stack.symbols(), self.stack.live())? {
+            Verdict::Sat(model) => {
+                let copy = model.copy(alloc)?;
+                self.verdict = Some(Kept::Sat(model));
+                Ok(Reply::Sat(copy))
+            }
+            Verdict::Unsat => {
+                self.verdict = Some(Kept::Unsat);
+                Ok(Reply::Unsat)
+            }
+            Verdict::NotBuilt => Ok(Reply::Error(ErrorKind::NotBuilt)),
+        }
+    }
+
+    fn model(&self, alloc: Global) -> Result<Reply, AllocError>
+        ensures { IfOk result (λ reply. reply ≡ model_reply self.now.verdict) }
+    {
+        match &self.verdict {
+            Some(Kept::Sat(model)) => Ok(Reply::Definitions(definitions(alloc, model)?)),
+            _ => Ok(Reply::Error(ErrorKind::NoModel)),
+        }
+    }
+
+    fn values(&self, alloc: Global, items: Items<(Sexpr, Term)>) -> Result<Reply, AllocError>
+        requires { All (λ (p : AnySexpr × AnyTerm). IsWritten (symbols_of self.now.levels) p.1) items }
+        ensures { IfOk result (AnswersTerms self.now.verdict items) }
+    {
+        constants_valued();
+        let Some(kept) = &self.verdict else {
+            return Ok(Reply::Error(ErrorKind::NoModel));
+        };
+        match kept {
+            Kept::Sat(model) => values(alloc, model, items),
+            Kept::Unsat => Ok(Reply::Error(ErrorKind::NoModel)),
+        }
+    }
+
+    fn info(&self, keyword: &[u8]) -> Reply
+        ensures { result ≡ info_reply self.now keyword.now }
+    {
+        if keyword == b":name".as_slice() {
+            Reply::Info(Info::Name)
+        } else if keyword == b":version".as_slice() {
+            Reply::Info(Info::Version)
+        } else if keyword == b":error-behavior".as_slice() {
+            Reply::Info(Info::ErrorBehavior)
+        } else if keyword == b":assertion-stack-levels".as_slice() {
+            Reply::Info(Info::AssertionStackLevels(self.stack.levels()))
+        } else if keyword == b":reason-unknown".as_slice() {
+            Reply::Error(ErrorKind::NoReason)
+        } else {
+            Reply::Unsupported
+        }
+    }
+
+    // Back to the start. `:print-success` is off again, so that this success isn't printed.
+    fn reset(&mut self) -> Reply
+        ensures { Gives (succeeds opened) result self.new }
+    {
+        self.verdict = None;
+        self.stack.reset();
+        self.prints = false;
+        self.ended = false;
+        self.success()
+    }
+
+    fn reset_assertions(&mut self) -> Reply
+        ensures { Gives (succeeds (changed (empty ∷ []) self.old)) result self.new }
+    {
+        self.verdict = None;
+        self.stack.reset_assertions();
+        self.success()
+    }
+
+    fn exit(&mut self) -> Reply
+        ensures { Gives (succeeds (after_exit self.old)) result self.new }
+    {
+        self.ended = true;
+        self.success()
+    }
+}

@@ -1,0 +1,168 @@
+-- Verdicts come from `check-sat` alone.
+use Rattle.std.proofs.Common.{◌≡◌, ℕ, List, [], ◌∷◌, ◌++◌, Bool, true, false, if◌then◌else◌, Result, Ok, Err, Option, Some, None, refl, sym, ap, ◌∙◌, subst, ◌⊎◌, inl, inr, length, length-append, arith, ◌-◌}
+use Rattle.std.specs.Prelude.{codes}
+use Rattle.assert_stack.specs.Levels.{symbols_of}
+use Rattle.sexpr_reader.specs.declared.sexpr.Sexpr.{Sexpr}
+use Rattle.sort_check.specs.Checking.{checked}
+use Rattle.sort_check.specs.Form.{seen}
+use Rattle.sort_check.specs.declared.check_fault.CheckFault.{CheckFault}
+use Rattle.sort_check.specs.declared.commands.Command.{Command}
+use Rattle.sort_check.specs.declared.commands.Command.TheVariants as command
+use Rattle.sv_terms.specs.declared.term.Term.{Term}
+use Rattle.smt_session.specs.declared.error_kind.ErrorKind.{ErrorKind}
+use Rattle.smt_session.specs.Steps.{State, Outcome, opened, same_keyword, info_reply, model_reply, AnswersTerms, Checks, Does, Performs, Steps}
+use Rattle.smt_session.specs.declared.error_kind.ErrorKind.TheVariants as error
+use Rattle.smt_session.specs.declared.info.Info.{Info as InfoOf}
+use Rattle.smt_session.specs.declared.info.Info.TheVariants as info
+use Rattle.smt_session.specs.declared.reply.Reply.{Reply}
+use Rattle.smt_session.specs.declared.reply.Reply.TheVariants.{Success, Unsupported, Echo, Error, Sat, Unsat, Definitions, Values, Info}
+use Rattle.smt_session.specs.declared.session.Kept.{Kept}
+use Rattle.smt_session.specs.declared.session.Kept.TheVariants as kept
+use Rattle.strsolve.specs.Scripts.{Follows, none, next, Answers, to_end, to_exit, to_fault, AnswersFront, so_far, all, IsTrueOf, IsTrueBehind}
+
+is_verdict : Reply → Bool
+is_verdict (Sat values) = true
+is_verdict Unsat = true
+is_verdict _ = false
+
+differ : false ≡ true → ⊥
+differ e = cc
+
+other : (P : Type 0) (r x : Reply) → r ≡ x → is_verdict x ≡ false → is_verdict r ≡ true → P
+other P r x is plain told = absurd (differ (sym (ap is_verdict is ∙ plain) ∙ told))
+
+either : (b : Bool) (x y : Reply) → is_verdict x ≡ false → is_verdict y ≡ false → is_verdict (if b then x else y) ≡ false
+either true x y h g = h
+either false x y h g = g
+
+either_outcome : (b : Bool) (x y : Outcome) → is_verdict x.0 ≡ false → is_verdict y.0 ≡ false → is_verdict (if b then x else y).0 ≡ false
+either_outcome true x y h g = h
+either_outcome false x y h g = g
+
+no_model : (k : Option Kept) → is_verdict (model_reply k) ≡ false
+unfolding is_verdict
+no_model (Some (kept.Sat values)) = refl
+no_model (Some kept.Unsat) = refl
+no_model None = refl
+
+success : (printed : Bool) → is_verdict (Success printed) ≡ false
+unfolding is_verdict
+success printed = refl
+
+failure : (kind : ErrorKind) → is_verdict (Error kind) ≡ false
+unfolding is_verdict
+failure kind = refl
+
+unsupported : is_verdict Unsupported ≡ false
+unfolding is_verdict
+unsupported = refl
+
+echo : (text : List ℕ) → is_verdict (Echo text) ≡ false
+unfolding is_verdict
+echo text = refl
+
+told_info : (i : InfoOf) → is_verdict (Info i) ≡ false
+unfolding is_verdict
+told_info i = refl
+
+no_info : (s : State) (k : List ℕ) → is_verdict (info_reply s k) ≡ false
+no_info s k =
+    let reason = either (same_keyword k (codes ":reason-unknown")) (Error error.NoReason) Unsupported (failure error.NoReason) unsupported in
+    let levels = either (same_keyword k (codes ":assertion-stack-levels")) (Info (info.AssertionStackLevels (length s.levels - 1))) _ (told_info (info.AssertionStackLevels (length s.levels - 1))) reason in
+    let behavior = either (same_keyword k (codes ":error-behavior")) (Info info.ErrorBehavior) _ (told_info info.ErrorBehavior) levels in
+    let version = either (same_keyword k (codes ":version")) (Info info.Version) _ (told_info info.Version) behavior in
+    either (same_keyword k (codes ":name")) (Info info.Name) _ (told_info info.Name) version
+
+no_terms : (k : Option Kept) (items : List (Sexpr × Term)) (r : Reply) → AnswersTerms k items r → is_verdict r ≡ false
+unfolding is_verdict
+no_terms (Some (kept.Sat values)) items (Values vs) h = refl
+no_terms (Some (kept.Sat values)) items (Error kind) h = refl
+no_terms (Some (kept.Sat values)) items (Success p) h = refl
+no_terms (Some (kept.Sat values)) items Unsupported h = refl
+no_terms (Some (kept.Sat values)) items (Echo t) h = refl
+no_terms (Some (kept.Sat values)) items (Sat vs) h = absurd h
+no_terms (Some (kept.Sat values)) items Unsat h = absurd h
+no_terms (Some (kept.Sat values)) items (Definitions ds) h = refl
+no_terms (Some (kept.Sat values)) items (Info i) h = refl
+no_terms (Some kept.Unsat) items r h = ap is_verdict h
+no_terms None items r h = ap is_verdict h
+
+module _ (s t : State) (r : Reply) (told : is_verdict r ≡ true) where
+  does : (c : Command) → Does s c r t → Checks s r t
+  does command.Inform h = other _ _ _ h.0 (success _) told
+  does (command.PrintSuccess b) h = other _ _ _ h.0 (success _) told
+  does (command.Produce b) h = other _ _ _ h.0 (success _) told
+  does (command.Declare name sort) h = other _ _ _ h.0 (success _) told
+  does (command.Define name e) h = other _ _ _ h.0 (success _) told
+  does (command.Assert term) h = other _ _ _ h.0 (success _) told
+  does (command.Push n) h = other _ _ _ h.0 (either_outcome _ _ _ (success _) (failure _)) told
+  does (command.Pop n) h = other _ _ _ h.0 (either_outcome _ _ _ (success _) (failure _)) told
+  does command.CheckSat h = h
+  does command.GetModel h = other _ _ _ h.0 (no_model s.verdict) told
+  does (command.GetValue items) h = other _ r r refl (no_terms s.verdict items r h.0) told
+  does (command.GetInfo k) h = other _ _ _ h.0 (no_info s k) told
+  does (command.Echo text) h = other _ _ _ h.0 (echo _) told
+  does command.Reset h = other _ _ _ h.0 (success _) told
+  does command.ResetAssertions h = other _ _ _ h.0 (success _) told
+  does command.Exit h = other _ _ _ h.0 (success _) told
+  does command.Unsupported h = other _ _ _ h.0 unsupported told
+
+  performs : (c : Result Command CheckFault) → Performs s c r t → Checks s r t
+  performs (Ok c) h = does c h
+  performs (Err fault) h = other _ _ _ h.2.0 (failure _) told
+
+claims : (s t : State) (item : Sexpr) (r : Reply) → Steps s item r t → IsTrueOf s r
+unfolding is_verdict
+claims s t item (Sat values) h = (performs s t (Sat values) refl (checked (symbols_of s.levels) (seen item)) h).1.holds
+claims s t item Unsat h = (performs s t Unsat refl (checked (symbols_of s.levels) (seen item)) h).1
+claims s t item (Success p) h = tt
+claims s t item Unsupported h = tt
+claims s t item (Echo text) h = tt
+claims s t item (Error kind) h = tt
+claims s t item (Definitions ds) h = tt
+claims s t item (Values vs) h = tt
+claims s t item (Info i) h = tt
+
+behind : (s t : State) (items : List Sexpr) (log early late : List Reply) (r : Reply) → Follows s items log t → log ≡ early ++ r ∷ late → (before : List Sexpr) × (u : State) × Follows s before early u × IsTrueOf u r
+behind s t items log [] late r (none a) e = absurd (omega (arith, ap length e))
+behind s t items log (x ∷ early) late r (none a) e = absurd (omega (arith, ap length e))
+behind s t items log [] late r (next a b c i q is l goes step rest) e = let same : q ≡ r = cc in ([], a, none a, subst (IsTrueOf a) same (claims a b i q step))
+behind s t items log (x ∷ early) late r (next a b c i q is l goes step rest) e =
+    let same : q ≡ x = cc in
+    let left : l ≡ early ++ r ∷ late = cc in
+    let k = behind b c is l early late r rest left in (i ∷ k.0, k.1, next a b k.1 i x k.0 early goes (subst (λ (y : Reply). Steps a i y b) same step) k.2, k.3)
+
+-- one reply more before both
+more_before : (y z : Reply) (early log : List Reply) (r x : Reply) → y ≡ z → ((early ≡ log) × (r ≡ x)) ⊎ ((more : List Reply) × (log ≡ early ++ r ∷ more)) → ((z ∷ early ≡ y ∷ log) × (r ≡ x)) ⊎ ((more : List Reply) × (y ∷ log ≡ z ∷ early ++ r ∷ more))
+more_before y z early log r x same (inl h) = let k = h.0 in inl ((cc), h.1)
+more_before y z early log r x same (inr h) = let k = h.1 in inr (h.0, (cc))
+
+-- the last reply, behind the others
+last_or_before : (early late log : List Reply) (r x : Reply) → log ++ x ∷ [] ≡ early ++ r ∷ late → ((early ≡ log) × (r ≡ x)) ⊎ ((more : List Reply) × (log ≡ early ++ r ∷ more))
+last_or_before [] late [] r x e = inl (refl, cc)
+last_or_before [] late (y ∷ log) r x e = let same : y ≡ r = cc in inr (log, ap (λ (z : Reply). z ∷ log) same)
+last_or_before (z ∷ early) late [] r x e = absurd (omega (arith, ap length e, length-append early (r ∷ late)))
+last_or_before (z ∷ early) late (y ∷ log) r x e =
+    let same : y ≡ z = cc in
+    let left : log ++ x ∷ [] ≡ early ++ r ∷ late = cc in
+    more_before y z early log r x same (last_or_before early late log r x left)
+
+told : (early : List Reply) (r : Reply) → (before : List Sexpr) × (u : State) × Follows opened before early u × IsTrueOf u r → IsTrueBehind early r
+told early r h = record { items = h.0; session = h.1; follows = h.2; holds = h.3 }
+
+at_fault : (items : List Sexpr) (s : State) (first early : List Reply) (r : Reply) (kind : ErrorKind) → Follows opened items first s → ((early ≡ first) × (r ≡ Error kind)) ⊎ ((more : List Reply) × (first ≡ early ++ r ∷ more)) → IsTrueBehind early r
+at_fault items s first early r kind follows (inl h) = record { items = items; session = s; follows = subst (λ (l : List Reply). Follows opened items l s) (sym h.0) follows; holds = subst (IsTrueOf s) (sym h.1) tt }
+at_fault items s first early r kind follows (inr h) = told early r (behind opened s items first early h.0 r follows h.1)
+
+in_answers : (ended : Bool) (bytes : List ℕ) (log early late : List Reply) (r : Reply) → Answers ended bytes log → log ≡ early ++ r ∷ late → IsTrueBehind early r
+in_answers ended bytes log early late r (to_end items s is ends follows) e = told early r (behind opened s items log early late r follows e)
+in_answers ended bytes log early late r (to_exit items rest s begins follows is) e = told early r (behind opened s items log early late r follows e)
+in_answers ended bytes log early late r (to_fault items first s fault kind faulty follows goes is last) e = at_fault items s first early r kind follows (last_or_before early late first r (Error kind) (sym last ∙ e))
+
+-- each verdict of a right log is true
+pub verdict_true : (ended : Bool) (bytes : List ℕ) (log early late : List Reply) (r : Reply) → AnswersFront ended bytes log → log ≡ early ++ r ∷ late → IsTrueBehind early r
+verdict_true ended bytes log early late r (so_far items rest s begins follows) e = told early r (behind opened s items log early late r follows e)
+verdict_true ended bytes log early late r (all h) e = in_answers ended bytes log early late r h e
+
+pub no_verdict : (log early late : List Reply) (r : Reply) → log ≡ [] → log ≡ early ++ r ∷ late → IsTrueBehind early r
+no_verdict log early late r none_ e = absurd (omega (arith, ap length none_, ap length e, length-append early (r ∷ late)))

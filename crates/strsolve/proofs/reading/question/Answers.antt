@@ -1,6 +1,0 @@
-use Rattle.strsolve.specs.declared.command.Command.TheVariants.{GetModel}
-use Rattle.strsolve.proofs.Commands.{alone_found}
-use Rattle.strsolve.proofs.reading.question.Goals as goal
-
-pub returns : goal.returns
-returns c = alone_found GetModel c.args.tokens.now c.closes.new.self c.if-not-closes.ensures.taken

@@ -1,0 +1,62 @@
+-- The right replies to the commands of a script, in order (SMT-LIB 2.6, section 4.1).
+use Rattle.std.specs.Prelude.{◌≡◌, ◌||◌, ℕ, Bool, true, false, List, [], ◌∷◌, ◌++◌, Some, ⊤}
+use Rattle.assert_stack.specs.Levels.{live}
+use Rattle.sexpr_reader.specs.Reads.{Begins, FaultAfter, Waits, Ends}
+use Rattle.sexpr_reader.specs.declared.sexpr.Sexpr.{Sexpr}
+use Rattle.sexpr_reader.specs.declared.syntax_fault.SyntaxFault.{SyntaxFault}
+use Rattle.smt_session.specs.Refusals.{of_syntax}
+use Rattle.smt_session.specs.Replies.{text_of, is_error}
+use Rattle.smt_session.specs.Steps.{State, opened, Steps}
+use Rattle.smt_session.specs.Verdicts.{AllTrue, HasNoValues}
+use Rattle.smt_session.specs.declared.error_kind.ErrorKind.{ErrorKind}
+use Rattle.smt_session.specs.declared.reply.Reply.{Reply}
+use Rattle.smt_session.specs.declared.reply.Reply.TheVariants.{Error, Sat, Unsat}
+
+-- a reply to each item, and the session behind the last; nothing follows an answered `exit`
+pub data Follows : State → List Sexpr → List Reply → State → Type 0 where
+  none : (s : State) → Follows s [] [] s
+  next : (s t u : State) (item : Sexpr) (r : Reply) (items : List Sexpr) (log : List Reply) → s.ended ≡ false → Steps s item r t → Follows t items log u → Follows s (item ∷ items) (r ∷ log) u
+
+-- the right replies to the bytes; `ended` says whether the input has ended behind them
+pub data Answers (ended : Bool) (bytes : List ℕ) (log : List Reply) : Type 0 where
+  -- up to the end of the input, behind whole items
+  to_end : (items : List Sexpr) (s : State) → ended ≡ true → Ends bytes items → Follows opened items log s → Answers ended bytes log
+  -- up to an answered `exit`
+  to_exit : (items : List Sexpr) (rest : List ℕ) (s : State) → Begins ended bytes items rest → Follows opened items log s → s.ended ≡ true → Answers ended bytes log
+  -- up to a syntax fault, whose error is the last reply
+  to_fault : (items : List Sexpr) (early : List Reply) (s : State) (fault : SyntaxFault) (kind : ErrorKind) → FaultAfter ended bytes items fault → Follows opened items early s → s.ended ≡ false → of_syntax fault ≡ Some kind → log ≡ early ++ Error kind ∷ [] → Answers ended bytes log
+
+-- the replies to all items that are whole so far; none of them ended the session, and there is no syntax fault so far
+pub record AnswersWhole (bytes : List ℕ) (log : List Reply) : Type 0 where
+  pub items : List Sexpr
+  pub session : State
+  pub waits : Waits bytes items
+  pub follows : Follows opened items log session
+  pub goes_on : session.ended ≡ false
+
+-- right replies, to a front of the items
+pub data AnswersFront (ended : Bool) (bytes : List ℕ) (log : List Reply) : Type 0 where
+  so_far : (items : List Sexpr) (rest : List ℕ) (s : State) → Begins ended bytes items rest → Follows opened items log s → AnswersFront ended bytes log
+  all : Answers ended bytes log → AnswersFront ended bytes log
+
+-- what a verdict says of the session that it was given in: its values make each live assertion true, or there are none that do
+abbrev pub IsTrueOf : State → Reply → Type 0
+IsTrueOf s (Sat values) = AllTrue values (live s.levels)
+IsTrueOf s Unsat = HasNoValues (live s.levels)
+IsTrueOf s _ = ⊤
+
+-- the session that gave the replies before a verdict, of which the verdict is true
+pub record IsTrueBehind (early : List Reply) (verdict : Reply) : Type 0 where
+  pub items : List Sexpr
+  pub session : State
+  pub follows : Follows opened items early session
+  pub holds : IsTrueOf session verdict
+
+-- the printed replies, in order
+abbrev pub texts_of : List Reply → List ℕ
+texts_of [] = []
+texts_of (reply ∷ log) = text_of reply ++ texts_of log
+
+abbrev pub has_error : List Reply → Bool
+has_error [] = false
+has_error (reply ∷ log) = is_error reply || has_error log

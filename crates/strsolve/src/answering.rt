@@ -1,0 +1,163 @@
+//! Answers items as they come.
+ghost use Rattle.std.specs.Prelude.{◌≡◌, ◌≤◌, ◌+◌, ◌++◌, [], ℕ, List, Bool, true, false, length, IfSome, IfNone, MatchOption, OnOk, OnErr};
+ghost use Rattle.std.specs.declared.option.Option.{Option as Optional};
+ghost use Rattle.sv_io.specs.Counts.{Rose};
+ghost use Rattle.strsolve.specs.Runs.{IsCut};
+ghost use Rattle.strsolve.specs.Standing.{IsAnswering, IsFaulty, IsGiven, IsWaiting, Stops};
+
+use crate::log::Log;
+use crate::outcome::Ending;
+use crate::transfer::write_reply;
+use sexpr_reader::{Reader, Sexpr, SyntaxFault, more_bytes};
+use smt_session::{ErrorKind, Reply, Session};
+use std::alloc::{AllocError, Global};
+use sv_io::{Sink, SinkFault};
+
+/// A script while it is answered: the reader of its bytes, the session, and the replies so far.
+#[derive(Drop)]
+pub struct Answering {
+    reader: Reader,
+    session: Session,
+    replies: Vec<Reply>,
+    /// How many bytes were fed.
+    fed: u64,
+}
+
+impl Answering {
+    /// Nothing was fed and answered. It takes no memory.
+    pub fn new(alloc: Global) -> Answering
+        ensures waits { (taken : Optional (List ℕ)) → IsWaiting result [] taken taken }
+        ensures empty { result.replies.items ≡ [] }
+    {
+        Answering {
+            reader: Reader::new(alloc),
+            session: Session::new(alloc),
+            replies: Vec::new(alloc),
+            fed: 0,
+        }
+    }
+
+    /// The replies.
+    pub fn into_log(self) -> Log
+        ensures { result ≡ self.replies.items }
+    {
+        let Answering { replies, .. } = self;
+        Log::of(replies)
+    }
+
+    /// Takes the next bytes.
+    pub fn feed(&mut self, piece: &[u8]) -> Result<(), AllocError>
+        ensures ok { OnOk result ((bytes : List ℕ) (taken_old taken_new : Optional (List ℕ)) → IsAnswering false self.old bytes taken_old taken_new → IsAnswering false self.new (bytes ++ piece.now) taken_old taken_new) }
+        ensures err { OnErr result ((bytes : List ℕ) (taken_old taken_new : Optional (List ℕ)) → IsAnswering false self.old bytes taken_old taken_new → IsCut false (bytes ++ piece.now) taken_old taken_new self.new.replies.items) }
+    {
+        more_bytes();
+        let fed = match self.fed.checked_add(piece.len() as u64) {
+            Some(fed) => fed,
+            None => return Err(AllocError),
+        };
+        match self.reader.feed(piece) {
+            Ok(()) => {}
+            Err(error) => return Err(error),
+        }
+        self.fed = fed;
+        Ok(())
+    }
+
+    /// Answers each item that is whole, up to an answered `exit` or a syntax fault. `None` where
+    /// more bytes or the end have to come first.
+    pub fn answer_whole<K: Sink>(&mut self, alloc: Global, sink: &mut K) -> Option<Ending>
+        requires { (bytes : List ℕ) × (taken : Optional (List ℕ)) × IsAnswering false self.old bytes taken (K.taken sink.old) }
+        ensures went { (bytes : List ℕ) (taken : Optional (List ℕ)) → IsAnswering false self.old bytes taken (K.taken sink.old)
+            → MatchOption result (IsWaiting self.new bytes taken (K.taken sink.new)) (λ ending. Stops false bytes taken (K.taken sink.new) self.new.replies.items ending) }
+        ensures later { K.faults sink.old ≤ K.faults sink.new }
+        ensures failed { IfSome result (λ ending. ending ≡ Ending.WriteFailed → Rose (K.faults sink.old) (K.faults sink.new)) }
+    {
+        'items: loop {
+            let item = match self.reader.next() {
+                Ok(Some(item)) => item,
+                Ok(None) => return None,
+                Err(fault) => return Some(self.refuse(alloc, sink, fault)),
+            };
+            match self.answer(alloc, sink, &item) {
+                None => {}
+                Some(ending) => return Some(ending),
+            }
+        }
+    }
+
+    /// Answers what is left where the input has ended.
+    pub fn answer_rest<K: Sink>(&mut self, alloc: Global, sink: &mut K) -> Ending
+        requires { (bytes : List ℕ) × (taken : Optional (List ℕ)) × IsAnswering false self.old bytes taken (K.taken sink.old) }
+        ensures went { (bytes : List ℕ) (taken : Optional (List ℕ)) → IsAnswering false self.old bytes taken (K.taken sink.old) → Stops true bytes taken (K.taken sink.new) self.new.replies.items result }
+        ensures later { K.faults sink.old ≤ K.faults sink.new }
+        ensures failed { result ≡ Ending.WriteFailed → Rose (K.faults sink.old) (K.faults sink.new) }
+    {
+        more_bytes();
+        'items: loop {
+            let item = match self.reader.end() {
+                Ok(Some(item)) => item,
+                Ok(None) => return Ending::Answered,
+                Err(fault) => return self.refuse(alloc, sink, fault),
+            };
+            match self.answer(alloc, sink, &item) {
+                None => {}
+                Some(ending) => return ending,
+            }
+        }
+    }
+
+    // Answers an item. The place of its reply is found first, so that a command that was done has
+    // its reply in the log.
+    fn answer<K: Sink>(&mut self, alloc: Global, sink: &mut K, item: &Sexpr) -> Option<Ending>
+        ensures went { (ended : Bool) (bytes : List ℕ) (taken : Optional (List ℕ)) → IsGiven ended self.old item.now bytes taken (K.taken sink.old)
+            → MatchOption result (IsAnswering ended self.new bytes taken (K.taken sink.new)) (λ ending. Stops ended bytes taken (K.taken sink.new) self.new.replies.items ending) }
+        ensures count { IfNone result (length self.new.replies.items ≡ length self.old.replies.items + 1) }
+        ensures fed { self.new.fed ≡ self.old.fed }
+        ensures later { K.faults sink.old ≤ K.faults sink.new }
+        ensures failed { IfSome result (λ ending. ending ≡ Ending.WriteFailed → Rose (K.faults sink.old) (K.faults sink.new)) }
+    {
+        match self.replies.reserve(1) {
+            Ok(()) => {}
+            Err(_) => return Some(Ending::NoMemory),
+        }
+        let reply = match self.session.step(alloc, item) {
+            Ok(reply) => reply,
+            Err(_) => return Some(Ending::NoMemory),
+        };
+        let written = write_reply(alloc, sink, &reply);
+        self.replies.push_reserved(reply);
+        match written {
+            Ok(()) => {}
+            Err(SinkFault::Failed) => return Some(Ending::WriteFailed),
+            Err(SinkFault::Memory(_)) => return Some(Ending::NoMemory),
+        }
+        if self.session.ended() {
+            return Some(Ending::Answered);
+        }
+        None
+    }
+
+    // Answers a syntax fault by its error.
+    fn refuse<K: Sink>(&mut self, alloc: Global, sink: &mut K, fault: SyntaxFault) -> Ending
+        ensures went { (ended : Bool) (bytes : List ℕ) (taken : Optional (List ℕ)) → IsFaulty ended self.old fault bytes taken (K.taken sink.old) → Stops ended bytes taken (K.taken sink.new) self.new.replies.items result }
+        ensures later { K.faults sink.old ≤ K.faults sink.new }
+        ensures failed { result ≡ Ending.WriteFailed → Rose (K.faults sink.old) (K.faults sink.new) }
+    {
+        let kind = match ErrorKind::of_syntax(fault) {
+            Ok(kind) => kind,
+            Err(_) => return Ending::NoMemory,
+        };
+        match self.replies.reserve(1) {
+            Ok(()) => {}
+            Err(_) => return Ending::NoMemory,
+        }
+        let error = Reply::Error(kind);
+        let written = write_reply(alloc, sink, &error);
+        self.replies.push_reserved(error);
+        match written {
+            Ok(()) => Ending::Answered,
+            Err(SinkFault::Failed) => Ending::WriteFailed,
+            Err(SinkFault::Memory(_)) => Ending::NoMemory,
+        }
+    }
+}
