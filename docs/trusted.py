@@ -1,0 +1,157 @@
+#!/usr/bin/env python3
+"""Lists the definitions that the contract of the top call rests on.
+
+It begins with the definitions that the clauses of `run` name (crates/strsolve/src/top.rt), follows
+what each definition of a specs/ folder names, and prints one row a file: how many lines of it are
+reached, and what it restates, which is the first comment of the file. A file's comment line
+`-- Belief isn't needed: ..` names a law that makes it so, and is printed with it.
+
+    docs/trusted.py           prints the table
+    docs/trusted.py --check   compares it with docs/TRUST.md, prints what differs, and ends with 1 if something does
+    docs/trusted.py --write   puts it into docs/TRUST.md
+"""
+import difflib
+import pathlib
+import re
+import sys
+
+ROOT = pathlib.Path(__file__).resolve().parent.parent
+TRUST = ROOT / "docs" / "TRUST.md"
+TOP = ROOT / "crates" / "strsolve" / "src" / "top.rt"
+BEGIN, END = "<!-- trusted.py begins -->", "<!-- trusted.py ends -->"
+USE = re.compile(r"^\s*(?:ghost )?use Rattle\.([A-Za-z0-9_]+)\.specs\.([A-Za-z0-9_.]+?)(?:\.\{([^}]*)\}| as .*)?;?\s*$")
+HEAD = re.compile(
+    r"^(?:pub |abbrev |unfoldable |opaque |record |data |ruleset |mutual )*([^\s:(){}]+)(?=[\s:({])"
+)
+WORD = re.compile(r"[^\s(){},:;\"]+")
+
+
+class Spec:
+    """A file of definitions: what it imports, and its definitions by name."""
+
+    def __init__(self, path):
+        self.path = path
+        self.lines = path.read_text().splitlines()
+        self.imports, self.blocks, self.names = {}, {}, {}
+        name, bases = None, [0]
+        for number, line in enumerate(self.lines):
+            use = USE.match(line)
+            if use:
+                crate, module, names = use.groups()
+                for item in (names or "").split(","):
+                    words = item.split(" as ")
+                    if words[0].strip():
+                        self.imports[words[-1].strip()] = (crate, module, words[0].strip())
+                continue
+            text = line.strip()
+            if not text or text.startswith("--") or text.startswith("use "):
+                continue
+            indent = len(line) - len(line.lstrip())
+            while indent < bases[-1]:
+                bases.pop()
+            # what stands in a `module` or a `mutual` is a definition of its own
+            if re.match(r"(abbrev )?(module .*where|mutual)$", text):
+                bases.append(indent + 2)
+                name = None
+                continue
+            if indent == bases[-1]:
+                head = HEAD.match(text)
+                name = head.group(1) if head else None
+            if name:
+                self.blocks.setdefault(name, []).append(number)
+        # a constructor or a field stands for the definition that it is in
+        for name, numbers in self.blocks.items():
+            for number in numbers[1:]:
+                inner = re.match(r"^\s+(?:pub )?([^\s:(){}]+)\s*:", self.lines[number])
+                if inner:
+                    self.names.setdefault(inner.group(1), name)
+        for name in self.blocks:
+            self.names[name] = name
+
+    def words(self, name):
+        for number in self.blocks[name]:
+            for word in WORD.findall(self.lines[number].split(" -- ")[0]):
+                yield word
+                for part in re.split(r"[.◌]", word):
+                    if part:
+                        yield part
+
+    def head(self):
+        said = []
+        for line in self.lines:
+            if not line.startswith("--"):
+                break
+            said.append(line[2:].strip())
+        return " ".join(said)
+
+
+def load():
+    specs = {}
+    for path in sorted((ROOT / "crates").glob("*/specs/*.antt")):
+        if path.name != "Lib.antt":
+            specs[(path.parts[-3], path.stem)] = Spec(path)
+    return specs
+
+
+def reach(specs):
+    """The reached definitions, as {file: set of names}."""
+    text = TOP.read_text()
+    clauses = text[text.index("pub fn run<") :].split("\n{\n")[0]
+    said = set(re.split(r"[\s(){},.;◌]+", clauses))
+    waiting = []
+    for line in text.splitlines():
+        use = USE.match(line)
+        if use and use.group(3):
+            crate, module, names = use.groups()
+            for item in names.split(","):
+                words = item.split(" as ")
+                if words[-1].strip() in said:
+                    waiting.append((crate, module, words[0].strip()))
+    reached = {}
+    while waiting:
+        crate, module, name = waiting.pop()
+        spec = specs.get((crate, module))
+        if spec is None or name not in spec.names:
+            continue
+        name = spec.names[name]
+        if name in reached.setdefault((crate, module), set()):
+            continue
+        reached[(crate, module)].add(name)
+        for word in spec.words(name):
+            if word in spec.imports:
+                waiting.append(spec.imports[word])
+            elif word in spec.names:
+                waiting.append((crate, module, word))
+    return reached
+
+
+def table():
+    specs = load()
+    reached = reach(specs)
+    rows, total = [], 0
+    for key in sorted(key for key in reached if reached[key]):
+        spec = specs[key]
+        lines = sum(len(spec.blocks[name]) for name in reached[key])
+        total += lines
+        rows.append(f"| `crates/{key[0]}/specs/{key[1]}.antt` | {lines} | {spec.head()} |")
+    top = ["| File | Lines | What it says |", "|---|---|---|"]
+    return top + rows + ["", f"{total} lines of {len(rows)} files, comments and imports left out."]
+
+
+def main():
+    made = table()
+    if len(sys.argv) == 1:
+        print("\n".join(made))
+        return 0
+    before, rest = TRUST.read_text().split(BEGIN + "\n")
+    stands, after = rest.split(END)
+    if sys.argv[1] == "--write":
+        TRUST.write_text(before + BEGIN + "\n" + "\n".join(made) + "\n" + END + after)
+        return 0
+    changed = list(difflib.unified_diff(stands.splitlines(), made, "docs/TRUST.md", "the clauses of run", lineterm="", n=0))
+    print("\n".join(changed) if changed else "docs/TRUST.md lists what run's clauses rest on")
+    return 1 if changed else 0
+
+
+if __name__ == "__main__":
+    sys.exit(main())
