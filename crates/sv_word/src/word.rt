@@ -6,7 +6,11 @@ use std::cmp::Ordering;
 use std::marker::Model;
 use sv_list::Copied;
 
-/// A word: a list of characters, each from 0 to 0x2FFFF (theory UnicodeStrings of SMT-LIB 2.6).
+/// The greatest character: they are the numbers from 0 to this one (theory UnicodeStrings of
+/// SMT-LIB 2.6).
+pub const GREATEST_CHARACTER: u32 = 0x2FFFF;
+
+/// A word: a list of characters (theory UnicodeStrings of SMT-LIB 2.6).
 ///
 /// Contracts see the list. A character takes four bytes. Equality and order are those of the
 /// lists, character by character from the first.
