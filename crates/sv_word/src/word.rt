@@ -4,7 +4,7 @@ ghost use Rattle.sv_word.specs.Words.{IsWord};
 use std::alloc::{AllocError, Global};
 use std::cmp::Ordering;
 use std::marker::Model;
-use sv_list::Copied;
+use sv_list::{Copied, Same};
 
 /// The greatest character: they are the numbers from 0 to this one (theory UnicodeStrings of
 /// SMT-LIB 2.6).
@@ -125,6 +125,12 @@ impl Word {
 impl Copied for Word {
     fn copy(&self, alloc: Global) -> Result<Word, AllocError> {
         self.copy(alloc)
+    }
+}
+
+impl Same for Word {
+    fn same(&self, other: &Word) -> bool {
+        self.same(other)
     }
 }
 
