@@ -5,3 +5,5 @@ pub mod Plains
 pub mod Matching
 pub mod Pairing
 pub mod ValueSorts
+pub mod Sizing
+pub mod Truths

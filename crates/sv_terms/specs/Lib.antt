@@ -4,7 +4,14 @@ pub mod Meaning
 pub mod Names
 pub mod OnlyWords
 pub mod Opened
+pub mod Parts
 pub mod Replacement
+pub mod ReplacementLaws
 pub mod Sorting
+pub mod TransducerSizes
+pub mod TransducerSizeLaws
 pub mod Transduction
+pub mod TransductionLaws
+pub mod Truth
 pub mod Witness
+pub mod Written

@@ -1,8 +1,13 @@
 //! Terms and regular expressions of the theory UnicodeStrings, and what they mean.
 //!
 //! The central fact is the definition `In`: the words of a regular expression, by cases on its
-//! form. Every language is a set of words, so that what is in one has no character above 0x2FFFF.
-//! Everything that is said of regular expressions above this crate cites it.
+//! form. Every language is a set of words, so that what is in one has no number that isn't a
+//! character. Everything that is said of regular expressions above this crate cites it.
+//!
+//! `val` is the meaning of a term under values of its constants, `AreTrueAt` says when values make
+//! assertions true, and `HasNoValues` that none do: values are of their constants' sorts, and texts
+//! are words. `Pairs` is what a transducer relates, `ReplacedFirst` and `ReplacedAll` what
+//! replacement is. The laws join them to what computes.
 //!
 //! Copying, comparing and `witness` take time linear in the expression (and the word that is
 //! made), and stack in its nesting.
@@ -16,6 +21,7 @@
 
 mod entry;
 mod laws;
+mod limits;
 mod model;
 mod name;
 mod op;
@@ -31,7 +37,15 @@ mod value;
 mod witnesses;
 
 pub use entry::{Body, Entry};
-pub use laws::{decided, pairs_decided, valued, words_only};
+pub use laws::{
+    decided, equal_are_one, opaque_is_neither, pairs_are_runs, pairs_decided, replacements,
+    texts_are_words, transducers, truths_are_two, valued, words_only,
+};
+pub use limits::{
+    MOST_CHARACTERS, MOST_CUBES, MOST_LEVELS, MOST_NESTING, MOST_NODES, MOST_POINTS,
+    MOST_REGISTERS, MOST_SPLITS, MOST_STATES, MOST_TIMES, MOST_TRANSDUCER_EDGES,
+    MOST_TRANSDUCER_ENDS, MOST_TRANSDUCER_STATES,
+};
 pub use model::Model;
 pub use name::Name;
 pub use op::Op;

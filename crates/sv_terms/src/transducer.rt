@@ -1,7 +1,5 @@
-ghost use Rattle.std.specs.Prelude.{◌≡◌, IsTrue, ◌↔◌};
-
 use std::alloc::{AllocError, Global};
-use sv_list::{Copied, Items};
+use sv_list::{Copied, Items, Same};
 use sv_word::Word;
 
 /// What an edge writes.
@@ -9,8 +7,9 @@ use sv_word::Word;
 pub enum Item {
     /// This word.
     Text(Word),
-    /// The character that was read.
-    Copy,
+    /// The character that was read, moved by this number. An edge can't be taken where the sum is
+    /// no character.
+    Shift(i32),
 }
 
 /// An edge of a transducer: in the state `from` it reads a character from `lo` to `hi`, writes its
@@ -41,7 +40,7 @@ impl Copied for Item {
     fn copy(&self, alloc: Global) -> Result<Item, AllocError> {
         match self {
             Item::Text(word) => Ok(Item::Text(word.copy(alloc)?)),
-            Item::Copy => Ok(Item::Copy),
+            Item::Shift(by) => Ok(Item::Shift(*by)),
         }
     }
 }
@@ -69,87 +68,36 @@ impl Copied for Transducer {
     }
 }
 
-impl Transducer {
-    /// Whether the two are written the same, in time linear in the smaller one.
-    pub fn same(&self, other: &Transducer) -> bool
-        ensures { IsTrue result ↔ (self.now ≡ other.now) }
-    {
+impl Same for Item {
+    fn same(&self, other: &Item) -> bool {
+        match self {
+            Item::Text(word) => match other {
+                Item::Text(w) => word.same(w),
+                Item::Shift(_) => false,
+            },
+            Item::Shift(by) => match other {
+                Item::Text(_) => false,
+                Item::Shift(k) => *by == *k,
+            },
+        }
+    }
+}
+
+impl Same for TransEdge {
+    fn same(&self, other: &TransEdge) -> bool {
+        self.from == other.from
+            && self.lo == other.lo
+            && self.hi == other.hi
+            && self.to == other.to
+            && self.items.same(&other.items)
+    }
+}
+
+impl Same for Transducer {
+    fn same(&self, other: &Transducer) -> bool {
         self.states == other.states
             && self.start == other.start
-            && same_edges(self.edges.as_slice(), other.edges.as_slice())
-            && same_ends(self.ends.as_slice(), other.ends.as_slice())
+            && self.edges.same(&other.edges)
+            && self.ends.same(&other.ends)
     }
-}
-
-fn same_item(a: &Item, b: &Item) -> bool
-    ensures { IsTrue result ↔ (a.now ≡ b.now) }
-{
-    match a {
-        Item::Text(v) => match b {
-            Item::Text(w) => v.same(w),
-            Item::Copy => false,
-        },
-        Item::Copy => match b {
-            Item::Text(_) => false,
-            Item::Copy => true,
-        },
-    }
-}
-
-fn same_items(a: &[Item], b: &[Item]) -> bool
-    ensures { IsTrue result ↔ (a.now ≡ b.now) }
-{
-    if a.len() != b.len() {
-        return false;
-    }
-    for i in 0..a.len() {
-        if !same_item(&a[i], &b[i]) {
-            return false;
-        }
-    }
-    true
-}
-
-fn same_edge(a: &TransEdge, b: &TransEdge) -> bool
-    ensures { IsTrue result ↔ (a.now ≡ b.now) }
-{
-    a.from == b.from
-        && a.lo == b.lo
-        && a.hi == b.hi
-        && a.to == b.to
-        && same_items(a.items.as_slice(), b.items.as_slice())
-}
-
-fn same_edges(a: &[TransEdge], b: &[TransEdge]) -> bool
-    ensures { IsTrue result ↔ (a.now ≡ b.now) }
-{
-    if a.len() != b.len() {
-        return false;
-    }
-    for i in 0..a.len() {
-        if !same_edge(&a[i], &b[i]) {
-            return false;
-        }
-    }
-    true
-}
-
-fn same_end(a: &(u32, Word), b: &(u32, Word)) -> bool
-    ensures { IsTrue result ↔ (a.now ≡ b.now) }
-{
-    a.0 == b.0 && a.1.same(&b.1)
-}
-
-fn same_ends(a: &[(u32, Word)], b: &[(u32, Word)]) -> bool
-    ensures { IsTrue result ↔ (a.now ≡ b.now) }
-{
-    if a.len() != b.len() {
-        return false;
-    }
-    for i in 0..a.len() {
-        if !same_end(&a[i], &b[i]) {
-            return false;
-        }
-    }
-    true
 }

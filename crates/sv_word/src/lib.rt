@@ -37,4 +37,4 @@ pub use printing::{print_literal, reads_back};
 pub use ranges::Ranges;
 pub use reading::read_literal;
 pub use utf8::reads_utf8;
-pub use word::Word;
+pub use word::{GREATEST_CHARACTER, Word};

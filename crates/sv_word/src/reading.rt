@@ -4,11 +4,8 @@ ghost use Rattle.sv_word.specs.Literals.{lit, front_of, escape_of, number_of, br
 
 use crate::literal_fault::LiteralFault;
 use crate::utf8;
-use crate::word::Word;
+use crate::word::{GREATEST_CHARACTER, Word};
 use std::alloc::Global;
-
-// The last character.
-const LAST: u32 = 0x2FFFF;
 
 // Behind `\u` stand so many digits, and behind `\u{` from the fewest to the most and then `}`.
 const FIXED_DIGITS: usize = 4;
@@ -53,7 +50,7 @@ fn first_character(first: u8, more: &[u8], place: usize) -> Result<(u32, usize),
         b'\\' => Ok(escape(more).unwrap_or((u32::from(first), 1))),
         0..0x80 => Ok((u32::from(first), 1)),
         _ => match utf8::decode(first, more) {
-            Some((c, len)) if c <= LAST => Ok((c, len)),
+            Some((c, len)) if c <= GREATEST_CHARACTER => Ok((c, len)),
             Some(_) => Err(LiteralFault::Above(place)),
             None => Err(LiteralFault::Utf8(place)),
         },
@@ -85,7 +82,7 @@ fn braced(digits: &[u8]) -> Option<(u32, usize)>
         return None;
     }
     let number = hex_number(&digits[..len]);
-    if number <= LAST {
+    if number <= GREATEST_CHARACTER {
         Some((number, len + 4))
     } else {
         None

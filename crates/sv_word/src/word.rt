@@ -4,9 +4,13 @@ ghost use Rattle.sv_word.specs.Words.{IsWord};
 use std::alloc::{AllocError, Global};
 use std::cmp::Ordering;
 use std::marker::Model;
-use sv_list::Copied;
+use sv_list::{Copied, Same};
 
-/// A word: a list of characters, each from 0 to 0x2FFFF (theory UnicodeStrings of SMT-LIB 2.6).
+/// The greatest character: they are the numbers from 0 to this one (theory UnicodeStrings of
+/// SMT-LIB 2.6).
+pub const GREATEST_CHARACTER: u32 = 0x2FFFF;
+
+/// A word: a list of characters (theory UnicodeStrings of SMT-LIB 2.6).
 ///
 /// Contracts see the list. A character takes four bytes. Equality and order are those of the
 /// lists, character by character from the first.
@@ -121,6 +125,12 @@ impl Word {
 impl Copied for Word {
     fn copy(&self, alloc: Global) -> Result<Word, AllocError> {
         self.copy(alloc)
+    }
+}
+
+impl Same for Word {
+    fn same(&self, other: &Word) -> bool {
+        self.same(other)
     }
 }
 

@@ -6,13 +6,13 @@ use Rattle.sv_word.proofs.reading.braced.Goals.{then-len-lt-FEWEST_DIGITS-via-th
 pub hex_number-number-requires-clause-hex : goal.hex_number-number-requires-clause-hex
 hex_number-number-requires-clause-hex c = hex-digits c.digit_count-len.result c.args.digits.now (let is = c.digit_count-len.ensures in omega arith)
 
-pub returns-then-number-le-LAST-clause-exact : goal.returns-then-number-le-LAST-clause-exact
-returns-then-number-le-LAST-clause-exact c =
+pub returns-then-number-le-GREATEST_CHARACTER-clause-exact : goal.returns-then-number-le-GREATEST_CHARACTER-clause-exact
+returns-then-number-le-GREATEST_CHARACTER-clause-exact c =
     braced-some c.args.digits.now c.digit_count-len.result c.hex_number-number.result c.digit_count-len.ensures c.if-len-lt-FEWEST_DIGITS.false c.if-len-gt-MOST_DIGITS.false
-    (sym c.byte_at.ensures ∙ c.if-byte_at-ne-CLOSE.false) c.hex_number-number.ensures c.if-number-le-LAST.true
+    (sym c.byte_at.ensures ∙ c.if-byte_at-ne-CLOSE.false) c.hex_number-number.ensures c.if-number-le-GREATEST_CHARACTER.true
 
-pub returns-then-number-le-LAST-clause-bytes : goal.returns-then-number-le-LAST-clause-bytes
-returns-then-number-le-LAST-clause-bytes c =
+pub returns-then-number-le-GREATEST_CHARACTER-clause-bytes : goal.returns-then-number-le-GREATEST_CHARACTER-clause-bytes
+returns-then-number-le-GREATEST_CHARACTER-clause-bytes c =
     let inside = within-bytes c.args.digits.now c.digit_count-len.result (sym c.byte_at.ensures ∙ c.if-byte_at-ne-CLOSE.false) in
     (omega arith, omega arith)
 
