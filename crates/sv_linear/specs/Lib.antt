@@ -7,4 +7,5 @@ pub mod Integers
 pub mod Meeting
 pub mod Points
 pub mod Quotients
+pub mod Rows
 pub mod Terms
