@@ -8,4 +8,5 @@ pub mod Meeting
 pub mod Points
 pub mod Quotients
 pub mod Rows
+pub mod TermLaws
 pub mod Terms
