@@ -13,9 +13,10 @@ use Rattle.sv_linear.specs.Integers.{mul-add, add-mul, mul-neg, zero_times}
 use Rattle.sv_linear.specs.declared.row.Row.{Row}
 use Rattle.lia_tableau.specs.Bases.{is_basic, IsLine, IsOutside, IsRowAt, IsTableau, basics_below}
 use Rattle.lia_tableau.specs.BasicPoints.{IsPoint}
-use Rattle.lia_tableau.specs.Quantities.{RowsHold, NameUnknowns, slack_sum}
+use Rattle.lia_tableau.specs.Quantities.{RowsHold, slack_sum}
 use Rattle.lia_tableau.specs.declared.standing.Standing.{Standing}
 use Rattle.lia_tableau.specs.declared.standing.Standing.TheVariants.{Outside, Basic}
+use Rattle.sv_linear.specs.Rows.{NameUnknowns}
 
 pub same_line : (ls : List Standing) (q : ℕ) (f g : Row) → IsLine ls q f → IsLine ls q g → f ≡ g
 same_line ls q f g a b = cc

@@ -48,7 +48,8 @@ impl Tableau {
     ghost use Rattle.sv_linear.specs.Forms.{form_value};
     ghost use Rattle.sv_linear.specs.declared.row.Row.{Row};
     ghost use Rattle.sv_linear.specs.declared.row.RowKind.TheVariants.{Eq};
-    ghost use Rattle.lia_tableau.specs.Quantities.{RowsHold, SolvesWithSlacks, NameUnknowns, slack_sum};
+    ghost use Rattle.sv_linear.specs.Rows.{NameUnknowns};
+    ghost use Rattle.lia_tableau.specs.Quantities.{RowsHold, SolvesWithSlacks, slack_sum};
     ghost use Rattle.lia_tableau.specs.Bases.{IsRowAt, LinesHold, IsSlackBasis};
     ghost use Rattle.lia_tableau.specs.BasicPoints.{IsValueAt, IsPoint};
     ghost use Rattle.lia_tableau.specs.Shown.{IsStatus};

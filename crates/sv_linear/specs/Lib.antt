@@ -1,6 +1,7 @@
 pub mod Columns
 pub mod Combining
 pub mod Divisors
+pub mod EntryLaws
 pub mod Faults
 pub mod Forms
 pub mod Integers

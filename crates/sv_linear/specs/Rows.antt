@@ -1,5 +1,5 @@
 -- Rows over whole numbers: when values of their unknowns meet them, and how large their sums can grow.
-use Rattle.std.specs.Prelude.{◌≡◌, ℕ, ℤ, pos, ◌≤ℤ◌, ◌+◌, ◌*◌, ◌<◌, ◌^◌, unsigned_abs, List, [], ◌∷◌, ◌++◌, map, length, get_or}
+use Rattle.std.specs.Prelude.{◌≡◌, ℕ, ℤ, pos, ◌≤ℤ◌, ◌+◌, ◌*◌, ◌<◌, ◌^◌, unsigned_abs, List, [], ◌∷◌, ◌++◌, map, length, get_or, Some, slice_get}
 use Rattle.std.specs.List.{AllByRecursion}
 use Rattle.sv_linear.specs.Combining.{IsSymmetric}
 use Rattle.sv_linear.specs.Forms.{form_value, entry}
@@ -36,6 +36,10 @@ HasSymmetricEntries f = (c : Column) → IsSymmetric (entry c f)
 pub record IsRowWithin (n : ℕ) (row : Row) : Type 0 where
   pub unknowns : AscendsWithin 0 n row.form.coefficients
   pub symmetric : HasSymmetricEntries row.form
+
+-- the rows name unknowns alone
+abbrev pub NameUnknowns : ℕ → List Row → Type 0
+NameUnknowns n rows = (i : ℕ) (r : Row) → slice_get rows i ≡ Some r → AscendsWithin 0 n r.form.coefficients
 
 -- the coefficients times the greatest amounts of their unknowns, without their signs, added up
 abbrev pub terms_weight : (ℕ → ℕ) → List (ℕ × ℤ) → ℕ
