@@ -113,3 +113,38 @@ divisor_closed nets rows ms d t = closed nets rows _ (Tree-F.Divisor ms d) (v.ro
 
 pub open_opened : (nets : List Net) (rows : List Constraint) → Told nets rows v.Open → ⊥
 open_opened nets rows t = (opened nets rows _ Tree-F.Open v.rolls-Open t).0
+
+-- a node that meets its rule, of any variant
+rule_met : (of_open : Closing) (nets : List Net) (rows : List Constraint) (tree : Tree) (x : Tree-F Tree) → roll-Tree x ≡ tree → NodeRule of_open (said_by of_open) x nets rows → said_by of_open tree nets rows
+rule_met of_open nets rows tree x e h = subst (λ (L : Closing). L nets rows) (sym (ap (said_by of_open) (sym e) ∙ said-roll of_open x)) h
+
+fits_met : (nets : List Net) (rows : List Constraint) (tree : Tree) (x : Tree-F Tree) → roll-Tree x ≡ tree → FitsLayer fitting_of x nets rows → RowsFit nets rows tree
+fits_met nets rows tree x e h = subst (λ (L : Fitting). L nets rows) (sym (ap fitting_of (sym e) ∙ fitting-roll x)) h
+
+pub split_met : (of_open : Closing) (nets : List Net) (rows : List Constraint) (u : ℕ) (at : ℤ) (low high : Tree) → said_by of_open low nets (rows ++ at_most u at ∷ []) → said_by of_open high nets (rows ++ at_least u (at +ℤ pos 1) ∷ []) →
+    said_by of_open (v.Split u at low high) nets rows
+split_met of_open nets rows u at low high l h = rule_met of_open nets rows _ (Tree-F.Split u at low high) (v.rolls-Split u at low high) (l, h)
+
+pub split_fits : (nets : List Net) (rows : List Constraint) (u : ℕ) (at : ℤ) (low high : Tree) → FitsSigned w128 (neg_ℤ at) → FitsSigned w128 (at +ℤ pos 1) →
+    RowsFit nets (rows ++ at_most u at ∷ []) low → RowsFit nets (rows ++ at_least u (at +ℤ pos 1) ∷ []) high → RowsFit nets rows (v.Split u at low high)
+split_fits nets rows u at low high m p l h = fits_met nets rows _ (Tree-F.Split u at low high) (v.rolls-Split u at low high) (m, (p, (l, h)))
+
+pub set_split_met : (of_open : Closing) (nets : List Net) (rows : List Constraint) (i : ℕ) (states : List ℕ) (none some : Tree) (net : Net) → slice_get nets i ≡ Some net → (contains_number net.start states ≡ true → ⊥) →
+    said_by of_open none nets (rows ++ none_out net states ∷ []) → said_by of_open some nets (rows ++ some_in net states ∷ []) → said_by of_open (v.SetSplit i states none some) nets rows
+set_split_met of_open nets rows i states none some net g c a b = rule_met of_open nets rows _ (Tree-F.SetSplit i states none some) (v.rolls-SetSplit i states none some) (net, (g, (c, (a, b))))
+
+pub set_split_fits : (nets : List Net) (rows : List Constraint) (i : ℕ) (states : List ℕ) (none some : Tree) →
+    ((net : Net) → slice_get nets i ≡ Some net → RowsFit nets (rows ++ none_out net states ∷ []) none × RowsFit nets (rows ++ some_in net states ∷ []) some) → RowsFit nets rows (v.SetSplit i states none some)
+set_split_fits nets rows i states none some h = fits_met nets rows _ (Tree-F.SetSplit i states none some) (v.rolls-SetSplit i states none some) h
+
+pub farkas_met : (of_open : Closing) (nets : List Net) (rows : List Constraint) (ms : List (ℕ × ℤ)) → FarkasRule rows ms → said_by of_open (v.Farkas ms) nets rows
+farkas_met of_open nets rows ms h = rule_met of_open nets rows _ (Tree-F.Farkas ms) (v.rolls-Farkas ms) h
+
+pub farkas_fits : (nets : List Net) (rows : List Constraint) (ms : List (ℕ × ℤ)) → LeafFits rows ms → RowsFit nets rows (v.Farkas ms)
+farkas_fits nets rows ms h = fits_met nets rows _ (Tree-F.Farkas ms) (v.rolls-Farkas ms) h
+
+pub divisor_met : (of_open : Closing) (nets : List Net) (rows : List Constraint) (ms : List (ℕ × ℤ)) (d : ℤ) → DivisorRule rows ms d → said_by of_open (v.Divisor ms d) nets rows
+divisor_met of_open nets rows ms d h = rule_met of_open nets rows _ (Tree-F.Divisor ms d) (v.rolls-Divisor ms d) h
+
+pub divisor_fits : (nets : List Net) (rows : List Constraint) (ms : List (ℕ × ℤ)) (d : ℤ) → LeafFits rows ms → RowsFit nets rows (v.Divisor ms d)
+divisor_fits nets rows ms d h = fits_met nets rows _ (Tree-F.Divisor ms d) (v.rolls-Divisor ms d) h

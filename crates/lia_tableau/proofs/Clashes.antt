@@ -11,8 +11,8 @@ use Rattle.lia_tableau.specs.BasicPoints.{IsPoint}
 use Rattle.lia_tableau.specs.Shown.{Breaks, Mends}
 use Rattle.lia_tableau.specs.declared.standing.Standing.{Standing}
 use Rattle.lia_tableau.specs.PointLaws.{point_exists}
-use Rattle.lia_tableau.specs.LineLaws.{standing_of, held, other_outside, line_value}
-use Rattle.lia_tableau.proofs.Signs.{broken_constant, ValueBy, through_zero, gone_sign, lesser_sign, come_sign}
+use Rattle.lia_tableau.specs.LineLaws.{standing_of, held, other_outside, line_value, broken_constant}
+use Rattle.lia_tableau.proofs.Signs.{ValueBy, through_zero, gone_sign, lesser_sign, come_sign}
 use Rattle.sv_linear.specs.TermLaws.{signs, term_here}
 use Rattle.lia_tableau.proofs.Soundness.{no_sum}
 

@@ -7,11 +7,6 @@ use Rattle.lia_tableau.specs.Shown.{Breaks, CanMend}
 use Rattle.lia_tableau.specs.declared.bound.Bound.{Bound}
 use Rattle.lia_tableau.specs.declared.bound.Bound.TheVariants.{Free, NotNegative, Fixed}
 
-pub broken_constant : (b : Bound) (f : Form) → Breaks b f → f.constant ≢ pos 0
-broken_constant Free f h = absurd h
-broken_constant NotNegative f h = λ e. omega (arith, ints, h)
-broken_constant Fixed f h = h
-
 both_negative : (a b : ℤ) → a <ℤ pos 0 → b <ℤ pos 0 → pos 0 ≤ℤ (a *ℤ b)
 both_negative a b p q =
     let k = mul_not_negative (neg_ℤ a) (neg_ℤ b) (omega (arith, ints)) (omega (arith, ints)) in

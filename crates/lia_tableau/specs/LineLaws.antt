@@ -13,6 +13,10 @@ use Rattle.sv_linear.specs.Integers.{mul-add, add-mul, mul-neg, zero_times}
 use Rattle.sv_linear.specs.declared.row.Row.{Row}
 use Rattle.lia_tableau.specs.Bases.{is_basic, IsLine, IsOutside, IsRowAt, IsTableau, basics_below}
 use Rattle.lia_tableau.specs.BasicPoints.{IsPoint}
+use Rattle.lia_tableau.specs.Shown.{Breaks}
+use Rattle.lia_tableau.specs.declared.bound.Bound.{Bound}
+use Rattle.lia_tableau.specs.declared.bound.Bound.TheVariants.{Free, NotNegative, Fixed}
+use Rattle.sv_linear.specs.declared.form.Form.{Form}
 use Rattle.lia_tableau.specs.Quantities.{RowsHold, slack_sum}
 use Rattle.lia_tableau.specs.declared.standing.Standing.{Standing}
 use Rattle.lia_tableau.specs.declared.standing.Standing.TheVariants.{Outside, Basic}
@@ -178,3 +182,8 @@ line_is_sum n rows lines t w q f l x d =
     let zero_line = (t.same (extended n rows x d) d).1 (rows_hold n rows x d w) q f l in
     let all = sum_is n rows x d f.form.coefficients (λ k s e. subst (λ m. s.0 < m) t.size (term_within n rows lines t q f l k s e)) in
     omega (arith, ints, zero_line, all)
+
+pub broken_constant : (b : Bound) (f : Form) → Breaks b f → f.constant ≢ pos 0
+broken_constant Free f h = absurd h
+broken_constant NotNegative f h = λ e. omega (arith, ints, h)
+broken_constant Fixed f h = h
