@@ -2,7 +2,8 @@ pub mod Children
 pub mod Combining
 pub mod Counting
 pub mod Covering
+pub mod LeafSums
 pub mod Multiples
-pub mod Nodes
 pub mod Soundness
 pub mod Summing
+pub mod TestRows

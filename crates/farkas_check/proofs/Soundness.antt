@@ -10,8 +10,8 @@ use Rattle.farkas_check.specs.declared.net.NetEdge.{NetEdge}
 use Rattle.farkas_check.specs.declared.tree.Tree.{Tree, roll-Tree}
 use Rattle.farkas_check.specs.declared.tree.Tree.TheFolds.{ind-Tree, map-Tree}
 use Rattle.farkas_check.specs.declared.tree.Tree.TheOpen.{Tree-F}
-use Rattle.farkas_check.proofs.Nodes.{closing-roll}
-use Rattle.farkas_check.specs.Closings.{contains_number, edges_out, edges_in, FarkasRule, DivisorRule, at_most, at_least, none_out, some_in, Closing, ClosesLayer, closing_of, ClosesRows}
+use Rattle.farkas_check.specs.NodeLaws.{said-roll}
+use Rattle.farkas_check.specs.Closings.{contains_number, edges_out, edges_in, FarkasRule, DivisorRule, at_most, at_least, none_out, some_in, Closing, NodeRule, said_by, never, ClosesRows}
 use Rattle.std.specs.Prelude.{All, Some, slice_get}
 use Rattle.farkas_check.proofs.Combining.{MeetsAll, IsIdeal, value_in_ideal, all_terms, coefficient-all_terms, value-all_terms, combined_value, combined_at_most, combined_equal}
 
@@ -167,37 +167,37 @@ held_at P [] i net all e = absurd (cc)
 held_at P (n ∷ ns) zero net all e = let same : n ≡ net = cc in subst P same (all zero n (omega arith))
 held_at P (n ∷ ns) (suc i) net all e = held_at P ns i net (λ k d h. all (suc k) d (omega arith)) e
 
-coe_closing : (x : Tree-F Tree) (n : ℕ) (nets : List Net) (rows : List Constraint) → closing_of (roll-Tree x) n nets rows → ClosesLayer closing_of x n nets rows
-coe_closing x n nets rows c = subst (λ (L : Closing). L n nets rows) (closing-roll x) c
+coe_closing : (x : Tree-F Tree) (nets : List Net) (rows : List Constraint) → said_by never (roll-Tree x) nets rows → NodeRule never (said_by never) x nets rows
+coe_closing x nets rows c = subst (λ (L : Closing). L nets rows) (said-roll never x) c
 
 -- no values meet the rows and join the nets
 abbrev IsUnsolved : List Net → List Constraint → Type 0
 IsUnsolved nets rows = (x : ℕ → ℤ) → MeetsAll x rows → All (Joined x) nets → ⊥
 
 abbrev IsSound : Tree → Type 0
-IsSound tree = (n : ℕ) (nets : List Net) (rows : List Constraint) → ClosesRows n nets rows tree → IsUnsolved nets rows
+IsSound tree = (nets : List Net) (rows : List Constraint) → ClosesRows nets rows tree → IsUnsolved nets rows
 
 -- a tree that is sound
 abbrev Sound : Type 0
 Sound = (tree : Tree) × IsSound tree
 
-layer_sound : (y : Tree-F Sound) (n : ℕ) (nets : List Net) (rows : List Constraint) → ClosesLayer closing_of (map-Tree Sound Tree (λ e. e.0) y) n nets rows → IsUnsolved nets rows
-layer_sound (Tree-F.Split u at low high) n nets rows c x meets joined =
+layer_sound : (y : Tree-F Sound) (nets : List Net) (rows : List Constraint) → NodeRule never (said_by never) (map-Tree Sound Tree (λ e. e.0) y) nets rows → IsUnsolved nets rows
+layer_sound (Tree-F.Split u at low high) nets rows c x meets joined =
     ⊎_elim
-    (λ h. low.1 n nets (rows ++ at_most u at ∷ []) c.1.0 x (meets_more x rows (at_most u at) meets (meets_at_most x u at h)) joined)
-    (λ h. high.1 n nets (rows ++ at_least u (at +ℤ pos 1) ∷ []) c.1.1 x (meets_more x rows (at_least u (at +ℤ pos 1)) meets (meets_at_least x u (at +ℤ pos 1) h)) joined)
+    (λ h. low.1 nets (rows ++ at_most u at ∷ []) c.0 x (meets_more x rows (at_most u at) meets (meets_at_most x u at h)) joined)
+    (λ h. high.1 nets (rows ++ at_least u (at +ℤ pos 1) ∷ []) c.1 x (meets_more x rows (at_least u (at +ℤ pos 1)) meets (meets_at_least x u (at +ℤ pos 1) h)) joined)
     (split_either (x u) at)
-layer_sound (Tree-F.SetSplit i states none some) n nets rows c x meets joined =
+layer_sound (Tree-F.SetSplit i states none some) nets rows c x meets joined =
     let net = c.0 in
     ⊎_elim
-    (λ m. none.1 n nets (rows ++ none_out net states ∷ []) c.1.1.1.0 x (meets_more x rows (none_out net states) meets m) joined)
-    (λ m. some.1 n nets (rows ++ some_in net states ∷ []) c.1.1.1.1 x (meets_more x rows (some_in net states) meets m) joined)
+    (λ m. none.1 nets (rows ++ none_out net states ∷ []) c.1.1.1.0 x (meets_more x rows (none_out net states) meets m) joined)
+    (λ m. some.1 nets (rows ++ some_in net states ∷ []) c.1.1.1.1 x (meets_more x rows (some_in net states) meets m) joined)
     (cut_either x net states c.1.1.0 (held_at (Joined x) nets i net joined c.1.0))
-layer_sound (Tree-F.Farkas ms) n nets rows c x meets joined = farkas_sound x rows ms c meets
-layer_sound (Tree-F.Divisor ms d) n nets rows c x meets joined = divisor_sound x rows ms d c meets
-layer_sound Tree-F.Open n nets rows c x meets joined = absurd c
+layer_sound (Tree-F.Farkas ms) nets rows c x meets joined = farkas_sound x rows ms c meets
+layer_sound (Tree-F.Divisor ms d) nets rows c x meets joined = divisor_sound x rows ms d c meets
+layer_sound Tree-F.Open nets rows c x meets joined = absurd c
 
-pub closes_sound : (tree : Tree) (n : ℕ) (nets : List Net) (rows : List Constraint) → ClosesRows n nets rows tree → (x : ℕ → ℤ) → MeetsAll x rows → All (Joined x) nets → ⊥
-closes_sound = ind-Tree IsSound (λ x y is n nets rows c.
-    let sound = subst (λ z. ClosesLayer closing_of z n nets rows → IsUnsolved nets rows) is (layer_sound y n nets rows) in
-    sound (coe_closing x n nets rows c))
+pub closes_sound : (tree : Tree) (nets : List Net) (rows : List Constraint) → ClosesRows nets rows tree → (x : ℕ → ℤ) → MeetsAll x rows → All (Joined x) nets → ⊥
+closes_sound = ind-Tree IsSound (λ x y is nets rows c.
+    let sound = subst (λ z. NodeRule never (said_by never) z nets rows → IsUnsolved nets rows) is (layer_sound y nets rows) in
+    sound (coe_closing x nets rows c))

@@ -76,28 +76,39 @@ none_out net set = record { terms = edges_out set net.edges (pos 1); constant = 
 abbrev pub some_in : Net → List ℕ → Constraint
 some_in net set = record { terms = edges_in set net.edges (neg_ℤ (pos 1)); constant = pos 1; equal = false }
 
--- a case: the rows of a node, where n unknowns and these nets are the system's
+-- what is said of a node's rows, where these nets are the system's
 abbrev pub Closing : Type 1
-Closing = ℕ → List Net → List Constraint → Type 0
+Closing = List Net → List Constraint → Type 0
 
--- when a node closes its rows, by when its children close theirs
-abbrev pub ClosesLayer : {X : Type 0} → (X → Closing) → Tree-F X → Closing
-ClosesLayer closes (Tree-F.Split u at low high) n nets rows =
-    (u < n) × (closes low n nets (rows ++ at_most u at ∷ []) × closes high n nets (rows ++ at_least u (at +ℤ pos 1) ∷ []))
-ClosesLayer closes (Tree-F.SetSplit i states none some) n nets rows =
+-- a node meets its rule, by what is said of its children, and of an open leaf
+abbrev pub NodeRule : Closing → {X : Type 0} → (X → Closing) → Tree-F X → Closing
+NodeRule of_open said (Tree-F.Split u at low high) nets rows =
+    said low nets (rows ++ at_most u at ∷ []) × said high nets (rows ++ at_least u (at +ℤ pos 1) ∷ [])
+NodeRule of_open said (Tree-F.SetSplit i states none some) nets rows =
     ((net : Net) × ((slice_get nets i ≡ Some net) × ((contains_number net.start states ≡ true → ⊥) ×
-    (closes none n nets (rows ++ none_out net states ∷ []) × closes some n nets (rows ++ some_in net states ∷ [])))))
-ClosesLayer closes (Tree-F.Farkas ms) n nets rows = FarkasRule rows ms
-ClosesLayer closes (Tree-F.Divisor ms d) n nets rows = DivisorRule rows ms d
-ClosesLayer closes Tree-F.Open n nets rows = ⊥
+    (said none nets (rows ++ none_out net states ∷ []) × said some nets (rows ++ some_in net states ∷ [])))))
+NodeRule of_open said (Tree-F.Farkas ms) nets rows = FarkasRule rows ms
+NodeRule of_open said (Tree-F.Divisor ms d) nets rows = DivisorRule rows ms d
+NodeRule of_open said Tree-F.Open nets rows = of_open nets rows
 
-unfoldable pub closing_of : Tree → Closing
-closing_of = rec-Tree Closing (λ X back inner layer. ClosesLayer inner layer)
+-- so each node of the tree does
+unfoldable pub said_by : Closing → Tree → Closing
+said_by of_open = rec-Tree Closing (λ X back inner layer. NodeRule of_open inner layer)
+
+abbrev pub never : Closing
+never nets rows = ⊥
+
+abbrev pub always : Closing
+always nets rows = Unit {0}
 
 -- the tree closes these rows
-abbrev pub ClosesRows : ℕ → List Net → List Constraint → Tree → Type 0
-ClosesRows n nets rows tree = closing_of tree n nets rows
+abbrev pub ClosesRows : List Net → List Constraint → Tree → Type 0
+ClosesRows nets rows tree = said_by never tree nets rows
 
 -- no leaf is open, and every node meets its rule
 abbrev pub Closes : System → Tree → Type 0
-Closes s tree = ClosesRows s.unknowns s.nets (rows_of s) tree
+Closes s tree = ClosesRows s.nets (rows_of s) tree
+
+-- every node that isn't an open leaf meets its rule
+abbrev pub MeetsRules : System → Tree → Type 0
+MeetsRules s tree = said_by always tree s.nets (rows_of s)

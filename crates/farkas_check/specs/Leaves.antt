@@ -1,14 +1,14 @@
 -- What is asked of a leaf: its rows, its multipliers, and its sums.
-use Rattle.std.specs.Prelude.{ℤ, List}
+use Rattle.std.specs.Prelude.{ℤ, List, ◌++◌, map}
 use Rattle.sv_linear.specs.declared.column.Column.{Column}
-use Rattle.farkas_check.specs.Systems.{Constraint}
-use Rattle.farkas_check.specs.Branches.{node_rows}
+use Rattle.farkas_check.specs.Systems.{Constraint, constraint_of}
+use Rattle.farkas_check.specs.Branches.{constraints_above}
 use Rattle.farkas_check.specs.Closings.{Allowed, OfEquations}
 use Rattle.farkas_check.specs.Fitting.{IsMultipleAt}
 use Rattle.farkas_check.specs.declared.leaf.Leaf.{Leaf}
 
 abbrev pub leaf_rows : Leaf → List Constraint
-leaf_rows l = node_rows l.system.now l.above.now
+leaf_rows l = map constraint_of l.rows.now ++ constraints_above l.above.now
 
 abbrev pub IsAllowed : Leaf → Type 0
 IsAllowed l = Allowed 0 (leaf_rows l) l.multipliers.now

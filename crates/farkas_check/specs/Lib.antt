@@ -3,5 +3,8 @@ pub mod Closings
 pub mod Columns
 pub mod Cuts
 pub mod Fitting
+pub mod LeafTests
 pub mod Leaves
+pub mod NodeLaws
+pub mod RowLaws
 pub mod Systems

@@ -25,7 +25,7 @@ pub fn closes(system: &System, tree: &Tree) -> bool
 }
 
 fn closes_below(tree: &Tree, system: &System, above: &Above) -> bool
-    ensures { IsTrue result ↔ (ClosesRows system.now.unknowns system.now.nets (node_rows system.now above.now) tree.now × RowsFit system.now.nets (node_rows system.now above.now) tree.now) }
+    ensures { IsTrue result ↔ (ClosesRows system.now.nets (node_rows system.now above.now) tree.now × RowsFit system.now.nets (node_rows system.now above.now) tree.now) }
 {
     match tree {
         Tree::Split {
@@ -34,9 +34,6 @@ fn closes_below(tree: &Tree, system: &System, above: &Above) -> bool
             low,
             high,
         } => {
-            if *unknown >= system.unknowns {
-                return false;
-            }
             let Some(minus) = at.checked_neg() else {
                 return false;
             };
@@ -73,7 +70,7 @@ fn closes_below(tree: &Tree, system: &System, above: &Above) -> bool
                 && closes_below(some.get(), system, &Above::More(entering, &*above))
         }
         Tree::Farkas { multipliers } => is_farkas(&Leaf {
-            system: &*system,
+            rows: system.rows.as_slice(),
             above: &*above,
             multipliers: multipliers.as_slice(),
         }),
@@ -82,7 +79,7 @@ fn closes_below(tree: &Tree, system: &System, above: &Above) -> bool
             divisor,
         } => is_divisor(
             &Leaf {
-                system: &*system,
+                rows: system.rows.as_slice(),
                 above: &*above,
                 multipliers: multipliers.as_slice(),
             },

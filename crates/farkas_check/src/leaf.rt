@@ -11,13 +11,12 @@ ghost use Rattle.sv_linear.specs.declared.column.Column.TheVariants.{Unknown};
 use crate::above::{Above, find_branch};
 use crate::branch::Branch;
 use crate::net::NetEdge;
-use crate::system::System;
 use sv_linear::{Column, Row, RowKind};
 
-/// A leaf's rows, which are the system's and then those of the branches above it, and their multipliers.
+/// A leaf's rows, which are some rows and then those of the branches above it, and their multipliers.
 #[derive(Clone, Copy)]
 pub struct Leaf<'a> {
-    pub system: &'a System,
+    pub rows: &'a [Row],
     pub above: &'a Above<'a>,
     pub multipliers: &'a [(u32, i128)],
 }
@@ -93,7 +92,7 @@ impl Leaf<'_> {
         ensures forth { IsTrue result → All (λ t. HasMultipleAt self.now divisor (Unknown t.0)) (get_or (leaf_rows self.now) row no_constraint).terms }
         ensures back { ((u : ℕ) → HasMultipleAt self.now divisor (Unknown u)) → IsTrue result }
     {
-        let rows = self.system.rows.as_slice();
+        let rows = self.rows;
         let place = row as usize;
         if place < rows.len() {
             return self.are_multiples_in_terms(rows[place].form.coefficients.as_slice(), divisor);
@@ -167,7 +166,7 @@ impl Leaf<'_> {
     fn entry(&self, row: u32, column: Column) -> Option<i128>
         ensures { SomeIff result (row < length (leaf_rows self.now)) (part_at column (get_or (leaf_rows self.now) row no_constraint)) }
     {
-        let rows = self.system.rows.as_slice();
+        let rows = self.rows;
         let place = row as usize;
         if place < rows.len() {
             Some(row_entry(&rows[place], column))
@@ -182,7 +181,7 @@ impl Leaf<'_> {
     fn is_equation(&self, row: u32) -> Option<bool>
         ensures { SomeIff result (row < length (leaf_rows self.now)) (get_or (leaf_rows self.now) row no_constraint).equal }
     {
-        let rows = self.system.rows.as_slice();
+        let rows = self.rows;
         let place = row as usize;
         if place < rows.len() {
             Some(matches!(rows[place].kind, RowKind::Eq))

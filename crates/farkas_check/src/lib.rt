@@ -9,7 +9,8 @@
 //! `closes` takes no memory and copies no row: the rows of the branches stand on a borrowed stack. A leaf
 //! costs the number of terms in the rows that it names, times the number of its multipliers, times a
 //! binary search in a row of the system, or a walk up the branches and over the net's edges for a row of
-//! a branch.
+//! a branch. `test_farkas` and `test_divisor` judge one leaf over given rows, with memory for the sum and one
+//! merge a multiplier, and name the first column whose sum leaves 128 bits.
 //!
 //! ```text
 //! // -2 x + 1 <= 0 and x <= 0: the first and twice the second add up to 1 <= 0.
@@ -22,7 +23,10 @@ mod above;
 mod branch;
 mod checker;
 mod cutter;
+mod laws;
 mod leaf;
+mod leaf_sum;
+mod leaf_test;
 mod net;
 mod rules;
 mod system;
@@ -32,6 +36,8 @@ mod tree;
 
 pub use checker::closes;
 pub use cutter::Cutter;
+pub use laws::{leaf_tests_agree, rows_are_constraints};
+pub use leaf_test::{LeafTest, test_divisor, test_farkas};
 pub use net::{Net, NetEdge};
 pub use system::System;
 pub use tree::Tree;

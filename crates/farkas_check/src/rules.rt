@@ -7,7 +7,7 @@ use crate::leaf::{Leaf, is_multiple};
 use sv_linear::Column;
 
 /// The least number that the coefficients of a sum may be divided by.
-const LEAST_DIVISOR: i128 = 2;
+pub(crate) const LEAST_DIVISOR: i128 = 2;
 
 /// Whether the multiplied rows add up to a constant above 0.
 pub fn is_farkas(leaf: &Leaf) -> bool

@@ -1,7 +1,11 @@
-use crate::{Cutter, Net, NetEdge, System, Tree, closes};
+ghost use Rattle.std.specs.Prelude.{IfOk, IsTrue};
+ghost use Rattle.sv_linear.specs.Terms.{AscendsWithin};
+ghost use Rattle.sv_linear.specs.Rows.{NameUnknowns};
+
+use crate::{Cutter, LeafTest, Net, NetEdge, System, Tree, closes, test_divisor, test_farkas};
 use std::alloc::{AllocError, Global};
 use std::test::Fail;
-use sv_linear::{Form, Row, RowKind};
+use sv_linear::{Column, Form, Row, RowKind};
 use sv_list::{Boxed, Items};
 
 const MAX: i128 = i128::MAX;
@@ -19,6 +23,30 @@ fn rows_of(alloc: Global, table: &[Entries]) -> Result<Items<Row>, Fail> {
             form: terms.add(alloc, &Form::of_constant(alloc, *constant))?,
             kind: *kind,
         })?;
+    }
+    Ok(rows)
+}
+
+/// Whether the form names unknowns below `unknowns` alone.
+fn names_below(form: &Form, unknowns: u32) -> bool
+    ensures { IsTrue result → AscendsWithin 0 unknowns form.now.coefficients }
+{
+    for (unknown, _) in form.coefficients.as_slice() {
+        if *unknown >= unknowns {
+            return false;
+        }
+    }
+    true
+}
+
+/// The rows, which are to name unknowns below `unknowns` alone.
+fn named(rows: &[Row], unknowns: u32) -> Result<&[Row], Fail>
+    ensures { IfOk result (λ rows. NameUnknowns unknowns rows.now) }
+{
+    for row in rows {
+        if !names_below(&row.form, unknowns) {
+            return Err(Fail::new("an unknown too many"));
+        }
     }
     Ok(rows)
 }
@@ -66,24 +94,6 @@ fn system_of(alloc: Global, unknowns: u32, rows: Items<Row>) -> System {
         rows,
         nets: Items::new(alloc),
     }
-}
-
-/// Certificates as they are printed, of systems with unknowns x and y.
-#[test]
-fn certificates(rt: HostRuntime) -> Result<(), Fail> {
-    let alloc = rt.alloc();
-    let halved = [(RowKind::Le, 1, -2, 0), (RowKind::Le, 0, 1, 0)];
-    let system = system_of(alloc, 1, rows_of(alloc, halved.as_slice())?);
-    for (multipliers, closed) in [([(0, 1), (1, 2)], true), ([(0, 1), (1, 1)], false)] {
-        assert_eq!(rt;
-            closes(&system, &farkas(alloc, multipliers.as_slice())?),
-            closed
-        );
-    }
-    let odd = [(RowKind::Eq, -1, 2, -2)];
-    let system = system_of(alloc, 2, rows_of(alloc, odd.as_slice())?);
-    assert!(rt; closes(&system, &divisor(alloc, 2, [(0, 1)].as_slice())?));
-    Ok(())
 }
 
 /// Leaves of one system over x and y: each rule met, and just not met.
@@ -135,6 +145,39 @@ fn leaves(rt: HostRuntime) -> Result<(), Fail> {
         assert_eq!(rt; closes(&system, &tree), closed, "{by} {multipliers:?}");
     }
     assert!(rt; !closes(&system, &Tree::Open));
+    Ok(())
+}
+
+/// Single leaves over rows, named by their first column past 128 bits.
+#[test]
+fn single_leaves(rt: HostRuntime) -> Result<(), Fail> {
+    let alloc = rt.alloc();
+    let table = [
+        (RowKind::Le, 1, -2, 0),
+        (RowKind::Le, 0, 1, 0),
+        (RowKind::Eq, -1, 2, -2),
+        (RowKind::Le, 1, 0, MAX),
+    ];
+    let rows = rows_of(alloc, table.as_slice())?;
+    for (multipliers, told) in [
+        ([(0, 1), (1, 2)], LeafTest::Closes),
+        ([(0, 1), (1, 1)], LeafTest::Fails),
+        ([(0, 1), (0, 1)], LeafTest::Fails),
+        ([(1, MAX), (3, 2)], LeafTest::Past(Column::Unknown(1))),
+        ([(1, MAX), (2, 1)], LeafTest::Past(Column::Unknown(0))),
+    ] {
+        let got = test_farkas(alloc, 2, named(rows.as_slice(), 2)?, multipliers.as_slice())?;
+        assert_eq!(rt; got, told, "{multipliers:?}");
+    }
+    for (by, told) in [
+        (2, LeafTest::Closes),
+        (3, LeafTest::Fails),
+        (1, LeafTest::Fails),
+    ] {
+        let rows = named(rows.as_slice(), 2)?;
+        let got = test_divisor(alloc, 2, rows, [(2, 1)].as_slice(), by)?;
+        assert_eq!(rt; got, told, "{by}");
+    }
     Ok(())
 }
 
@@ -227,7 +270,7 @@ fn leaning_tree(alloc: Global, low_at_even: bool, low_at_odd: bool) -> Result<Tr
 fn deep_trees(rt: HostRuntime) -> Result<(), Fail> {
     let alloc = rt.alloc();
     let never = [(RowKind::Le, 1, 0, 0)];
-    let system = system_of(alloc, 1, rows_of(alloc, never.as_slice())?);
+    let system = system_of(alloc, 0, rows_of(alloc, never.as_slice())?);
     for (even, odd) in [(true, true), (true, false), (false, false)] {
         let tree = leaning_tree(alloc, even, odd)?;
         assert!(rt; closes(&system, &tree), "{even} {odd}");

@@ -17,9 +17,7 @@
 //!
 //! ```text
 //! let mut tableau = Tableau::new(alloc, rows.as_slice(), 2)?;   // over the unknowns 0 and 1
-//! while tableau.status() == Status::Due {
-//!     tableau.pivot(alloc)?;
-//! }
+//! settle(alloc, &mut tableau)?;                                 // no pivot is due any more
 //! let (numerator, denominator) = tableau.value(0);
 //! ```
 #![tactic(auto)]
@@ -28,7 +26,9 @@ mod bound;
 mod changes;
 mod crossing;
 mod fault;
+mod laws;
 mod lines;
+mod settling;
 mod shown;
 mod standing;
 mod status;
@@ -41,7 +41,10 @@ mod verdict;
 
 pub use bound::Bound;
 pub use fault::TableauFault;
+pub use laws::{bases_are_formed, no_basis_comes_twice};
+pub use settling::settle;
 pub use standing::Standing;
 pub use status::Status;
 pub use table::Table;
 pub use tableau::Tableau;
+pub use terms::unknowns_divisor;

@@ -1,7 +1,8 @@
 ghost use Rattle.std.specs.Prelude.{◌≡◌, ◌<◌, ◌^◌, [], ◌∷◌, ◌++◌, length, replicate, IfOk, MatchResult};
-ghost use Rattle.lia_tableau.specs.Bases.{HasSymmetricEntries, IsTableau};
+ghost use Rattle.lia_tableau.specs.Bases.{IsTableau};
 ghost use Rattle.lia_tableau.specs.Verdicts.{AreVerdicts};
 ghost use Rattle.lia_tableau.specs.declared.standing.Standing.TheVariants.{Outside, Basic};
+ghost use Rattle.sv_linear.specs.Rows.{HasSymmetricEntries, IsRowWithin};
 
 use crate::changes::{apply_changes, changes_of, put_row};
 use crate::crossing::{turned, without};
@@ -47,13 +48,14 @@ impl Tableau {
     ghost use Rattle.sv_linear.specs.Forms.{form_value};
     ghost use Rattle.sv_linear.specs.declared.row.Row.{Row};
     ghost use Rattle.sv_linear.specs.declared.row.RowKind.TheVariants.{Eq};
-    ghost use Rattle.lia_tableau.specs.Quantities.{RowsHold, Solves};
+    ghost use Rattle.sv_linear.specs.Rows.{NameUnknowns};
+    ghost use Rattle.lia_tableau.specs.Quantities.{RowsHold, SolvesWithSlacks, slack_sum};
     ghost use Rattle.lia_tableau.specs.Bases.{IsRowAt, LinesHold, IsSlackBasis};
     ghost use Rattle.lia_tableau.specs.BasicPoints.{IsValueAt, IsPoint};
     ghost use Rattle.lia_tableau.specs.Shown.{IsStatus};
     ghost use Rattle.lia_tableau.specs.Crossing.{IsPast, IsMemory};
     ghost use Rattle.lia_tableau.specs.Pivoting.{IsPivoted, IsPastPivot};
-    ghost use Rattle.lia_tableau.specs.Adding.{IsRowWithin, IsPutOut, IsRowAdded, IsPastRow};
+    ghost use Rattle.lia_tableau.specs.Adding.{IsPutOut, IsRowAdded, IsPastRow};
     ghost use Rattle.lia_tableau.specs.declared.status.Status.TheVariants.{Divisor, Conflict, Point, Due};
     ghost use Rattle.lia_tableau.specs.declared.standing.Standing.TheVariants.{Basic};
 
@@ -108,6 +110,13 @@ impl Tableau {
         Ok(())
     }
 
+    /// The rows, in the order in which they were added.
+    pub fn rows(&self) -> &[Row]
+        ensures { result.now ≡ self.now.rows }
+    {
+        self.table.rows.as_slice()
+    }
+
     /// How many pivots have been made.
     pub fn pivots(&self) -> u64
         ensures { result ≡ self.now.pivots }
@@ -119,9 +128,9 @@ impl Tableau {
     /// row at the most; takes no memory.
     pub fn status(&self) -> Status
         ensures shows { IsStatus self.now result }
-        ensures no_whole { (k : ℕ) → result ≡ Divisor k → (x : ℕ → ℤ) → Solves self.now.unknowns self.now.rows x (pos 1) → ⊥ }
-        ensures no_rational { (k : ℕ) → result ≡ Conflict k → (x : ℕ → ℤ) (d : ℤ) → pos 0 <ℤ d → Solves self.now.unknowns self.now.rows x d → ⊥ }
-        ensures meets { result ≡ Point → (x : ℕ → ℤ) (d : ℤ) → IsPoint self.now.lines x d → Solves self.now.unknowns self.now.rows x d }
+        ensures no_whole { (k : ℕ) → result ≡ Divisor k → (x : ℕ → ℤ) → SolvesWithSlacks self.now.unknowns self.now.rows x (pos 1) → ⊥ }
+        ensures no_rational { (k : ℕ) → result ≡ Conflict k → (x : ℕ → ℤ) (d : ℤ) → pos 0 <ℤ d → SolvesWithSlacks self.now.unknowns self.now.rows x d → ⊥ }
+        ensures meets { result ≡ Point → (x : ℕ → ℤ) (d : ℤ) → IsPoint self.now.lines x d → SolvesWithSlacks self.now.unknowns self.now.rows x d }
     {
         if let Some(found) = least_row(&self.table, self.verdicts.as_slice(), Sought::Divisor) {
             return Status::Divisor(found.place);
@@ -155,6 +164,7 @@ impl Tableau {
         ensures row { (q : ℕ) × IsRowAt self.now.lines at q result.now }
         ensures equation { result.now.kind ≡ Eq }
         ensures holds { (x : ℕ → ℤ) (d : ℤ) → RowsHold self.now.unknowns self.now.rows x d → form_value x d result.now.form ≡ pos 0 }
+        ensures multipliers { NameUnknowns self.now.unknowns self.now.rows → (x : ℕ → ℤ) (d : ℤ) → form_value x d result.now.form ≡ slack_sum result.now.form.coefficients x d self.now.unknowns self.now.rows }
     {
         row_at(self.table.lines.as_slice(), at)
     }

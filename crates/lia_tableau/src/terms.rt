@@ -1,8 +1,8 @@
 ghost use Rattle.std.specs.Prelude.{◌≡◌, ◌≢◌, ℕ, ℤ, pos, ◌<◌, ◌≤◌, ◌^◌, ◌↔◌, IsTrue, MatchOption};
 ghost use Rattle.sv_linear.specs.Terms.{AscendsWithin};
-ghost use Rattle.lia_tableau.specs.Bases.{HasSymmetricEntries};
 ghost use Rattle.lia_tableau.specs.Quantities.{bound_of, bound_of_kind};
 ghost use Rattle.lia_tableau.specs.Shown.{HoldsEquationsAlone, IsUnknownsDivisor, ShowsDivisor, Breaks, CanMend, Mends, HaveOppositeSigns};
+ghost use Rattle.sv_linear.specs.Rows.{HasSymmetricEntries};
 
 use crate::bound::Bound;
 use sv_linear::{Form, Row, RowKind, gcd};
@@ -90,8 +90,9 @@ fn holds_equations_alone(unknowns: u32, rows: &[Row], form: &Form) -> bool
     true
 }
 
-/// The greatest common divisor of the unknowns' coefficients.
-fn unknowns_divisor(unknowns: u32, form: &Form) -> i128
+/// The greatest common divisor of the unknowns' coefficients in a row of a tableau, 0 where it holds none.
+/// Linear in the terms; takes no memory.
+pub fn unknowns_divisor(unknowns: u32, form: &Form) -> i128
     requires { HasSymmetricEntries form.now }
     ensures { (g : ℕ) × ((result ≡ pos g) × IsUnknownsDivisor unknowns form.now g) }
 {

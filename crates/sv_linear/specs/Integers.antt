@@ -1,5 +1,5 @@
 -- Products of whole numbers.
-use Rattle.std.proofs.Common.{◌≡◌, ◌*◌, ℤ, pos, neg_ℤ, ◌+ℤ◌, ◌-ℤ◌, ◌*ℤ◌, ◌≤ℤ◌, ◌<ℤ◌, unsigned_abs, ◌≤◌, ⊎_elim, arith, ap, sym, ◌∙◌}
+use Rattle.std.proofs.Common.{◌≡◌, ◌≢◌, zero, suc, ◌*◌, ℤ, pos, negsuc, neg_ℤ, ◌+ℤ◌, ◌-ℤ◌, ◌*ℤ◌, ◌≤ℤ◌, ◌<ℤ◌, unsigned_abs, ◌≤◌, ◌⊎◌, ⊎_elim, inl, inr, refl, arith, ap, sym, ◌∙◌}
 use Rattle.std.proofs.lemmas.Int.{ints, by_lt_z, unsigned_abs-mul}
 use Rattle.std.proofs.lemmas.Bool.{cases_lt}
 use Rattle.std.proofs.Math.Nat.{mul-le-mul_left}
@@ -65,3 +65,23 @@ pub product_positive : (a b : ℤ) → pos 0 <ℤ a → pos 0 <ℤ b → pos 0 <
 product_positive a b p q =
     let k = mul_le a (pos 1) b (omega (arith, ints)) (omega (arith, ints)) in
     omega (arith, ints)
+
+pub times_zero : (a b : ℤ) → b ≡ pos 0 → a *ℤ b ≡ pos 0
+times_zero a b e = ap (λ w. a *ℤ w) e ∙ omega (arith, ints)
+
+pub zero_times : (a b : ℤ) → a ≡ pos 0 → a *ℤ b ≡ pos 0
+zero_times a b e = ap (λ w. w *ℤ b) e ∙ omega (arith, ints)
+
+pub neg-mul : (a b : ℤ) → neg_ℤ a *ℤ b ≡ neg_ℤ (a *ℤ b)
+neg-mul a b = mul_comm (neg_ℤ a) b ∙ mul-neg b a ∙ ap neg_ℤ (mul_comm b a)
+
+pub zero_or : (z : ℤ) → (z ≡ pos 0) ⊎ (z ≢ pos 0)
+zero_or (pos zero) = inl refl
+zero_or (pos (suc n)) = inr (λ e. omega (arith, ints))
+zero_or (negsuc n) = inr (λ e. omega (arith, ints))
+
+pub square_positive : (c : ℤ) → c ≢ pos 0 → pos 0 <ℤ (c *ℤ c)
+square_positive c n =
+    by_lt_z (pos 0) c (λ h. product_positive c c h h)
+    (λ h. let m : pos 0 <ℤ neg_ℤ c = by_lt_z (pos 0) (neg_ℤ c) (λ k. k) (λ k. absurd (n (omega (arith, ints)))) in
+    omega (arith, ints, product_positive (neg_ℤ c) (neg_ℤ c) m m, mul-neg (neg_ℤ c) c, mul_comm (neg_ℤ c) c, mul-neg c c))

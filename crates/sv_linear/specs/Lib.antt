@@ -1,10 +1,13 @@
 pub mod Columns
 pub mod Combining
 pub mod Divisors
+pub mod EntryLaws
 pub mod Faults
 pub mod Forms
 pub mod Integers
 pub mod Meeting
 pub mod Points
 pub mod Quotients
+pub mod Rows
+pub mod TermLaws
 pub mod Terms

@@ -3,7 +3,8 @@ use Rattle.std.specs.Int.{w128}
 use Rattle.std.specs.Prelude.{All}
 use Rattle.std.proofs.lemmas.Int.{to_z-of_z}
 use Rattle.sv_linear.specs.declared.column.Column.TheVariants.{Unknown}
-use Rattle.farkas_check.specs.Branches.{node_rows, constraint_of_branch}
+use Rattle.farkas_check.specs.Branches.{constraint_of_branch}
+use Rattle.farkas_check.specs.Leaves.{leaf_rows}
 use Rattle.farkas_check.specs.Fitting.{IsMultipleAt}
 use Rattle.farkas_check.specs.declared.branch.Branch.{Branch}
 use Rattle.farkas_check.proofs.Covering.{out_named, in_named}
@@ -20,7 +21,7 @@ returns-in-AtLeast-clause-back c = λ h.
 pub returns-in-NoneOut-clause-forth : goal.returns-in-NoneOut-clause-forth
 returns-in-NoneOut-clause-forth c = λ told.
     let e = rw (to_z-of_z w128 c.args.divisor c.ranges.divisor, c.as_slice.ensures) at (c.are_multiples_in_edges.ensures.forth told) in
-    let P : ℕ → Type 0 = λ u. IsMultipleAt (node_rows c.args.self.now.system.now c.args.self.now.above.now) c.args.self.now.multipliers.now c.args.divisor (Unknown u) in
+    let P : ℕ → Type 0 = λ u. IsMultipleAt (leaf_rows c.args.self.now) c.args.self.now.multipliers.now c.args.divisor (Unknown u) in
     subst (λ (b : Branch). All (λ t. P t.0) (constraint_of_branch b).terms) (sym c.in-NoneOut.is) (out_named P c.in-NoneOut.set.now c.in-NoneOut.net.now.edges (pos 1) e)
 
 pub returns-in-NoneOut-clause-back : goal.returns-in-NoneOut-clause-back
@@ -29,7 +30,7 @@ returns-in-NoneOut-clause-back c = λ h. (rw (to_z-of_z w128 c.args.divisor c.ra
 pub returns-in-SomeIn-clause-forth : goal.returns-in-SomeIn-clause-forth
 returns-in-SomeIn-clause-forth c = λ told.
     let e = rw (to_z-of_z w128 c.args.divisor c.ranges.divisor, c.as_slice-in-SomeIn.ensures) at (c.are_multiples_in_edges-in-SomeIn.ensures.forth told) in
-    let P : ℕ → Type 0 = λ u. IsMultipleAt (node_rows c.args.self.now.system.now c.args.self.now.above.now) c.args.self.now.multipliers.now c.args.divisor (Unknown u) in
+    let P : ℕ → Type 0 = λ u. IsMultipleAt (leaf_rows c.args.self.now) c.args.self.now.multipliers.now c.args.divisor (Unknown u) in
     subst (λ (b : Branch). All (λ t. P t.0) (constraint_of_branch b).terms) (sym c.in-SomeIn.is) (in_named P c.in-SomeIn.set.now c.in-SomeIn.net.now.edges (negsuc 0) e)
 
 pub returns-in-SomeIn-clause-back : goal.returns-in-SomeIn-clause-back

@@ -1,0 +1,34 @@
+ghost use Rattle.std.specs.Prelude.{◌≡◌, ◌↔◌, IsTrue, OnOk, IfErr};
+ghost use Rattle.lia_tableau.specs.Shown.{IsStatus};
+ghost use Rattle.lia_tableau.specs.Crossing.{IsPast};
+ghost use Rattle.lia_tableau.specs.Pivoting.{IsPastPivot};
+ghost use Rattle.lia_tableau.specs.Trails.{Trail};
+ghost use Rattle.lia_tableau.specs.declared.status.Status.TheVariants.{Due};
+
+use crate::fault::TableauFault;
+use crate::status::Status;
+use crate::tableau::Tableau;
+use std::alloc::Global;
+
+/// Makes due pivots until none is due, or until one is refused. It ends, since no basis comes twice.
+///
+/// Want of memory, and what `pivot` refuses: then the tableau stands at the basis whose pivot was refused.
+pub fn settle(alloc: Global, tableau: &mut Tableau) -> Result<(), TableauFault>
+    ensures trail { Trail tableau.old tableau.new }
+    ensures settled { OnOk result (IsStatus tableau.new Due → ⊥) }
+    ensures past { IfErr result (IsPast (IsPastPivot tableau.new)) }
+{
+    'pivots: while is_due(tableau) {
+        tableau.pivot(alloc)?;
+    }
+    Ok(())
+}
+
+fn is_due(tableau: &Tableau) -> bool
+    ensures { IsTrue result ↔ IsStatus tableau.now Due }
+{
+    match tableau.status() {
+        Status::Due => true,
+        Status::Divisor(_) | Status::Conflict(_) | Status::Point => false,
+    }
+}
