@@ -1,5 +1,7 @@
 pub mod Cut
 pub mod Sizes
+pub mod BuiltLemmas
+pub mod KindLemmas
 pub mod WordLemmas
 pub mod StepLemmas
 pub mod LetterLemmas

@@ -23,6 +23,7 @@ mod choice;
 mod copies;
 mod explored;
 mod joining;
+mod kind;
 mod letters;
 mod sides;
 mod stepping;

@@ -1,6 +1,6 @@
 ghost use Rattle.std.specs.Prelude.{◌≡◌, ◌<◌, ◌≤◌, IfOk};
 ghost use Rattle.std.specs.Option.{IfSome};
-ghost use Rattle.subset_machine.specs.Subsets.{AreStates};
+ghost use Rattle.subset_machine.specs.Subsets.{IsStateSet};
 
 use crate::Subset;
 use machine_core::{Cost, Explicit, Machine};
@@ -66,8 +66,8 @@ fn follow(
     at: &Items<u32>,
     c: u32,
 ) -> Result<Option<Items<u32>>, AllocError>
-    requires { AreStates subset.now.machine.now.states at.now }
-    ensures { IfOk result (λ next. IfSome next (AreStates subset.now.machine.now.states)) }
+    requires { IsStateSet subset.now.machine.now.states at.now }
+    ensures { IfOk result (λ next. IfSome next (IsStateSet subset.now.machine.now.states)) }
 {
     let moves = subset.moves(alloc, at)?;
     for step in moves.as_slice() {
