@@ -1,5 +1,6 @@
 -- Answers of what is built within a limit.
-use Rattle.std.proofs.Common.{◌≡◌, ℕ, ◌<◌, ◌≤◌, ◌^◌, ◌↔◌, Result, Ok, Err, IfOk, refl, sym, subst, arith}
+use Rattle.std.proofs.Common.{◌≡◌, ℕ, ◌<◌, ◌≤◌, ◌^◌, ◌↔◌, Result, Ok, Err, IfOk, OnOk, refl, sym, subst, arith}
+use Rattle.std.specs.Result.{IsErr}
 use Rattle.std.specs.declared.alloc.AllocError.{AllocError}
 use Rattle.machine_core.specs.declared.graph.Graph.{Graph}
 use Rattle.sv_terms.specs.Language.{Word, In}
@@ -17,21 +18,26 @@ builds-as P Q s t limit same le (Ok m) h = (reads-same P Q m same h.0, (let few 
 builds-as P Q s t limit same le (Err (fault.States n)) h = ((let low = h.0 in omega arith), h.1)
 builds-as P Q s t limit same le (Err (fault.Memory e)) h = tt
 
-pub builds-memory : (P : Word → Type 0) (size limit : ℕ) (f : BuildFault) (e : AllocError) → f ≡ fault.Memory e → Builds P size limit (Err f)
-builds-memory P size limit f e is = subst (λ x. Builds P size limit (Err x)) (sym is) tt
+-- where a part has too many states
+abbrev pub IsBeyond : ℕ → ℕ → Result Graph BuildFault → Type 0
+IsBeyond size limit r = (n : ℕ) → r ≡ Err (fault.States n) → (limit < size) × (limit < 2 ^ 32)
 
-abbrev pub IsBeyond : ℕ → ℕ → BuildFault → Type 0
-IsBeyond size limit f = (n : ℕ) → f ≡ fault.States n → (limit < size) × (limit < 2 ^ 32)
+pub built-beyond : (P : Word → Type 0) (size limit : ℕ) (r : Result Graph BuildFault) → Builds P size limit r → IsBeyond size limit r
+built-beyond P size limit r h n e = subst (Builds P size limit) e h
 
-pub beyond-more : (s t limit : ℕ) (f : BuildFault) → s ≤ t → IsBeyond s limit f → IsBeyond t limit f
-beyond-more s t limit f le h n e = let b = h n e in ((let low = b.0 in omega arith), b.1)
+pub builds-err : (P : Word → Type 0) (size limit : ℕ) (r : Result Graph BuildFault) → IsErr r → IsBeyond size limit r → Builds P size limit r
+builds-err P size limit (Ok m) is h = cc
+builds-err P size limit (Err (fault.States n)) is h = h n refl
+builds-err P size limit (Err (fault.Memory e)) is h = tt
 
-pub builds-beyond : (P : Word → Type 0) (size limit : ℕ) (f : BuildFault) → IsBeyond size limit f → Builds P size limit (Err f)
-builds-beyond P size limit (fault.States n) h = h n refl
-builds-beyond P size limit (fault.Memory e) h = tt
+pub onok-as : {A E : Type 0} (r : Result A E) (P Q : Type 0) → (P → Q) → OnOk r P → OnOk r Q
+onok-as (Ok x) P Q f h = f h
+onok-as (Err e) P Q f h = tt
 
-pub built-beyond : (P : Word → Type 0) (size limit : ℕ) (f : BuildFault) → Builds P size limit (Err f) → IsBeyond size limit f
-built-beyond P size limit f h n e = subst (λ x. Builds P size limit (Err x)) e h
+-- a copy has what its source has
+pub copy-is : (r : Result Graph AllocError) (m : Graph) (P : Graph → Type 0) → IfOk r (λ x. x ≡ m) → P m → IfOk r P
+copy-is (Ok x) m P e p = subst P (sym e) p
+copy-is (Err e) m P is p = tt
 
 -- what was made, where it fits
 pub fits-builds : (P : Word → Type 0) (size limit : ℕ) (made : Result Graph AllocError) (r : Result Graph BuildFault)

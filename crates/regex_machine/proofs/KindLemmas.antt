@@ -85,9 +85,15 @@ multiplied-append : {X : Type 0} (f : X → ℕ) (xs ys : List X) → multiplied
 multiplied-append f [] ys = omega arith
 multiplied-append f (x ∷ xs) ys = ap (λ n. f x * n) (multiplied-append f xs ys) ∙ sym (mul_assoc (f x) (multiplied f xs) (multiplied f ys))
 
-pub summed-more : {X : Type 0} (f : X → ℕ) (xs : List X) → summed (λ x. f x + 1) xs ≡ summed f xs + length xs
+summed-more : {X : Type 0} (f : X → ℕ) (xs : List X) → summed (λ x. f x + 1) xs ≡ summed f xs + length xs
 summed-more f [] = omega arith
 summed-more f (x ∷ xs) = let rest = summed-more f xs in omega arith
+
+-- a start and the parts, where there isn't one part alone
+pub choice-few : {X : Type 0} (f : X → ℕ) (xs : List X) → (length xs ≡ 1 → ⊥) → summed f xs + 1 ≤ max 1 (summed (λ x. f x + 1) xs - 1)
+choice-few f [] h = omega arith
+choice-few f (x ∷ []) h = absurd (h (omega arith))
+choice-few f (x ∷ y ∷ xs) h = let more = summed-more f (x ∷ y ∷ xs) in omega arith
 
 weight-append : {X Y : Type 0} (k : Kind) (f : X → ℕ) (g : Y → ℕ) (xs ys : List X) (us vs : List Y)
     → weight k f xs ≤ weight k g us → weight k f ys ≤ weight k g vs → weight k f (xs ++ ys) ≤ weight k g (us ++ vs)
@@ -137,12 +143,16 @@ formed-words kind.One rs w = In-Union rs w
 formed-words kind.All rs w = In-Inter rs w
 
 pub formed-size : (k : Kind) (rs : List Regex) → most_states k (weight k size rs) ≤ size (formed k rs)
-formed-size kind.Turn [] = rw size-Concat [] (omega arith)
+formed-size kind.Turn [] = let e = size-Concat [] in omega arith
 formed-size kind.Turn (r ∷ rs) = let e = size-Concat (r ∷ rs) in let all = fold-turn size (size r) rs in let some = size-some r in omega arith
-formed-size kind.One [] = rw size-Union [] (omega arith)
+formed-size kind.One [] = let e = size-Union [] in omega arith
 formed-size kind.One (r ∷ rs) = let e = size-Union (r ∷ rs) in let all = fold-choice size (size r) rs in let some = size-some r in omega arith
-formed-size kind.All [] = rw size-Inter [] (omega arith)
+formed-size kind.All [] = let e = size-Inter [] in omega arith
 formed-size kind.All (r ∷ rs) = let e = size-Inter (r ∷ rs) in let all = fold-both size (size r) rs in omega arith
+
+pub inner-size : (k : Kind) (r : Regex) (rs slice : List Regex) → r ≡ formed k rs → slice ≡ rs → most_states k (weight k size slice) ≤ size r
+inner-size k r rs slice is seen =
+    subst (λ x. most_states k (weight k size slice) ≤ size x) (sym is) (subst (λ l. most_states k (weight k size l) ≤ size (formed k rs)) (sym seen) (formed-size k rs))
 
 -- the same the other way round, for a list within a list
 inner-weight : (k : Kind) (rs : List Regex) → weight k size rs ≤ weight k size (formed k rs ∷ [])
@@ -218,6 +228,9 @@ adds-inner k r rs slice old new is seen h =
       light = (let w = inner-weight k rs in let l = a.light in omega arith);
     })
 
+pub adds-plain : (k : Kind) (rs : List Regex) (parts list start : List Graph) → list ≡ parts → start ≡ [] → AddsParts k rs start parts → ArePlain list
+adds-plain k rs parts list start seen none h = subst ArePlain (sym (seen ∙ h.grown ∙ ap (λ l. l ++ h.more) none)) h.plain
+
 -- one expression of the list more
 pub adds-next : (k : Kind) (rs : List Regex) (i : ℕ) (r : Regex) (old mid new : List Graph) → i < length rs → r ≡ get_or rs i r
     → AddsParts k (take i rs) old mid → AddsParts k (r ∷ []) mid new → AddsParts k (take (i + 1) rs) old new
@@ -226,7 +239,7 @@ adds-next k rs i r old mid new lt is a b =
     subst (λ l. AddsParts k l old new) (sym grown) (adds-more k (take i rs) (r ∷ []) old mid new a b)
 
 pub adds-all : (k : Kind) (rs : List Regex) (i : ℕ) (old new : List Graph) → length rs ≤ i → AddsParts k (take i rs) old new → AddsParts k rs old new
-adds-all k rs i old new past h = subst (λ l. AddsParts k l old new) (take_all rs i past) h
+adds-all k rs i old new past h = subst (λ l. AddsParts k l old new) (take_all i rs past) h
 
 -- each expression is no greater than the whole
 some-multiplied : {X : Type 0} (f : X → ℕ) → ((x : X) → 1 ≤ f x) → (xs : List X) → 1 ≤ multiplied f xs
@@ -253,7 +266,7 @@ part-size kind.Turn rs r i = let h = summed-least size rs r i in omega arith
 part-size kind.One rs r i = let h = summed-least (λ x. size x + 1) rs r i in omega arith
 part-size kind.All rs r i = multiplied-least size size-some rs r i
 
-power-above : (n : ℕ) → suc n ≤ 2 ^ n
+pub power-above : (n : ℕ) → suc n ≤ 2 ^ n
 power-above zero = omega arith
 power-above (suc n) = let rest = power-above n in omega arith
 

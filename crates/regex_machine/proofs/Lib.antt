@@ -16,3 +16,4 @@ pub mod CopyLanguage
 pub mod LanguageLemmas
 pub mod MeetLemmas
 pub mod SideLemmas
+pub mod FormLemmas

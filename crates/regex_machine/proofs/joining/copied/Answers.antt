@@ -1,5 +1,4 @@
-use Rattle.std.proofs.Common.{◌≡◌, ◌≤◌, subst, sym, arith}
-use Rattle.machine_core.specs.declared.graph.Graph.{Graph}
+use Rattle.std.proofs.Common.{◌≡◌, ◌≤◌, refl, arith}
 use Rattle.regex_machine.specs.Copied.{copies_size}
 use Rattle.regex_machine.proofs.BuiltLemmas.{builds-as}
 use Rattle.regex_machine.proofs.joining.copied.Goals as goal
@@ -8,5 +7,5 @@ pub returns : goal.returns
 returns c =
     let s = c.of-copies.result in
     let size : copies_size s.least s.most s.part.now.states ≡ copies_size c.args.least c.args.most c.args.part.now.states =
-        rw (c.of-copies.ensures.part, c.of-copies.ensures.least, c.of-copies.ensures.most) ? in
-    builds-as _ _ _ _ c.args.limit c.of-copies.ensures.read (omega arith) c.explored.result c.explored.ensures
+    rw (c.of-copies.ensures.part, c.of-copies.ensures.least, c.of-copies.ensures.most) refl in
+    builds-as _ _ (copies_size s.least s.most s.part.now.states) (copies_size c.args.least c.args.most c.args.part.now.states) c.args.limit c.of-copies.ensures.read (omega (arith, size)) c.explored.result c.explored.ensures

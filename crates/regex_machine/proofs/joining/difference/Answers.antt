@@ -5,7 +5,7 @@ use Rattle.regex_machine.specs.Built.{Builds}
 use Rattle.regex_machine.specs.Joined.{WordsOf}
 use Rattle.regex_machine.specs.Bounds.{from_left, without_size}
 use Rattle.regex_machine.specs.Kinds.{states_of}
-use Rattle.regex_machine.proofs.BuiltLemmas.{builds-as, builds-memory, fits-builds}
+use Rattle.regex_machine.proofs.BuiltLemmas.{builds-as, fits-builds}
 use Rattle.regex_machine.proofs.WordLemmas.{none-left, some-left, split-first}
 use Rattle.regex_machine.proofs.SideLemmas.{side-width, side-tops, sides-words, sides-size}
 use Rattle.regex_machine.proofs.joining.difference.Goals as goal
@@ -27,7 +27,8 @@ explored-requires c = side-width c.of-meet.result.parts.now
 pub returns-then-is_empty : goal.returns-then-is_empty
 returns-then-is_empty c =
     let none = none-left c.args.parts.now (sym c.is_empty.ensures ∙ c.if-is_empty.true) in
-    ?
+    subst (λ l. Builds (InFirstOnly WordsOf l) (from_left without_size (map states_of l)) c.args.limit c.fit.result) (sym none)
+    (fits-builds (λ w. ⊥) 1 c.args.limit c.nothing.result c.fit.result c.nothing.ensures.reads c.nothing.ensures.states c.fit.ensures)
 
 pub returns : goal.returns
 returns c =
@@ -37,7 +38,7 @@ returns c =
     let whole = split-first ms f some c.index-parts-0.is in
     let is = c.as_slice-list.ensures ∙ c.in_ok-push.ensures.ok in
     let words = sides-words (drop 1 ms) c.in_ok-sides.sides f c.within-first.result c.in_ok-sides.ensures c.within-first.ensures c.as_slice-list.result.now c.of-meet.result.parts.now
-        is c.of-meet.ensures.parts c.of-meet.ensures.language in
+    is c.of-meet.ensures.parts c.of-meet.ensures.language in
     let size = sides-size (drop 1 ms) c.in_ok-sides.sides f c.within-first.result c.in_ok-sides.ensures c.within-first.ensures c.of-meet.result.parts.now (c.of-meet.ensures.parts ∙ is) in
     subst (λ l. Builds (InFirstOnly WordsOf l) (from_left without_size (map states_of l)) c.args.limit c.explored.result) whole
     (builds-as _ _ _ _ c.args.limit words (omega arith) c.explored.result c.explored.ensures)
