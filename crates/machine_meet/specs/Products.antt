@@ -21,6 +21,19 @@ abbrev pub multiplied : {P : Type 0} → (P → ℕ) → List P → ℕ
 multiplied f [] = 1
 multiplied f (p ∷ ps) = f p * multiplied f ps
 
+-- each part keeps within the slope and the base at its place
+abbrev pub EachWithin : {P : Type 0} → (P → ℕ → ℕ → Type 0) → List P → List ℕ → List ℕ → Type 0
+EachWithin W [] [] [] = ⊤
+EachWithin W [] [] (b ∷ bases) = ⊥
+EachWithin W [] (s ∷ slopes) bases = ⊥
+EachWithin W (p ∷ ps) [] bases = ⊥
+EachWithin W (p ∷ ps) (s ∷ slopes) [] = ⊥
+EachWithin W (p ∷ ps) (s ∷ slopes) (b ∷ bases) = W p s b × EachWithin W ps slopes bases
+
+-- numbers added up
+abbrev pub total : List ℕ → ℕ
+total ns = summed (λ n. n) ns
+
 module _ {P S : Type 0} where
   -- a state of the product: one of each part, in the order of the parts
   abbrev pub AreStates : (P → S → Type 0) → List P → List S → Type 0

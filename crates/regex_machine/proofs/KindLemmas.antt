@@ -32,12 +32,12 @@ module _ {X : Type 0} (P : X → Language) where
   turn-join (x ∷ xs) ys w u t e h g =
       (h.0, h.1 ++ t, e ∙ ap (λ x. x ++ t) h.2 ∙ append_assoc h.0 h.1 t, h.3, turn-join xs ys (h.1 ++ t) h.1 t refl h.4 g)
 
-  one-split : (xs ys : List X) (w : Word) → InOneOf P (xs ++ ys) w → InOneOf P xs w ⊎ InOneOf P ys w
+  pub one-split : (xs ys : List X) (w : Word) → InOneOf P (xs ++ ys) w → InOneOf P xs w ⊎ InOneOf P ys w
   one-split [] ys w h = inr h
   one-split (x ∷ xs) ys w (inl h) = inl (inl h)
   one-split (x ∷ xs) ys w (inr h) = elim (one-split xs ys w h) [ inl a ↦ inl (inr a) | inr b ↦ inr b ]
 
-  one-join : (xs ys : List X) (w : Word) → InOneOf P xs w ⊎ InOneOf P ys w → InOneOf P (xs ++ ys) w
+  pub one-join : (xs ys : List X) (w : Word) → InOneOf P xs w ⊎ InOneOf P ys w → InOneOf P (xs ++ ys) w
   one-join [] ys w (inl h) = absurd h
   one-join [] ys w (inr h) = h
   one-join (x ∷ xs) ys w (inl (inl h)) = inl h
@@ -77,7 +77,7 @@ module _ {X Y : Type 0} (P : X → Language) (Q : Y → Language) where
   within-one kind.All x y f w h = (f w h.0, h.1)
 
 -- weights
-summed-append : {X : Type 0} (f : X → ℕ) (xs ys : List X) → summed f (xs ++ ys) ≡ summed f xs + summed f ys
+pub summed-append : {X : Type 0} (f : X → ℕ) (xs ys : List X) → summed f (xs ++ ys) ≡ summed f xs + summed f ys
 summed-append f [] ys = omega arith
 summed-append f (x ∷ xs) ys = let rest = summed-append f xs ys in omega arith
 
@@ -177,7 +177,7 @@ inner-in kind.One rs w (inr h) = absurd h
 inner-in kind.All rs w h = cast (In (v.Inter rs) w) (InAllOf In rs w) (In-Inter rs w) h.0
 
 -- machines more, list by list
-plain-append : (ms ns : List Graph) → ArePlain ms → ArePlain ns → ArePlain (ms ++ ns)
+pub plain-append : (ms ns : List Graph) → ArePlain ms → ArePlain ns → ArePlain (ms ++ ns)
 plain-append ms ns p q m i = elim (Contains-append_cases ms ns m i) [ inl a ↦ p m a | inr b ↦ q m b ]
 
 pub adds-none : (k : Kind) (old : List Graph) → AddsParts k [] old old

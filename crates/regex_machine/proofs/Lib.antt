@@ -17,3 +17,4 @@ pub mod LanguageLemmas
 pub mod MeetLemmas
 pub mod SideLemmas
 pub mod FormLemmas
+pub mod LetterParts

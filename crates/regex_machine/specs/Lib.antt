@@ -10,3 +10,4 @@ pub mod OtherSides
 pub mod Built
 pub mod Kinds
 pub mod Parts
+pub mod Letters

@@ -13,6 +13,7 @@ ghost use Rattle.trim_search.specs.declared.build_fault.BuildFault.TheVariants.{
 use crate::bounds::bound;
 use crate::joining::{complement, copied, difference, put_together};
 use crate::kind::Kind;
+use crate::letter_parts::join_alike;
 use crate::letters::{any_character, empty_word, everything, fit, nothing, range, text};
 use machine_core::Explicit;
 use std::alloc::{AllocError, Global};
@@ -133,7 +134,8 @@ fn make_list(alloc: Global, kind: Kind, rs: &[Regex], limit: u64) -> Result<Expl
 {
     let mut parts = Items::new(alloc);
     add_parts(alloc, kind, &mut parts, rs, limit)?;
-    put_together(alloc, kind, parts.as_slice(), limit)
+    let joined = join_alike(alloc, kind, parts)?;
+    put_together(alloc, kind, joined.as_slice(), limit)
 }
 
 // Adds the machines of a list. A list of the same kind within it counts as its elements.

@@ -24,6 +24,7 @@ mod copies;
 mod explored;
 mod joining;
 mod kind;
+mod letter_parts;
 mod letters;
 mod sides;
 mod stepping;

@@ -1,10 +1,11 @@
-use Rattle.std.proofs.Common.{◌≡◌, ◌+◌, ◌≤◌, ◌∷◌, [], length, Err, ap, sym, ◌∙◌, subst, arith}
+use Rattle.std.proofs.Common.{◌≡◌, ◌+◌, ◌≤◌, ◌∷◌, [], length, Err, ap, refl, sym, ◌∙◌, subst, arith}
 use Rattle.sv_word.specs.Words.{IsWord}
 use Rattle.sv_terms.specs.declared.regex.Regex.TheVariants as v
 use Rattle.sv_terms.specs.Opened.{In-Empty, In-All, In-AnyChar, In-Text, In-Range}
 use Rattle.sv_terms.specs.Language.{In}
 use Rattle.regex_machine.specs.Bounds.{size}
 use Rattle.regex_machine.specs.Joined.{ArePlain, AreMade}
+use Rattle.regex_machine.specs.Parts.{AddsParts}
 use Rattle.regex_machine.specs.declared.kind.Kind.TheVariants as kind
 use Rattle.regex_machine.proofs.BuiltLemmas.{builds-as, builds-form, builds-err, built-beyond, onok-as, fits-builds}
 use Rattle.regex_machine.proofs.FormLemmas.{builds-list, builds-Diff, builds-Star, builds-Plus, builds-Opt, builds-Comp, builds-Loop, complement-made, copies-made, difference-made, loop-made, list-made, copies-least}
@@ -156,13 +157,18 @@ add_parts-loop-r-preserved t c =
 pub add_parts-returns-clause-ok : goal.add_parts-returns-clause-ok
 add_parts-returns-clause-ok t c = adds-all c.args.kind c.args.rs.now c.loop-r.r-index c.args.parts.now c.loop-r.parts c.loop-r-test.false c.loop-r.invariant
 
+pub make_list-join_alike-requires : goal.make_list-join_alike-requires
+make_list-join_alike-requires t c = adds-plain c.args.kind c.args.rs.now c.add_parts.new.parts c.add_parts.new.parts c.new-parts.result refl c.new-parts.ensures c.in_ok-add_parts.ensures.ok
+
 pub make_list-put_together-requires : goal.make_list-put_together-requires
-make_list-put_together-requires t c = adds-plain c.args.kind c.args.rs.now _ c.as_slice.result.now c.new-parts.result c.as_slice.ensures c.new-parts.ensures c.in_ok-add_parts.ensures.ok
+make_list-put_together-requires t c =
+    let adds = c.in_ok-joined.ensures c.args.rs.now (subst (λ l. AddsParts c.args.kind c.args.rs.now l c.add_parts.new.parts) c.new-parts.ensures c.in_ok-add_parts.ensures.ok) in
+    adds-plain c.args.kind c.args.rs.now c.in_ok-joined.joined c.as_slice.result.now [] c.as_slice.ensures refl adds
 
 pub make_list-returns : goal.make_list-returns
 make_list-returns t c =
-    list-made c.args.limit c.put_together.result c.args.kind c.args.rs.now _ c.as_slice.result.now c.as_slice.ensures c.new-parts.result c.new-parts.ensures
-    c.in_ok-add_parts.ensures.ok c.put_together.ensures
+    let adds = c.in_ok-joined.ensures c.args.rs.now (subst (λ l. AddsParts c.args.kind c.args.rs.now l c.add_parts.new.parts) c.new-parts.ensures c.in_ok-add_parts.ensures.ok) in
+    list-made c.args.limit c.put_together.result c.args.kind c.args.rs.now c.in_ok-joined.joined c.as_slice.result.now c.as_slice.ensures [] refl adds c.put_together.ensures
 
 pub make_list-returns-in_err-add_parts : goal.make_list-returns-in_err-add_parts
 make_list-returns-in_err-add_parts t c = builds-err _ _ c.args.limit c.from_residual.result c.from_residual.ensures.0 (λ n e.
