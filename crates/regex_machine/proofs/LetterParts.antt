@@ -29,7 +29,7 @@ module _ (m : Graph) (plain : m.registers ≡ 0) (h : IsLetter m.edges m.ends) w
   one-edge =
       let free : h.edge.cost ≡ [] = nil_from_length h.edge.cost (formed-edge.cost ∙ plain) in
       let same : h.edge ≡ edge 0 h.edge.on [] 1 =
-          ap (λ s. edge s h.edge.on h.edge.cost h.edge.to) h.from ∙ ap (λ k. edge 0 h.edge.on k h.edge.to) free ∙ ap (λ t. edge 0 h.edge.on [] t) h.to in
+      ap (λ s. edge s h.edge.on h.edge.cost h.edge.to) h.from ∙ ap (λ k. edge 0 h.edge.on k h.edge.to) free ∙ ap (λ t. edge 0 h.edge.on [] t) h.to in
       h.edges ∙ ap (λ (e : Edge). e ∷ []) same
 
   one-end : m.ends ≡ ending 1 [] ∷ []
