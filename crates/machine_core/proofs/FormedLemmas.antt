@@ -9,7 +9,7 @@ use Rattle.machine_core.specs.declared.end.End.{End}
 use Rattle.machine_core.specs.Places.{add_to}
 use Rattle.machine_core.specs.Edges.{IsEdge, IsEnd, IsFormed}
 use Rattle.machine_core.specs.Indexed.{AreIndexed}
-use Rattle.machine_core.proofs.PlaceLemmas.{index-add, length-add_to}
+use Rattle.machine_core.specs.PlaceLaws.{index-add, length-add_to}
 
 module _ (states width : ℕ) (edges : List Edge) (ends : List End) (formed : IsFormed states width edges ends) where
   formed-edge : (e : Edge) → IsEdge states width e → IsFormed states width (edges ++ e ∷ []) ends

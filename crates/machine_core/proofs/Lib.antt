@@ -1,5 +1,4 @@
 pub mod CostLemmas
-pub mod PlaceLemmas
 pub mod FoundLemmas
 pub mod FormedLemmas
 pub mod WideLemmas

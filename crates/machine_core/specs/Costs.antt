@@ -16,6 +16,10 @@ abbrev pub total_of : List (List ℕ) → List ℕ → List ℕ
 total_of [] last = last
 total_of (k ∷ costs) last = add_costs k (total_of costs last)
 
+-- some costs added up, nothing at each register where there are none
+abbrev pub sum_costs : ℕ → List (List ℕ) → List ℕ
+sum_costs width costs = total_of costs (zeros width)
+
 -- what some steps cost at one register, and one number more
 abbrev pub entry_total : ℕ → List (List ℕ) → ℕ → ℕ
 entry_total register [] last = last

@@ -1,9 +1,11 @@
 -- What follows from well-formed edges and ends.
-use Rattle.std.specs.Prelude.{◌≡◌, ℕ, ◌<◌, ◌≤◌, ◌+◌, max, List, [], ◌∷◌, ◌++◌}
-use Rattle.std.proofs.Common.{arith, refl, subst}
+use Rattle.std.specs.Prelude.{◌≡◌, ℕ, ◌<◌, ◌≤◌, ◌+◌, max, ⊤, List, [], ◌∷◌, ◌++◌, length}
+use Rattle.std.proofs.Common.{arith, refl, ap, ◌∙◌, subst}
 use Rattle.sv_word.specs.Ranges.{least_of}
-use Rattle.machine_core.specs.Costs.{IsCost, cost_top}
-use Rattle.machine_core.specs.CostLaws.{top_by-at, top_by-least, top_by-push, cost_top-at, cost_top-least}
+use Rattle.machine_core.specs.Costs.{IsCost, add_costs, cost_top}
+use Rattle.machine_core.specs.Language.{RunsFrom, StopsAt}
+use Rattle.machine_core.specs.LanguageLaws.{runs_width, runs_cut}
+use Rattle.machine_core.specs.CostLaws.{zeros-length, top_by-at, top_by-least, top_by-push, cost_top-at, cost_top-least}
 use Rattle.machine_core.specs.RunBounds.{RunsWithin, PathsWithin, step_within, end_within, runs_from_steps, paths_from_steps}
 use Rattle.machine_core.specs.Edges.{EndsAt, StepsBy, IsFormed, edges_top, ends_top, listed_top}
 use Rattle.machine_core.specs.declared.edge.Edge.{Edge}
@@ -40,6 +42,25 @@ module _ (states width : ℕ) (edges : List Edge) (ends : List End) (formed : Is
 
   pub end_cost : (s : ℕ) (cost : List ℕ) → EndsAt ends s cost → IsCost width (listed_top edges ends) cost
   end_cost s cost m = let h = end_most s cost m in record { entries = h.entries; below = λ k. let b = h.below k in omega arith }
+
+  -- a run has one number for each register, wherever it begins, and so has a path
+  pub run_width : (word : List ℕ) (s : ℕ) (cost : List ℕ) → RunsFrom (EndsAt ends) (StepsBy edges) s word cost → length cost ≡ width
+  run_width word s cost r = runs_width (λ n. ⊤) (StepsBy edges) (λ s t c cost h m. tt) (EndsAt ends) width
+      (λ s t c cost h m. (step_most s t c cost m).entries) (λ s cost h m. (end_most s cost m).entries) word s cost tt r
+
+  pub path_width : (u : ℕ) (word : List ℕ) (s : ℕ) (cost : List ℕ) → RunsFrom (StopsAt width u) (StepsBy edges) s word cost → length cost ≡ width
+  path_width u word s cost r = runs_width (λ n. ⊤) (StepsBy edges) (λ s t c cost h m. tt) (StopsAt width u) width
+      (λ s t c cost h m. (step_most s t c cost m).entries) (λ s cost h e. ap length e.1 ∙ zeros-length width) word s cost tt r
+
+  -- a path from a state leads to a state
+  pub path_target : (word : List ℕ) (s u : ℕ) (cost : List ℕ) → s < states → RunsFrom (StopsAt width u) (StepsBy edges) s word cost → u < states
+  path_target [] s u cost h r = subst (λ n. n < states) r.0 h
+  path_target (c ∷ word) s u cost h r = path_target word r.1 u r.2 (step_target s r.1 c r.0 r.3) r.4
+
+  -- a run over two words is a path over the first and a run over the second, and the costs add up
+  pub run_cut : (more word : List ℕ) (s : ℕ) (cost : List ℕ) → RunsFrom (EndsAt ends) (StepsBy edges) s (word ++ more) cost
+      → (t : ℕ) × (a b : List ℕ) × RunsFrom (StopsAt width t) (StepsBy edges) s word a × RunsFrom (EndsAt ends) (StepsBy edges) t more b × (cost ≡ add_costs a b)
+  run_cut = runs_cut (EndsAt ends) (StepsBy edges) width run_width
 
   -- a run costs at most the greatest edge for each character and the greatest end
   pub listed_runs : (register : ℕ) → RunsWithin (λ s. s < states) (EndsAt ends) (StepsBy edges) register (edges_top edges) (ends_top ends)

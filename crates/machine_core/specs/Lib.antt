@@ -1,6 +1,7 @@
 pub mod Costs
 pub mod CostLaws
 pub mod Lists
+pub mod Counts
 pub mod Orders
 pub mod Moves
 pub mod Language
@@ -9,6 +10,7 @@ pub mod Runs
 pub mod RunLaws
 pub mod RunBounds
 pub mod Places
+pub mod PlaceLaws
 pub mod Edges
 pub mod EdgeLaws
 pub mod Indexed

@@ -54,3 +54,18 @@ module _ {S : Type 0} (is_state : S → Type 0) (steps : S → ℕ → List ℕ 
     where
       stop : (s : S) (cost : List ℕ) → is_state s → StopsAt width t s cost → slice_index cost register ≤ 0
       stop s cost ok e = let z = zeros-entry width register in subst (λ l. slice_index l register ≤ 0) (sym e.1) (omega arith)
+
+-- where no step and no end costs anything, no run and no path does
+module _ {S : Type 0} (is_state : S → Type 0) (width : ℕ) (steps : S → ℕ → List ℕ → S → Type 0) (register : ℕ)
+    (step_is_state : (s t : S) (c : ℕ) (cost : List ℕ) → is_state s → steps s c cost t → is_state t)
+    (free_step : (s t : S) (c : ℕ) (cost : List ℕ) → is_state s → steps s c cost t → cost ≡ zeros width) where
+  none_there : (cost : List ℕ) → cost ≡ zeros width → slice_index cost register ≤ 0
+  none_there cost e = let z = zeros-entry width register in subst (λ l. slice_index l register ≤ 0) (sym e) (omega arith)
+
+  pub free_runs : (ends : S → List ℕ → Type 0) → ((s : S) (cost : List ℕ) → is_state s → ends s cost → cost ≡ zeros width)
+      → RunsWithin is_state ends steps register 0 0
+  free_runs ends free_end = runs_from_steps is_state steps register 0 step_is_state (λ s t c cost h m. none_there cost (free_step s t c cost h m))
+      ends 0 (λ s cost h e. none_there cost (free_end s cost h e))
+
+  pub free_paths : PathsWithin is_state width steps register 0 0
+  free_paths = paths_from_steps is_state steps register 0 step_is_state (λ s t c cost h m. none_there cost (free_step s t c cost h m)) width

@@ -1,6 +1,7 @@
 ghost use Rattle.std.specs.Prelude.{◌≡◌, ℕ, ◌<◌, ◌≤◌, ◌↔◌, List, [], ◌∷◌, ◌++◌, length, map, max, slice_get, Some, Any, IsTrue, IfOk, OnOk, OnErr};
 ghost use Rattle.sv_word.specs.Ranges.{IsInhabited};
 ghost use Rattle.machine_core.specs.Costs.{zeros, cost_top};
+ghost use Rattle.machine_core.specs.Counts.{at_most-below};
 ghost use Rattle.machine_core.specs.Places.{places, pick};
 ghost use Rattle.machine_core.specs.Edges.{edge, ending, from_of, at_of, move_of, wide_edge, wide_end, EndsAt, StepsBy, edges_top, ends_top, listed_top};
 ghost use Rattle.machine_core.specs.EdgeLaws.{step_target, step_character, step_cost, end_cost};
@@ -235,6 +236,8 @@ impl Machine for Explicit {
 
     ghost top = { λ m. listed_top m.edges m.ends };
 
+    ghost size = { λ m. m.states };
+
     ghost first_is_state = { λ m. m.started };
 
     ghost step_is_state = { λ m s t c cost h step. step_target m.states m.registers m.edges m.ends m.formed s t c cost step };
@@ -244,6 +247,8 @@ impl Machine for Explicit {
     ghost step_cost = { λ m s t c cost h step. step_cost m.states m.registers m.edges m.ends m.formed s t c cost step };
 
     ghost end_cost = { λ m s cost h end. end_cost m.states m.registers m.edges m.ends m.formed s cost end };
+
+    ghost states_at_most = { λ m. at_most-below m.states };
 
     fn registers(&self) -> usize {
         self.graph.registers

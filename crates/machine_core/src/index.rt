@@ -5,7 +5,8 @@ use std::alloc::{AllocError, Global};
 use std::marker::Model;
 use sv_list::{Copied, Items};
 
-/// Places in a list, by the row that each belongs to.
+/// Places in a list, by the row that each belongs to. Contracts see the rows. Memory is linear in the
+/// rows and places.
 #[derive(Drop)]
 pub struct Index {
     rows: Vec<Items<usize>>,
@@ -20,7 +21,7 @@ impl Model for Index {
 }
 
 impl Index {
-    /// So many empty rows.
+    /// So many empty rows. Linear in them.
     pub fn new(alloc: Global, rows: u32) -> Result<Index, AllocError>
         ensures { IfOk result (λ i. i ≡ replicate rows []) }
     {
@@ -31,7 +32,7 @@ impl Index {
         Ok(Index { rows: list })
     }
 
-    /// The places of a row, in the order in which they were added.
+    /// The places of a row, in the order in which they were added. Constant time.
     pub fn row(&self, at: u32) -> &[usize]
         requires { at < length self.now }
         ensures { slice_get self.now at ≡ Some result.now }
@@ -39,7 +40,7 @@ impl Index {
         self.rows[at as usize].as_slice()
     }
 
-    /// Adds a place at the end of a row.
+    /// Adds a place at the end of a row. Amortised constant time.
     pub fn add(&mut self, at: u32, place: usize) -> Result<(), AllocError>
         requires { at < length self.old }
         ensures ok { OnOk result (self.new ≡ add_to at place self.old) }

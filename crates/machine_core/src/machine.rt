@@ -1,6 +1,7 @@
 ghost use Rattle.std.specs.Prelude.{◌≡◌, ℕ, ◌≤◌, ◌↔◌, List, IfOk, All, Any};
 ghost use Rattle.sv_word.specs.Ranges.{IsInhabited};
 ghost use Rattle.machine_core.specs.Costs.{IsCost};
+ghost use Rattle.machine_core.specs.Counts.{AreAtMost};
 ghost use Rattle.machine_core.specs.Moves.{Moves};
 
 use crate::cost::Cost;
@@ -30,7 +31,8 @@ impl<T: Copied> Copied for Move<T> {
 /// A machine over words with costs, which tells what leaves a state when it is asked.
 ///
 /// Its meaning is a first state and two relations on states and single characters, so the same
-/// state gives the same answers. Whoever explores it pays for the states that it reaches alone.
+/// state gives the same answers. It bounds the number of its states and the costs of its steps and
+/// ends. Whoever explores it pays for the states that it reaches alone.
 pub trait Machine {
     type St: State;
 
@@ -50,6 +52,9 @@ pub trait Machine {
 
     // no step and no end costs more at a register
     ghost top: { Self → ℕ };
+
+    // there are no more states
+    ghost size: { Self → ℕ };
 
     /// The number of registers.
     fn registers(&self) -> usize
@@ -84,4 +89,6 @@ pub trait Machine {
 
     ghost end_cost: { (m : Self) (s : Self.St) (cost : List ℕ) →
         is_state m s → ends_with m s cost → IsCost (width m) (top m) cost };
+
+    ghost states_at_most: { (m : Self) → AreAtMost (is_state m) (size m) };
 }

@@ -8,11 +8,11 @@ use Rattle.machine_core.specs.declared.machine.Move.{Move}
 use Rattle.machine_core.specs.Costs.{IsCost, cost_top}
 use Rattle.machine_core.specs.CostLaws.{top_by-least, cost_top-least}
 use Rattle.machine_core.specs.Lists.{Any-none, Any-append_left, Any-append_right, Any-append_cases, Any-map, Any-from_map}
-use Rattle.machine_core.specs.Moves.{Moves}
+use Rattle.machine_core.specs.Moves.{Moves, IsMove}
 use Rattle.machine_core.specs.Edges.{ending, move_of, EndsAt, StepsBy, IsFormed, edges_top, ends_top, listed_top}
 use Rattle.machine_core.specs.EdgeLaws.{step_target, step_cost, end_cost}
 use Rattle.machine_core.specs.Graphs.{Accepts, graph_top}
-use Rattle.machine_meet.specs.Builds.{placed_edge, placed_end, leaving_edge, IsMove, StandsFor, IsBranch}
+use Rattle.machine_meet.specs.Builds.{placed_edge, placed_end, leaving_edge, StandsFor, IsBranch}
 use Rattle.machine_meet.proofs.BuildRuns.{IsPlaced, union-runs}
 
 -- an edge is of a step on its least character

@@ -5,7 +5,7 @@ use Rattle.machine_core.specs.CostLaws.{add_costs-most, zeros-entry, zeros-add_c
 use Rattle.machine_core.specs.Language.{StopsAt}
 use Rattle.machine_core.specs.Lists.{Contains-here, Contains-there}
 use Rattle.machine_core.specs.RunBounds.{RunsWithin, PathsWithin}
-use Rattle.machine_meet.specs.Products.{AreStates, MeetEnds, MeetSteps, summed}
+use Rattle.machine_meet.specs.Products.{AreStates, MeetEnds, MeetSteps, EachWithin, total}
 use Rattle.machine_meet.proofs.MeetRuns.{Parts, pair-out, none-out}
 
 -- two bounds, added
@@ -19,44 +19,57 @@ sums-within s t b d n x y cost k p q e =
 free-within : (n w k : ℕ) (cost : List ℕ) → cost ≡ zeros w → slice_index cost k ≤ 0 * n + 0
 free-within n w k cost e = let z = zeros-entry w k in subst (λ l. slice_index l k ≤ 0 * n + 0) (sym e) (omega arith)
 
-module _ {P S : Type 0} (is_state : P → S → Type 0) (steps : P → S → ℕ → List ℕ → S → Type 0) (w register : ℕ) (slope base : P → ℕ) where
-  pub meet-runs : (ends : P → S → List ℕ → Type 0) (ps : List P)
-      → ((p : P) → Contains ps p → RunsWithin (is_state p) (ends p) (steps p) register (slope p) (base p))
-      → RunsWithin (AreStates is_state ps) (MeetEnds ends w ps) (MeetSteps steps w ps) register (summed slope ps) (summed base ps)
-  meet-runs ends [] h [] word cost ok run =
+module _ {P S : Type 0} (is_state : P → S → Type 0) (steps : P → S → ℕ → List ℕ → S → Type 0) (w register : ℕ) where
+  abbrev RunsOf : (P → S → List ℕ → Type 0) → P → ℕ → ℕ → Type 0
+  RunsOf ends p slope base = RunsWithin (is_state p) (ends p) (steps p) register slope base
+
+  pub meet-runs : (ends : P → S → List ℕ → Type 0) (ps : List P) (slopes bases : List ℕ) → EachWithin (RunsOf ends) ps slopes bases
+      → RunsWithin (AreStates is_state ps) (MeetEnds ends w ps) (MeetSteps steps w ps) register (total slopes) (total bases)
+  meet-runs ends [] [] [] h [] word cost ok run =
       free-within (length word) w register cost (none-out steps w (MeetEnds ends w []) none word cost run).1
     where
       none : (ss : List S) (cost : List ℕ) → MeetEnds ends w [] ss cost → cost ≡ zeros w
       none [] cost e = e
       none (s ∷ ss) cost e = absurd e
-  meet-runs ends [] h (s ∷ ss) word cost ok run = absurd ok
-  meet-runs ends (p ∷ ps) h [] word cost ok run = absurd ok
-  meet-runs ends (p ∷ ps) h (s ∷ ss) word cost ok run =
+  meet-runs ends [] [] [] h (s ∷ ss) word cost ok run = absurd ok
+  meet-runs ends [] [] (b ∷ bases) h ss word cost ok run = absurd h
+  meet-runs ends [] (a ∷ slopes) bases h ss word cost ok run = absurd h
+  meet-runs ends (p ∷ ps) [] bases h ss word cost ok run = absurd h
+  meet-runs ends (p ∷ ps) (a ∷ slopes) [] h ss word cost ok run = absurd h
+  meet-runs ends (p ∷ ps) (a ∷ slopes) (b ∷ bases) h [] word cost ok run = absurd ok
+  meet-runs ends (p ∷ ps) (a ∷ slopes) (b ∷ bases) h (s ∷ ss) word cost ok run =
       let r = pair-out steps w (ends p) (MeetEnds ends w ps) (MeetEnds ends w (p ∷ ps)) (λ s ss cost e. e) p ps s ss word cost run in
-      sums-within (slope p) (summed slope ps) (base p) (summed base ps) (length word) r.0 r.1 cost register
-      (h p (Contains-here p ps) s word r.0 ok.0 r.2)
-      (meet-runs ends ps (λ q c. h q (Contains-there p ps q c)) ss word r.1 ok.1 r.3) r.4
+      sums-within a (total slopes) b (total bases) (length word) r.0 r.1 cost register
+      (h.0 s word r.0 ok.0 r.2)
+      (meet-runs ends ps slopes bases h.1 ss word r.1 ok.1 r.3) r.4
+
+  abbrev PathsOf : (P → ℕ) → P → ℕ → ℕ → Type 0
+  PathsOf width p slope base = PathsWithin (is_state p) (width p) (steps p) register slope base
 
   pub meet-paths : (width : P → ℕ) (ps : List P) → ((p : P) → Contains ps p → width p ≡ w)
-      → ((p : P) → Contains ps p → PathsWithin (is_state p) (width p) (steps p) register (slope p) (base p))
-      → PathsWithin (AreStates is_state ps) w (MeetSteps steps w ps) register (summed slope ps) (summed base ps)
-  meet-paths width [] agree h t [] word cost ok run =
+      → (slopes bases : List ℕ) → EachWithin (PathsOf width) ps slopes bases
+      → PathsWithin (AreStates is_state ps) w (MeetSteps steps w ps) register (total slopes) (total bases)
+  meet-paths width [] agree [] [] h t [] word cost ok run =
       free-within (length word) w register cost (none-out steps w (StopsAt w t) (λ ss cost e. e.1) word cost run).1
-  meet-paths width [] agree h t (s ∷ ss) word cost ok run = absurd ok
-  meet-paths width (p ∷ ps) agree h t [] word cost ok run = absurd ok
-  meet-paths width (p ∷ ps) agree h [] (s ∷ ss) word cost ok run =
+  meet-paths width [] agree [] [] h t (s ∷ ss) word cost ok run = absurd ok
+  meet-paths width [] agree [] (b ∷ bases) h t ss word cost ok run = absurd h
+  meet-paths width [] agree (a ∷ slopes) bases h t ss word cost ok run = absurd h
+  meet-paths width (p ∷ ps) agree [] bases h t ss word cost ok run = absurd h
+  meet-paths width (p ∷ ps) agree (a ∷ slopes) [] h t ss word cost ok run = absurd h
+  meet-paths width (p ∷ ps) agree (a ∷ slopes) (b ∷ bases) h t [] word cost ok run = absurd ok
+  meet-paths width (p ∷ ps) agree (a ∷ slopes) (b ∷ bases) h [] (s ∷ ss) word cost ok run =
       let r = pair-out steps w (StopsAt w s) (StopsAt w ss) (StopsAt w []) none p ps s ss word cost run in
-      sums-within (slope p) (summed slope ps) (base p) (summed base ps) (length word) r.0 r.1 cost register
-      (subst (λ n. PathsWithin (is_state p) n (steps p) register (slope p) (base p)) (agree p (Contains-here p ps)) (h p (Contains-here p ps)) s s word r.0 ok.0 r.2)
-      (meet-paths width ps (λ q c. agree q (Contains-there p ps q c)) (λ q c. h q (Contains-there p ps q c)) ss ss word r.1 ok.1 r.3) r.4
+      sums-within a (total slopes) b (total bases) (length word) r.0 r.1 cost register
+      (subst (λ n. PathsWithin (is_state p) n (steps p) register a b) (agree p (Contains-here p ps)) h.0 s s word r.0 ok.0 r.2)
+      (meet-paths width ps (λ q c. agree q (Contains-there p ps q c)) slopes bases h.1 ss ss word r.1 ok.1 r.3) r.4
     where
       none : Parts steps w (StopsAt w s) (StopsAt w ss) (StopsAt w [])
       none u us cost e = let no = e.0 in cc
-  meet-paths width (p ∷ ps) agree h (t ∷ ts) (s ∷ ss) word cost ok run =
+  meet-paths width (p ∷ ps) agree (a ∷ slopes) (b ∷ bases) h (t ∷ ts) (s ∷ ss) word cost ok run =
       let r = pair-out steps w (StopsAt w t) (StopsAt w ts) (StopsAt w (t ∷ ts)) stops p ps s ss word cost run in
-      sums-within (slope p) (summed slope ps) (base p) (summed base ps) (length word) r.0 r.1 cost register
-      (subst (λ n. PathsWithin (is_state p) n (steps p) register (slope p) (base p)) (agree p (Contains-here p ps)) (h p (Contains-here p ps)) t s word r.0 ok.0 r.2)
-      (meet-paths width ps (λ q c. agree q (Contains-there p ps q c)) (λ q c. h q (Contains-there p ps q c)) ts ss word r.1 ok.1 r.3) r.4
+      sums-within a (total slopes) b (total bases) (length word) r.0 r.1 cost register
+      (subst (λ n. PathsWithin (is_state p) n (steps p) register a b) (agree p (Contains-here p ps)) h.0 t s word r.0 ok.0 r.2)
+      (meet-paths width ps (λ q c. agree q (Contains-there p ps q c)) slopes bases h.1 ts ss word r.1 ok.1 r.3) r.4
     where
       stops : Parts steps w (StopsAt w t) (StopsAt w ts) (StopsAt w (t ∷ ts))
       stops u us cost e =

@@ -1,11 +1,11 @@
 -- The costs at which the parts of a product can take their shares in a step or an end.
 use Rattle.std.proofs.Common.{◌≡◌, ℕ, zero, suc, ◌+◌, ◌<◌, ◌≤◌, ◌↔◌, List, [], ◌∷◌, ◌++◌, length, take, get_or, slice_get, Any, Some, None, Contains, IsTrue, refl, ap, sym, ◌∙◌, subst, arith, add-one, inl, inr, Option}
 use Rattle.machine_core.specs.Lists.{Any-none, Any-append_left, Any-push_cases, Contains-here, Contains-there, slice_get-push_cases}
-use Rattle.machine_core.specs.Costs.{add_costs}
+use Rattle.machine_core.specs.Costs.{add_costs, sum_costs}
 use Rattle.machine_core.specs.Moves.{Moves}
 use Rattle.machine_core.specs.declared.machine.Move.{Move}
 use Rattle.sv_word.specs.Ranges.{in_ranges}
-use Rattle.machine_meet.specs.Products.{AreStates, MeetEnds, MeetSteps, sum_costs}
+use Rattle.machine_meet.specs.Products.{AreStates, MeetEnds, MeetSteps}
 use Rattle.machine_meet.specs.Splits.{Picks, AreWide, AreOptions, AreSteps, as_step}
 use Rattle.machine_meet.proofs.JoinLemmas.{Any-push, take-push}
 use Rattle.std.proofs.lemmas.List.{take_all, length-take-le}

@@ -1,12 +1,11 @@
 -- One cost out of each list.
 use Rattle.std.proofs.Common.{◌≡◌, ℕ, zero, suc, ◌+◌, ◌<◌, ◌≤◌, List, [], ◌∷◌, ◌++◌, length, take, reverse, get_or, slice_index, Any, Some, None, Option, refl, ap, sym, ◌∙◌, subst, arith, inl, inr}
-use Rattle.machine_core.specs.Costs.{add_costs, zeros}
+use Rattle.machine_core.specs.Costs.{add_costs, zeros, sum_costs}
 use Rattle.machine_core.specs.CostLaws.{add_costs-length, add_costs-entry, zeros-length, zeros-entry}
 use Rattle.std.proofs.Common.{add-one}
 use Rattle.std.proofs.lemmas.List.{length-take-le, take_all, reverse-append}
 use Rattle.machine_core.specs.Lists.{Any-none, Any-here, Any-cases, Any-push_cases}
 use Rattle.machine_meet.proofs.JoinLemmas.{take-push}
-use Rattle.machine_meet.specs.Products.{sum_costs}
 use Rattle.machine_meet.specs.Splits.{Picks, IsPick, AreWide, IsRest, turned}
 
 -- the costs that are picked out of lists of costs of this width have their sum in it

@@ -1,7 +1,7 @@
 -- A run of a product, by places, and the runs of its parts.
 use Rattle.std.proofs.Common.{◌≡◌, ℕ, zero, suc, ◌+◌, ◌<◌, ◌≤◌, List, [], ◌∷◌, ◌++◌, length, map, take, get_or, slice_get, All, Some, Contains, refl, ap, sym, ◌∙◌, subst, arith, add-one, inl, inr}
 use Rattle.machine_core.specs.declared.run.Run.{Run}
-use Rattle.machine_core.specs.Costs.{add_costs, total_of}
+use Rattle.machine_core.specs.Costs.{add_costs, total_of, sum_costs}
 use Rattle.machine_core.specs.CostLaws.{add_costs-swap, zeros-add_costs-zeros}
 use Rattle.machine_core.specs.Runs.{IsPath, IsRun, run_total}
 use Rattle.machine_core.specs.RunLaws.{path_lengths, run_formed}
@@ -9,7 +9,7 @@ use Rattle.std.proofs.lemmas.List.{take_all}
 use Rattle.std.proofs.lemmas.Option.{slice_get-get_or}
 use Rattle.machine_core.specs.Lists.{slice_get-push_cases}
 use Rattle.machine_core.specs.Costs.{IsCost}
-use Rattle.machine_meet.specs.Products.{AreStates, MeetEnds, MeetSteps, sum_costs}
+use Rattle.machine_meet.specs.Products.{AreStates, MeetEnds, MeetSteps}
 use Rattle.machine_meet.specs.ProductLaws.{first-states, step-states, meet_step-cost, meet_end-cost}
 use Rattle.machine_meet.specs.Splits.{AreSteps, IsRow, IsColumn, AreRuns, as_step}
 use Rattle.machine_meet.proofs.PlaceLemmas.{none-some, got-through, beside, same_some, map-got, map-each, take-got}

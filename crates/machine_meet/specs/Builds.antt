@@ -1,6 +1,5 @@
 -- Machines that are put together from machines whose edges are listed.
-use Rattle.std.specs.Prelude.{◌≡◌, ℕ, ◌+◌, ◌<◌, ◌⊎◌, ◌↔◌, List, [], ◌∷◌, ◌++◌, length}
-use Rattle.sv_word.specs.Ranges.{IsInhabited}
+use Rattle.std.specs.Prelude.{◌≡◌, ℕ, ◌+◌, ◌⊎◌, ◌↔◌, List, [], ◌∷◌, ◌++◌}
 use Rattle.machine_core.specs.declared.edge.Edge.{Edge}
 use Rattle.machine_core.specs.declared.end.End.{End}
 use Rattle.machine_core.specs.declared.graph.Graph.{Graph}
@@ -19,12 +18,6 @@ placed_end offset e = ending (offset + e.at) e.cost
 -- a move as an edge that leaves `from`, where its target is counted from `offset`
 abbrev pub leaving_edge : ℕ → ℕ → Move ℕ → Edge
 leaving_edge from offset m = edge from m.on m.cost (offset + m.to)
-
--- it reads some character, has one number for each register, and leads to one of so many states
-pub record IsMove (states width : ℕ) (m : Move ℕ) : Type 0 where
-  pub on : IsInhabited m.on
-  pub cost : length m.cost ≡ width
-  pub to : m.to < states
 
 -- state `s` of the whole does what state `u` of the part does: it is that state, or both are starts
 abbrev pub StandsFor : ℕ → ℕ → ℕ → Type 0

@@ -1,10 +1,11 @@
 -- What a product of machines keeps.
-use Rattle.std.specs.Prelude.{◌≡◌, ℕ, ◌≤◌, ◌+◌, List, [], ◌∷◌, map, Contains}
-use Rattle.std.proofs.Common.{sym, subst}
+use Rattle.std.specs.Prelude.{◌≡◌, ℕ, ◌≤◌, ◌+◌, ◌*◌, List, [], ◌∷◌, map, Contains}
+use Rattle.std.proofs.Common.{arith, refl, sym, subst}
 use Rattle.machine_core.specs.Costs.{IsCost}
 use Rattle.machine_core.specs.CostLaws.{IsCost-add, IsCost-zeros}
+use Rattle.machine_core.specs.Counts.{AreAtMost, at_most-weaker, at_most-one, at_most-made, at_most-pairs}
 use Rattle.machine_core.specs.Lists.{Contains-here, Contains-there}
-use Rattle.machine_meet.specs.Products.{AreStates, MeetEnds, MeetSteps, summed}
+use Rattle.machine_meet.specs.Products.{AreStates, MeetEnds, MeetSteps, summed, multiplied}
 
 module _ {P S : Type 0} (is_state : P → S → Type 0) where
   pub first-states : (first : P → S) → ((p : P) → is_state p (first p)) → (ps : List P) → AreStates is_state ps (map first ps)
@@ -52,3 +53,19 @@ module _ {P S : Type 0} (is_state : P → S → Type 0) where
         let head = subst (λ n. IsCost n (top p) e.0) (agree p (Contains-here p ps)) (ok p s e.0 h.0 e.2) in
         let tail = meet_end-cost ends ok w ps (λ q k. agree q (Contains-there p ps q k)) ss e.1 h.1 e.3 in
         subst (IsCost w (top p + summed top ps)) e.4 (IsCost-add w (top p) (summed top ps) e.0 e.1 head tail)
+
+  -- lists of one state of each part are as many as the product of the parts' numbers
+  pub states-at_most : (size : P → ℕ) → ((p : P) → AreAtMost (is_state p) (size p)) → (ps : List P) → AreAtMost (AreStates is_state ps) (multiplied size ps)
+  states-at_most size most [] = at_most-weaker (λ ss. [] ≡ ss) (AreStates is_state []) 1 1 alone (omega arith) (at_most-one [])
+    where
+      alone : (ss : List S) → AreStates is_state [] ss → [] ≡ ss
+      alone [] h = refl
+      alone (s ∷ ss) h = absurd h
+  states-at_most size most (p ∷ ps) =
+      at_most-made (λ (q : S × List S). q.0 ∷ q.1) (λ (q : S × List S). is_state p q.0 × AreStates is_state ps q.1) (AreStates is_state (p ∷ ps))
+      (size p * multiplied size ps) parted
+      (at_most-pairs (is_state p) (AreStates is_state ps) (size p) (multiplied size ps) (most p) (states-at_most size most ps))
+    where
+      parted : (ss : List S) → AreStates is_state (p ∷ ps) ss → (q : S × List S) × (is_state p q.0 × AreStates is_state ps q.1) × (q.0 ∷ q.1 ≡ ss)
+      parted [] h = absurd h
+      parted (s ∷ ss) h = ((s, ss), h, refl)

@@ -1,5 +1,5 @@
 -- The product of machines: each of them reads the word, and their costs are added up.
-use Rattle.std.specs.Prelude.{◌≡◌, ℕ, ◌≤◌, ◌+◌, ⊤, List, [], ◌∷◌, map, Any, ◌↔◌}
+use Rattle.std.specs.Prelude.{◌≡◌, ℕ, ◌≤◌, ◌+◌, ◌*◌, ⊤, List, [], ◌∷◌, map, Any, ◌↔◌}
 use Rattle.sv_word.specs.Words.{IsWord}
 use Rattle.machine_core.specs.Moves.{Moves}
 use Rattle.machine_core.specs.declared.machine.Move.{Move}
@@ -16,10 +16,23 @@ abbrev pub summed : {P : Type 0} → (P → ℕ) → List P → ℕ
 summed f [] = 0
 summed f (p ∷ ps) = f p + summed f ps
 
--- costs added up, where there may be none of them
-abbrev pub sum_costs : ℕ → List (List ℕ) → List ℕ
-sum_costs width [] = zeros width
-sum_costs width (k ∷ ks) = add_costs k (sum_costs width ks)
+-- what `f` has at the parts, multiplied
+abbrev pub multiplied : {P : Type 0} → (P → ℕ) → List P → ℕ
+multiplied f [] = 1
+multiplied f (p ∷ ps) = f p * multiplied f ps
+
+-- each part keeps within the slope and the base at its place
+abbrev pub EachWithin : {P : Type 0} → (P → ℕ → ℕ → Type 0) → List P → List ℕ → List ℕ → Type 0
+EachWithin W [] [] [] = ⊤
+EachWithin W [] [] (b ∷ bases) = ⊥
+EachWithin W [] (s ∷ slopes) bases = ⊥
+EachWithin W (p ∷ ps) [] bases = ⊥
+EachWithin W (p ∷ ps) (s ∷ slopes) [] = ⊥
+EachWithin W (p ∷ ps) (s ∷ slopes) (b ∷ bases) = W p s b × EachWithin W ps slopes bases
+
+-- numbers added up
+abbrev pub total : List ℕ → ℕ
+total ns = summed (λ n. n) ns
 
 module _ {P S : Type 0} where
   -- a state of the product: one of each part, in the order of the parts

@@ -1,9 +1,8 @@
 -- A run of a product, split into runs of its parts.
 use Rattle.std.specs.Prelude.{◌≡◌, ℕ, suc, ◌↔◌, ⊤, List, [], ◌∷◌, length, reverse, slice_get, Some, None, Any, Option, MatchOption}
 use Rattle.machine_core.specs.declared.run.Run.{Run}
-use Rattle.machine_core.specs.Costs.{add_costs}
+use Rattle.machine_core.specs.Costs.{add_costs, sum_costs}
 use Rattle.machine_core.specs.Runs.{IsRun}
-use Rattle.machine_meet.specs.Products.{sum_costs}
 
 -- one cost out of each list
 abbrev pub Picks : List (List (List ℕ)) → List (List ℕ) → Type 0

@@ -1,6 +1,6 @@
 ghost use Rattle.std.specs.Prelude.{◌≡◌, ℕ, ◌+◌, ◌<◌, ◌≤◌, ◌^◌, ◌↔◌, [], ◌∷◌, List, length, map, IfOk, All, Any, Contains};
-ghost use Rattle.machine_meet.specs.Products.{AreStates, MeetEnds, MeetSteps, meet_width, summed, MeetsAll};
-ghost use Rattle.machine_meet.specs.ProductLaws.{first-states, step-states, step-character, meet_end-cost, meet_step-cost};
+ghost use Rattle.machine_meet.specs.Products.{AreStates, MeetEnds, MeetSteps, meet_width, summed, multiplied, MeetsAll};
+ghost use Rattle.machine_meet.specs.ProductLaws.{first-states, step-states, step-character, meet_end-cost, meet_step-cost, states-at_most};
 
 use crate::product::product;
 use crate::sums::end_product;
@@ -11,7 +11,8 @@ use sv_list::Items;
 /// The machines that read a word together, as one machine that is explored state by state.
 ///
 /// A state is a list with one state of each part, in the order of the parts. Without parts it has
-/// every word and no registers.
+/// every word and no registers. There are at most as many states as the numbers of the parts' states
+/// make multiplied.
 ///
 /// The moves are joined from the last part on. Each move of a part is intersected once with each move
 /// of the parts after it that reads a character of it, and no others are tried: the intervals of both
@@ -53,6 +54,8 @@ impl<'a, P: Machine> Machine for Meet<'a, P> {
 
     ghost top = { λ m. summed P.top m.parts.now };
 
+    ghost size = { λ m. multiplied P.size m.parts.now };
+
     ghost first_is_state = { λ m. first-states P.is_state P.first P.first_is_state m.parts.now };
 
     ghost step_is_state = { λ m s t c cost h step. step-states P.is_state P.steps_to (meet_width P.width m.parts.now) P.step_is_state m.parts.now s t c cost h step };
@@ -62,6 +65,8 @@ impl<'a, P: Machine> Machine for Meet<'a, P> {
     ghost step_cost = { λ m s t c cost h step. meet_step-cost P.is_state P.width P.top P.steps_to P.step_cost (meet_width P.width m.parts.now) m.parts.now m.agree s t c cost h step };
 
     ghost end_cost = { λ m s cost h end. meet_end-cost P.is_state P.width P.top P.ends_with P.end_cost (meet_width P.width m.parts.now) m.parts.now m.agree s cost h end };
+
+    ghost states_at_most = { λ m. states-at_most P.is_state P.size P.states_at_most m.parts.now };
 
     fn registers(&self) -> usize {
         match self.parts {

@@ -1,7 +1,8 @@
 //! Parts of a machine with listed edges, put into a larger one.
 ghost use Rattle.std.specs.Prelude.{◌≡◌, ℕ, ◌+◌, ◌<◌, ◌≤◌, ◌^◌, ◌++◌, map, Contains, IfOk, OnOk};
 ghost use Rattle.machine_core.specs.declared.machine.Move.{Move};
-ghost use Rattle.machine_meet.specs.Builds.{placed_edge, placed_end, leaving_edge, IsMove};
+ghost use Rattle.machine_core.specs.Moves.{IsMove};
+ghost use Rattle.machine_meet.specs.Builds.{placed_edge, placed_end, leaving_edge};
 
 use machine_core::{Explicit, Move};
 use std::alloc::{AllocError, Global};

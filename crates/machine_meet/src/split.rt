@@ -2,7 +2,8 @@
 ghost use Rattle.std.specs.Prelude.{◌≡◌, ℕ, ◌<◌, List, length, map, slice_get, Some, IfOk, All, Contains};
 ghost use Rattle.machine_core.specs.declared.run.Run.{Run};
 ghost use Rattle.machine_core.specs.Runs.{IsRun, run_total};
-ghost use Rattle.machine_meet.specs.Products.{AreStates, MeetEnds, MeetSteps, meet_width, sum_costs};
+ghost use Rattle.machine_meet.specs.Products.{AreStates, MeetEnds, MeetSteps, meet_width};
+ghost use Rattle.machine_core.specs.Costs.{sum_costs};
 ghost use Rattle.machine_meet.specs.Splits.{AreSteps, AreRuns, IsRow, IsColumn, as_step};
 
 use crate::column::column;

@@ -7,7 +7,7 @@ use Rattle.machine_core.specs.declared.machine.Move.{Move}
 use Rattle.machine_core.specs.Edges.{EndsAt}
 use Rattle.machine_core.specs.Moves.{Moves}
 use Rattle.regex_machine.specs.Joined.{ArePlain}
-use Rattle.regex_machine.specs.Stepped.{LeadsTo, AddsSteps, AreSteps, AreEndsIf}
+use Rattle.regex_machine.specs.Stepped.{LeadsTo, AddsSteps, AreLed, AreEndsIf}
 use Rattle.regex_machine.specs.Chosen.{IsPartState}
 use Rattle.regex_machine.specs.Chained.{AreSkipped, FirstSteps, ChainEnds, ChainSteps, AddsFirst}
 use Rattle.regex_machine.proofs.WordLemmas.{same-at, get-within}
@@ -89,7 +89,7 @@ module _ (ms : List Graph) (k s : ℕ) (m : Graph) (at : slice_get ms k ≡ Some
     λ a. (let r = (h cost).0 a in let t = r.1 in cc),
   )
 
-  pub chain-moves : (all new : List (Move (ℕ × ℕ))) → EndsAt m.ends s [] → AreSteps m s k all → AddsFirst (drop (k + 1) ms) (k + 1) all new
+  pub chain-moves : (all new : List (Move (ℕ × ℕ))) → EndsAt m.ends s [] → AreLed m s k all → AddsFirst (drop (k + 1) ms) (k + 1) all new
       → (c : ℕ) (cost : List ℕ) (to : ℕ × ℕ) → ChainSteps ms (k, s) c cost to ↔ Any (Moves c cost to) new
   chain-moves all new end own adds c cost to = (
     λ h. (adds c cost to).1 (elim h.2 [
@@ -106,7 +106,7 @@ module _ (ms : List Graph) (k s : ℕ) (m : Graph) (at : slice_get ms k ≡ Some
     ),
   )
 
-  pub chain-moves_not : (all : List (Move (ℕ × ℕ))) → (EndsAt m.ends s [] → ⊥) → AreSteps m s k all
+  pub chain-moves_not : (all : List (Move (ℕ × ℕ))) → (EndsAt m.ends s [] → ⊥) → AreLed m s k all
       → (c : ℕ) (cost : List ℕ) (to : ℕ × ℕ) → ChainSteps ms (k, s) c cost to ↔ Any (Moves c cost to) all
   chain-moves_not all never own c cost to = (
     λ h. elim h.2 [

@@ -6,7 +6,7 @@ use Rattle.machine_core.specs.declared.machine.Move.{Move}
 use Rattle.machine_core.specs.Edges.{EndsAt}
 use Rattle.machine_core.specs.Moves.{Moves}
 use Rattle.machine_core.specs.Lists.{Any-none, Any-push_cases}
-use Rattle.regex_machine.specs.Stepped.{LeadsTo, AddsSteps, AreSteps, AreEndsIf}
+use Rattle.regex_machine.specs.Stepped.{LeadsTo, AddsSteps, AreLed, AreEndsIf}
 use Rattle.regex_machine.specs.Chosen.{IsChoiceState, ChoiceEnds, ChoiceSteps, StartsIn, AreStarts}
 use Rattle.regex_machine.proofs.WordLemmas.{same-at, get-within, split-last}
 
@@ -66,7 +66,7 @@ module _ (ms : List Graph) (k s : ℕ) where
       λ a. let r = (h cost).0 a in (r.0, inl (m, at, says.0 r.1)),
     )
 
-    pub part-moves : (all : List (Move (ℕ × ℕ))) → AreSteps m s k all → (c : ℕ) (cost : List ℕ) (to : ℕ × ℕ) → ChoiceSteps ms (k, s) c cost to ↔ Any (Moves c cost to) all
+    pub part-moves : (all : List (Move (ℕ × ℕ))) → AreLed m s k all → (c : ℕ) (cost : List ℕ) (to : ℕ × ℕ) → ChoiceSteps ms (k, s) c cost to ↔ Any (Moves c cost to) all
     part-moves all own c cost to = (
       λ h. elim h [
         | inl st ↦ (own c cost to).1 (subst (λ x. LeadsTo x s k c cost to) (same-at ms k st.0 m st.1 at) st.2)

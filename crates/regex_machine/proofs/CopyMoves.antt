@@ -5,7 +5,7 @@ use Rattle.machine_core.specs.declared.graph.Graph.{Graph}
 use Rattle.machine_core.specs.declared.machine.Move.{Move}
 use Rattle.machine_core.specs.Edges.{EndsAt}
 use Rattle.machine_core.specs.Moves.{Moves}
-use Rattle.regex_machine.specs.Stepped.{AddsSteps, AreSteps, AreEndsIf}
+use Rattle.regex_machine.specs.Stepped.{AddsSteps, AreLed, AreEndsIf}
 use Rattle.regex_machine.specs.Copied.{NextCopy, AreEnough, IsCopyState, CopyEnds, CopySteps, copy_start}
 
 module _ (m : Graph) (least most : ℕ) (again empty : Bool) (k s : ℕ) where
@@ -17,7 +17,7 @@ module _ (m : Graph) (least most : ℕ) (again empty : Bool) (k s : ℕ) where
     λ a. let r = (h cost).0 a in (r.0, inr (at, says.0 r.1)),
   )
 
-  pub own-moves : (all : List (Move (ℕ × ℕ))) → k ≡ most → AreSteps m 0 0 all → (c : ℕ) (cost : List ℕ) (to : ℕ × ℕ) → CopySteps m most again (k, s) c cost to ↔ Any (Moves c cost to) all
+  pub own-moves : (all : List (Move (ℕ × ℕ))) → k ≡ most → AreLed m 0 0 all → (c : ℕ) (cost : List ℕ) (to : ℕ × ℕ) → CopySteps m most again (k, s) c cost to ↔ Any (Moves c cost to) all
   own-moves all at own c cost to = (
     λ h. (own c cost to).1 (elim h.1 [
       | inl st ↦ absurd (omega arith)
@@ -49,7 +49,7 @@ module _ (m : Graph) (least most : ℕ) (again empty : Bool) (k s : ℕ) where
       λ a. (let r = (h cost).0 a in let t = r.1 in cc),
     )
 
-    module _ (all : List (Move (ℕ × ℕ))) (own : AreSteps m s k all) where
+    module _ (all : List (Move (ℕ × ℕ))) (own : AreLed m s k all) where
       -- where a word may not end in the copy, or none comes after it
       pub copy-stays : ((l : ℕ) → EndsAt m.ends s [] → NextCopy most again k l → ⊥) → (c : ℕ) (cost : List ℕ) (to : ℕ × ℕ) → CopySteps m most again (k, s) c cost to ↔ Any (Moves c cost to) all
       copy-stays never c cost to = (
@@ -122,6 +122,6 @@ start-first least most empty h = first-test (nat_eq least 0) (not empty) (most, 
 pub start-own : (least most : ℕ) (empty : Bool) → least ≤ 0 → empty ≡ false → ◌≡◌ {A = ℕ × ℕ} (most, 0) (copy_start least most empty)
 start-own least most empty h e = own-test (nat_eq least 0) (not empty) (most, 0) (0, 0) (grind (arith, nat_tests)) (ap not e)
 
-pub in-copy : (m : Graph) (most : ℕ) (at : ℕ × ℕ) → IsCopyState m most at → (at.0 ≡ most → ⊥) → at.0 < most
-in-copy m most at (inl h) other = h.0
-in-copy m most at (inr h) other = absurd (other h.0)
+pub in-copy : (m : Graph) (least most : ℕ) (at : ℕ × ℕ) → IsCopyState m least most at → (at.0 ≡ most → ⊥) → at.0 < most
+in-copy m least most at (inl h) other = h.0
+in-copy m least most at (inr h) other = absurd (other h.1)

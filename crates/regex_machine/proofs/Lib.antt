@@ -1,5 +1,7 @@
 pub mod Cut
 pub mod Sizes
+pub mod BuiltLemmas
+pub mod KindLemmas
 pub mod WordLemmas
 pub mod StepLemmas
 pub mod LetterLemmas
@@ -14,3 +16,5 @@ pub mod CopyLanguage
 pub mod LanguageLemmas
 pub mod MeetLemmas
 pub mod SideLemmas
+pub mod FormLemmas
+pub mod LetterParts

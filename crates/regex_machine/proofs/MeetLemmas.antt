@@ -13,8 +13,8 @@ use Rattle.machine_core.specs.LanguageLaws.{runs_are_words}
 use Rattle.machine_core.specs.Lists.{Contains-here, Contains-there}
 use Rattle.machine_meet.specs.Products.{meet_width, summed, MeetEnds, MeetSteps, AllRead, MeetsAll}
 use Rattle.sv_terms.specs.Language.{Word, InAllOf}
-use Rattle.regex_machine.specs.Joined.{WordsOf, Reads, ArePlain}
-use Rattle.regex_machine.proofs.WordLemmas.{no-cost, run-free, reads-same}
+use Rattle.regex_machine.specs.Joined.{WordsOf, ArePlain}
+use Rattle.regex_machine.proofs.WordLemmas.{no-cost, run-free}
 
 plain-top : (m : Graph) → m.registers ≡ 0 → listed_top m.edges m.ends ≡ 0
 plain-top m plain =
@@ -72,11 +72,11 @@ pub words-only : (m : Graph) (w : Word) → WordsOf m w → IsWord w
 words-only m w h = runs_are_words (λ s. s < m.states) (StepsBy m.edges) (λ s t c cost ok st. step_target m.states m.registers m.edges m.ends m.formed s t c cost st) (EndsAt m.ends)
     (λ s t c cost ok st. step_character m.states m.registers m.edges m.ends m.formed s t c cost st) w 0 [] m.started h
 
--- a machine that reads what the product of these reads
-pub meet-reads : (ms : List Graph) → ArePlain ms → (ns : List Graph) → ns ≡ ms → MeetsAll ends_of steps_of first_of_graph (meet_width (λ (m : Graph). m.registers) ms) ms
-    → (m : Graph) → Reads (λ w. RunsFrom (MeetEnds ends_of (meet_width (λ (m : Graph). m.registers) ns) ns) (MeetSteps steps_of (meet_width (λ (m : Graph). m.registers) ns) ns) (map first_of_graph ns) w []) m
-    → Reads (InAllOf WordsOf ms) m
-meet-reads ms plain ns same meets m r =
+-- what the product of these reads
+pub meet-words : (ms : List Graph) → ArePlain ms → (ns : List Graph) → ns ≡ ms → MeetsAll ends_of steps_of first_of_graph (meet_width (λ (m : Graph). m.registers) ms) ms
+    → (w : Word) → RunsFrom (MeetEnds ends_of (meet_width (λ (m : Graph). m.registers) ns) ns) (MeetSteps steps_of (meet_width (λ (m : Graph). m.registers) ns) ns) (map first_of_graph ns) w []
+    ↔ InAllOf WordsOf ms w
+meet-words ms plain ns same meets =
     let width : List Graph → ℕ = meet_width (λ (m : Graph). m.registers) in
-    let P : List Graph → Word → Type 0 = λ l w. RunsFrom (MeetEnds ends_of (width l) l) (MeetSteps steps_of (width l) l) (map first_of_graph l) w [] in
-    reads-same (P ms) (InAllOf WordsOf ms) m (meet-language ms plain (width ms) (plain-width ms plain) meets) (subst (λ l. Reads (P l) m) same r)
+    subst (λ l. (w : Word) → RunsFrom (MeetEnds ends_of (width l) l) (MeetSteps steps_of (width l) l) (map first_of_graph l) w [] ↔ InAllOf WordsOf ms w) (sym same)
+    (meet-language ms plain (width ms) (plain-width ms plain) meets)

@@ -1,7 +1,8 @@
 -- The words of sides, and of some sides together.
-use Rattle.std.proofs.Common.{◌≡◌, ℕ, zero, suc, ◌+◌, ◌<◌, ◌≤◌, ◌↔◌, inl, inr, Bool, true, false, List, [], ◌∷◌, ◌++◌, length, get_or, take, drop, map, Any, All, refl, ap, sym, ◌∙◌, subst, arith}
+use Rattle.std.proofs.Common.{◌≡◌, ℕ, zero, suc, ◌+◌, ◌*◌, ◌^◌, ◌<◌, ◌≤◌, ◌↔◌, inl, inr, Bool, true, false, List, [], ◌∷◌, ◌++◌, length, get_or, take, drop, map, Any, All, refl, ap, sym, ◌∙◌, subst, arith}
 use Rattle.std.proofs.lemmas.List.{take_more, take_all}
 use Rattle.std.proofs.lemmas.List.Elements.{All-map}
+use Rattle.std.proofs.Math.Nat.{mul_left_comm}
 use Rattle.sv_word.specs.Words.{IsWord}
 use Rattle.sv_word.specs.Ranges.{IsInhabited}
 use Rattle.machine_meet.specs.Joins.{AreInhabited}
@@ -12,15 +13,18 @@ use Rattle.machine_core.specs.Language.{RunsFrom}
 use Rattle.machine_core.specs.Edges.{EndsAt, StepsBy}
 use Rattle.machine_core.specs.Moves.{Moves}
 use Rattle.machine_core.specs.Lists.{Any-map, Any-from_map, Any-weaker, Any-contains, contained}
-use Rattle.subset_machine.specs.Subsets.{AreStates, SubsetEnds, SubsetSteps, SubsetAccepts, HasWord}
-use Rattle.machine_meet.specs.Products.{meet_width, summed, MeetEnds, MeetSteps, AllRead, MeetsAll}
+use Rattle.subset_machine.specs.Subsets.{IsStateSet, SubsetEnds, SubsetSteps, SubsetAccepts, HasWord}
+use Rattle.machine_meet.specs.Products.{meet_width, summed, multiplied, MeetEnds, MeetSteps, AllRead, MeetsAll}
 use Rattle.sv_terms.specs.Language.{Word, InOneOf, InFirstOnly}
-use Rattle.regex_machine.specs.Joined.{WordsOf, Reads}
+use Rattle.regex_machine.specs.Joined.{WordsOf}
+use Rattle.regex_machine.specs.Bounds.{from_left, without_size}
+use Rattle.regex_machine.specs.Kinds.{states_of}
 use Rattle.regex_machine.specs.Stepped.{AreEndsIf}
 use Rattle.regex_machine.specs.Sided.{IsSideState, SideEnds, SideSteps, SideWords, SideReads, listed, IsSide}
-use Rattle.regex_machine.specs.OtherSides.{ends_of_side, steps_of_side, first_of_side, AreOtherSides}
+use Rattle.regex_machine.specs.OtherSides.{ends_of_side, steps_of_side, first_of_side, size_of_side, AreOtherSides}
 use Rattle.regex_machine.specs.declared.sides.Side.{Side}
-use Rattle.regex_machine.proofs.WordLemmas.{From, from-step, step-from, step-free, reads-same}
+use Rattle.regex_machine.proofs.WordLemmas.{From, from-step, step-from, step-free}
+use Rattle.regex_machine.proofs.KindLemmas.{fold-without}
 use Rattle.regex_machine.proofs.MeetLemmas.{words-only}
 
 module _ (m : Graph) (plain : m.registers ≡ 0) where
@@ -92,20 +96,20 @@ SidesRead ds w cost = AllRead ends_of_side steps_of_side first_of_side 0 ds w co
 
 sides-out : (ms : List Graph) (ds : List Side) (f : Graph) (d : Side) → AreOtherSides ms ds → IsSide false f d.others d.part.now → (w : Word) (cost : List ℕ)
     → SidesRead (ds ++ d ∷ []) w cost → WordsOf f w × (InOneOf WordsOf ms w → ⊥)
-sides-out [] [] f d h g w cost r = (((g w r.0).0 r.2).0, λ x. x)
+sides-out [] [] f d h g w cost r = (((g.words w r.0).0 r.2).0, λ x. x)
 sides-out [] (e ∷ ds) f d h g w cost r = absurd h
 sides-out (m ∷ ms) [] f d h g w cost r = absurd h
 sides-out (m ∷ ms) (e ∷ ds) f d h g w cost r =
     let rest = sides-out ms ds f d h.1 g w r.1 r.3 in
-    let here = ((h.0 w r.0).0 r.2).0 in
+    let here = ((h.0.words w r.0).0 r.2).0 in
     (rest.0, λ x. elim x [ inl y ↦ here.1 y | inr y ↦ rest.1 y ])
 
 sides-in : (ms : List Graph) (ds : List Side) (f : Graph) (d : Side) → AreOtherSides ms ds → IsSide false f d.others d.part.now → (w : Word)
     → WordsOf f w → (InOneOf WordsOf ms w → ⊥) → SidesRead (ds ++ d ∷ []) w []
-sides-in [] [] f d h g w a b = ([], [], (g w []).1 (a, refl), (words-only f w a, refl), refl)
+sides-in [] [] f d h g w a b = ([], [], (g.words w []).1 (a, refl), (words-only f w a, refl), refl)
 sides-in [] (e ∷ ds) f d h g w a b = absurd h
 sides-in (m ∷ ms) [] f d h g w a b = absurd h
-sides-in (m ∷ ms) (e ∷ ds) f d h g w a b = ([], [], (h.0 w []).1 ((words-only f w a, λ y. b (inl y)), refl), sides-in ms ds f d h.1 g w a (λ y. b (inr y)), refl)
+sides-in (m ∷ ms) (e ∷ ds) f d h g w a b = ([], [], (h.0.words w []).1 ((words-only f w a, λ y. b (inl y)), refl), sides-in ms ds f d h.1 g w a (λ y. b (inr y)), refl)
 
 pub sides-language : (ms : List Graph) (ds : List Side) (f : Graph) (d : Side) → AreOtherSides ms ds → IsSide false f d.others d.part.now → (width : ℕ) → width ≡ 0
     → MeetsAll ends_of_side steps_of_side first_of_side width (ds ++ d ∷ [])
@@ -116,25 +120,39 @@ sides-language ms ds f d h g width none meets w = (
   λ a. (meets w []).1 (subst (λ n. AllRead ends_of_side steps_of_side first_of_side n (ds ++ d ∷ []) w []) (sym none) (sides-in ms ds f d h g w a.0 a.1)),
 )
 
--- a machine that reads what the negated subset construction reads
-pub other-reads : (m n : Graph) (negated : Bool) → n ≡ m → negated ≡ true → ((w : Word) (cost : List ℕ) → SubsetAccepts true m w cost ↔ (HasWord true m w × (cost ≡ [])))
-    → (k : Graph) → Reads (λ w. SubsetAccepts negated n w []) k → Reads (λ w. IsWord w × (WordsOf m w → ⊥)) k
-other-reads m n negated same e says k r =
-    let r2 = subst (λ b. Reads (λ w. SubsetAccepts b n w []) k) e r in
-    reads-same (λ w. SubsetAccepts true m w []) (λ w. IsWord w × (WordsOf m w → ⊥)) k (λ w. (λ h. ((says w []).0 h).0, λ h. (says w []).1 (h, refl))) (subst (λ x. Reads (λ w. SubsetAccepts true x w []) k) same r2)
+-- what the negated subset construction reads
+pub other-words : (m n : Graph) (negated : Bool) → n ≡ m → negated ≡ true → ((w : Word) (cost : List ℕ) → SubsetAccepts true m w cost ↔ (HasWord true m w × (cost ≡ [])))
+    → (w : Word) → SubsetAccepts negated n w [] ↔ (IsWord w × (WordsOf m w → ⊥))
+other-words m n negated same e says w =
+    subst (λ b. SubsetAccepts b n w [] ↔ (IsWord w × (WordsOf m w → ⊥))) (sym e)
+    (subst (λ (x : Graph). SubsetAccepts true x w [] ↔ (IsWord w × (WordsOf m w → ⊥))) (sym same) (λ h. ((says w []).0 h).0, λ h. (says w []).1 (h, refl)))
 
--- and one that reads what these sides read together
-pub sides-reads : (ms : List Graph) (ds : List Side) (f : Graph) (d : Side) → AreOtherSides ms ds → IsSide false f d.others d.part.now → (es fs : List Side) → es ≡ ds ++ d ∷ [] → fs ≡ es
+-- and what these sides read together
+pub sides-words : (ms : List Graph) (ds : List Side) (f : Graph) (d : Side) → AreOtherSides ms ds → IsSide false f d.others d.part.now → (es fs : List Side) → es ≡ ds ++ d ∷ [] → fs ≡ es
     → MeetsAll ends_of_side steps_of_side first_of_side (meet_width (λ (d : Side). 0) es) es
-    → (m : Graph) → Reads (λ w. RunsFrom (MeetEnds ends_of_side (meet_width (λ (d : Side). 0) fs) fs) (MeetSteps steps_of_side (meet_width (λ (d : Side). 0) fs) fs) (map first_of_side fs) w []) m
-    → Reads (InFirstOnly WordsOf (f ∷ ms)) m
-sides-reads ms ds f d others first es fs is same meets m r =
+    → (w : Word) → RunsFrom (MeetEnds ends_of_side (meet_width (λ (d : Side). 0) fs) fs) (MeetSteps steps_of_side (meet_width (λ (d : Side). 0) fs) fs) (map first_of_side fs) w []
+    ↔ InFirstOnly WordsOf (f ∷ ms) w
+sides-words ms ds f d others first es fs is same meets =
     let width : List Side → ℕ = meet_width (λ (d : Side). 0) in
-    let P : List Side → Word → Type 0 = λ l w. RunsFrom (MeetEnds ends_of_side (width l) l) (MeetSteps steps_of_side (width l) l) (map first_of_side l) w [] in
     let all = ds ++ d ∷ [] in
-    reads-same (P all) (InFirstOnly WordsOf (f ∷ ms)) m
+    subst (λ l. (w : Word) → RunsFrom (MeetEnds ends_of_side (width l) l) (MeetSteps steps_of_side (width l) l) (map first_of_side l) w [] ↔ InFirstOnly WordsOf (f ∷ ms) w) (sym (same ∙ is))
     (sides-language ms ds f d others first (width all) (side-width all) (subst (λ l. MeetsAll ends_of_side steps_of_side first_of_side (width l) l) is meets))
-    (subst (λ l. Reads (P l) m) (same ∙ is) r)
+
+-- and how many states they have together
+sides-multiplied : (ms : List Graph) (ds : List Side) (f : Graph) (d : Side) → AreOtherSides ms ds → IsSide false f d.others d.part.now
+    → multiplied size_of_side (ds ++ d ∷ []) ≡ f.states * multiplied (λ (x : Graph). 2 ^ x.states) ms
+sides-multiplied [] [] f d h g = let size = g.size in omega arith
+sides-multiplied [] (e ∷ ds) f d h g = absurd h
+sides-multiplied (m ∷ ms) [] f d h g = absurd h
+sides-multiplied (m ∷ ms) (e ∷ ds) f d h g =
+    let size : size_of_side e ≡ 2 ^ m.states = h.0.size in
+    let rest = sides-multiplied ms ds f d h.1 g in
+    let product = multiplied (λ (x : Graph). 2 ^ x.states) ms in
+    ap (λ n. n * multiplied size_of_side (ds ++ d ∷ [])) size ∙ ap (λ n. 2 ^ m.states * n) rest ∙ mul_left_comm (2 ^ m.states) f.states product
+
+pub sides-size : (ms : List Graph) (ds : List Side) (f : Graph) (d : Side) → AreOtherSides ms ds → IsSide false f d.others d.part.now → (fs : List Side) → fs ≡ ds ++ d ∷ []
+    → multiplied size_of_side fs ≡ from_left without_size (map states_of (f ∷ ms))
+sides-size ms ds f d others first fs is = ap (multiplied size_of_side) is ∙ sides-multiplied ms ds f d others first ∙ sym (fold-without states_of f.states ms)
 
 -- the others of one part more
 pub others-none : (ms : List Graph) (ds : List Side) → ds ≡ [] → AreOtherSides (drop 1 (take 1 ms)) ds
@@ -166,8 +184,8 @@ module _ (o : Bool) (m n : Graph) (negated : Bool) (at : List ℕ) (t : o ≡ tr
       (subst (λ (x : Graph). (c : ℕ) (cost to : List ℕ) → SubsetSteps true x.edges at c cost to ↔ Any (Moves c cost to) all) same
       (subst (λ b. (c : ℕ) (cost to : List ℕ) → SubsetSteps b n.edges at c cost to ↔ Any (Moves c cost to) all) e h))
 
-  pub others-state : IsSideState o m at → AreStates n.states at
-  others-state h = subst (λ (x : Graph). AreStates x.states at) (sym same) (subst (λ b. IsSideState b m at) t h)
+  pub others-state : IsSideState o m at → IsStateSet n.states at
+  others-state h = subst (λ (x : Graph). IsStateSet x.states at) (sym same) (subst (λ b. IsSideState b m at) t h)
 
 -- the one state of a list
 module _ (o : Bool) (m : Graph) (at list : List ℕ) (f : o ≡ false) (state : IsSideState o m at) (e : list ≡ at) where

@@ -1,9 +1,10 @@
 -- The sizes of regular expressions, by those of their parts.
-use Rattle.std.proofs.Common.{◌≡◌, sym, ap, ◌∙◌, ℕ, ◌+◌, ◌*◌, ◌^◌, ◌<◌, List, [], ◌∷◌, ◌++◌, length, map, take, get_or, refl, arith}
+use Rattle.std.proofs.Common.{◌≡◌, sym, ap, ◌∙◌, ℕ, ◌+◌, ◌*◌, ◌^◌, ◌<◌, ◌≤◌, List, [], ◌∷◌, ◌++◌, length, map, take, get_or, refl, subst, arith}
 use Rattle.std.proofs.lemmas.List.{take_more, map_push, length-map, length-take}
+use Rattle.std.proofs.Math.Nat.{mul-le-mul, one-le-pow}
 use Rattle.sv_terms.specs.declared.regex.Regex.{Regex, roll-Regex}
 use Rattle.sv_terms.specs.declared.regex.Regex.TheVariants as v
-use Rattle.sv_terms.specs.declared.regex.Regex.TheFolds.{fold-roll-Regex, map-Regex}
+use Rattle.sv_terms.specs.declared.regex.Regex.TheFolds.{fold-roll-Regex, ind-Regex, map-Regex}
 use Rattle.sv_terms.specs.declared.regex.Regex.TheOpen.{Regex-F}
 use Rattle.sv_terms.specs.Language.{Word}
 use Rattle.regex_machine.specs.Bounds.{size, size_step, from_left, fold_left, in_turn_size, choice_size, both_size, without_size}
@@ -71,3 +72,45 @@ size-more f rs i r pos lt at =
     let grown : take (i + 1) rs ≡ take i rs ++ r ∷ [] = take_more rs i r lt ∙ ap (λ x. take i rs ++ x ∷ []) (sym at) in
     let some : 0 < length (map size (take i rs)) = simp (length-map, length-take) (omega arith) in
     ap (λ l. from_left f (map size l)) grown ∙ ap (from_left f) (map_push size (take i rs) r) ∙ from_left-push f (map size (take i rs)) (size r) some
+
+-- there is a state at least
+abbrev Sized : Type 0
+Sized = (r : Regex) × (1 ≤ size r)
+
+abbrev sizes_of : List Sized → List ℕ
+sizes_of ys = map size (map (λ y. y.0) ys)
+
+some-from_left : (f : ℕ → ℕ → ℕ) → ((n m : ℕ) → 1 ≤ n → 1 ≤ m → 1 ≤ f n m) → (ys : List Sized) → 1 ≤ from_left f (sizes_of ys)
+some-from_left f ok [] = omega arith
+some-from_left f ok (y ∷ ys) = some-fold (size y.0) ys y.1
+  where
+    some-fold : (n : ℕ) (ys : List Sized) → 1 ≤ n → 1 ≤ fold_left f n (sizes_of ys)
+    some-fold n [] h = h
+    some-fold n (y ∷ ys) h = some-fold (f n (size y.0)) ys (ok n (size y.0) h y.1)
+
+some-product : (n m : ℕ) → 1 ≤ n → 1 ≤ m → 1 ≤ n * m
+some-product n m p q = let both : 1 * 1 ≤ n * m = mul-le-mul p q in omega arith
+
+some-power : (n : ℕ) → 1 ≤ 2 ^ n
+some-power n = one-le-pow n 2 (omega arith)
+
+some-step : (y : Regex-F Sized) → 1 ≤ size_step (map-Regex Regex ℕ size (map-Regex Sized Regex (λ e. e.0) y))
+some-step Regex-F.Empty = omega arith
+some-step Regex-F.All = omega arith
+some-step Regex-F.AnyChar = omega arith
+some-step (Regex-F.Text t) = omega arith
+some-step (Regex-F.Range lo hi) = omega arith
+some-step (Regex-F.Concat ys) = some-from_left in_turn_size (λ n m p q. omega arith) ys
+some-step (Regex-F.Union ys) = some-from_left choice_size (λ n m p q. omega arith) ys
+some-step (Regex-F.Inter ys) = some-from_left both_size some-product ys
+some-step (Regex-F.Diff ys) = some-from_left without_size (λ n m p q. some-product n (2 ^ m) p (some-power m)) ys
+some-step (Regex-F.Star y) = omega arith
+some-step (Regex-F.Plus y) = y.1
+some-step (Regex-F.Opt y) = omega arith
+some-step (Regex-F.Comp y) = some-power (size y.0)
+some-step (Regex-F.Loop y i j) = omega arith
+
+pub size-some : (r : Regex) → 1 ≤ size r
+size-some = ind-Regex (λ r. 1 ≤ size r) (λ x y is.
+    let e = at (roll-Regex x) x refl in
+    subst (λ n. 1 ≤ n) (sym e) (subst (λ z. 1 ≤ size_step (map-Regex Regex ℕ size z)) is (some-step y)))

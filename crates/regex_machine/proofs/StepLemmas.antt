@@ -11,7 +11,7 @@ use Rattle.machine_core.specs.Places.{places_from, places}
 use Rattle.machine_core.specs.Moves.{Moves}
 use Rattle.machine_core.specs.Lists.{Any-none, Any-here, Any-there, Any-cases, Any-append_left, Any-append_right, Any-append_cases, Any-weaker, Any-map, Any-from_map, contained, Any-contains}
 use Rattle.machine_meet.specs.Joins.{AreInhabited}
-use Rattle.regex_machine.specs.Stepped.{LeadsTo, led, AddsSteps, AreSteps, AreEndsIf}
+use Rattle.regex_machine.specs.Stepped.{LeadsTo, led, AddsSteps, AreLed, AreEndsIf}
 use Rattle.regex_machine.proofs.WordLemmas.{step-free, end-free}
 
 pair-is : (k n : ℕ) (to : ℕ × ℕ) → to.0 ≡ k → n ≡ to.1 → ◌≡◌ {A = ℕ × ℕ} (k, n) to
@@ -52,7 +52,7 @@ steps-inhabited k moves old new e h g = let P : Move (ℕ × ℕ) → Type 0 = �
     subst (All P) (sym e) (All-append P old (map (led k) moves) g (All-map P (led k) moves h))
 
 -- to an empty list
-pub steps-alone : (m : Graph) (s k : ℕ) (old new : List (Move (ℕ × ℕ))) → old ≡ [] → AddsSteps m s k old new → AreSteps m s k new
+pub steps-alone : (m : Graph) (s k : ℕ) (old new : List (Move (ℕ × ℕ))) → old ≡ [] → AddsSteps m s k old new → AreLed m s k new
 steps-alone m s k old new e h c cost to = (
   λ a. elim ((h c cost to).0 a) [ inl o ↦ absurd (Any-none (Moves c cost to) (subst (Any (Moves c cost to)) e o)) | inr st ↦ st ],
   λ st. (h c cost to).1 (inr st),

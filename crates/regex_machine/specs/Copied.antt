@@ -1,14 +1,14 @@
 -- Copies of a machine without registers, one after another.
 -- A state is a copy and a state in it; the copy after the last one has state 0 alone, a start that nothing leads to.
-use Rattle.std.specs.Prelude.{◌≡◌, ℕ, suc, ◌<◌, ◌≤◌, ◌⊎◌, ◌↔◌, Bool, IsTrue, cond, ◌&&◌, not, nat_eq, List, [], Option, MatchOption}
+use Rattle.std.specs.Prelude.{◌≡◌, ℕ, suc, ◌+◌, ◌*◌, ◌<◌, ◌≤◌, ◌⊎◌, ◌↔◌, Bool, IsTrue, cond, ◌&&◌, not, nat_eq, List, [], Option, MatchOption}
 use Rattle.machine_core.specs.declared.graph.Graph.{Graph}
 use Rattle.machine_core.specs.Edges.{EndsAt, StepsBy}
 use Rattle.machine_core.specs.Language.{RunsFrom}
 use Rattle.sv_terms.specs.Language.{Language, Power}
 
 -- at least so many words of P, one after another, and at most so many where there may not be ever more
-abbrev pub Copied : Language → ℕ → ℕ → Bool → Language
-Copied P least most again w = (n : ℕ) × (least ≤ n) × ((n ≤ most) ⊎ IsTrue again) × Power P n w
+abbrev pub InCopies : Language → ℕ → ℕ → Bool → Language
+InCopies P least most again w = (n : ℕ) × (least ≤ n) × ((n ≤ most) ⊎ IsTrue again) × Power P n w
 
 -- the copy after a copy: the next one, and where they go on for ever the last one again
 abbrev pub NextCopy : ℕ → Bool → ℕ → ℕ → Type 0
@@ -17,8 +17,13 @@ NextCopy most again k l = ((suc k < most) × (l ≡ suc k)) ⊎ (IsTrue again ×
 abbrev pub IsNext : ℕ → Bool → ℕ → Option ℕ → Type 0
 IsNext most again k next = MatchOption next ((l : ℕ) → NextCopy most again k l → ⊥) (λ n. (l : ℕ) → NextCopy most again k l ↔ (l ≡ n))
 
-abbrev pub IsCopyState : Graph → ℕ → ℕ × ℕ → Type 0
-IsCopyState m most at = ((at.0 < most) × (at.1 < m.states)) ⊎ ((at.0 ≡ most) × (at.1 ≡ 0))
+-- a state of a copy, or the start of its own, which there is only where no copy is needed
+abbrev pub IsCopyState : Graph → ℕ → ℕ → ℕ × ℕ → Type 0
+IsCopyState m least most at = ((at.0 < most) × (at.1 < m.states)) ⊎ ((least ≡ 0) × (at.0 ≡ most) × (at.1 ≡ 0))
+
+-- how many states the copies of a machine with n states have at most
+abbrev pub copies_size : ℕ → ℕ → ℕ → ℕ
+copies_size least most n = cond (nat_eq least 0) (most * n + 1) (most * n)
 
 -- so many copies are enough, or the empty word stands for those that lack
 abbrev pub AreEnough : ℕ → Bool → ℕ → Type 0

@@ -1,10 +1,11 @@
 -- Machines without registers, and their words.
-use Rattle.std.specs.Prelude.{◌≡◌, ◌↔◌, ⊤, List, [], ◌∷◌, Contains}
+use Rattle.std.specs.Prelude.{◌≡◌, ◌≤◌, ◌↔◌, ⊤, List, [], ◌∷◌, Contains}
 use Rattle.machine_core.specs.declared.graph.Graph.{Graph}
 use Rattle.machine_core.specs.Graphs.{Accepts}
 use Rattle.sv_word.specs.Words.{IsWord}
 use Rattle.sv_terms.specs.Language.{Word, Language, In}
 use Rattle.sv_terms.specs.declared.regex.Regex.{Regex}
+use Rattle.regex_machine.specs.Bounds.{size}
 
 -- the words of a machine without registers
 abbrev pub WordsOf : Graph → Language
@@ -19,12 +20,12 @@ pub record Reads (L : Word → Type 0) (m : Graph) : Type 0 where
 abbrev pub ArePlain : List Graph → Type 0
 ArePlain ms = (m : Graph) → Contains ms m → m.registers ≡ 0
 
--- each machine has the words of the expression at its place
+-- each machine has the words of the expression at its place, and no more states
 abbrev pub AreMade : List Regex → List Graph → Type 0
 AreMade [] [] = ⊤
 AreMade [] (m ∷ ms) = ⊥
 AreMade (r ∷ rs) [] = ⊥
-AreMade (r ∷ rs) (m ∷ ms) = Reads (In r) m × AreMade rs ms
+AreMade (r ∷ rs) (m ∷ ms) = Reads (In r) m × (m.states ≤ size r) × AreMade rs ms
 
 -- a machine with the words that aren't those of the other
 abbrev pub IsOther : Graph → Graph → Type 0

@@ -7,3 +7,7 @@ pub mod Copied
 pub mod Laws
 pub mod Sided
 pub mod OtherSides
+pub mod Built
+pub mod Kinds
+pub mod Parts
+pub mod Letters

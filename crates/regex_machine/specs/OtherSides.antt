@@ -1,7 +1,7 @@
 -- Lists of sides.
 use Rattle.std.specs.Prelude.{ℕ, ⊤, true, List, [], ◌∷◌}
 use Rattle.machine_core.specs.declared.graph.Graph.{Graph}
-use Rattle.regex_machine.specs.Sided.{SideEnds, SideSteps, IsSide}
+use Rattle.regex_machine.specs.Sided.{SideEnds, SideSteps, side_size, IsSide}
 use Rattle.regex_machine.specs.declared.sides.Side.{Side}
 
 -- the ends and steps of a side, and its first state
@@ -10,6 +10,9 @@ ends_of_side d = SideEnds d.others d.part.now
 
 abbrev pub steps_of_side : Side → List ℕ → ℕ → List ℕ → List ℕ → Type 0
 steps_of_side d = SideSteps d.others d.part.now
+
+abbrev pub size_of_side : Side → ℕ
+size_of_side d = side_size d.others d.part.now
 
 abbrev pub first_of_side : Side → List ℕ
 first_of_side d = 0 ∷ []

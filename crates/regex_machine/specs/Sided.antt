@@ -1,14 +1,16 @@
 -- A machine without registers, or all words that aren't its, by lists of its states: a list of one for the machine, and the lists of the subset construction for the others.
-use Rattle.std.specs.Prelude.{◌≡◌, ℕ, ◌<◌, ◌≤◌, ◌↔◌, Bool, true, false, List, [], ◌∷◌}
-use Rattle.std.proofs.Common.{refl}
+use Rattle.std.specs.Prelude.{◌≡◌, ℕ, ◌^◌, ◌<◌, ◌≤◌, ◌↔◌, Bool, true, false, List, [], ◌∷◌}
+use Rattle.std.proofs.Common.{refl, sym}
 use Rattle.sv_word.specs.Words.{IsWord}
 use Rattle.machine_core.specs.declared.graph.Graph.{Graph}
 use Rattle.machine_core.specs.declared.machine.Move.{Move}
 use Rattle.machine_core.specs.Costs.{IsCost}
+use Rattle.machine_core.specs.Counts.{AreAtMost, at_most-made, at_most-below}
 use Rattle.machine_core.specs.Edges.{EndsAt, StepsBy}
 use Rattle.machine_core.specs.EdgeLaws.{step_target, step_character}
 use Rattle.machine_core.specs.Language.{RunsFrom}
-use Rattle.subset_machine.specs.Subsets.{AreStates, SubsetEnds, SubsetSteps}
+use Rattle.subset_machine.specs.Subsets.{IsStateSet, SubsetEnds, SubsetSteps}
+use Rattle.subset_machine.specs.StateSets.{sets_at_most}
 use Rattle.subset_machine.specs.SubsetLaws.{first-states, next-states, step-cost, end-cost}
 use Rattle.sv_terms.specs.Language.{Word}
 use Rattle.regex_machine.specs.Joined.{WordsOf}
@@ -16,7 +18,7 @@ use Rattle.regex_machine.specs.Laws.{no-cost}
 
 abbrev pub IsSideState : Bool → Graph → List ℕ → Type 0
 IsSideState false m at = (s : ℕ) × (at ≡ s ∷ []) × (s < m.states)
-IsSideState true m at = AreStates m.states at
+IsSideState true m at = IsStateSet m.states at
 
 abbrev pub SideEnds : Bool → Graph → List ℕ → List ℕ → Type 0
 SideEnds false m at cost = (cost ≡ []) × (s : ℕ) × (at ≡ s ∷ []) × EndsAt m.ends s []
@@ -34,13 +36,19 @@ SideWords true m w = IsWord w × (WordsOf m w → ⊥)
 abbrev pub SideReads : Bool → Graph → Word → List ℕ → Type 0
 SideReads others m w cost = RunsFrom (SideEnds others m) (SideSteps others m) (0 ∷ []) w cost
 
+-- how many states the side has at most
+abbrev pub side_size : Bool → Graph → ℕ
+side_size false m = m.states
+side_size true m = 2 ^ m.states
+
 -- a move as one to the list of its state
 abbrev pub listed : Move ℕ → Move (List ℕ)
 listed m = record { on = m.on; cost = m.cost; to = m.to ∷ [] }
 
--- side `o` of machine n reads, at no cost, the words of machine m, or all others
-abbrev pub IsSide : Bool → Graph → Bool → Graph → Type 0
-IsSide others m o n = (w : Word) (cost : List ℕ) → SideReads o n w cost ↔ (SideWords others m w × (cost ≡ []))
+-- side `o` of machine n reads, at no cost, the words of machine m, or all others, and has as many states
+pub record IsSide (others : Bool) (m : Graph) (o : Bool) (n : Graph) : Type 0 where
+  pub words : (w : Word) (cost : List ℕ) → SideReads o n w cost ↔ (SideWords others m w × (cost ≡ []))
+  pub size : side_size o n ≡ side_size others m
 
 pub side-first : (others : Bool) (m : Graph) → IsSideState others m (0 ∷ [])
 side-first false m = (0, refl, m.started)
@@ -61,3 +69,7 @@ side-cost true m at c cost to h = step-cost true m.edges at c cost to h
 pub side-end : (others : Bool) (m : Graph) (at cost : List ℕ) → SideEnds others m at cost → IsCost 0 0 cost
 side-end false m at cost h = no-cost cost h.0
 side-end true m at cost h = end-cost true m.ends at cost h
+
+pub side-states : (others : Bool) (m : Graph) → AreAtMost (IsSideState others m) (side_size others m)
+side-states false m = at_most-made (λ s. s ∷ []) (λ s. s < m.states) (IsSideState false m) m.states (λ at h. (h.0, h.2, sym h.1)) (at_most-below m.states)
+side-states true m = sets_at_most m.states

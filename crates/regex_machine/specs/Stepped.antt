@@ -19,8 +19,8 @@ AddsSteps m s k old new = (c : ℕ) (cost : List ℕ) (to : ℕ × ℕ) →
     Any (Moves c cost to) new ↔ (Any (Moves c cost to) old ⊎ LeadsTo m s k c cost to)
 
 -- these are the moves of the machine's state `s`, which lead to states of part k
-abbrev pub AreSteps : Graph → ℕ → ℕ → List (Move (ℕ × ℕ)) → Type 0
-AreSteps m s k all = (c : ℕ) (cost : List ℕ) (to : ℕ × ℕ) → Any (Moves c cost to) all ↔ LeadsTo m s k c cost to
+abbrev pub AreLed : Graph → ℕ → ℕ → List (Move (ℕ × ℕ)) → Type 0
+AreLed m s k all = (c : ℕ) (cost : List ℕ) (to : ℕ × ℕ) → Any (Moves c cost to) all ↔ LeadsTo m s k c cost to
 
 -- nothing is the one cost where a word may end, and there is none where it may not
 abbrev pub AreEndsIf : Bool → List (List ℕ) → Type 0

@@ -1,19 +1,24 @@
-ghost use Rattle.std.specs.Prelude.{◌≡◌, ℕ, ◌≤◌, ◌<◌, ◌↔◌, [], ◌∷◌, List, IfOk, IsTrue, Err, min};
+ghost use Rattle.std.specs.Prelude.{◌≡◌, ℕ, ◌+◌, ◌*◌, ◌≤◌, ◌<◌, ◌^◌, ◌↔◌, [], ◌∷◌, List, IfOk, IsTrue, OnOk, Err, map, min};
 ghost use Rattle.machine_core.specs.Graphs.{Accepts};
-ghost use Rattle.sv_terms.specs.Language.{In, Power};
-ghost use Rattle.regex_machine.specs.Bounds.{bound_of};
-ghost use Rattle.regex_machine.specs.Copied.{Copied as CopiedWords};
+ghost use Rattle.sv_word.specs.Words.{IsWord};
+ghost use Rattle.sv_terms.specs.Language.{In, InFirstOnly, Power};
+ghost use Rattle.regex_machine.specs.Bounds.{size, bound_of, from_left, without_size};
+ghost use Rattle.regex_machine.specs.Built.{Builds};
+ghost use Rattle.regex_machine.specs.Copied.{InCopies, copies_size};
 ghost use Rattle.regex_machine.specs.Joined.{Reads, AreMade};
+ghost use Rattle.regex_machine.specs.Kinds.{Together, weight, most_states};
+ghost use Rattle.regex_machine.specs.Parts.{AddsParts};
 ghost use Rattle.trim_search.specs.declared.build_fault.BuildFault.TheVariants.{States};
 
 use crate::bounds::bound;
-use crate::joining::{all_of, any_of, complement, copied, difference, in_turn};
-use crate::letters::{everything, fit, nothing, one_of, text};
+use crate::joining::{complement, copied, difference, put_together};
+use crate::kind::Kind;
+use crate::letter_parts::join_alike;
+use crate::letters::{any_character, empty_word, everything, fit, nothing, range, text};
 use machine_core::Explicit;
 use std::alloc::{AllocError, Global};
 use sv_list::Items;
 use sv_terms::Regex;
-use sv_word::{Ranges, Word};
 use trim_search::BuildFault;
 
 /// A machine without registers whose words are those of the expression, with at most
@@ -21,9 +26,10 @@ use trim_search::BuildFault;
 ///
 /// `States` carries the bound and comes only where it is above `limit`. Every part is explored from its
 /// start, so that what isn't reached takes no memory, and a machine may be built though its bound is
-/// above the limit. All parts of a list and all copies of a loop are put together in one pass: time
-/// and memory are linear in the machine that comes out, but for one look-up in an ordered map for
-/// each of its edges.
+/// above the limit. A list within a list of its kind is one list, and all parts of a list and all copies
+/// of a loop are put together in one pass: time and memory are linear in the machine that comes out, but
+/// for one look-up in an ordered map for each of its edges, and once more for each level of other forms
+/// above.
 pub fn build(alloc: Global, regex: &Regex, limit: u64) -> Result<Explicit, BuildFault>
     ensures registers { IfOk result (λ m. m.registers ≡ 0) }
     ensures words { IfOk result (λ m. (word : List ℕ) → Accepts m word [] ↔ In regex.now word) }
@@ -31,16 +37,9 @@ pub fn build(alloc: Global, regex: &Regex, limit: u64) -> Result<Explicit, Build
     ensures within { IfOk result (λ m. m.states ≤ limit) }
     ensures too_many { (n : ℕ) → result ≡ Err (States n) → (n ≡ bound_of regex.now) × (limit < n) }
 {
-    let most = bound(regex);
-    if most <= limit {
-        return match make(alloc, regex, most) {
-            Ok(machine) => Ok(machine),
-            Err(_) => Err(BuildFault::Memory(AllocError)),
-        };
-    }
     match make(alloc, regex, limit) {
         Ok(machine) => Ok(machine),
-        Err(BuildFault::States(_)) => Err(BuildFault::States(most)),
+        Err(BuildFault::States(_)) => Err(BuildFault::States(bound(regex))),
         Err(BuildFault::Memory(e)) => Err(BuildFault::Memory(e)),
     }
 }
@@ -48,119 +47,45 @@ pub fn build(alloc: Global, regex: &Regex, limit: u64) -> Result<Explicit, Build
 // The machine of the expression, where each machine on the way to it has at most `limit` states.
 #[cycle(make)]
 fn make(alloc: Global, regex: &Regex, limit: u64) -> Result<Explicit, BuildFault>
-    ensures reads { IfOk result (Reads (In regex.now)) }
-    ensures within { IfOk result (λ m. m.states ≤ limit) }
+    ensures { Builds (In regex.now) (size regex.now) limit result }
 {
     match regex {
-        Regex::Empty => {
-            let none = nothing(alloc)?;
-            let empty = fit(none, limit)?;
-            Ok(empty)
-        }
-        Regex::All => {
-            let every = everything(alloc)?;
-            let all = fit(every, limit)?;
-            Ok(all)
-        }
-        Regex::AnyChar => {
-            let on = Ranges::all(alloc)?;
-            let one = one_of(alloc, on)?;
-            let any = fit(one, limit)?;
-            Ok(any)
-        }
-        Regex::Text(word) => {
-            let spelled = text(alloc, word)?;
-            let single = fit(spelled, limit)?;
-            Ok(single)
-        }
-        Regex::Range(lo, hi) => {
-            let ranged = range(alloc, *lo, *hi)?;
-            let between = fit(ranged, limit)?;
-            Ok(between)
-        }
-        Regex::Concat(rs) => {
-            let factors = rs.as_slice();
-            let turns = make_all(alloc, factors, limit)?;
-            let concat = in_turn(alloc, turns.as_slice(), limit)?;
-            Ok(concat)
-        }
-        Regex::Union(rs) => {
-            let options = rs.as_slice();
-            let choices = make_all(alloc, options, limit)?;
-            let union = any_of(alloc, choices.as_slice(), limit)?;
-            Ok(union)
-        }
-        Regex::Inter(rs) => {
-            let needs = rs.as_slice();
-            let sides = make_all(alloc, needs, limit)?;
-            let inter = all_of(alloc, sides.as_slice(), limit)?;
-            Ok(inter)
-        }
-        Regex::Diff(rs) => {
-            let operands = rs.as_slice();
-            let parts = make_all(alloc, operands, limit)?;
-            let diff = difference(alloc, parts.as_slice(), limit)?;
-            Ok(diff)
-        }
-        Regex::Star(r) => {
-            let star = make_copies(alloc, r.get(), 0, 1, true, limit)?;
-            Ok(star)
-        }
-        Regex::Plus(r) => {
-            let plus = make_copies(alloc, r.get(), 1, 1, true, limit)?;
-            Ok(plus)
-        }
-        Regex::Opt(r) => {
-            let opt = make_copies(alloc, r.get(), 0, 1, false, limit)?;
-            Ok(opt)
-        }
-        Regex::Comp(r) => {
-            let part = make(alloc, r.get(), limit)?;
-            let comp = complement(alloc, &part, limit)?;
-            Ok(comp)
-        }
-        Regex::Loop(r, i, j) => {
-            let copies = make_loop(alloc, r.get(), *i, *j, limit)?;
-            Ok(copies)
-        }
+        Regex::Empty => fit(nothing(alloc), limit),
+        Regex::All => fit(everything(alloc), limit),
+        Regex::AnyChar => fit(any_character(alloc), limit),
+        Regex::Text(word) => fit(text(alloc, word), limit),
+        Regex::Range(lo, hi) => fit(range(alloc, *lo, *hi), limit),
+        Regex::Concat(rs) => make_list(alloc, Kind::Turn, rs.as_slice(), limit),
+        Regex::Union(rs) => make_list(alloc, Kind::One, rs.as_slice(), limit),
+        Regex::Inter(rs) => make_list(alloc, Kind::All, rs.as_slice(), limit),
+        Regex::Diff(rs) => make_difference(alloc, rs.as_slice(), limit),
+        Regex::Star(r) => make_copies(alloc, r.get(), 0, 1, true, limit),
+        Regex::Plus(r) => make_copies(alloc, r.get(), 1, 1, true, limit),
+        Regex::Opt(r) => make_copies(alloc, r.get(), 0, 1, false, limit),
+        Regex::Comp(r) => make_complement(alloc, r.get(), limit),
+        Regex::Loop(r, i, j) => make_loop(alloc, r.get(), *i, *j, limit),
     }
 }
 
-// The number, or the last character where it is above that.
-fn cut_off_at_last(n: u32) -> u32
-    ensures { result ≡ min n 0x2FFFF }
+#[cycle(make)]
+fn make_complement(alloc: Global, r: &Regex, limit: u64) -> Result<Explicit, BuildFault>
+    ensures { Builds (λ w. IsWord w × (In r.now w → ⊥)) (2 ^ size r.now) limit result }
 {
-    if n < 0x2FFFF { n } else { 0x2FFFF }
-}
-
-// The words of one character between two.
-fn range(alloc: Global, lo: u32, hi: u32) -> Result<Explicit, AllocError>
-    ensures { IfOk result (Reads (λ w. (c : ℕ) × (lo ≤ c) × (c ≤ hi) × (c ≤ 0x2FFFF) × (w ≡ c ∷ []))) }
-{
-    let top = cut_off_at_last(hi);
-    let on = Ranges::of(alloc, lo, top)?;
-    let machine = one_of(alloc, on)?;
-    Ok(machine)
+    let part = make(alloc, r, limit)?;
+    complement(alloc, &part, limit)
 }
 
 #[cycle(make)]
 fn make_loop(alloc: Global, r: &Regex, i: u32, j: u32, limit: u64) -> Result<Explicit, BuildFault>
-    ensures reads { IfOk result (Reads (λ w. (n : ℕ) × (i ≤ n) × (n ≤ j) × Power (In r.now) n w)) }
-    ensures within { IfOk result (λ m. m.states ≤ limit) }
+    ensures { Builds (λ w. (n : ℕ) × (i ≤ n) × (n ≤ j) × Power (In r.now) n w) (j * size r.now + 1) limit result }
 {
     if i > j {
-        let nowhere = nothing(alloc)?;
-        let out_of_order = fit(nowhere, limit)?;
-        return Ok(out_of_order);
+        return fit(nothing(alloc), limit);
     }
     if j == 0 {
-        let no_letter = Word::new(alloc);
-        let empty = text(alloc, &no_letter)?;
-        let no_copy = fit(empty, limit)?;
-        return Ok(no_copy);
+        return fit(empty_word(alloc), limit);
     }
-    let copies = make_copies(alloc, r, i, j, false, limit)?;
-    Ok(copies)
+    make_copies(alloc, r, i, j, false, limit)
 }
 
 #[cycle(make)]
@@ -175,17 +100,25 @@ fn make_copies(
     requires some { 0 < most }
     requires order { least ≤ most }
     requires once { IsTrue again → most ≡ 1 }
-    ensures reads { IfOk result (Reads (CopiedWords (In r.now) least most again)) }
-    ensures within { IfOk result (λ m. m.states ≤ limit) }
+    ensures { Builds (InCopies (In r.now) least most again) (copies_size least most (size r.now)) limit result }
 {
     let part = make(alloc, r, limit)?;
-    let copies = copied(alloc, &part, least, most, again, limit)?;
-    Ok(copies)
+    copied(alloc, &part, least, most, again, limit)
 }
 
 #[cycle(make)]
+fn make_difference(alloc: Global, rs: &[Regex], limit: u64) -> Result<Explicit, BuildFault>
+    ensures { Builds (InFirstOnly In rs.now) (from_left without_size (map size rs.now)) limit result }
+{
+    let parts = make_all(alloc, rs, limit)?;
+    difference(alloc, parts.as_slice(), limit)
+}
+
+// The machine of each expression.
+#[cycle(make)]
 fn make_all(alloc: Global, rs: &[Regex], limit: u64) -> Result<Items<Explicit>, BuildFault>
-    ensures { IfOk result (AreMade rs.now) }
+    ensures made { IfOk result (AreMade rs.now) }
+    ensures beyond { (n : ℕ) → result ≡ Err (States n) → (limit < from_left without_size (map size rs.now)) × (limit < 2 ^ 32) }
 {
     let mut parts = Items::new(alloc);
     for r in rs {
@@ -193,4 +126,55 @@ fn make_all(alloc: Global, rs: &[Regex], limit: u64) -> Result<Items<Explicit>, 
         parts.push(part)?;
     }
     Ok(parts)
+}
+
+#[cycle(make)]
+fn make_list(alloc: Global, kind: Kind, rs: &[Regex], limit: u64) -> Result<Explicit, BuildFault>
+    ensures { Builds (Together kind In rs.now) (most_states kind (weight kind size rs.now)) limit result }
+{
+    let mut parts = Items::new(alloc);
+    add_parts(alloc, kind, &mut parts, rs, limit)?;
+    let joined = join_alike(alloc, kind, parts)?;
+    put_together(alloc, kind, joined.as_slice(), limit)
+}
+
+// Adds the machines of a list. A list of the same kind within it counts as its elements.
+#[cycle(make)]
+fn add_parts(
+    alloc: Global,
+    kind: Kind,
+    parts: &mut Items<Explicit>,
+    rs: &[Regex],
+    limit: u64,
+) -> Result<(), BuildFault>
+    ensures ok { OnOk result (AddsParts kind rs.now parts.old parts.new) }
+    ensures beyond { (n : ℕ) → result ≡ Err (States n) → (limit < most_states kind (weight kind size rs.now)) × (limit < 2 ^ 32) }
+{
+    for r in rs {
+        add_part(alloc, kind, parts, r, limit)?;
+    }
+    Ok(())
+}
+
+#[cycle(make)]
+fn add_part(
+    alloc: Global,
+    kind: Kind,
+    parts: &mut Items<Explicit>,
+    r: &Regex,
+    limit: u64,
+) -> Result<(), BuildFault>
+    ensures ok { OnOk result (AddsParts kind (r.now ∷ []) parts.old parts.new) }
+    ensures beyond { (n : ℕ) → result ≡ Err (States n) → (limit < size r.now) × (limit < 2 ^ 32) }
+{
+    match (kind, r) {
+        (Kind::Turn, Regex::Concat(rs)) => add_parts(alloc, kind, parts, rs.as_slice(), limit),
+        (Kind::One, Regex::Union(rs)) => add_parts(alloc, kind, parts, rs.as_slice(), limit),
+        (Kind::All, Regex::Inter(rs)) => add_parts(alloc, kind, parts, rs.as_slice(), limit),
+        _ => {
+            let part = make(alloc, r, limit)?;
+            parts.push(part)?;
+            Ok(())
+        }
+    }
 }

@@ -1,11 +1,13 @@
 ghost use Rattle.std.specs.Prelude.{◌≡◌, ℕ, ◌<◌, ◌≤◌, ◌^◌, ◌+◌, ◌↔◌, [], IsTrue, IfOk, OnOk, length, drop};
 ghost use Rattle.machine_core.specs.Language.{RunsFrom};
 ghost use Rattle.machine_meet.specs.Joins.{AreInhabited};
+ghost use Rattle.machine_meet.specs.Products.{summed};
+ghost use Rattle.regex_machine.specs.Kinds.{states_of};
 ghost use Rattle.sv_terms.specs.Language.{Word, InEachInTurn};
 ghost use Rattle.regex_machine.specs.Joined.{WordsOf, ArePlain};
 ghost use Rattle.regex_machine.specs.Chosen.{IsPartState};
 ghost use Rattle.regex_machine.specs.Chained.{AreSkipped, ChainEnds, ChainSteps, AddsFirst};
-ghost use Rattle.regex_machine.specs.Laws.{no-cost, chain-first, chain-state, chain-character, chain-cost};
+ghost use Rattle.regex_machine.specs.Laws.{no-cost, chain-first, chain-state, chain-character, chain-cost, part-states};
 
 use crate::stepping::{Place, add_steps, ends_if, may_end, steps_of};
 use machine_core::{Cost, Explicit, Machine, Move};
@@ -30,7 +32,8 @@ impl<'a> Chain<'a> {
         requires plain { ArePlain parts.now }
         requires some { 0 < length parts.now }
         requires few { length parts.now < 2 ^ 32 }
-        ensures { (w : Word) → RunsFrom (ChainEnds result.parts.now) (ChainSteps result.parts.now) (0, 0) w [] ↔ InEachInTurn WordsOf parts.now w }
+        ensures parts { result.parts.now ≡ parts.now }
+        ensures read { (w : Word) → RunsFrom (ChainEnds result.parts.now) (ChainSteps result.parts.now) (0, 0) w [] ↔ InEachInTurn WordsOf parts.now w }
     {
         Chain { parts }
     }
@@ -89,6 +92,8 @@ impl<'a> Machine for Chain<'a> {
 
     ghost top = { λ m. 0 };
 
+    ghost size = { λ m. summed states_of m.parts.now };
+
     ghost first_is_state = { λ m. chain-first m.parts.now m.some };
 
     ghost step_is_state = { λ m s t c cost h step. chain-state m.parts.now s c cost t step };
@@ -98,6 +103,8 @@ impl<'a> Machine for Chain<'a> {
     ghost step_cost = { λ m s t c cost h step. chain-cost m.parts.now s c cost t step };
 
     ghost end_cost = { λ m s cost h end. no-cost cost end.2 };
+
+    ghost states_at_most = { λ m. part-states m.parts.now };
 
     fn registers(&self) -> usize {
         0

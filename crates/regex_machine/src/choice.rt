@@ -1,12 +1,14 @@
-ghost use Rattle.std.specs.Prelude.{◌≡◌, ℕ, ◌<◌, ◌^◌, ◌↔◌, [], IsTrue, IfOk, Any, length};
+ghost use Rattle.std.specs.Prelude.{◌≡◌, ℕ, ◌+◌, ◌<◌, ◌^◌, ◌↔◌, [], IsTrue, IfOk, Any, length};
 ghost use Rattle.machine_core.specs.declared.graph.Graph.{Graph};
 ghost use Rattle.machine_core.specs.Edges.{EndsAt};
 ghost use Rattle.machine_core.specs.Language.{RunsFrom};
 ghost use Rattle.machine_meet.specs.Joins.{AreInhabited};
+ghost use Rattle.machine_meet.specs.Products.{summed};
+ghost use Rattle.regex_machine.specs.Kinds.{states_of};
 ghost use Rattle.sv_terms.specs.Language.{Word, InOneOf};
 ghost use Rattle.regex_machine.specs.Joined.{WordsOf, ArePlain};
 ghost use Rattle.regex_machine.specs.Chosen.{choice_start, IsChoiceState, ChoiceEnds, ChoiceSteps, AreStarts};
-ghost use Rattle.regex_machine.specs.Laws.{no-cost, choice-first, choice-state, choice-character, choice-cost};
+ghost use Rattle.regex_machine.specs.Laws.{no-cost, choice-first, choice-state, choice-character, choice-cost, choice-states};
 
 use crate::stepping::{Place, add_steps, ends_if, may_end, steps_of};
 use machine_core::{Cost, Explicit, Machine, Move};
@@ -28,7 +30,8 @@ impl<'a> Choice<'a> {
     pub fn of(parts: &'a [Explicit]) -> Self
         requires plain { ArePlain parts.now }
         requires few { length parts.now < 2 ^ 32 }
-        ensures { (w : Word) → RunsFrom (ChoiceEnds result.parts.now) (ChoiceSteps result.parts.now) (choice_start result.parts.now) w [] ↔ InOneOf WordsOf parts.now w }
+        ensures parts { result.parts.now ≡ parts.now }
+        ensures read { (w : Word) → RunsFrom (ChoiceEnds result.parts.now) (ChoiceSteps result.parts.now) (choice_start result.parts.now) w [] ↔ InOneOf WordsOf parts.now w }
     {
         Choice { parts }
     }
@@ -76,6 +79,8 @@ impl<'a> Machine for Choice<'a> {
 
     ghost top = { λ m. 0 };
 
+    ghost size = { λ m. summed states_of m.parts.now + 1 };
+
     ghost first_is_state = { λ m. choice-first m.parts.now };
 
     ghost step_is_state = { λ m s t c cost h step. choice-state m.parts.now s c cost t step };
@@ -85,6 +90,8 @@ impl<'a> Machine for Choice<'a> {
     ghost step_cost = { λ m s t c cost h step. choice-cost m.parts.now s c cost t step };
 
     ghost end_cost = { λ m s cost h end. no-cost cost end.0 };
+
+    ghost states_at_most = { λ m. choice-states m.parts.now };
 
     fn registers(&self) -> usize {
         0

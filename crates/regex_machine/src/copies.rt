@@ -3,8 +3,8 @@ ghost use Rattle.machine_core.specs.Edges.{EndsAt};
 ghost use Rattle.machine_meet.specs.Joins.{AreInhabited};
 ghost use Rattle.sv_terms.specs.Language.{Word};
 ghost use Rattle.regex_machine.specs.Joined.{WordsOf};
-ghost use Rattle.regex_machine.specs.Copied.{Copied as CopiedWords, IsNext, AreEnough, IsCopyState, CopyEnds, CopySteps, CopiesRead, copy_start};
-ghost use Rattle.regex_machine.specs.Laws.{no-cost, copy-first, copy-state, copy-character};
+ghost use Rattle.regex_machine.specs.Copied.{InCopies, IsNext, AreEnough, IsCopyState, CopyEnds, CopySteps, CopiesRead, copy_start, copies_size};
+ghost use Rattle.regex_machine.specs.Laws.{no-cost, copy-first, copy-state, copy-character, copy-states};
 
 use crate::stepping::{Place, add_steps, ends_if, may_end, steps_of};
 use machine_core::{Cost, Explicit, Machine, Move};
@@ -39,7 +39,10 @@ impl<'a> Copies<'a> {
         requires some { 0 < most }
         requires order { least ≤ most }
         requires once { IsTrue again → most ≡ 1 }
-        ensures { (w : Word) → CopiesRead result.part.now result.least result.most result.again result.empty w ↔ CopiedWords (WordsOf part.now) least most again w }
+        ensures read { (w : Word) → CopiesRead result.part.now result.least result.most result.again result.empty w ↔ InCopies (WordsOf part.now) least most again w }
+        ensures part { result.part.now ≡ part.now }
+        ensures least { result.least ≡ least }
+        ensures most { result.most ≡ most }
     {
         let empty = may_end(part, 0);
         Copies {
@@ -82,7 +85,7 @@ impl<'a> Machine for Copies<'a> {
 
     ghost width = { λ m. 0 };
 
-    ghost is_state = { λ m. IsCopyState m.part.now m.most };
+    ghost is_state = { λ m. IsCopyState m.part.now m.least m.most };
 
     ghost first = { λ m. copy_start m.least m.most m.empty };
 
@@ -92,15 +95,19 @@ impl<'a> Machine for Copies<'a> {
 
     ghost top = { λ m. 0 };
 
+    ghost size = { λ m. copies_size m.least m.most m.part.now.states };
+
     ghost first_is_state = { λ m. copy-first m.part.now m.least m.most m.empty m.some };
 
-    ghost step_is_state = { λ m s t c cost h step. copy-state m.part.now m.most m.again m.some s c cost t step };
+    ghost step_is_state = { λ m s t c cost h step. copy-state m.part.now m.least m.most m.again m.some s c cost t step };
 
     ghost step_character = { λ m s t c cost h step. copy-character m.part.now m.most m.again s c cost t step };
 
     ghost step_cost = { λ m s t c cost h step. no-cost cost step.0 };
 
     ghost end_cost = { λ m s cost h end. no-cost cost end.0 };
+
+    ghost states_at_most = { λ m. copy-states m.part.now m.least m.most };
 
     fn registers(&self) -> usize {
         0

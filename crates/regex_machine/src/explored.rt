@@ -1,6 +1,6 @@
-ghost use Rattle.std.specs.Prelude.{◌≡◌, ℕ, ◌≤◌, [], IfOk};
+ghost use Rattle.std.specs.Prelude.{◌≡◌, [], IfOk};
 ghost use Rattle.machine_core.specs.Language.{RunsFrom};
-ghost use Rattle.regex_machine.specs.Joined.{Reads};
+ghost use Rattle.regex_machine.specs.Built.{Builds};
 
 use machine_core::{Explicit, Machine};
 use std::alloc::Global;
@@ -10,8 +10,7 @@ use trim_search::{BuildFault, materialise};
 /// state that is reached. `States` where they are more than `limit`.
 pub fn explored<M: Machine>(alloc: Global, machine: &M, limit: u64) -> Result<Explicit, BuildFault>
     requires { M.width machine.now ≡ 0 }
-    ensures reads { IfOk result (Reads (λ w. RunsFrom (M.ends_with machine.now) (M.steps_to machine.now) (M.first machine.now) w [])) }
-    ensures within { IfOk result (λ m. m.states ≤ limit) }
+    ensures { Builds (λ w. RunsFrom (M.ends_with machine.now) (M.steps_to machine.now) (M.first machine.now) w []) (M.size machine.now) limit result }
 {
     match materialise(alloc, machine, limit) {
         Ok(built) => Ok(built.machine),

@@ -1,65 +1,86 @@
 //! Machines put together: choices, one after another, copies, and what lies in several of them.
-ghost use Rattle.std.specs.Prelude.{◌≡◌, ℕ, ◌≤◌, ◌<◌, IsTrue, IfOk, drop};
+ghost use Rattle.std.specs.Prelude.{◌≡◌, ℕ, ◌≤◌, ◌<◌, ◌^◌, IsTrue, IfOk, drop, map};
 ghost use Rattle.sv_word.specs.Words.{IsWord};
-ghost use Rattle.sv_terms.specs.Language.{InOneOf, InEachInTurn, InAllOf, InFirstOnly};
-ghost use Rattle.regex_machine.specs.Copied.{Copied as CopiedWords};
-ghost use Rattle.regex_machine.specs.Joined.{Reads, WordsOf, ArePlain};
+ghost use Rattle.sv_terms.specs.Language.{InFirstOnly};
+ghost use Rattle.regex_machine.specs.Bounds.{from_left, without_size};
+ghost use Rattle.regex_machine.specs.Built.{Builds};
+ghost use Rattle.regex_machine.specs.Copied.{InCopies, copies_size};
+ghost use Rattle.regex_machine.specs.Joined.{WordsOf, ArePlain};
+ghost use Rattle.regex_machine.specs.Kinds.{Together, weight, most_states, states_of};
 ghost use Rattle.regex_machine.specs.OtherSides.{AreOtherSides};
+ghost use Rattle.regex_machine.specs.declared.kind.Kind.TheVariants.{Turn, One, All};
 
 use crate::chain::Chain;
 use crate::choice::Choice;
 use crate::copies::Copies;
 use crate::explored::explored;
-use crate::letters::{fit, nothing, text};
+use crate::kind::Kind;
+use crate::letters::{empty_word, fit, nothing};
 use crate::sides::Side;
 use machine_core::Explicit;
 use machine_meet::Meet;
 use std::alloc::{AllocError, Global};
 use subset_machine::Subset;
 use sv_list::{Copied, Items};
-use sv_word::Word;
 use trim_search::BuildFault;
 
 // So many parts as a `u32` counts.
 const MANY: usize = u32::MAX as usize;
 
-/// The words of at least one part.
-pub fn any_of(alloc: Global, parts: &[Explicit], limit: u64) -> Result<Explicit, BuildFault>
+/// The parts, put together in this way.
+pub fn put_together(
+    alloc: Global,
+    kind: Kind,
+    parts: &[Explicit],
+    limit: u64,
+) -> Result<Explicit, BuildFault>
     requires { ArePlain parts.now }
-    ensures reads { IfOk result (Reads (InOneOf WordsOf parts.now)) }
-    ensures within { IfOk result (λ m. m.states ≤ limit) }
+    ensures { Builds (Together kind WordsOf parts.now) (most_states kind (weight kind states_of parts.now)) limit result }
+{
+    match kind {
+        Kind::Turn => in_turn(alloc, parts, limit),
+        Kind::One => any_of(alloc, parts, limit),
+        Kind::All => all_of(alloc, parts, limit),
+    }
+}
+
+// The words of at least one part.
+fn any_of(alloc: Global, parts: &[Explicit], limit: u64) -> Result<Explicit, BuildFault>
+    requires { ArePlain parts.now }
+    ensures { Builds (Together One WordsOf parts.now) (most_states One (weight One states_of parts.now)) limit result }
 {
     if parts.len() == 1 {
-        let part = parts[0].copy(alloc)?;
-        let alone = fit(part, limit)?;
-        return Ok(alone);
+        return fit(parts[0].copy(alloc), limit);
     }
     if parts.len() > MANY {
         return Err(BuildFault::Memory(AllocError));
     }
     let choice = Choice::of(parts);
-    let machine = explored(alloc, &choice, limit)?;
-    Ok(machine)
+    explored(alloc, &choice, limit)
 }
 
-/// One word of each part, in their order.
-pub fn in_turn(alloc: Global, parts: &[Explicit], limit: u64) -> Result<Explicit, BuildFault>
+// One word of each part, in their order.
+fn in_turn(alloc: Global, parts: &[Explicit], limit: u64) -> Result<Explicit, BuildFault>
     requires { ArePlain parts.now }
-    ensures reads { IfOk result (Reads (InEachInTurn WordsOf parts.now)) }
-    ensures within { IfOk result (λ m. m.states ≤ limit) }
+    ensures { Builds (Together Turn WordsOf parts.now) (most_states Turn (weight Turn states_of parts.now)) limit result }
 {
     if parts.is_empty() {
-        let no_letter = Word::new(alloc);
-        let empty = text(alloc, &no_letter)?;
-        let alone = fit(empty, limit)?;
-        return Ok(alone);
+        return fit(empty_word(alloc), limit);
     }
     if parts.len() > MANY {
         return Err(BuildFault::Memory(AllocError));
     }
     let chain = Chain::of(parts);
-    let machine = explored(alloc, &chain, limit)?;
-    Ok(machine)
+    explored(alloc, &chain, limit)
+}
+
+// The words of all parts.
+fn all_of(alloc: Global, parts: &[Explicit], limit: u64) -> Result<Explicit, BuildFault>
+    requires { ArePlain parts.now }
+    ensures { Builds (Together All WordsOf parts.now) (most_states All (weight All states_of parts.now)) limit result }
+{
+    let meet = Meet::of(parts);
+    explored(alloc, &meet, limit)
 }
 
 /// From `least` to `most` words of the part, one after another, or `least` and more where they may come
@@ -76,34 +97,19 @@ pub fn copied(
     requires some { 0 < most }
     requires order { least ≤ most }
     requires once { IsTrue again → most ≡ 1 }
-    ensures reads { IfOk result (Reads (CopiedWords (WordsOf part.now) least most again)) }
-    ensures within { IfOk result (λ m. m.states ≤ limit) }
+    ensures { Builds (InCopies (WordsOf part.now) least most again) (copies_size least most part.now.states) limit result }
 {
     let copies = Copies::of(part, least, most, again);
-    let machine = explored(alloc, &copies, limit)?;
-    Ok(machine)
-}
-
-/// The words of all parts.
-pub fn all_of(alloc: Global, parts: &[Explicit], limit: u64) -> Result<Explicit, BuildFault>
-    requires { ArePlain parts.now }
-    ensures reads { IfOk result (Reads (InAllOf WordsOf parts.now)) }
-    ensures within { IfOk result (λ m. m.states ≤ limit) }
-{
-    let meet = Meet::of(parts);
-    let machine = explored(alloc, &meet, limit)?;
-    Ok(machine)
+    explored(alloc, &copies, limit)
 }
 
 /// The words that aren't in the part.
 pub fn complement(alloc: Global, part: &Explicit, limit: u64) -> Result<Explicit, BuildFault>
     requires { part.now.registers ≡ 0 }
-    ensures reads { IfOk result (Reads (λ w. IsWord w × (WordsOf part.now w → ⊥))) }
-    ensures within { IfOk result (λ m. m.states ≤ limit) }
+    ensures { Builds (λ w. IsWord w × (WordsOf part.now w → ⊥)) (2 ^ part.now.states) limit result }
 {
     let subset = Subset::of(part, true);
-    let machine = explored(alloc, &subset, limit)?;
-    Ok(machine)
+    explored(alloc, &subset, limit)
 }
 
 // The words that aren't in the parts, for each part but the first.
@@ -122,19 +128,15 @@ fn outsides<'a>(alloc: Global, parts: &'a [Explicit]) -> Result<Items<Side<'a>>,
 /// The words of the first part that are in no other, and none where there is no part.
 pub fn difference(alloc: Global, parts: &[Explicit], limit: u64) -> Result<Explicit, BuildFault>
     requires { ArePlain parts.now }
-    ensures reads { IfOk result (Reads (InFirstOnly WordsOf parts.now)) }
-    ensures within { IfOk result (λ m. m.states ≤ limit) }
+    ensures { Builds (InFirstOnly WordsOf parts.now) (from_left without_size (map states_of parts.now)) limit result }
 {
     if parts.is_empty() {
-        let none = nothing(alloc)?;
-        let alone = fit(none, limit)?;
-        return Ok(alone);
+        return fit(nothing(alloc), limit);
     }
     let mut sides = outsides(alloc, parts)?;
     let first = Side::within(&parts[0]);
     sides.push(first)?;
     let list = sides.as_slice();
     let meet = Meet::of(list);
-    let machine = explored(alloc, &meet, limit)?;
-    Ok(machine)
+    explored(alloc, &meet, limit)
 }

@@ -1,7 +1,8 @@
 //! Machines of single words and characters, without registers.
-ghost use Rattle.std.specs.Prelude.{◌≡◌, ℕ, ◌≤◌, ◌+◌, [], ◌∷◌, length, IsTrue, IfOk};
+ghost use Rattle.std.specs.Prelude.{◌≡◌, ℕ, ◌≤◌, ◌+◌, [], ◌∷◌, length, min, IsTrue, IfOk};
 ghost use Rattle.sv_word.specs.Ranges.{in_ranges};
 ghost use Rattle.sv_word.specs.Words.{IsWord};
+ghost use Rattle.regex_machine.specs.Built.{Fits};
 ghost use Rattle.regex_machine.specs.Joined.{Reads};
 
 use machine_core::{Cost, Explicit};
@@ -9,20 +10,25 @@ use std::alloc::{AllocError, Global};
 use sv_word::{Ranges, Word};
 use trim_search::BuildFault;
 
-/// The machine, and `States` where it has more than `limit` states.
-pub fn fit(machine: Explicit, limit: u64) -> Result<Explicit, BuildFault>
-    ensures same { IfOk result (λ m. m ≡ machine) }
-    ensures within { IfOk result (λ m. m.states ≤ limit) }
+/// What was made, and `States` where it has more than `limit` states.
+pub fn fit(made: Result<Explicit, AllocError>, limit: u64) -> Result<Explicit, BuildFault>
+    ensures { Fits limit made result }
 {
-    if machine.states() as u64 > limit {
-        return Err(BuildFault::States(limit + 1));
+    match made {
+        Ok(machine) => {
+            if machine.states() as u64 > limit {
+                return Err(BuildFault::States(limit + 1));
+            }
+            Ok(machine)
+        }
+        Err(e) => Err(BuildFault::Memory(e)),
     }
-    Ok(machine)
 }
 
 /// No word.
 pub fn nothing(alloc: Global) -> Result<Explicit, AllocError>
-    ensures { IfOk result (Reads (λ w. ⊥)) }
+    ensures reads { IfOk result (Reads (λ w. ⊥)) }
+    ensures states { IfOk result (λ m. m.states ≤ 1) }
 {
     let machine = Explicit::new(alloc, 1, 0)?;
     Ok(machine)
@@ -30,7 +36,8 @@ pub fn nothing(alloc: Global) -> Result<Explicit, AllocError>
 
 /// Every word.
 pub fn everything(alloc: Global) -> Result<Explicit, AllocError>
-    ensures { IfOk result (Reads IsWord) }
+    ensures reads { IfOk result (Reads IsWord) }
+    ensures states { IfOk result (λ m. m.states ≤ 1) }
 {
     let mut machine = Explicit::new(alloc, 1, 0)?;
     let on = Ranges::all(alloc)?;
@@ -43,7 +50,8 @@ pub fn everything(alloc: Global) -> Result<Explicit, AllocError>
 
 /// The words of one character of the set.
 pub fn one_of(alloc: Global, on: Ranges) -> Result<Explicit, AllocError>
-    ensures { IfOk result (Reads (λ w. (c : ℕ) × IsTrue (in_ranges on c) × (w ≡ c ∷ []))) }
+    ensures reads { IfOk result (Reads (λ w. (c : ℕ) × IsTrue (in_ranges on c) × (w ≡ c ∷ []))) }
+    ensures states { IfOk result (λ m. m.states ≤ 2) }
 {
     if on.is_empty() {
         let none = nothing(alloc)?;
@@ -57,9 +65,48 @@ pub fn one_of(alloc: Global, on: Ranges) -> Result<Explicit, AllocError>
     Ok(machine)
 }
 
+/// The words of one character.
+pub fn any_character(alloc: Global) -> Result<Explicit, AllocError>
+    ensures reads { IfOk result (Reads (λ w. (c : ℕ) × (c ≤ 0x2FFFF) × (w ≡ c ∷ []))) }
+    ensures states { IfOk result (λ m. m.states ≤ 2) }
+{
+    let on = Ranges::all(alloc)?;
+    let machine = one_of(alloc, on)?;
+    Ok(machine)
+}
+
+// The number, or the last character where it is above that.
+fn cut_off_at_last(n: u32) -> u32
+    ensures { result ≡ min n 0x2FFFF }
+{
+    if n < 0x2FFFF { n } else { 0x2FFFF }
+}
+
+/// The words of one character between two.
+pub fn range(alloc: Global, lo: u32, hi: u32) -> Result<Explicit, AllocError>
+    ensures reads { IfOk result (Reads (λ w. (c : ℕ) × (lo ≤ c) × (c ≤ hi) × (c ≤ 0x2FFFF) × (w ≡ c ∷ []))) }
+    ensures states { IfOk result (λ m. m.states ≤ 2) }
+{
+    let top = cut_off_at_last(hi);
+    let on = Ranges::of(alloc, lo, top)?;
+    let machine = one_of(alloc, on)?;
+    Ok(machine)
+}
+
+/// The empty word alone.
+pub fn empty_word(alloc: Global) -> Result<Explicit, AllocError>
+    ensures reads { IfOk result (Reads (λ w. w ≡ [])) }
+    ensures states { IfOk result (λ m. m.states ≤ 1) }
+{
+    let none = Word::new(alloc);
+    let machine = text(alloc, &none)?;
+    Ok(machine)
+}
+
 /// This word alone. Linear in its length.
 pub fn text(alloc: Global, word: &Word) -> Result<Explicit, AllocError>
-    ensures { IfOk result (Reads (λ w. (w ≡ word.now) × IsWord w)) }
+    ensures reads { IfOk result (Reads (λ w. (w ≡ word.now) × IsWord w)) }
+    ensures states { IfOk result (λ m. m.states ≤ length word.now + 1) }
 {
     let characters = word.as_slice();
     word.is_word();

@@ -23,6 +23,8 @@ mod choice;
 mod copies;
 mod explored;
 mod joining;
+mod kind;
+mod letter_parts;
 mod letters;
 mod sides;
 mod stepping;

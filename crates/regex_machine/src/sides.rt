@@ -1,5 +1,5 @@
 ghost use Rattle.std.specs.Prelude.{◌≡◌, [], ◌∷◌, true, false, map, IfOk};
-ghost use Rattle.regex_machine.specs.Sided.{IsSideState, SideEnds, SideSteps, IsSide, listed, side-first, side-state, side-character, side-cost, side-end};
+ghost use Rattle.regex_machine.specs.Sided.{IsSideState, SideEnds, SideSteps, side_size, IsSide, listed, side-first, side-state, side-character, side-cost, side-end, side-states};
 
 use crate::stepping::{ends_if, may_end};
 use machine_core::{Cost, Explicit, Machine, Move};
@@ -72,6 +72,8 @@ impl<'a> Machine for Side<'a> {
 
     ghost top = { λ m. 0 };
 
+    ghost size = { λ m. side_size m.others m.part.now };
+
     ghost first_is_state = { λ m. side-first m.others m.part.now };
 
     ghost step_is_state = { λ m s t c cost h step. side-state m.others m.part.now s c cost t step };
@@ -81,6 +83,8 @@ impl<'a> Machine for Side<'a> {
     ghost step_cost = { λ m s t c cost h step. side-cost m.others m.part.now s c cost t step };
 
     ghost end_cost = { λ m s cost h end. side-end m.others m.part.now s cost end };
+
+    ghost states_at_most = { λ m. side-states m.others m.part.now };
 
     fn registers(&self) -> usize {
         0

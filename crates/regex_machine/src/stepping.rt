@@ -2,7 +2,7 @@
 ghost use Rattle.std.specs.Prelude.{◌≡◌, ℕ, ◌<◌, ◌↔◌, [], ◌++◌, map, IsTrue, OnOk, IfOk};
 ghost use Rattle.machine_core.specs.Edges.{EndsAt};
 ghost use Rattle.machine_meet.specs.Joins.{AreInhabited};
-ghost use Rattle.regex_machine.specs.Stepped.{led, AddsSteps, AreSteps, AreEndsIf};
+ghost use Rattle.regex_machine.specs.Stepped.{led, AddsSteps, AreLed, AreEndsIf};
 
 use machine_core::{Cost, Explicit, Machine, Move};
 use std::alloc::{AllocError, Global};
@@ -55,7 +55,7 @@ pub fn steps_of(
 ) -> Result<Items<Move<Place>>, AllocError>
     requires plain { part.now.registers ≡ 0 }
     requires at { at < part.now.states }
-    ensures exact { IfOk result (AreSteps part.now at number) }
+    ensures exact { IfOk result (AreLed part.now at number) }
     ensures inhabited { IfOk result AreInhabited }
 {
     let mut all = Items::new(alloc);

@@ -1,11 +1,9 @@
 -- Ascending lists are told apart by their elements, and each finite set of numbers has one.
 use Rattle.std.proofs.Common.{◌≡◌, ℕ, zero, suc, ◌+◌, ◌<◌, ◌≤◌, ◌⊎◌, inl, inr, ◌↔◌, List, [], ◌∷◌, length, get_or, Contains, refl, sym, ap, ◌∙◌, subst, arith}
 use Rattle.std.specs.List.Sorted.{IsStrictlyIncreasing}
-use Rattle.std.specs.Ordering.{nat_cmp}
-use Rattle.std.proofs.lemmas.Map.Keys.{sorted_from_strictly_increasing, sorted_tail, IsStrictlyIncreasing-from_sorted}
-use Rattle.std.proofs.lemmas.List.Kept.{AllPairs-from_increasing}
 use Rattle.machine_core.specs.Lists.{Contains-here, Contains-there}
 use Rattle.subset_machine.specs.Subsets.{ListsAll}
+use Rattle.subset_machine.specs.StateSets.{tail-increasing, head-below}
 
 pub nothing : {X : Type 0} (x : X) → Contains [] x → ⊥
 nothing x (k, lt, e) = absurd (omega arith)
@@ -17,12 +15,6 @@ contains-cases x xs y (suc k, lt, e) = inr (k, omega arith, e)
 pub contains-join : {X : Type 0} (x : X) (xs : List X) (y : X) → (x ≡ y) ⊎ Contains xs y → Contains (x ∷ xs) y
 contains-join x xs y (inl e) = (0, omega arith, e)
 contains-join x xs y (inr i) = Contains-there x xs y i
-
-tail-increasing : (x : ℕ) (xs : List ℕ) → IsStrictlyIncreasing (x ∷ xs) → IsStrictlyIncreasing xs
-tail-increasing x xs h = IsStrictlyIncreasing-from_sorted xs (sorted_tail nat_cmp x xs (sorted_from_strictly_increasing (x ∷ xs) h))
-
-head-below : (x : ℕ) (xs : List ℕ) (t : ℕ) → IsStrictlyIncreasing (x ∷ xs) → Contains xs t → x < t
-head-below x xs t h (k, lt, e) = subst (λ n. x < n) e (AllPairs-from_increasing (x ∷ xs) h 0 (suc k) t (omega arith) (omega arith))
 
 heads-same : (x : ℕ) (xs : List ℕ) (y : ℕ) (ys : List ℕ) → IsStrictlyIncreasing (x ∷ xs) → IsStrictlyIncreasing (y ∷ ys)
     → (y ≡ x) ⊎ Contains ys x → (x ≡ y) ⊎ Contains xs y → x ≡ y

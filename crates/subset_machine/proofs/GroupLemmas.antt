@@ -18,7 +18,7 @@ use Rattle.machine_core.specs.Orders.{nat_cmp-same, slice_cmp-same}
 use Rattle.machine_core.specs.declared.machine.Move.{Move}
 use Rattle.machine_core.specs.Moves.{Moves}
 use Rattle.subset_machine.specs.Subsets.{ListsAll}
-use Rattle.subset_machine.specs.Groups.{lists_cmp, Follows, AreGroups, AddsMark, AreIntervals, MovesUnder}
+use Rattle.subset_machine.specs.Groups.{lists_cmp, FollowsOn, AreGroups, AddsMark, AreIntervals, MovesUnder}
 use Rattle.subset_machine.proofs.AscendingLemmas.{nothing, contains-cases, contains-join, lists-same}
 use Rattle.subset_machine.proofs.LeavingLemmas.{ranges-in, ranges-out}
 use Rattle.subset_machine.proofs.HitLemmas.{one-more}
@@ -72,16 +72,16 @@ module _ (marks hits : List (ℕ × ℕ)) (dead : Bool) where
     split p h = Contains-push_cases (take i marks) m p (subst (λ l. Contains l p) grown h)
 
     -- one list follows on an interval
-    pub follows-one : (p : ℕ × ℕ) (x y : List ℕ) → Follows hits dead p x → Follows hits dead p y → x ≡ y
+    pub follows-one : (p : ℕ × ℕ) (x y : List ℕ) → FollowsOn hits dead p x → FollowsOn hits dead p y → x ≡ y
     follows-one p x y f g = lists-same (λ t. Contains hits (p.0, t)) x y f.0 g.0
 
-    pub groups-more : (old new : BTreeMap (List ℕ) (List (ℕ × ℕ))) (next : List ℕ) → Follows hits dead m next → AddsMark old new next m
+    pub groups-more : (old new : BTreeMap (List ℕ) (List (ℕ × ℕ))) (next : List ℕ) → FollowsOn hits dead m next → AddsMark old new next m
         → AreGroups (take i marks) hits dead old → AreGroups (take (i + 1) marks) hits dead new
     groups-more old new next f u g = record {
       sound = λ q ms e p j. elim (added old new next m u q) [
         | inl h ↦ elim (Contains-push_cases (unwrap_or (get lists_cmp old q) []) m p (subst (λ l. Contains l p) (some-same (get lists_cmp new q) ms (unwrap_or (get lists_cmp old q) [] ++ m ∷ []) e h.1) j)) [
           | inl k ↦ let r = before q p (get lists_cmp old q) refl k in (later p r.0, r.1)
-          | inr same ↦ (subst (Contains (take (i + 1) marks)) same last, subst (λ x. Follows hits dead x q) same (subst (Follows hits dead m) h.0 f))
+          | inr same ↦ (subst (Contains (take (i + 1) marks)) same last, subst (λ x. FollowsOn hits dead x q) same (subst (FollowsOn hits dead m) h.0 f))
         ]
         | inr h ↦ let r = g.sound q ms (sym h ∙ e) p j in (later p r.0, r.1)
       ];
@@ -97,7 +97,7 @@ module _ (marks hits : List (ℕ × ℕ)) (dead : Bool) where
               | inr h ↦ (r.0, h ∙ r.1, r.2)
             ]
         | inr same ↦
-            let at = follows-one m next q f (subst (λ x. Follows hits dead x q) (sym same) fq) in (
+            let at = follows-one m next q f (subst (λ x. FollowsOn hits dead x q) (sym same) fq) in (
               unwrap_or (get lists_cmp old next) [] ++ m ∷ [],
               subst (λ x. get lists_cmp new x ≡ Some (unwrap_or (get lists_cmp old next) [] ++ m ∷ [])) at u.1,
               subst (Contains (unwrap_or (get lists_cmp old next) [] ++ m ∷ [])) same (Contains-push (unwrap_or (get lists_cmp old next) []) m),
@@ -109,7 +109,7 @@ module _ (marks hits : List (ℕ × ℕ)) (dead : Bool) where
       ];
     }
       where
-        before : (q : List ℕ) (p : ℕ × ℕ) (o : Option (List (ℕ × ℕ))) → get lists_cmp old q ≡ o → Contains (unwrap_or o []) p → Contains (take i marks) p × Follows hits dead p q
+        before : (q : List ℕ) (p : ℕ × ℕ) (o : Option (List (ℕ × ℕ))) → get lists_cmp old q ≡ o → Contains (unwrap_or o []) p → Contains (take i marks) p × FollowsOn hits dead p q
         before q p None e k = absurd (nothing p k)
         before q p (Some ms) e k = g.sound q ms e p k
 
@@ -120,7 +120,7 @@ module _ (marks hits : List (ℕ × ℕ)) (dead : Bool) where
       complete = λ p j q fq. elim (split p j) [
         | inl k ↦ g.complete p k q fq
         | inr same ↦
-            let fm = subst (λ (x : ℕ × ℕ). Follows hits dead x q) (sym same) fq in
+            let fm = subst (λ (x : ℕ × ℕ). FollowsOn hits dead x q) (sym same) fq in
             let at = lists-same (λ t. Contains hits (m.0, t)) q next fm.0 f in
             absurd (none (subst (λ x. x ≡ [] → IsTrue dead) at fm.1))
       ];

@@ -11,9 +11,9 @@ use Rattle.machine_core.specs.declared.end.End.{End}
 use Rattle.machine_core.specs.Places.{places, pick}
 use Rattle.machine_core.specs.Edges.{from_of, at_of, move_of, StepsBy, EndsAt, IsFormed}
 use Rattle.machine_core.specs.Moves.{Moves}
-use Rattle.subset_machine.specs.declared.leaving.Span.{Span}
+use Rattle.subset_machine.specs.declared.leaving.Leg.{Leg}
 use Rattle.subset_machine.specs.Subsets.{StepsFromSome}
-use Rattle.subset_machine.specs.Spans.{places_from_some, on_of, span, spans_of, Leads, AreLeaving}
+use Rattle.subset_machine.specs.Legs.{places_from_some, on_of, leg, legs_of, Leads, AreLeaving}
 use Rattle.subset_machine.proofs.AscendingLemmas.{nothing}
 use Rattle.subset_machine.proofs.PlaceLemmas.{places-exact, contains-get, pick-in, pick-out, flat_map-in, flat_map-out, map-in, map-out}
 
@@ -57,14 +57,14 @@ module _ (edges : List Edge) (list : List ℕ) where
       pick-out edges (places_from_some edges list) g.0 e
       (flat_map-out (λ s. places from_of s edges) list e.from g.0 s ((places-exact from_of e.from edges g.0).1 (e, g.1, refl))) g.1
 
-  pub leaving-made : ((e : Edge) → Contains edges e → e.cost ≡ []) → AreLeaving edges list (map on_of edges_from_some) (flat_map spans_of edges_from_some)
+  pub leaving-made : ((e : Edge) → Contains edges e → e.cost ≡ []) → AreLeaving edges list (map on_of edges_from_some) (flat_map legs_of edges_from_some)
   leaving-made free = record {
     held = λ e i s. map-out on_of edges_from_some e (from-some-out e i s);
     exact = λ c t. (
       λ a.
-          let s = contained (Leads c t) (flat_map spans_of edges_from_some) a in
-          let e = flat_map-in spans_of edges_from_some s.0 s.1 in
-          let p = map-in (span e.0.to) e.0.on s.0 e.2 in
+          let s = contained (Leads c t) (flat_map legs_of edges_from_some) a in
+          let e = flat_map-in legs_of edges_from_some s.0 s.1 in
+          let p = map-in (leg e.0.to) e.0.on s.0 e.2 in
           let l = subst (Leads c t) (sym p.2) s.2 in
           let f = from-some-in e.0 e.1 in
           Any-contains (λ s. StepsBy edges s c [] t) list e.0.from f.1
@@ -74,8 +74,8 @@ module _ (edges : List Edge) (list : List ℕ) where
           let e = contained (λ d. (d.from ≡ s.0) × Moves c [] t (move_of d)) edges s.2 in
           let p = ranges-in e.0.on c e.2.1.0 in
           let i = from-some-out e.0 e.1 (subst (Contains list) (sym e.2.0) s.1) in
-          Any-contains (Leads c t) (flat_map spans_of edges_from_some) (span e.0.to p.0)
-          (flat_map-out spans_of edges_from_some e.0 (span e.0.to p.0) i (map-out (span e.0.to) e.0.on p.0 p.1)) (p.2.0, p.2.1, e.2.1.2),
+          Any-contains (Leads c t) (flat_map legs_of edges_from_some) (leg e.0.to p.0)
+          (flat_map-out legs_of edges_from_some e.0 (leg e.0.to p.0) i (map-out (leg e.0.to) e.0.on p.0 p.1)) (p.2.0, p.2.1, e.2.1.2),
     );
   }
 

@@ -10,7 +10,7 @@ use Rattle.std.proofs.lemmas.List.Sorted.{Contains-permutation, IsPermutation-sy
 use Rattle.sv_word.specs.Ranges.{in_ranges, IsApartFrom}
 use Rattle.sv_word.specs.Cuts.{IsHeld, IsUniformOn}
 use Rattle.machine_core.specs.Lists.{contained}
-use Rattle.subset_machine.specs.Spans.{AreMarks}
+use Rattle.subset_machine.specs.Legs.{AreMarks}
 use Rattle.subset_machine.proofs.AscendingLemmas.{nothing, contains-cases}
 use Rattle.subset_machine.proofs.PlaceLemmas.{flat_map-in, flat_map-out}
 use Rattle.subset_machine.proofs.LeavingLemmas.{ranges-in, ranges-out}

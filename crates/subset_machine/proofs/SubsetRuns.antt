@@ -20,15 +20,15 @@ use Rattle.std.specs.Prelude.{not}
 use Rattle.std.proofs.Math.Bool.{beq}
 use Rattle.machine_core.specs.Places.{pick}
 use Rattle.machine_core.specs.Graphs.{Accepts}
-use Rattle.subset_machine.specs.declared.leaving.Span.{Span}
-use Rattle.subset_machine.specs.Spans.{Leads, AreLeaving, AreMarks, AreHits, places_from_some, on_of, spans_of}
+use Rattle.subset_machine.specs.declared.leaving.Leg.{Leg}
+use Rattle.subset_machine.specs.Legs.{Leads, AreLeaving, AreMarks, AreHits, places_from_some, on_of, legs_of}
 use Rattle.subset_machine.specs.Subsets.{ListsAll, StepsFromSome, EndsInSome, MayEnd, SubsetEnds, SubsetSteps, SubsetAccepts, HasWord}
-use Rattle.subset_machine.specs.Groups.{lists_cmp, Follows, AreGroups, AreIntervals, MovesUnder}
+use Rattle.subset_machine.specs.Groups.{lists_cmp, FollowsOn, AreGroups, AreIntervals, MovesUnder}
 use Rattle.subset_machine.proofs.AscendingLemmas.{nothing, contains-cases, lists-same, lists-weaker, Rises, rises-increasing, inserted}
 use Rattle.subset_machine.proofs.LeavingLemmas.{ranges-in, ranges-out, edges_from_some, leaving-made, edges-free, ends-free}
 
 -- ranges lead to a list of states on each character
-reached : (c : ℕ) (spans : List Span) → (next : List ℕ) × Rises 0 next × ((t : ℕ) → Contains next t ↔ Any (Leads c t) spans)
+reached : (c : ℕ) (legs : List Leg) → (next : List ℕ) × Rises 0 next × ((t : ℕ) → Contains next t ↔ Any (Leads c t) legs)
 reached c [] = ([], tt, λ t. (λ i. absurd (nothing t i), λ a. absurd (Any-none (Leads c t) a)))
 reached c (s ∷ ss) = by_test (reached c ss) (nat_le s.low c && nat_le c s.high) refl
   where
@@ -62,10 +62,10 @@ reached c (s ∷ ss) = by_test (reached c ss) (nat_le s.low c && nat_le c s.high
 -- so a list follows each list on each character
 pub next-list : (edges : List Edge) → ((e : Edge) → Contains edges e → e.cost ≡ []) → (list : List ℕ) (c : ℕ) → (next : List ℕ) × ListsAll (StepsFromSome edges list c) next
 next-list edges free list c =
-    let spans = flat_map spans_of (edges_from_some edges list) in
-    let r = reached c spans in
+    let legs = flat_map legs_of (edges_from_some edges list) in
+    let r = reached c legs in
     let l = leaving-made edges list free in
-    (r.0, lists-weaker (λ t. Any (Leads c t) spans) (StepsFromSome edges list c) r.0 (l.exact c) (record { ascending = rises-increasing 0 r.0 r.1; exact = r.2 }))
+    (r.0, lists-weaker (λ t. Any (Leads c t) legs) (StepsFromSome edges list c) r.0 (l.exact c) (record { ascending = rises-increasing 0 r.0 r.1; exact = r.2 }))
 
 -- some state of the list reads the word
 abbrev SomeReads : List Edge → List End → List ℕ → List ℕ → Type 0
@@ -176,8 +176,8 @@ subset-complete m plain negated holds list c le =
     (n.0, (le, refl, n.1, λ e. holds))
 
 -- all characters of an interval lead to the same states
-module _ (edges : List Edge) (list : List ℕ) (sets : List (List (ℕ × ℕ))) (spans : List Span) (marks hits : List (ℕ × ℕ))
-    (leaving : AreLeaving edges list sets spans) (cut : AreMarks sets marks) (found : AreHits spans marks hits) where
+module _ (edges : List Edge) (list : List ℕ) (sets : List (List (ℕ × ℕ))) (legs : List Leg) (marks hits : List (ℕ × ℕ))
+    (leaving : AreLeaving edges list sets legs) (cut : AreMarks sets marks) (found : AreHits legs marks hits) where
   same-step : (m : ℕ × ℕ) → Contains marks m → (c d : ℕ) → m.0 ≤ c → c ≤ m.1 → m.0 ≤ d → d ≤ m.1 → (t : ℕ) → StepsFromSome edges list c t → StepsFromSome edges list d t
   same-step m i c d lc hc ld hd t a =
       let s = contained (λ s. StepsBy edges s c [] t) list a in
@@ -220,26 +220,26 @@ module _ (edges : List Edge) (list : List ℕ) (sets : List (List (ℕ × ℕ)))
   }
 
 -- what is found on the way to the moves of a list, over plain lists
-pub record Parts (edges : List Edge) (list : List ℕ) (sets : List (List (ℕ × ℕ))) (spans : List Span) (marks hits : List (ℕ × ℕ)) : Type 0 where
-  pub leaving : AreLeaving edges list sets spans
+pub record Parts (edges : List Edge) (list : List ℕ) (sets : List (List (ℕ × ℕ))) (legs : List Leg) (marks hits : List (ℕ × ℕ)) : Type 0 where
+  pub leaving : AreLeaving edges list sets legs
   pub cut : AreMarks sets marks
-  pub found : AreHits spans marks hits
+  pub found : AreHits legs marks hits
 
 pub leaving-from : (m : Graph) → m.registers ≡ 0 → (list given : List ℕ) → given ≡ list → (es : List Edge) → es ≡ m.edges → (ps : List ℕ) → ps ≡ places_from_some m.edges given
-    → (sets : List (List (ℕ × ℕ))) (spans : List Span) → sets ≡ map on_of (pick es ps) → spans ≡ flat_map spans_of (pick es ps) → AreLeaving m.edges list sets spans
-leaving-from m plain list given at es edges ps places sets spans e f =
+    → (sets : List (List (ℕ × ℕ))) (legs : List Leg) → sets ≡ map on_of (pick es ps) → legs ≡ flat_map legs_of (pick es ps) → AreLeaving m.edges list sets legs
+leaving-from m plain list given at es edges ps places sets legs e f =
     let formed = subst (λ n. IsFormed m.states n m.edges m.ends) plain m.formed in
     let same : pick es ps ≡ edges_from_some m.edges list = ap (λ l. pick l ps) edges ∙ ap (pick m.edges) (places ∙ ap (places_from_some m.edges) at) in
-    subst (AreLeaving m.edges list sets) (sym (f ∙ ap (flat_map spans_of) same))
-    (subst (λ l. AreLeaving m.edges list l (flat_map spans_of (edges_from_some m.edges list))) (sym (e ∙ ap (map on_of) same))
+    subst (AreLeaving m.edges list sets) (sym (f ∙ ap (flat_map legs_of) same))
+    (subst (λ l. AreLeaving m.edges list l (flat_map legs_of (edges_from_some m.edges list))) (sym (e ∙ ap (map on_of) same))
     (leaving-made m.edges list (edges-free m.states m.edges m.ends formed)))
 
-pub parts-from : (edges : List Edge) (list : List ℕ) (sets sets' : List (List (ℕ × ℕ))) (spans spans' : List Span) (marks marks' hits : List (ℕ × ℕ))
-    → AreLeaving edges list sets spans → sets' ≡ sets → AreMarks sets' marks → spans' ≡ spans → marks' ≡ marks → AreHits spans' marks' hits → Parts edges list sets spans marks hits
-parts-from edges list sets sets' spans spans' marks marks' hits leaving a cut b d found = record {
+pub parts-from : (edges : List Edge) (list : List ℕ) (sets sets' : List (List (ℕ × ℕ))) (legs legs' : List Leg) (marks marks' hits : List (ℕ × ℕ))
+    → AreLeaving edges list sets legs → sets' ≡ sets → AreMarks sets' marks → legs' ≡ legs → marks' ≡ marks → AreHits legs' marks' hits → Parts edges list sets legs marks hits
+parts-from edges list sets sets' legs legs' marks marks' hits leaving a cut b d found = record {
   leaving = leaving;
   cut = subst (λ l. AreMarks l marks) a cut;
-  found = subst (λ l. AreHits l marks hits) b (subst (λ l. AreHits spans' l hits) d found);
+  found = subst (λ l. AreHits l marks hits) b (subst (λ l. AreHits legs' l hits) d found);
 }
 
 pub grouped-from : (marks marks' hits hits' : List (ℕ × ℕ)) (dead : Bool) (groups : BTreeMap (List ℕ) (List (ℕ × ℕ))) → marks' ≡ marks → hits' ≡ hits

@@ -14,13 +14,13 @@ abbrev pub lists_cmp : List ℕ → List ℕ → Ordering
 lists_cmp = slice_cmp nat_cmp
 
 -- the list follows on the interval: it has the states that the hits have at its first character, and isn't empty but where that is wanted
-abbrev pub Follows : List (ℕ × ℕ) → Bool → ℕ × ℕ → List ℕ → Type 0
-Follows hits dead mark next = ListsAll (λ t. Contains hits (mark.0, t)) next × (next ≡ [] → IsTrue dead)
+abbrev pub FollowsOn : List (ℕ × ℕ) → Bool → ℕ × ℕ → List ℕ → Type 0
+FollowsOn hits dead mark next = ListsAll (λ t. Contains hits (mark.0, t)) next × (next ≡ [] → IsTrue dead)
 
 -- under each list are the intervals on which it follows
 pub record AreGroups (marks hits : List (ℕ × ℕ)) (dead : Bool) (groups : BTreeMap (List ℕ) (List (ℕ × ℕ))) : Type 0 where
-  pub sound : (next : List ℕ) (ms : List (ℕ × ℕ)) → get lists_cmp groups next ≡ Some ms → (m : ℕ × ℕ) → Contains ms m → Contains marks m × Follows hits dead m next
-  pub complete : (m : ℕ × ℕ) → Contains marks m → (next : List ℕ) → Follows hits dead m next → (ms : List (ℕ × ℕ)) × (get lists_cmp groups next ≡ Some ms) × Contains ms m
+  pub sound : (next : List ℕ) (ms : List (ℕ × ℕ)) → get lists_cmp groups next ≡ Some ms → (m : ℕ × ℕ) → Contains ms m → Contains marks m × FollowsOn hits dead m next
+  pub complete : (m : ℕ × ℕ) → Contains marks m → (next : List ℕ) → FollowsOn hits dead m next → (ms : List (ℕ × ℕ)) × (get lists_cmp groups next ≡ Some ms) × Contains ms m
   pub inhabited : (next : List ℕ) (ms : List (ℕ × ℕ)) → get lists_cmp groups next ≡ Some ms → (m : ℕ × ℕ) × Contains ms m
 
 -- one interval more under this list

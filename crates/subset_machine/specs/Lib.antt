@@ -1,4 +1,5 @@
 pub mod Subsets
 pub mod SubsetLaws
-pub mod Spans
+pub mod Legs
 pub mod Groups
+pub mod StateSets

@@ -7,9 +7,9 @@ use Rattle.machine_core.specs.declared.graph.Graph.{Graph}
 use Rattle.machine_core.specs.Costs.{IsCost}
 use Rattle.machine_core.specs.CostLaws.{IsCost-zeros}
 use Rattle.machine_core.specs.EdgeLaws.{step_target}
-use Rattle.subset_machine.specs.Subsets.{AreStates, SubsetEnds, SubsetSteps}
+use Rattle.subset_machine.specs.Subsets.{IsStateSet, SubsetEnds, SubsetSteps}
 
-pub first-states : (states : ℕ) → 0 < states → AreStates states (0 ∷ [])
+pub first-states : (states : ℕ) → 0 < states → IsStateSet states (0 ∷ [])
 first-states states h = record {
   ascending = λ k lt. absurd (omega arith);
   below = λ s i. subst (λ n. n < states) (only i) h;
@@ -19,7 +19,7 @@ first-states states h = record {
     only (zero, lt, e) = e
     only (suc k, lt, e) = absurd (omega arith)
 
-pub next-states : (m : Graph) (negated : Bool) (list : List ℕ) (c : ℕ) (cost next : List ℕ) → SubsetSteps negated m.edges list c cost next → AreStates m.states next
+pub next-states : (m : Graph) (negated : Bool) (list : List ℕ) (c : ℕ) (cost next : List ℕ) → SubsetSteps negated m.edges list c cost next → IsStateSet m.states next
 next-states m negated list c cost next step = record {
   ascending = step.2.ascending;
   below = λ t i. let from = (step.2.exact t).0 i in step_target m.states m.registers m.edges m.ends m.formed from.1 t c [] from.4;

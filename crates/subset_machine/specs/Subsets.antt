@@ -16,7 +16,7 @@ pub record ListsAll (P : ℕ → Type 0) (list : List ℕ) : Type 0 where
   pub exact : (t : ℕ) → Contains list t ↔ P t
 
 -- some states of a machine that has so many, each once and in order
-pub record AreStates (states : ℕ) (list : List ℕ) : Type 0 where
+pub record IsStateSet (states : ℕ) (list : List ℕ) : Type 0 where
   pub ascending : IsStrictlyIncreasing list
   pub below : (s : ℕ) → Contains list s → s < states
 

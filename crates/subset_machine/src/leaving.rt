@@ -1,7 +1,7 @@
 //! What leaves some states of a machine.
 ghost use Rattle.std.specs.Prelude.{◌≡◌, ℕ, ◌<◌, ◌++◌, length, map, flat_map, slice_get, Some, Contains, IfOk, OnOk};
 ghost use Rattle.machine_core.specs.Places.{pick};
-ghost use Rattle.subset_machine.specs.Spans.{places_from_some, span, spans_of, on_of};
+ghost use Rattle.subset_machine.specs.Legs.{places_from_some, leg, legs_of, on_of};
 
 use machine_core::{Edge, Explicit};
 use std::alloc::{AllocError, Global};
@@ -10,7 +10,7 @@ use sv_word::Ranges;
 
 /// A range of characters on which an edge leads to state `to`.
 #[derive(Clone, Copy)]
-pub struct Span {
+pub struct Leg {
     pub low: u32,
     pub high: u32,
     pub to: u32,
@@ -20,7 +20,7 @@ pub struct Span {
 #[derive(Drop)]
 pub struct Leaving {
     pub sets: Vec<Ranges>,
-    pub spans: Vec<Span>,
+    pub legs: Vec<Leg>,
 }
 
 /// The places of the edges that leave these states.
@@ -39,24 +39,24 @@ pub fn places_of(alloc: Global, machine: &Explicit, list: &[u32]) -> Result<Vec<
 pub fn take_apart(alloc: Global, edges: &[Edge], places: &[usize]) -> Result<Leaving, AllocError>
     requires { (i p : ℕ) → slice_get places.now i ≡ Some p → p < length edges.now }
     ensures sets { IfOk result (λ l. l.sets.items ≡ map on_of (pick edges.now places.now)) }
-    ensures spans { IfOk result (λ l. l.spans.items ≡ flat_map spans_of (pick edges.now places.now)) }
+    ensures legs { IfOk result (λ l. l.legs.items ≡ flat_map legs_of (pick edges.now places.now)) }
 {
     let mut sets = Vec::new(alloc);
-    let mut spans = Vec::new(alloc);
+    let mut legs = Vec::new(alloc);
     for place in places {
         let edge = &edges[*place];
         sets.push(edge.on.copy(alloc)?)?;
-        push_spans(&mut spans, edge)?;
+        push_legs(&mut legs, edge)?;
     }
-    Ok(Leaving { sets, spans })
+    Ok(Leaving { sets, legs })
 }
 
 // Adds the ranges of an edge.
-fn push_spans(spans: &mut Vec<Span>, edge: &Edge) -> Result<(), AllocError>
-    ensures { OnOk result (spans.new.items ≡ spans.old.items ++ spans_of edge.now) }
+fn push_legs(legs: &mut Vec<Leg>, edge: &Edge) -> Result<(), AllocError>
+    ensures { OnOk result (legs.new.items ≡ legs.old.items ++ legs_of edge.now) }
 {
     for pair in edge.on.as_slice() {
-        spans.push(Span {
+        legs.push(Leg {
             low: pair.0,
             high: pair.1,
             to: edge.to,

@@ -1,6 +1,6 @@
 //! The characters cut into intervals.
 ghost use Rattle.std.specs.Prelude.{◌≡◌, IfOk, flat_map};
-ghost use Rattle.subset_machine.specs.Spans.{AreMarks};
+ghost use Rattle.subset_machine.specs.Legs.{AreMarks};
 
 use std::alloc::{AllocError, Global};
 use sv_word::{Ranges, cuts};

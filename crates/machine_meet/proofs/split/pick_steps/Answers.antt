@@ -1,5 +1,6 @@
 use Rattle.std.proofs.Common.{◌≡◌, length, get_or, sym, ap, ◌∙◌, subst, arith}
-use Rattle.machine_meet.specs.Products.{AreStates, MeetSteps, meet_width, sum_costs}
+use Rattle.machine_meet.specs.Products.{AreStates, MeetSteps, meet_width}
+use Rattle.machine_core.specs.Costs.{sum_costs}
 use Rattle.machine_meet.proofs.PlaceLemmas.{all-got, count-push}
 use Rattle.machine_meet.proofs.SplitLemmas.{run-goes, run-lengths, run-step, read-step, rows-start, rows-push, row-is, AreRows}
 use Rattle.machine_meet.specs.Splits.{IsRow}

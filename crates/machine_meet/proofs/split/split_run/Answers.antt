@@ -1,6 +1,7 @@
 use Rattle.std.proofs.Common.{◌≡◌, ◌<◌, length, sym, ap, ◌∙◌, subst, arith, refl, slice_get, Some}
 use Rattle.std.proofs.lemmas.List.{take_all}
-use Rattle.machine_meet.specs.Products.{AreStates, MeetEnds, meet_width, sum_costs}
+use Rattle.machine_meet.specs.Products.{AreStates, MeetEnds, meet_width}
+use Rattle.machine_core.specs.Costs.{sum_costs}
 use Rattle.machine_meet.specs.Splits.{AreRuns, AreSteps, IsColumn, as_step}
 use Rattle.machine_meet.proofs.ProductLemmas.{states-length}
 use Rattle.machine_meet.proofs.PlaceLemmas.{all-got, all-each, beside, same_some}

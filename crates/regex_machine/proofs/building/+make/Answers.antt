@@ -1,107 +1,221 @@
-use Rattle.std.proofs.Common.{◌≡◌, refl, sym, subst, arith}
+use Rattle.std.proofs.Common.{◌≡◌, ◌+◌, ◌≤◌, ◌∷◌, [], length, Err, ap, refl, sym, ◌∙◌, subst, arith}
 use Rattle.sv_word.specs.Words.{IsWord}
-use Rattle.regex_machine.specs.Joined.{Reads, ArePlain, AreMade}
-use Rattle.regex_machine.proofs.LanguageLemmas.{form-Empty, form-All, form-AnyChar, form-Text, form-Range, form-Concat, form-Union, form-Inter, form-Diff, form-Star, form-Plus, form-Opt, form-Comp, form-Loop, reads-as, made-plain, made-more, made-all, copied-made, loop-made, loop-none, loop-empty}
+use Rattle.sv_terms.specs.declared.regex.Regex.TheVariants as v
+use Rattle.sv_terms.specs.Opened.{In-Empty, In-All, In-AnyChar, In-Text, In-Range}
+use Rattle.sv_terms.specs.Language.{In}
+use Rattle.regex_machine.specs.Bounds.{size}
+use Rattle.regex_machine.specs.Joined.{ArePlain, AreMade}
+use Rattle.regex_machine.specs.Parts.{AddsParts}
+use Rattle.regex_machine.specs.declared.kind.Kind.TheVariants as kind
+use Rattle.regex_machine.proofs.BuiltLemmas.{builds-as, builds-form, builds-err, built-beyond, onok-as, fits-builds}
+use Rattle.regex_machine.proofs.FormLemmas.{builds-list, builds-Diff, builds-Star, builds-Plus, builds-Opt, builds-Comp, builds-Loop, complement-made, copies-made, difference-made, loop-made, list-made, copies-least}
+use Rattle.regex_machine.proofs.KindLemmas.{formed, power-above, first-size, part-size, inner-size, adds-none, adds-next, adds-all, adds-inner, adds-one, adds-plain}
+use Rattle.regex_machine.proofs.LanguageLemmas.{made-plain, made-more, made-all, no-order, no-copy}
+use Rattle.regex_machine.proofs.Sizes.{size-Empty, size-All, size-AnyChar, size-Text, size-Range}
 use Rattle.regex_machine.proofs.building.+make.Goals as goal
 
-pub make-returns-in_ok-empty-in-Empty-clause-reads : goal.make-returns-in_ok-empty-in-Empty-clause-reads
-make-returns-in_ok-empty-in-Empty-clause-reads t c =
-    form-Empty c.args.regex.now c.in_ok-empty-in-Empty.empty c.in-Empty.is (reads-as _ _ _ c.in_ok-empty-in-Empty.ensures.same c.in_ok-none-in-Empty.ensures)
+pub make-returns-in-Empty : goal.make-returns-in-Empty
+make-returns-in-Empty t c =
+    builds-form c.args.regex.now v.Empty (λ w. ⊥) 1 c.args.limit c.fit.result c.in-Empty.is In-Empty (let e = size-Empty in omega arith)
+    (fits-builds (λ w. ⊥) 1 c.args.limit c.nothing.result c.fit.result c.nothing.ensures.reads c.nothing.ensures.states c.fit.ensures)
 
-pub make-returns-in_ok-all-in-All-clause-reads : goal.make-returns-in_ok-all-in-All-clause-reads
-make-returns-in_ok-all-in-All-clause-reads t c =
-    form-All c.args.regex.now c.in_ok-all-in-All.all c.in-All.is (reads-as _ _ _ c.in_ok-all-in-All.ensures.same c.in_ok-every-in-All.ensures)
+pub make-returns-in-All : goal.make-returns-in-All
+make-returns-in-All t c =
+    builds-form c.args.regex.now v.All IsWord 1 c.args.limit c.fit-in-All.result c.in-All.is In-All (let e = size-All in omega arith)
+    (fits-builds IsWord 1 c.args.limit c.everything.result c.fit-in-All.result c.everything.ensures.reads c.everything.ensures.states c.fit-in-All.ensures)
 
-pub make-returns-in_ok-any-in-AnyChar-clause-reads : goal.make-returns-in_ok-any-in-AnyChar-clause-reads
-make-returns-in_ok-any-in-AnyChar-clause-reads t c =
-    form-AnyChar c.args.regex.now c.in_ok-any-in-AnyChar.any c.in-AnyChar.is c.in_ok-on-in-AnyChar.on c.in_ok-on-in-AnyChar.ensures.set
-    (reads-as _ _ _ c.in_ok-any-in-AnyChar.ensures.same c.in_ok-one-in-AnyChar.ensures)
+pub make-returns-in-AnyChar : goal.make-returns-in-AnyChar
+make-returns-in-AnyChar t c =
+    builds-form c.args.regex.now v.AnyChar _ 2 c.args.limit c.fit-in-AnyChar.result c.in-AnyChar.is In-AnyChar (let e = size-AnyChar in omega arith)
+    (fits-builds _ 2 c.args.limit c.any_character.result c.fit-in-AnyChar.result c.any_character.ensures.reads c.any_character.ensures.states c.fit-in-AnyChar.ensures)
 
-pub make-returns-in_ok-single-in-Text-clause-reads : goal.make-returns-in_ok-single-in-Text-clause-reads
-make-returns-in_ok-single-in-Text-clause-reads t c =
-    form-Text c.args.regex.now c.in_ok-single-in-Text.single c.in-Text.word _ refl c.in-Text.is (reads-as _ _ _ c.in_ok-single-in-Text.ensures.same c.in_ok-spelled-in-Text.ensures)
+pub make-returns-in-Text : goal.make-returns-in-Text
+make-returns-in-Text t c =
+    builds-form c.args.regex.now (v.Text c.in-Text.word) (λ w. (w ≡ c.in-Text.word) × IsWord w) (length c.in-Text.word + 1) c.args.limit c.fit-in-Text.result c.in-Text.is (In-Text c.in-Text.word)
+    (let e = size-Text c.in-Text.word in omega arith)
+    (fits-builds _ _ c.args.limit c.text.result c.fit-in-Text.result c.text.ensures.reads c.text.ensures.states c.fit-in-Text.ensures)
 
-pub make-returns-in_ok-between-in-Range-clause-reads : goal.make-returns-in_ok-between-in-Range-clause-reads
-make-returns-in_ok-between-in-Range-clause-reads t c =
-    form-Range c.args.regex.now c.in_ok-between-in-Range.between c.in-Range.lo c.in-Range.hi c.in-Range.is (reads-as _ _ _ c.in_ok-between-in-Range.ensures.same c.in_ok-ranged-in-Range.ensures)
+pub make-returns-in-Range : goal.make-returns-in-Range
+make-returns-in-Range t c =
+    builds-form c.args.regex.now (v.Range c.in-Range.lo c.in-Range.hi) _ 2 c.args.limit c.fit-in-Range.result c.in-Range.is (In-Range c.in-Range.lo c.in-Range.hi)
+    (let e = size-Range c.in-Range.lo c.in-Range.hi in omega arith)
+    (fits-builds _ 2 c.args.limit c.range.result c.fit-in-Range.result c.range.ensures.reads c.range.ensures.states c.fit-in-Range.ensures)
 
-pub make-in_turn-requires : goal.make-in_turn-requires
-make-in_turn-requires t c = subst ArePlain (sym c.as_slice.ensures) (made-plain _ _ c.in_ok-turns-in-Concat.ensures)
+pub make-returns-in-Concat : goal.make-returns-in-Concat
+make-returns-in-Concat t c = builds-list c.args.regex.now c.args.limit c.make_list.result kind.Turn c.in-Concat.rs c.as_slice.result.now c.as_slice.ensures c.in-Concat.is c.make_list.ensures
 
-pub make-returns-in_ok-concat-in-Concat-clause-reads : goal.make-returns-in_ok-concat-in-Concat-clause-reads
-make-returns-in_ok-concat-in-Concat-clause-reads t c =
-    form-Concat c.args.regex.now c.in_ok-concat-in-Concat.concat c.in-Concat.rs c.as_slice-factors.result.now c.in_ok-turns-in-Concat.turns c.as_slice.result.now c.as_slice-factors.ensures c.in_ok-turns-in-Concat.ensures c.as_slice.ensures
-    c.in-Concat.is c.in_ok-concat-in-Concat.ensures.reads
+pub make-returns-in-Union : goal.make-returns-in-Union
+make-returns-in-Union t c =
+    builds-list c.args.regex.now c.args.limit c.make_list-in-Union.result kind.One c.in-Union.rs c.as_slice-in-Union.result.now c.as_slice-in-Union.ensures c.in-Union.is c.make_list-in-Union.ensures
 
-pub make-any_of-requires : goal.make-any_of-requires
-make-any_of-requires t c = subst ArePlain (sym c.as_slice-in-Union.ensures) (made-plain _ _ c.in_ok-choices-in-Union.ensures)
+pub make-returns-in-Inter : goal.make-returns-in-Inter
+make-returns-in-Inter t c =
+    builds-list c.args.regex.now c.args.limit c.make_list-in-Inter.result kind.All c.in-Inter.rs c.as_slice-in-Inter.result.now c.as_slice-in-Inter.ensures c.in-Inter.is c.make_list-in-Inter.ensures
 
-pub make-returns-in_ok-union-in-Union-clause-reads : goal.make-returns-in_ok-union-in-Union-clause-reads
-make-returns-in_ok-union-in-Union-clause-reads t c =
-    form-Union c.args.regex.now c.in_ok-union-in-Union.union c.in-Union.rs c.as_slice-options.result.now c.in_ok-choices-in-Union.choices c.as_slice-in-Union.result.now c.as_slice-options.ensures c.in_ok-choices-in-Union.ensures c.as_slice-in-Union.ensures
-    c.in-Union.is c.in_ok-union-in-Union.ensures.reads
+pub make-returns-in-Diff : goal.make-returns-in-Diff
+make-returns-in-Diff t c = builds-Diff c.args.regex.now c.args.limit c.make_difference.result c.in-Diff.rs c.as_slice-in-Diff.result.now c.as_slice-in-Diff.ensures c.in-Diff.is c.make_difference.ensures
 
-pub make-all_of-requires : goal.make-all_of-requires
-make-all_of-requires t c = subst ArePlain (sym c.as_slice-in-Inter.ensures) (made-plain _ _ c.in_ok-sides-in-Inter.ensures)
+pub make-returns-in-Star : goal.make-returns-in-Star
+make-returns-in-Star t c = builds-Star c.args.regex.now c.args.limit c.make_copies.result c.in-Star.r c.get.result.now c.get.ensures c.in-Star.is c.make_copies.ensures
 
-pub make-returns-in_ok-inter-in-Inter-clause-reads : goal.make-returns-in_ok-inter-in-Inter-clause-reads
-make-returns-in_ok-inter-in-Inter-clause-reads t c =
-    form-Inter c.args.regex.now c.in_ok-inter-in-Inter.inter c.in-Inter.rs c.as_slice-needs.result.now c.in_ok-sides-in-Inter.sides c.as_slice-in-Inter.result.now c.as_slice-needs.ensures c.in_ok-sides-in-Inter.ensures c.as_slice-in-Inter.ensures
-    c.in-Inter.is c.in_ok-inter-in-Inter.ensures.reads
+pub make-returns-in-Plus : goal.make-returns-in-Plus
+make-returns-in-Plus t c = builds-Plus c.args.regex.now c.args.limit c.make_copies-in-Plus.result c.in-Plus.r c.get-in-Plus.result.now c.get-in-Plus.ensures c.in-Plus.is c.make_copies-in-Plus.ensures
 
-pub make-difference-requires : goal.make-difference-requires
-make-difference-requires t c = subst ArePlain (sym c.as_slice-in-Diff.ensures) (made-plain _ _ c.in_ok-parts-in-Diff.ensures)
+pub make-returns-in-Opt : goal.make-returns-in-Opt
+make-returns-in-Opt t c = builds-Opt c.args.regex.now c.args.limit c.make_copies-in-Opt.result c.in-Opt.r c.get-in-Opt.result.now c.get-in-Opt.ensures c.in-Opt.is c.make_copies-in-Opt.ensures
 
-pub make-returns-in_ok-diff-in-Diff-clause-reads : goal.make-returns-in_ok-diff-in-Diff-clause-reads
-make-returns-in_ok-diff-in-Diff-clause-reads t c =
-    form-Diff c.args.regex.now c.in_ok-diff-in-Diff.diff c.in-Diff.rs c.as_slice-operands.result.now c.in_ok-parts-in-Diff.parts c.as_slice-in-Diff.result.now c.as_slice-operands.ensures c.in_ok-parts-in-Diff.ensures c.as_slice-in-Diff.ensures
-    c.in-Diff.is c.in_ok-diff-in-Diff.ensures.reads
+pub make-returns-in-Comp : goal.make-returns-in-Comp
+make-returns-in-Comp t c = builds-Comp c.args.regex.now c.args.limit c.make_complement.result c.in-Comp.r c.get-in-Comp.result.now c.get-in-Comp.ensures c.in-Comp.is c.make_complement.ensures
 
-pub make-returns-in_ok-star-in-Star-clause-reads : goal.make-returns-in_ok-star-in-Star-clause-reads
-make-returns-in_ok-star-in-Star-clause-reads t c =
-    form-Star c.args.regex.now c.in_ok-star-in-Star.star c.in-Star.r c.get.result.now c.get.ensures c.in-Star.is c.in_ok-star-in-Star.ensures.reads
+pub make-returns-in-Loop : goal.make-returns-in-Loop
+make-returns-in-Loop t c = builds-Loop c.args.regex.now c.args.limit c.make_loop.result c.in-Loop.r c.get-in-Loop.result.now c.get-in-Loop.ensures c.in-Loop.i c.in-Loop.j c.in-Loop.is c.make_loop.ensures
 
-pub make-returns-in_ok-plus-in-Plus-clause-reads : goal.make-returns-in_ok-plus-in-Plus-clause-reads
-make-returns-in_ok-plus-in-Plus-clause-reads t c =
-    form-Plus c.args.regex.now c.in_ok-plus-in-Plus.plus c.in-Plus.r c.get-in-Plus.result.now c.get-in-Plus.ensures c.in-Plus.is c.in_ok-plus-in-Plus.ensures.reads
+pub make_complement-complement-requires : goal.make_complement-complement-requires
+make_complement-complement-requires t c = c.in_ok-part.ensures.0.plain
 
-pub make-returns-in_ok-opt-in-Opt-clause-reads : goal.make-returns-in_ok-opt-in-Opt-clause-reads
-make-returns-in_ok-opt-in-Opt-clause-reads t c =
-    form-Opt c.args.regex.now c.in_ok-opt-in-Opt.opt c.in-Opt.r c.get-in-Opt.result.now c.get-in-Opt.ensures c.in-Opt.is c.in_ok-opt-in-Opt.ensures.reads
+pub make_complement-returns : goal.make_complement-returns
+make_complement-returns t c = complement-made c.args.limit c.complement.result c.args.r.now c.in_ok-part.part c.in_ok-part.ensures.0 c.in_ok-part.ensures.1 c.complement.ensures
 
-pub make-complement-requires : goal.make-complement-requires
-make-complement-requires t c = c.in_ok-part-in-Comp.ensures.reads.plain
+pub make_loop-returns-then-i-j : goal.make_loop-returns-then-i-j
+make_loop-returns-then-i-j t c =
+    builds-as (λ w. ⊥) _ 1 _ c.args.limit (no-order _ c.args.i c.args.j (omega arith)) (omega arith) c.fit.result
+    (fits-builds (λ w. ⊥) 1 c.args.limit c.nothing.result c.fit.result c.nothing.ensures.reads c.nothing.ensures.states c.fit.ensures)
 
-pub make-returns-in_ok-comp-in-Comp-clause-reads : goal.make-returns-in_ok-comp-in-Comp-clause-reads
-make-returns-in_ok-comp-in-Comp-clause-reads t c =
-    form-Comp c.args.regex.now c.in_ok-comp-in-Comp.comp c.in-Comp.r c.get-in-Comp.result.now c.get-in-Comp.ensures c.in-Comp.is c.in_ok-part-in-Comp.part c.in_ok-part-in-Comp.ensures.reads c.in_ok-comp-in-Comp.ensures.reads
+pub make_loop-returns-then-j-eq0 : goal.make_loop-returns-then-j-eq0
+make_loop-returns-then-j-eq0 t c =
+    builds-as (λ w. w ≡ []) _ 1 _ c.args.limit (no-copy _ c.args.i c.args.j (omega arith) (omega arith)) (omega arith) c.fit-then-j-eq0.result
+    (fits-builds (λ w. w ≡ []) 1 c.args.limit c.empty_word.result c.fit-then-j-eq0.result c.empty_word.ensures.reads c.empty_word.ensures.states c.fit-then-j-eq0.ensures)
 
-pub make-returns-in_ok-copies-in-Loop-clause-reads : goal.make-returns-in_ok-copies-in-Loop-clause-reads
-make-returns-in_ok-copies-in-Loop-clause-reads t c =
-    form-Loop c.args.regex.now c.in_ok-copies-in-Loop.copies c.in-Loop.r c.get-in-Loop.result.now c.get-in-Loop.ensures c.in-Loop.i c.in-Loop.j c.in-Loop.is c.in_ok-copies-in-Loop.ensures.reads
+pub make_loop-returns : goal.make_loop-returns
+make_loop-returns t c = loop-made c.args.limit c.make_copies.result c.args.r.now c.args.i c.args.j c.make_copies.ensures
+
+pub make_copies-copied-requires-clause-plain : goal.make_copies-copied-requires-clause-plain
+make_copies-copied-requires-clause-plain t c = c.in_ok-part.ensures.0.plain
+
+pub make_copies-returns : goal.make_copies-returns
+make_copies-returns t c = copies-made c.args.limit c.copied.result c.args.r.now c.in_ok-part.part c.args.least c.args.most c.args.again c.in_ok-part.ensures.0 c.in_ok-part.ensures.1 c.copied.ensures
+
+pub make_difference-difference-requires : goal.make_difference-difference-requires
+make_difference-difference-requires t c = subst ArePlain (sym c.as_slice.ensures) (made-plain _ _ c.in_ok-parts.ensures.made)
+
+pub make_difference-returns : goal.make_difference-returns
+make_difference-returns t c = difference-made c.args.limit c.difference.result c.args.rs.now c.in_ok-parts.parts c.as_slice.result.now c.as_slice.ensures c.in_ok-parts.ensures.made c.difference.ensures
 
 pub make_all-loop-r-preserved : goal.make_all-loop-r-preserved
 make_all-loop-r-preserved t c =
     subst (AreMade _) (sym c.in_ok-push.ensures.ok)
-    (made-more c.args.rs.now c.loop-r.r-index c.r-item.result c.loop-r.parts c.in_ok-part.part c.loop-r-test.true c.r-item.is c.in_ok-part.ensures.reads c.loop-r.invariant)
+    (made-more c.args.rs.now c.loop-r.r-index c.r-item.result c.loop-r.parts c.in_ok-part.part c.loop-r-test.true c.r-item.is c.in_ok-part.ensures.0 c.in_ok-part.ensures.1 c.loop-r.invariant)
 
-pub make_all-returns : goal.make_all-returns
-make_all-returns t c = made-all c.args.rs.now c.loop-r.r-index c.loop-r.parts c.loop-r-test.false c.loop-r.invariant
+pub make_all-returns-clause-made : goal.make_all-returns-clause-made
+make_all-returns-clause-made t c = made-all c.args.rs.now c.loop-r.r-index c.loop-r.parts c.loop-r-test.false c.loop-r.invariant
 
-pub make_copies-copied-requires-clause-plain : goal.make_copies-copied-requires-clause-plain
-make_copies-copied-requires-clause-plain t c = c.in_ok-part.ensures.reads.plain
+pub make_complement-returns-in_err-part : goal.make_complement-returns-in_err-part
+make_complement-returns-in_err-part t c = builds-err _ _ c.args.limit c.from_residual.result c.from_residual.ensures.0 (λ n e.
+    let d = rw e at c.from_residual.ensures.1 in
+    let b = built-beyond (In c.args.r.now) (size c.args.r.now) c.args.limit _ c.in_err-part.ensures n (ap Err (sym d)) in
+    let more = power-above (size c.args.r.now) in
+    let low = b.0 in
+    (omega arith, b.1))
 
-pub make_copies-returns-clause-reads : goal.make_copies-returns-clause-reads
-make_copies-returns-clause-reads t c = copied-made c.args.r.now c.in_ok-part.part c.in_ok-copies.copies c.args.least c.args.most c.args.again c.in_ok-part.ensures.reads c.in_ok-copies.ensures.reads
+pub make_copies-returns-in_err-part : goal.make_copies-returns-in_err-part
+make_copies-returns-in_err-part t c = builds-err _ _ c.args.limit c.from_residual.result c.from_residual.ensures.0 (λ n e.
+    let d = rw e at c.from_residual.ensures.1 in
+    let b = built-beyond (In c.args.r.now) (size c.args.r.now) c.args.limit _ c.in_err-part.ensures n (ap Err (sym d)) in
+    let more = copies-least c.args.least c.args.most (size c.args.r.now) c.requires.some in
+    let low = b.0 in
+    (omega arith, b.1))
 
-pub make_loop-returns-then-i-j-clause-reads : goal.make_loop-returns-then-i-j-clause-reads
-make_loop-returns-then-i-j-clause-reads t c =
-    loop-none c.args.r.now c.in_ok-out_of_order.out_of_order c.args.i c.args.j (omega arith) (reads-as _ _ _ c.in_ok-out_of_order.ensures.same c.in_ok-nowhere.ensures)
+pub make_difference-returns-in_err-parts : goal.make_difference-returns-in_err-parts
+make_difference-returns-in_err-parts t c = builds-err _ _ c.args.limit c.from_residual.result c.from_residual.ensures.0 (λ n e.
+    let d = rw e at c.from_residual.ensures.1 in
+    c.in_err-parts.ensures.beyond n (ap Err (sym d)))
 
-pub make_loop-returns-then-j-eq0-clause-reads : goal.make_loop-returns-then-j-eq0-clause-reads
-make_loop-returns-then-j-eq0-clause-reads t c =
-    let text = subst (λ x. Reads (λ w. (w ≡ x) × IsWord w) c.in_ok-empty.empty) c.new-no_letter.ensures c.in_ok-empty.ensures in
-    loop-empty c.args.r.now c.in_ok-no_copy.no_copy c.args.i c.args.j (omega arith) (omega arith) (reads-as _ _ _ c.in_ok-no_copy.ensures.same text)
+pub make_all-returns-in_err-part-clause-beyond : goal.make_all-returns-in_err-part-clause-beyond
+make_all-returns-in_err-part-clause-beyond t c = λ n e.
+    let d = rw e at c.from_residual.ensures.1 in
+    let b = built-beyond (In c.r-item.result) (size c.r-item.result) c.args.limit _ c.in_err-part.ensures n (ap Err (sym d)) in
+    let more = first-size c.args.rs.now c.r-item.result (c.loop-r.r-index, c.loop-r-test.true, sym c.r-item.is) in
+    let low = b.0 in
+    (omega arith, b.1)
 
-pub make_loop-returns-clause-reads : goal.make_loop-returns-clause-reads
-make_loop-returns-clause-reads t c = loop-made c.args.r.now c.in_ok-copies.copies c.args.i c.args.j c.in_ok-copies.ensures.reads
+pub add_parts-returns-in_err-add_part-clause-beyond : goal.add_parts-returns-in_err-add_part-clause-beyond
+add_parts-returns-in_err-add_part-clause-beyond t c = λ n e.
+    let d = rw e at c.from_residual.ensures.1 in
+    let b = c.in_err-add_part.ensures.beyond n (ap Err (sym d)) in
+    let more = part-size c.args.kind c.args.rs.now c.r-item.result (c.loop-r.r-index, c.loop-r-test.true, sym c.r-item.is) in
+    let low = b.0 in
+    (omega arith, b.1)
+
+pub add_parts-loop-r-init : goal.add_parts-loop-r-init
+add_parts-loop-r-init t c = adds-none c.args.kind c.args.parts.now
+
+pub add_parts-loop-r-preserved : goal.add_parts-loop-r-preserved
+add_parts-loop-r-preserved t c =
+    adds-next c.args.kind c.args.rs.now c.loop-r.r-index c.r-item.result c.args.parts.now c.loop-r.parts c.add_part.new.parts
+    c.loop-r-test.true c.r-item.is c.loop-r.invariant c.in_ok-add_part.ensures.ok
+
+pub add_parts-returns-clause-ok : goal.add_parts-returns-clause-ok
+add_parts-returns-clause-ok t c = adds-all c.args.kind c.args.rs.now c.loop-r.r-index c.args.parts.now c.loop-r.parts c.loop-r-test.false c.loop-r.invariant
+
+pub make_list-join_alike-requires : goal.make_list-join_alike-requires
+make_list-join_alike-requires t c = adds-plain c.args.kind c.args.rs.now c.add_parts.new.parts c.add_parts.new.parts c.new-parts.result refl c.new-parts.ensures c.in_ok-add_parts.ensures.ok
+
+pub make_list-put_together-requires : goal.make_list-put_together-requires
+make_list-put_together-requires t c =
+    let adds = c.in_ok-joined.ensures c.args.rs.now (subst (λ l. AddsParts c.args.kind c.args.rs.now l c.add_parts.new.parts) c.new-parts.ensures c.in_ok-add_parts.ensures.ok) in
+    adds-plain c.args.kind c.args.rs.now c.in_ok-joined.joined c.as_slice.result.now [] c.as_slice.ensures refl adds
+
+pub make_list-returns : goal.make_list-returns
+make_list-returns t c =
+    let adds = c.in_ok-joined.ensures c.args.rs.now (subst (λ l. AddsParts c.args.kind c.args.rs.now l c.add_parts.new.parts) c.new-parts.ensures c.in_ok-add_parts.ensures.ok) in
+    list-made c.args.limit c.put_together.result c.args.kind c.args.rs.now c.in_ok-joined.joined c.as_slice.result.now c.as_slice.ensures [] refl adds c.put_together.ensures
+
+pub make_list-returns-in_err-add_parts : goal.make_list-returns-in_err-add_parts
+make_list-returns-in_err-add_parts t c = builds-err _ _ c.args.limit c.from_residual.result c.from_residual.ensures.0 (λ n e.
+    let d = rw e at c.from_residual.ensures.1 in
+    c.in_err-add_parts.ensures.beyond n (ap Err (sym d)))
+
+pub add_part-returns-in-Turn-Concat-clause-ok : goal.add_part-returns-in-Turn-Concat-clause-ok
+add_part-returns-in-Turn-Concat-clause-ok t c =
+    let a = c.in-Turn-Concat in
+    let is = a.is-1 ∙ ap (λ k. formed k a.rs) (sym a.is-0) in
+    onok-as c.add_parts.result _ _ (adds-inner c.args.kind c.args.r.now a.rs c.as_slice.result.now c.args.parts.now c.add_parts.new.parts is c.as_slice.ensures) c.add_parts.ensures.ok
+
+pub add_part-returns-in-Turn-Concat-clause-beyond : goal.add_part-returns-in-Turn-Concat-clause-beyond
+add_part-returns-in-Turn-Concat-clause-beyond t c = λ n e.
+    let a = c.in-Turn-Concat in
+    let is = a.is-1 ∙ ap (λ k. formed k a.rs) (sym a.is-0) in
+    let b = c.add_parts.ensures.beyond n e in
+    let more = inner-size c.args.kind c.args.r.now a.rs c.as_slice.result.now is c.as_slice.ensures in
+    let low = b.0 in
+    (omega arith, b.1)
+
+pub add_part-returns-in-One-Union-clause-ok : goal.add_part-returns-in-One-Union-clause-ok
+add_part-returns-in-One-Union-clause-ok t c =
+    let a = c.in-One-Union in
+    let is = a.is-1 ∙ ap (λ k. formed k a.rs) (sym a.is-0) in
+    onok-as c.add_parts-in-One-Union.result _ _ (adds-inner c.args.kind c.args.r.now a.rs c.as_slice-in-One-Union.result.now c.args.parts.now c.add_parts-in-One-Union.new.parts is c.as_slice-in-One-Union.ensures) c.add_parts-in-One-Union.ensures.ok
+
+pub add_part-returns-in-One-Union-clause-beyond : goal.add_part-returns-in-One-Union-clause-beyond
+add_part-returns-in-One-Union-clause-beyond t c = λ n e.
+    let a = c.in-One-Union in
+    let is = a.is-1 ∙ ap (λ k. formed k a.rs) (sym a.is-0) in
+    let b = c.add_parts-in-One-Union.ensures.beyond n e in
+    let more = inner-size c.args.kind c.args.r.now a.rs c.as_slice-in-One-Union.result.now is c.as_slice-in-One-Union.ensures in
+    let low = b.0 in
+    (omega arith, b.1)
+
+pub add_part-returns-in-All-Inter-clause-ok : goal.add_part-returns-in-All-Inter-clause-ok
+add_part-returns-in-All-Inter-clause-ok t c =
+    let a = c.in-All-Inter in
+    let is = a.is-1 ∙ ap (λ k. formed k a.rs) (sym a.is-0) in
+    onok-as c.add_parts-in-All-Inter.result _ _ (adds-inner c.args.kind c.args.r.now a.rs c.as_slice-in-All-Inter.result.now c.args.parts.now c.add_parts-in-All-Inter.new.parts is c.as_slice-in-All-Inter.ensures) c.add_parts-in-All-Inter.ensures.ok
+
+pub add_part-returns-in-All-Inter-clause-beyond : goal.add_part-returns-in-All-Inter-clause-beyond
+add_part-returns-in-All-Inter-clause-beyond t c = λ n e.
+    let a = c.in-All-Inter in
+    let is = a.is-1 ∙ ap (λ k. formed k a.rs) (sym a.is-0) in
+    let b = c.add_parts-in-All-Inter.ensures.beyond n e in
+    let more = inner-size c.args.kind c.args.r.now a.rs c.as_slice-in-All-Inter.result.now is c.as_slice-in-All-Inter.ensures in
+    let low = b.0 in
+    (omega arith, b.1)

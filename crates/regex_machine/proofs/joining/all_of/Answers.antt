@@ -1,7 +1,9 @@
-use Rattle.std.proofs.Common.{◌≡◌, sym, subst}
+use Rattle.std.proofs.Common.{◌≡◌, ap, arith, sym, subst}
 use Rattle.machine_core.specs.declared.graph.Graph.{Graph}
-use Rattle.machine_meet.specs.Products.{meet_width}
-use Rattle.regex_machine.proofs.MeetLemmas.{plain-agree, plain-width, tops-fit, meet-reads}
+use Rattle.machine_meet.specs.Products.{meet_width, multiplied}
+use Rattle.regex_machine.specs.Kinds.{states_of}
+use Rattle.regex_machine.proofs.BuiltLemmas.{builds-as}
+use Rattle.regex_machine.proofs.MeetLemmas.{plain-agree, plain-width, tops-fit, meet-words}
 use Rattle.regex_machine.proofs.joining.all_of.Goals as goal
 
 pub of-meet-requires-clause-agree : goal.of-meet-requires-clause-agree
@@ -13,5 +15,9 @@ of-meet-requires-clause-fits c = tops-fit c.args.parts.now c.requires
 pub explored-requires : goal.explored-requires
 explored-requires c = subst (λ ms. meet_width (λ (m : Graph). m.registers) ms ≡ 0) (sym c.of-meet.ensures.parts) (plain-width c.args.parts.now c.requires)
 
-pub returns-clause-reads : goal.returns-clause-reads
-returns-clause-reads c = meet-reads c.args.parts.now c.requires c.of-meet.result.parts.now c.of-meet.ensures.parts c.of-meet.ensures.language c.in_ok-machine.machine c.in_ok-machine.ensures.reads
+pub returns : goal.returns
+returns c =
+    let size = ap (multiplied states_of) c.of-meet.ensures.parts in
+    builds-as _ _ _ _ c.args.limit
+    (meet-words c.args.parts.now c.requires c.of-meet.result.parts.now c.of-meet.ensures.parts c.of-meet.ensures.language)
+    (omega arith) c.explored.result c.explored.ensures

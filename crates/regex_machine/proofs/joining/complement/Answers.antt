@@ -1,5 +1,13 @@
-use Rattle.regex_machine.proofs.SideLemmas.{other-reads}
+use Rattle.std.proofs.Common.{◌≡◌, ◌^◌, ap, arith}
+use Rattle.machine_core.specs.declared.graph.Graph.{Graph}
+use Rattle.regex_machine.proofs.BuiltLemmas.{builds-as}
+use Rattle.regex_machine.proofs.SideLemmas.{other-words}
 use Rattle.regex_machine.proofs.joining.complement.Goals as goal
 
-pub returns-clause-reads : goal.returns-clause-reads
-returns-clause-reads c = other-reads c.args.part.now c.of-subset.result.machine.now c.of-subset.result.negated c.of-subset.ensures.machine c.of-subset.ensures.negated c.of-subset.ensures.language c.in_ok-machine.machine c.in_ok-machine.ensures.reads
+pub returns : goal.returns
+returns c =
+    let s = c.of-subset.result in
+    let size = ap (λ (m : Graph). 2 ^ m.states) c.of-subset.ensures.machine in
+    builds-as _ _ _ _ c.args.limit
+    (other-words c.args.part.now s.machine.now s.negated c.of-subset.ensures.machine c.of-subset.ensures.negated c.of-subset.ensures.language)
+    (omega arith) c.explored.result c.explored.ensures

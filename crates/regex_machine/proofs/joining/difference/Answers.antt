@@ -1,9 +1,13 @@
-use Rattle.std.proofs.Common.{[], ◌∙◌, List, drop, arith, sym, subst}
+use Rattle.std.proofs.Common.{[], ◌≡◌, ◌∙◌, List, drop, map, arith, sym, ap, subst}
 use Rattle.machine_core.specs.declared.graph.Graph.{Graph}
 use Rattle.sv_terms.specs.Language.{Word, InFirstOnly}
-use Rattle.regex_machine.specs.Joined.{Reads, WordsOf}
+use Rattle.regex_machine.specs.Built.{Builds}
+use Rattle.regex_machine.specs.Joined.{WordsOf}
+use Rattle.regex_machine.specs.Bounds.{from_left, without_size}
+use Rattle.regex_machine.specs.Kinds.{states_of}
+use Rattle.regex_machine.proofs.BuiltLemmas.{builds-as, fits-builds}
 use Rattle.regex_machine.proofs.WordLemmas.{none-left, some-left, split-first}
-use Rattle.regex_machine.proofs.SideLemmas.{side-width, side-tops, sides-reads}
+use Rattle.regex_machine.proofs.SideLemmas.{side-width, side-tops, sides-words, sides-size}
 use Rattle.regex_machine.proofs.joining.difference.Goals as goal
 
 pub within-first-requires : goal.within-first-requires
@@ -20,18 +24,21 @@ of-meet-requires-clause-fits c = let e = side-tops c.as_slice-list.result.now in
 pub explored-requires : goal.explored-requires
 explored-requires c = side-width c.of-meet.result.parts.now
 
-pub returns-then-is_empty-clause-reads : goal.returns-then-is_empty-clause-reads
-returns-then-is_empty-clause-reads c =
-    let P : List Graph → Word → Type 0 = InFirstOnly WordsOf in
+pub returns-then-is_empty : goal.returns-then-is_empty
+returns-then-is_empty c =
     let none = none-left c.args.parts.now (sym c.is_empty.ensures ∙ c.if-is_empty.true) in
-    subst (λ ms. Reads (P ms) c.in_ok-alone.alone) (sym none) (subst (Reads (P [])) (sym c.in_ok-alone.ensures.same) c.in_ok-none.ensures)
+    subst (λ l. Builds (InFirstOnly WordsOf l) (from_left without_size (map states_of l)) c.args.limit c.fit.result) (sym none)
+    (fits-builds (λ w. ⊥) 1 c.args.limit c.nothing.result c.fit.result c.nothing.ensures.reads c.nothing.ensures.states c.fit.ensures)
 
-pub returns-clause-reads : goal.returns-clause-reads
-returns-clause-reads c =
+pub returns : goal.returns
+returns c =
     let ms = c.args.parts.now in
     let f = c.index-parts-0.result in
     let some = some-left ms (sym c.is_empty.ensures ∙ c.if-is_empty.false) in
     let whole = split-first ms f some c.index-parts-0.is in
-    let read = sides-reads (drop 1 ms) c.in_ok-sides.sides f c.within-first.result c.in_ok-sides.ensures c.within-first.ensures c.as_slice-list.result.now c.of-meet.result.parts.now
-    (c.as_slice-list.ensures ∙ c.in_ok-push.ensures.ok) c.of-meet.ensures.parts c.of-meet.ensures.language c.in_ok-machine.machine c.in_ok-machine.ensures.reads in
-    subst (λ l. Reads (InFirstOnly WordsOf l) c.in_ok-machine.machine) whole read
+    let is = c.as_slice-list.ensures ∙ c.in_ok-push.ensures.ok in
+    let words = sides-words (drop 1 ms) c.in_ok-sides.sides f c.within-first.result c.in_ok-sides.ensures c.within-first.ensures c.as_slice-list.result.now c.of-meet.result.parts.now
+    is c.of-meet.ensures.parts c.of-meet.ensures.language in
+    let size = sides-size (drop 1 ms) c.in_ok-sides.sides f c.within-first.result c.in_ok-sides.ensures c.within-first.ensures c.of-meet.result.parts.now (c.of-meet.ensures.parts ∙ is) in
+    subst (λ l. Builds (InFirstOnly WordsOf l) (from_left without_size (map states_of l)) c.args.limit c.explored.result) whole
+    (builds-as _ _ _ _ c.args.limit words (omega arith) c.explored.result c.explored.ensures)

@@ -2,8 +2,8 @@ use Rattle.std.proofs.Common.{◌∙◌}
 use Rattle.regex_machine.proofs.LetterLemmas.{everything-reads, only-edge, only-end}
 use Rattle.regex_machine.proofs.letters.everything.Goals as goal
 
-pub returns : goal.returns
-returns c =
+pub returns-clause-reads : goal.returns-clause-reads
+returns-clause-reads c =
     let m = c.in_ok-machine.machine in
     let one = c.add_edge.new.self in
     let two = c.add_end.new.self in

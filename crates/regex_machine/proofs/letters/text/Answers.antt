@@ -32,8 +32,8 @@ loop-place-preserved c =
       spells = spells-more c.args.word.now k (get_or l k 0) c.in_ok-on.on old c.add_edge.new.self.edges at c.in_ok-on.ensures.set grown c.loop-place.invariant.spells;
     }
 
-pub returns : goal.returns
-returns c =
+pub returns-clause-reads : goal.returns-clause-reads
+returns-clause-reads c =
     let word = c.args.word.now in
     let k = c.loop-place.place in
     let m = c.loop-place.machine in

@@ -1,5 +1,5 @@
 use Rattle.std.proofs.Common.{◌≡◌, take}
-use Rattle.subset_machine.specs.Spans.{places_from_some}
+use Rattle.subset_machine.specs.Legs.{places_from_some}
 use Rattle.subset_machine.proofs.leaving.places_of.Given as goal
 
 abbrev pub invariant-loop-s : goal.invariant-loop-s

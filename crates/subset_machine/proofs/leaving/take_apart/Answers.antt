@@ -2,7 +2,7 @@ use Rattle.std.proofs.Common.{◌++◌, ◌∷◌, [], map, take, ap, sym, ◌�
 use Rattle.std.specs.List.{flat_map}
 use Rattle.std.proofs.lemmas.List.{map_push, flat_map_more}
 use Rattle.machine_core.specs.Places.{pick}
-use Rattle.subset_machine.specs.Spans.{on_of, spans_of}
+use Rattle.subset_machine.specs.Legs.{on_of, legs_of}
 use Rattle.subset_machine.proofs.PlaceLemmas.{pick-more}
 use Rattle.subset_machine.proofs.leaving.take_apart.Goals as goal
 
@@ -16,6 +16,6 @@ loop-place-preserved c =
     record {
       sets = c.in_ok-push.ensures.items ∙ ap (λ v. c.loop-place.sets.items ++ v ∷ []) c.in_ok-copy.ensures ∙ ap (λ l. l ++ e.on ∷ []) c.loop-place.invariant.sets
           ∙ sym (map_push on_of before e) ∙ ap (map on_of) (sym more);
-      spans = c.in_ok-push_spans.ensures ∙ ap (λ l. l ++ spans_of e) c.loop-place.invariant.spans
-          ∙ flat_map_more spans_of [] before e ∙ ap (flat_map spans_of) (sym more);
+      legs = c.in_ok-push_legs.ensures ∙ ap (λ l. l ++ legs_of e) c.loop-place.invariant.legs
+          ∙ flat_map_more legs_of [] before e ∙ ap (flat_map legs_of) (sym more);
     }

@@ -1,7 +1,7 @@
 use Rattle.std.proofs.Common.{Contains, refl, sym, ◌∙◌, subst}
 use Rattle.machine_core.specs.Lists.{Any-contains}
 use Rattle.machine_core.specs.Moves.{Moves}
-use Rattle.subset_machine.specs.Subsets.{AreStates}
+use Rattle.subset_machine.specs.Subsets.{IsStateSet}
 use Rattle.subset_machine.specs.SubsetLaws.{next-states}
 use Rattle.subset_machine.proofs.tests.follow.Goals as goal
 
@@ -12,4 +12,4 @@ returns-then-holds c =
     let i : Contains c.in_ok-moves.moves item = subst (λ l. Contains l item) c.as_slice-step-items.ensures (c.loop-step.step-index, c.loop-step-test.true, sym c.step-item.is) in
     let step = (c.in_ok-moves.ensures.exact c.args.c item.cost item.to).1
     (Any-contains (Moves c.args.c item.cost item.to) c.in_ok-moves.moves item i (sym c.holds.ensures ∙ c.if-holds.true, refl, refl)) in
-    subst (AreStates s.machine.now.states) (sym c.in_ok-copy.ensures) (next-states s.machine.now s.negated c.args.at.now c.args.c item.cost item.to step)
+    subst (IsStateSet s.machine.now.states) (sym c.in_ok-copy.ensures) (next-states s.machine.now s.negated c.args.at.now c.args.c item.cost item.to step)

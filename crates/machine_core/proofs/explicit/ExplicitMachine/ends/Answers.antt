@@ -1,5 +1,5 @@
 use Rattle.std.proofs.lemmas.Result.{IfOk-weaker}
-use Rattle.machine_core.proofs.PlaceLemmas.{places-within, pick-places}
+use Rattle.machine_core.specs.PlaceLaws.{places-within, pick-places}
 use Rattle.machine_core.proofs.FoundLemmas.{costs-exact}
 use Rattle.machine_core.proofs.explicit.ExplicitMachine.ends.Goals as goal
 

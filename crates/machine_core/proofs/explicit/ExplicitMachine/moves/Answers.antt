@@ -2,7 +2,7 @@ use Rattle.std.proofs.Common.{ℕ, All, sym, subst}
 use Rattle.sv_word.specs.Ranges.{IsInhabited}
 use Rattle.std.proofs.lemmas.Result.{IfOk-weaker}
 use Rattle.machine_core.specs.declared.machine.Move.{Move}
-use Rattle.machine_core.proofs.PlaceLemmas.{places-within, pick-places}
+use Rattle.machine_core.specs.PlaceLaws.{places-within, pick-places}
 use Rattle.machine_core.proofs.FoundLemmas.{moves-exact, moves-inhabited}
 use Rattle.machine_core.proofs.explicit.ExplicitMachine.moves.Goals as goal
 

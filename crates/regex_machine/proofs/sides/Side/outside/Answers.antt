@@ -1,4 +1,5 @@
+use Rattle.std.proofs.Common.{refl}
 use Rattle.regex_machine.proofs.sides.Side.outside.Goals as goal
 
 pub returns : goal.returns
-returns c = c.of-others.ensures.language
+returns c = record { words = c.of-others.ensures.language; size = refl }

@@ -25,15 +25,15 @@ moves_of-requires c =
     let m = s.machine.now in
     let list = c.args.at.now in
     let sets = c.in_ok-leaving.leaving.sets.items in
-    let spans = c.in_ok-leaving.leaving.spans.items in
+    let legs = c.in_ok-leaving.leaving.legs.items in
     let marks = c.in_ok-marks.marks.items in
     let hits = c.in_ok-hits.hits.items in
     let leaving = leaving-from m s.plain list c.as_slice.result.now c.as_slice.ensures c.edges.result.now c.edges.ensures c.as_slice-2.result.now
-    (c.as_slice-2.ensures.value ∙ c.in_ok-places.ensures) sets spans c.in_ok-leaving.ensures.sets c.in_ok-leaving.ensures.spans in
-    let parts = parts-from m.edges list sets c.as_slice-3.result.now spans c.as_slice-4.result.now marks c.as_slice-5.result.now hits
+    (c.as_slice-2.ensures.value ∙ c.in_ok-places.ensures) sets legs c.in_ok-leaving.ensures.sets c.in_ok-leaving.ensures.legs in
+    let parts = parts-from m.edges list sets c.as_slice-3.result.now legs c.as_slice-4.result.now marks c.as_slice-5.result.now hits
     leaving c.as_slice-3.ensures.value c.in_ok-marks.ensures c.as_slice-4.ensures.value c.as_slice-5.ensures.value c.in_ok-hits.ensures in
     let grouped = grouped-from marks c.as_slice-6.result.now hits c.as_slice-7.result.now s.negated c.in_ok-groups.groups c.as_slice-6.ensures.value c.as_slice-7.ensures.value c.in_ok-groups.ensures in
-    groups-intervals m.edges list sets spans marks hits parts.leaving parts.cut parts.found s.negated c.in_ok-groups.groups grouped
+    groups-intervals m.edges list sets legs marks hits parts.leaving parts.cut parts.found s.negated c.in_ok-groups.groups grouped
 
 pub returns-clause-exact : goal.returns-clause-exact
 returns-clause-exact c =
@@ -41,17 +41,17 @@ returns-clause-exact c =
     let m = s.machine.now in
     let list = c.args.at.now in
     let sets = c.in_ok-leaving.leaving.sets.items in
-    let spans = c.in_ok-leaving.leaving.spans.items in
+    let legs = c.in_ok-leaving.leaving.legs.items in
     let marks = c.in_ok-marks.marks.items in
     let hits = c.in_ok-hits.hits.items in
     let leaving = leaving-from m s.plain list c.as_slice.result.now c.as_slice.ensures c.edges.result.now c.edges.ensures c.as_slice-2.result.now
-    (c.as_slice-2.ensures.value ∙ c.in_ok-places.ensures) sets spans c.in_ok-leaving.ensures.sets c.in_ok-leaving.ensures.spans in
-    let parts = parts-from m.edges list sets c.as_slice-3.result.now spans c.as_slice-4.result.now marks c.as_slice-5.result.now hits
+    (c.as_slice-2.ensures.value ∙ c.in_ok-places.ensures) sets legs c.in_ok-leaving.ensures.sets c.in_ok-leaving.ensures.legs in
+    let parts = parts-from m.edges list sets c.as_slice-3.result.now legs c.as_slice-4.result.now marks c.as_slice-5.result.now hits
     leaving c.as_slice-3.ensures.value c.in_ok-marks.ensures c.as_slice-4.ensures.value c.as_slice-5.ensures.value c.in_ok-hits.ensures in
     let grouped = grouped-from marks c.as_slice-6.result.now hits c.as_slice-7.result.now s.negated c.in_ok-groups.groups c.as_slice-6.ensures.value c.as_slice-7.ensures.value c.in_ok-groups.ensures in
     IfOk-weaker c.moves_of.result _ _
     (λ moves exact d cost to.
-    let under = steps-under m.edges list sets spans marks hits parts.leaving parts.cut parts.found s.negated c.in_ok-groups.groups grouped d cost to in
+    let under = steps-under m.edges list sets legs marks hits parts.leaving parts.cut parts.found s.negated c.in_ok-groups.groups grouped d cost to in
     let e = exact d cost to in
     (λ h. e.0 (under.0 h), λ a. under.1 (e.1 a)))
     c.moves_of.ensures.exact
