@@ -176,7 +176,13 @@ const JOINED: [(Pairs, Pairs, Pairs, Pairs); 5] = [
 ];
 
 // Whether two sets have this in common, and this together.
-fn are_joined(alloc: Global, left: Pairs, right: Pairs, both: Pairs, either: Pairs) -> Result<bool, AllocError> {
+fn are_joined(
+    alloc: Global,
+    left: Pairs,
+    right: Pairs,
+    both: Pairs,
+    either: Pairs,
+) -> Result<bool, AllocError> {
     let a = set_of(alloc, left)?;
     let b = set_of(alloc, right)?;
     let common = a.meet(alloc, &b)?;
@@ -196,7 +202,10 @@ fn sets_meet_and_join(rt: HostRuntime) -> Result<(), AllocError> {
 fn is_apart(alloc: Global, set: &Ranges, first: u32, other: u32) -> Result<bool, AllocError> {
     let others = set.complement(alloc)?;
     let copy = set.copy(alloc)?;
-    let apart = set.holds(first) && !others.holds(first) && others.holds(other) && !set.holds(other);
+    let apart = set.holds(first)
+        && !others.holds(first)
+        && others.holds(other)
+        && !set.holds(other);
     Ok(apart && set.least() == Some(first) && copy.same(set) && copy == *set && others < *set)
 }
 
