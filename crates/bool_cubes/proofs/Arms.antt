@@ -1,0 +1,81 @@
+-- The numbers of cubes of a function at few arguments, and at the pairs of terms behind a place.
+use Rattle.std.proofs.Common.{◌≡◌, refl, sym, ap, ◌∙◌, ℕ, ◌+◌, ◌-◌, ◌<◌, ◌≤◌, List, [], ◌∷◌, length, drop, get_or, slice_get, Some, arith}
+use Rattle.std.proofs.lemmas.Option.{slice_get-get_or}
+use Rattle.sv_terms.specs.declared.op.Op.TheVariants as op
+use Rattle.sv_terms.specs.declared.sort.Sort.{Sort}
+use Rattle.sv_terms.specs.declared.term.Term.{Term}
+use Rattle.bool_cubes.specs.Counting.{parts_of, formulas_of, first_pairs, counts_of, atom_counts, not_counts, and_counts, choice_counts, equal_counts}
+use Rattle.bool_cubes.specs.Shapes.{seen, head_sort}
+use Rattle.bool_cubes.specs.Trees.{Part, fixed, applied, conjunction, equal, formula, negated, neighbours, pairs}
+use Rattle.bool_cubes.specs.Trees as tree
+use Rattle.bool_cubes.specs.declared.counts.Counts.{Counts}
+use Rattle.bool_cubes.proofs.Tallies.{counts_choice, first_before, pairs_more}
+use Rattle.std.specs.Prelude.{true, map}
+use Rattle.bool_cubes.specs.Cubes.{count}
+use Rattle.bool_cubes.specs.Refusing.{cut_off, count_of}
+
+pub not_atom : (ts : List Term) (t : Term) → (length ts ≡ 1 → ⊥) → counts_of (applied op.Not (parts_of ts) t) ≡ atom_counts
+not_atom [] t h = refl
+not_atom (u ∷ []) t h = absurd (h refl)
+not_atom (u ∷ v ∷ ts) t h = refl
+
+pub not_one : (ts : List Term) (t x : Term) (a : Counts) → length ts ≡ 1 → x ≡ get_or ts 0 x → a ≡ counts_of (formula (seen x)) → not_counts a ≡ counts_of (applied op.Not (parts_of ts) t)
+not_one [] t x a h e p = absurd (omega arith)
+not_one (u ∷ []) t x a h e p = ap not_counts (p ∙ ap (λ s. counts_of (formula (seen s))) e)
+not_one (u ∷ v ∷ ts) t x a h e p = absurd (omega arith)
+
+pub choice_atom : (ts : List Term) (t : Term) → (length ts ≡ 3 → ⊥) → counts_of (applied op.IfThenElse (parts_of ts) t) ≡ atom_counts
+choice_atom [] t h = refl
+choice_atom (u ∷ []) t h = refl
+choice_atom (u ∷ v ∷ []) t h = refl
+choice_atom (u ∷ v ∷ w ∷ []) t h = absurd (h refl)
+choice_atom (u ∷ v ∷ w ∷ x ∷ ts) t h = refl
+
+pub choice_three : (ts : List Term) (t x y z : Term) (a b c : Counts) → length ts ≡ 3 → x ≡ get_or ts 0 x → y ≡ get_or ts 1 y → z ≡ get_or ts 2 z → a ≡ counts_of (formula (seen x)) → b ≡ counts_of (formula (seen y)) → c ≡ counts_of (formula (seen z)) → choice_counts a b c ≡ counts_of (applied op.IfThenElse (parts_of ts) t)
+choice_three [] t x y z a b c h e f g p q r = absurd (omega arith)
+choice_three (u ∷ []) t x y z a b c h e f g p q r = absurd (omega arith)
+choice_three (u ∷ v ∷ []) t x y z a b c h e f g p q r = absurd (omega arith)
+choice_three (u ∷ v ∷ w ∷ []) t x y z a b c h e f g p q r =
+    (λ i. choice_counts ((p ∙ ap (λ s. counts_of (formula (seen s))) e) i) ((q ∙ ap (λ s. counts_of (formula (seen s))) f) i) ((r ∙ ap (λ s. counts_of (formula (seen s))) g) i)) ∙ sym (counts_choice (formula (seen u)) (formula (seen v)) (formula (seen w)))
+choice_three (u ∷ v ∷ w ∷ k ∷ ts) t x y z a b c h e f g p q r = absurd (omega arith)
+
+pub few_neighbours : (ts : List Term) → length ts < 2 → counts_of (conjunction (neighbours equal (parts_of ts))) ≡ counts_of (fixed true)
+few_neighbours [] h = refl
+few_neighbours (t ∷ []) h = refl
+few_neighbours (t ∷ u ∷ ts) h = absurd (omega arith)
+
+-- an element is the one that is found at its place
+pub item_is : (ts : List Term) (k : ℕ) (x t : Term) → k < length ts → x ≡ get_or ts k x → slice_get ts k ≡ Some t → x ≡ t
+item_is ts k x t h e f = let g = slice_get-get_or ts k x h in cc
+
+-- the first pair behind a place
+pub first_step : (ts : List Term) (j at : ℕ) (t u x : Term) (s : Sort) (a b c d : Counts) → at < length ts → 0 < j → j ≤ length ts → slice_get ts at ≡ Some t → x ≡ get_or ts at x → u ≡ get_or ts (j - 1) u → a ≡ counts_of (conjunction (first_pairs t (drop j ts))) → s ≡ head_sort (seen x) → b ≡ counts_of (formula (seen x)) → c ≡ counts_of (formula (seen u))
+    → and_counts (not_counts (equal_counts s b c)) a ≡ counts_of (conjunction (first_pairs t (drop (j - 1) ts)))
+first_step ts j at t u x s a b c d h o l f e k p q r w =
+    let same : x ≡ t = item_is ts at x t h e f in
+    let up : j ≡ j - 1 + 1 = omega arith in
+    first_before ts (j - 1) t u s a b c (omega arith) k (p ∙ ap (λ n. counts_of (conjunction (first_pairs t (drop n ts)))) up) (q ∙ ap (λ y. head_sort (seen y)) same) (r ∙ ap (λ y. counts_of (formula (seen y))) same) w
+
+-- all pairs from one place on
+pub pairs_step : (ts : List Term) (i : ℕ) (a c : Counts) → 0 < i → i ≤ length ts → ((t : Term) → slice_get ts (i - 1) ≡ Some t → c ≡ counts_of (conjunction (first_pairs t (drop (i - 1 + 1) ts)))) → a ≡ counts_of (conjunction (pairs (λ p q. negated (equal p q)) (parts_of (drop i ts))))
+    → and_counts c a ≡ counts_of (conjunction (pairs (λ p q. negated (equal p q)) (parts_of (drop (i - 1) ts))))
+pairs_step [] i a c o l f e = absurd (omega arith)
+pairs_step (u ∷ us) i a c o l f e =
+    let ts = u ∷ us in
+    let t = get_or ts (i - 1) u in
+    let lt : i - 1 < length (u ∷ us) = omega arith in
+    let up : i ≡ i - 1 + 1 = omega arith in
+    let found = slice_get-get_or (u ∷ us) (i - 1) u lt in
+    let again = slice_get-get_or (u ∷ us) (i - 1) (get_or (u ∷ us) (i - 1) u) lt in
+    let same : get_or (u ∷ us) (i - 1) u ≡ get_or (u ∷ us) (i - 1) (get_or (u ∷ us) (i - 1) u) = cc in
+    pairs_more (u ∷ us) (i - 1) (get_or (u ∷ us) (i - 1) u) a c lt same (f (get_or (u ∷ us) (i - 1) u) found) (e ∙ ap (λ n. counts_of (conjunction (pairs (λ p q. negated (equal p q)) (parts_of (drop n (u ∷ us)))))) up)
+
+pub ruleset arms = (not_one, not_atom, choice_three, choice_atom)
+
+-- the assertions, joined by and
+trees_seen : (ts : List Term) → tree.trees true (formulas_of ts) ≡ map (λ (t : Term). formula (seen t) true) ts
+trees_seen [] = refl
+trees_seen (t ∷ ts) = ap (λ us. formula (seen t) true ∷ us) (trees_seen ts)
+
+pub whole_count : (ts : List Term) (c : Counts) → c ≡ counts_of (conjunction (formulas_of ts)) → c.holding ≡ cut_off (count_of ts)
+whole_count ts c e = ap (λ (d : Counts). d.holding) e ∙ ap (λ us. cut_off (count (tree.every_of us))) (trees_seen ts)

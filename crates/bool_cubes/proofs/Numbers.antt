@@ -1,0 +1,179 @@
+-- Codes as numbers of unknowns.
+use Rattle.std.proofs.Common.{◌≡◌, refl, sym, ap, ◌∙◌, subst, ℕ, suc, ◌+◌, ◌<◌, ◌≤◌, ℤ, pos, Bool, true, false, List, [], ◌∷◌, ◌++◌, map, length, drop, get_or, drop-cons, length-append, append_assoc, nat_eq, arith, ⊎_elim, ◌⊎◌, inl, inr}
+use Rattle.std.specs.Prelude.{if◌then◌else◌}
+use Rattle.std.specs.Cmp.Lexicographic.{pointwise}
+use Rattle.std.specs.Ordering.{int_eq}
+use Rattle.std.proofs.lemmas.Bool.{cases_lt}
+use Rattle.std.proofs.lemmas.Bool.Decides.{Decides-int_eq, Decides-eqb}
+use Rattle.std.proofs.lemmas.List.{drop_all}
+use Rattle.bool_cubes.specs.Alike.{and_parts, both_true, code_is, code_self}
+use Rattle.bool_cubes.specs.Codes.{Code, signed, word, pair, same_code}
+use Rattle.bool_cubes.specs.Flats.{flat}
+use Rattle.bool_cubes.specs.Linear.{Unknown, unknown_code, same_unknown}
+use Rattle.bool_cubes.specs.Numbered.{AreNumbered, HasNumber, IsMore, place_in, place_of}
+
+abbrev same_list : List ℤ → List ℤ → Bool
+same_list = pointwise int_eq
+
+list_self : (v : List ℤ) → same_list v v ≡ true
+list_self [] = refl
+list_self (n ∷ v) = both_true (int_eq n n) (same_list v v) ((Decides-int_eq n n).1 refl) (list_self v)
+
+list_is : (v w : List ℤ) → same_list v w ≡ true → v ≡ w
+list_is [] [] h = refl
+list_is [] (n ∷ w) h = absurd (cc)
+list_is (m ∷ v) [] h = absurd (cc)
+list_is (m ∷ v) (n ∷ w) h = let k = and_parts (int_eq m n) (same_list v w) h in λ i. (Decides-int_eq m n).0 k.0 i ∷ list_is v w k.1 i
+
+-- the list of a code is its alone
+head_is : (m n : ℤ) (v w : List ℤ) → m ∷ v ≡ n ∷ w → (m ≡ n) × (v ≡ w)
+head_is m n v w e = (cc, cc)
+
+apart_int : (m n : ℤ) → int_eq m n ≡ false → m ≡ n → ⊥
+apart_int m n f e = let t = (Decides-int_eq m n).1 e in cc
+
+text_cancel : (v w : List ℕ) (x y : List ℤ) → length v ≡ length w → map pos v ++ x ≡ map pos w ++ y → (v ≡ w) × (x ≡ y)
+text_cancel [] [] x y l e = (refl, e)
+text_cancel [] (d ∷ w) x y l e = absurd (omega arith)
+text_cancel (c ∷ v) [] x y l e = absurd (omega arith)
+text_cancel (c ∷ v) (d ∷ w) x y l e =
+    let h = head_is (pos c) (pos d) (map pos v ++ x) (map pos w ++ y) e in
+    let c_is : c ≡ d = let k = h.0 in cc in
+    let r = text_cancel v w x y (omega arith) h.1 in (λ i. c_is i ∷ r.0 i, r.1)
+
+flat_cancel : (a b : Code) (x y : List ℤ) → flat a ++ x ≡ flat b ++ y → (a ≡ b) × (x ≡ y)
+flat_cancel (signed m) (signed n) x y e =
+    let h = head_is (pos 0) (pos 0) (m ∷ x) (n ∷ y) e in
+    let k = head_is m n x y h.1 in (ap signed k.0, k.1)
+flat_cancel (word v) (word w) x y e =
+    let h = head_is (pos 1) (pos 1) (pos (length v) ∷ (map pos v ++ x)) (pos (length w) ∷ (map pos w ++ y)) e in
+    let k = head_is (pos (length v)) (pos (length w)) (map pos v ++ x) (map pos w ++ y) h.1 in
+    let l : length v ≡ length w = let z = k.0 in cc in
+    let r = text_cancel v w x y l k.1 in (ap word r.0, r.1)
+flat_cancel (pair a b) (pair c d) x y e =
+    let h = head_is (pos 2) (pos 2) ((flat a ++ flat b) ++ x) ((flat c ++ flat d) ++ y) e in
+    let k = flat_cancel a c (flat b ++ x) (flat d ++ y) (sym (append_assoc (flat a) (flat b) x) ∙ h.1 ∙ append_assoc (flat c) (flat d) y) in
+    let r = flat_cancel b d x y k.1 in (λ i. pair (k.0 i) (r.0 i), r.1)
+flat_cancel (signed m) (word w) x y e = absurd (apart_int (pos 0) (pos 1) refl (head_is (pos 0) (pos 1) _ _ e).0)
+flat_cancel (signed m) (pair c d) x y e = absurd (apart_int (pos 0) (pos 2) refl (head_is (pos 0) (pos 2) _ _ e).0)
+flat_cancel (word v) (signed n) x y e = absurd (apart_int (pos 1) (pos 0) refl (head_is (pos 1) (pos 0) _ _ e).0)
+flat_cancel (word v) (pair c d) x y e = absurd (apart_int (pos 1) (pos 2) refl (head_is (pos 1) (pos 2) _ _ e).0)
+flat_cancel (pair a b) (signed n) x y e = absurd (apart_int (pos 2) (pos 0) refl (head_is (pos 2) (pos 0) _ _ e).0)
+flat_cancel (pair a b) (word w) x y e = absurd (apart_int (pos 2) (pos 1) refl (head_is (pos 2) (pos 1) _ _ e).0)
+
+flat_is : (a b : Code) → flat a ≡ flat b → a ≡ b
+flat_is a b e = (flat_cancel a b [] [] (ap (λ x. x ++ []) e)).0
+
+-- places
+place_head : (v c : List ℤ) (vs : List (List ℤ)) (b : Bool) → same_list v c ≡ b → place_of (v ∷ vs) c ≡ (if b then 0 else suc (place_of vs c))
+place_head v c vs b e = ap (λ t. if t then 0 else suc (place_of vs c)) e
+
+within_by : (v c : List ℤ) (vs : List (List ℤ)) → place_of vs c ≤ length vs → (b : Bool) → same_list v c ≡ b → place_of (v ∷ vs) c ≤ length (v ∷ vs)
+within_by v c vs r true e = omega (arith, place_head v c vs true e)
+within_by v c vs r false e = omega (arith, place_head v c vs false e)
+
+place_within : (vs : List (List ℤ)) (c : List ℤ) → place_of vs c ≤ length vs
+place_within [] c = omega arith
+place_within (v ∷ vs) c = within_by v c vs (place_within vs c) (same_list v c) refl
+
+-- the code at a place is the one whose place it is
+got_by : (v c d : List ℤ) (vs : List (List ℤ)) → (place_of vs c < length vs → get_or vs (place_of vs c) d ≡ c) → place_of (v ∷ vs) c < length (v ∷ vs) → (b : Bool) → same_list v c ≡ b → get_or (v ∷ vs) (place_of (v ∷ vs) c) d ≡ c
+got_by v c d vs r l true e = ap (λ k. get_or (v ∷ vs) k d) (place_head v c vs true e) ∙ list_is v c e
+got_by v c d vs r l false e = let h = place_head v c vs false e in ap (λ k. get_or (v ∷ vs) k d) h ∙ r (omega arith)
+
+place_got : (vs : List (List ℤ)) (c d : List ℤ) → place_of vs c < length vs → get_or vs (place_of vs c) d ≡ c
+place_got [] c d l = absurd (omega arith)
+place_got (v ∷ vs) c d l = got_by v c d vs (λ m. place_got vs c d m) l (same_list v c) refl
+
+left_by : (v c : List ℤ) (vs ws : List (List ℤ)) → (place_of vs c < length vs → place_of (vs ++ ws) c ≡ place_of vs c) → place_of (v ∷ vs) c < length (v ∷ vs) → (b : Bool) → same_list v c ≡ b → place_of (v ∷ (vs ++ ws)) c ≡ place_of (v ∷ vs) c
+left_by v c vs ws r l true e = place_head v c (vs ++ ws) true e ∙ sym (place_head v c vs true e)
+left_by v c vs ws r l false e = let h = place_head v c vs false e in place_head v c (vs ++ ws) false e ∙ ap suc (r (omega arith)) ∙ sym h
+
+place_left : (vs ws : List (List ℤ)) (c : List ℤ) → place_of vs c < length vs → place_of (vs ++ ws) c ≡ place_of vs c
+place_left [] ws c l = absurd (omega arith)
+place_left (v ∷ vs) ws c l = left_by v c vs ws (λ m. place_left vs ws c m) l (same_list v c) refl
+
+past_by : (v c : List ℤ) (vs ws : List (List ℤ)) → (place_of vs c ≡ length vs → place_of (vs ++ ws) c ≡ length vs + place_of ws c) → place_of (v ∷ vs) c ≡ length (v ∷ vs) → (b : Bool) → same_list v c ≡ b → place_of (v ∷ (vs ++ ws)) c ≡ length (v ∷ vs) + place_of ws c
+past_by v c vs ws r l true e = absurd (let h = place_head v c vs true e in omega arith)
+past_by v c vs ws r l false e = let h = place_head v c vs false e in place_head v c (vs ++ ws) false e ∙ ap suc (r (omega arith)) ∙ omega arith
+
+place_past : (vs ws : List (List ℤ)) (c : List ℤ) → place_of vs c ≡ length vs → place_of (vs ++ ws) c ≡ length vs + place_of ws c
+place_past [] ws c e = omega arith
+place_past (v ∷ vs) ws c l = past_by v c vs ws (λ m. place_past vs ws c m) l (same_list v c) refl
+
+-- a code is looked for from the front
+pub place_here : (vs : List (List ℤ)) (i : ℕ) (v c : List ℤ) → i < length vs → v ≡ get_or vs i v → pointwise int_eq v c ≡ true → place_of vs c ≡ i + place_of (drop i vs) c → i ≡ place_of vs c
+place_here vs i v c l e t h =
+    let front : drop i vs ≡ v ∷ drop (suc i) vs = drop-cons vs i v l ∙ (λ j. sym e j ∷ drop (suc i) vs) in
+    let here : place_of (drop i vs) c ≡ 0 = ap (λ x. place_of x c) front ∙ place_head v c (drop (suc i) vs) true t in
+    omega arith
+
+pub place_later : (vs : List (List ℤ)) (i : ℕ) (v c : List ℤ) → i < length vs → v ≡ get_or vs i v → pointwise int_eq v c ≡ false → place_of vs c ≡ i + place_of (drop i vs) c → place_of vs c ≡ (i + 1) + place_of (drop (i + 1) vs) c
+place_later vs i v c l e t h =
+    let front : drop i vs ≡ v ∷ drop (suc i) vs = drop-cons vs i v l ∙ (λ j. sym e j ∷ drop (suc i) vs) in
+    let here : place_of (drop i vs) c ≡ suc (place_of (drop (suc i) vs) c) = ap (λ x. place_of x c) front ∙ place_head v c (drop (suc i) vs) false t in
+    let next : suc i ≡ i + 1 = omega arith in
+    let there : place_of (drop (suc i) vs) c ≡ place_of (drop (i + 1) vs) c = ap (λ n. place_of (drop n vs) c) next in
+    omega arith
+
+pub place_nowhere : (vs : List (List ℤ)) (i : ℕ) (c : List ℤ) → i ≡ length vs → place_of vs c ≡ i + place_of (drop i vs) c → length vs ≡ place_of vs c
+place_nowhere vs i c l h =
+    let none : place_of (drop i vs) c ≡ 0 = ap (λ x. place_of x c) (drop_all i vs (omega arith)) in
+    omega arith
+
+-- an unknown that is there, and one that is put behind the others
+more_none : (us : List (List ℤ)) → AreNumbered us → IsMore us us
+more_none us n = record { behind = []; whole = sym (append_nil us); numbered = n }
+  where
+    append_nil : (xs : List (List ℤ)) → xs ++ [] ≡ xs
+    append_nil [] = refl
+    append_nil (x ∷ xs) = ap (λ ys. x ∷ ys) (append_nil xs)
+
+pub found : (us : List (List ℤ)) (c : List ℤ) (u : Unknown) (i k : ℕ) → AreNumbered us → c ≡ flat (unknown_code u) → i ≡ place_of us c → i < length us → k ≡ i → HasNumber us us u k
+found us c u i k n e p h q = record { more = more_none us n; within = omega arith; place = ap (place_of us) (sym e) ∙ sym p ∙ sym q }
+
+pub put_behind : (us vs : List (List ℤ)) (c : List ℤ) (u : Unknown) (i k : ℕ) → AreNumbered us → c ≡ flat (unknown_code u) → i ≡ place_of us c → length us ≤ i → k ≡ i → vs ≡ us ++ c ∷ [] → HasNumber us vs u k
+put_behind us vs c u i k n e p g q v =
+    let w = place_within us c in
+    let h : i ≡ length us = omega arith in
+    let behind : place_of (us ++ c ∷ []) c ≡ length us = place_past us (c ∷ []) c (sym p ∙ h) ∙ ap (λ x. length us + x) (place_head c c [] true (list_self c)) ∙ omega arith in
+    let each : AreNumbered (us ++ c ∷ []) = record { each = λ j l. ⊎_elim (λ a. let r = n.each j a in (r.0, place_left us (c ∷ []) (flat (unknown_code r.0)) (omega (arith, r.1)) ∙ r.1)) (λ a. (u, ap (place_of (us ++ c ∷ [])) (sym e) ∙ behind ∙ omega (arith, length-append us (c ∷ [])))) (cases_lt j (length us)) } in
+    subst (λ z. HasNumber us z u k) (sym v) (record {
+      more = record { behind = c ∷ []; whole = refl; numbered = each };
+      within = omega (arith, length-append us (c ∷ []));
+      place = ap (place_of (us ++ c ∷ [])) (sym e) ∙ behind ∙ sym h ∙ sym q;
+    })
+
+-- two unknowns are the same exactly where their places are
+pub same_places : (us : List (List ℤ)) (u v : Unknown) (k : ℕ) → place_in us u ≡ k → k < length us → same_unknown u v ≡ nat_eq k (place_in us v)
+same_places us u v k p l = by_test (same_unknown u v) refl
+  where
+    cu : List ℤ
+    cu = flat (unknown_code u)
+
+    by_test : (b : Bool) → same_unknown u v ≡ b → same_unknown u v ≡ nat_eq k (place_in us v)
+    by_test true e =
+        let one = code_is (unknown_code u) (unknown_code v) e in
+        e ∙ sym ((Decides-eqb k (place_in us v)).1 (sym p ∙ ap (λ c. place_of us (flat c)) one))
+    by_test false e = e ∙ sym (unequal (nat_eq k (place_in us v)) refl)
+      where
+        unequal : (b : Bool) → nat_eq k (place_in us v) ≡ b → b ≡ false
+        unequal false q = refl
+        unequal true q =
+            let w : k ≡ place_in us v = (Decides-eqb k (place_in us v)).0 q in
+            let first = place_got us (flat (unknown_code u)) [] (omega arith) in
+            let second = place_got us (flat (unknown_code v)) [] (omega arith) in
+            let lists : flat (unknown_code u) ≡ flat (unknown_code v) = sym first ∙ ap (λ j. get_or us j []) (p ∙ w) ∙ second in
+            let codes = flat_is (unknown_code u) (unknown_code v) lists in
+            let t = subst (λ c. same_code (unknown_code u) c ≡ true) codes (code_self (unknown_code u)) in
+            absurd (cc)
+
+-- what was known of unknowns goes on where others are put behind them
+pub more_trans : (a b c : List (List ℤ)) → IsMore a b → IsMore b c → IsMore a c
+more_trans a b c p q = record { behind = p.behind ++ q.behind; whole = q.whole ∙ ap (λ x. x ++ q.behind) p.whole ∙ append_assoc a p.behind q.behind; numbered = q.numbered }
+
+pub place_more : (us ws : List (List ℤ)) (c : List ℤ) → (place_of (us ++ ws) c ≡ place_of us c) × (place_of us c < length us) ⊎ (length us ≤ place_of us c) × (length us ≤ place_of (us ++ ws) c)
+place_more us ws c = ⊎_elim (λ l. inl (place_left us ws c l, l)) (λ l. let w = place_within us c in let e : place_of us c ≡ length us = omega arith in inr (omega arith, omega (arith, place_past us ws c e))) (cases_lt (place_of us c) (length us))
+
+pub none_numbered : (us : List (List ℤ)) → us ≡ [] → AreNumbered us
+none_numbered us e = subst AreNumbered (sym e) (record { each = λ k l. absurd (omega arith) })

@@ -1,0 +1,19 @@
+use Rattle.std.proofs.Common.{ap, append_assoc, arith, get_or, sym, ◌++◌, ◌∙◌, ◌%◌}
+use Rattle.bool_cubes.specs.Nodes.{tree_at}
+use Rattle.bool_cubes.specs.Picking.{cube_at}
+use Rattle.bool_cubes.proofs.Gathered.{both_parts}
+use Rattle.bool_cubes.proofs.cubes.+gather.Goals as goal
+
+pub gather-requires : goal.gather-requires
+gather-requires t c =
+    let parts = both_parts c.args.nodes.now c.loop-at.at (get_or c.args.nodes.now c.loop-at.at c.index-nodes-at.result) c.loop-at.left c.in-Both.first c.in-Both.second c.requires.plan c.loop-at.invariant.number (ap (get_or c.args.nodes.now c.loop-at.at) c.index-nodes-at.is) (get_or c.args.nodes.now c.in-Both.second c.index-nodes-second.result) c.in-Both.is (ap (get_or c.args.nodes.now c.in-Both.second) c.index-nodes-second.is) in
+    (omega arith, (c.requires.plan, (parts.first.within, (parts.first.below, parts.first.most))))
+
+pub loop-at-preserved-in-Both : goal.loop-at-preserved-in-Both
+loop-at-preserved-in-Both t c =
+    let parts = both_parts c.args.nodes.now c.loop-at.at (get_or c.args.nodes.now c.loop-at.at c.index-nodes-at.result) c.loop-at.left c.in-Both.first c.in-Both.second c.requires.plan c.loop-at.invariant.number (ap (get_or c.args.nodes.now c.loop-at.at) c.index-nodes-at.is) (get_or c.args.nodes.now c.in-Both.second c.index-nodes-second.result) c.in-Both.is (ap (get_or c.args.nodes.now c.in-Both.second) c.index-nodes-second.is) in
+    record {
+      below = omega arith;
+      number = parts.second;
+      whole = ap (λ x. x ++ cube_at (tree_at c.args.nodes.now c.in-Both.second) (c.loop-at.left % (get_or c.args.nodes.now c.in-Both.second c.index-nodes-second.result).cubes)) c.in_ok-gather-in-Both.ensures ∙ append_assoc c.loop-at.literals _ _ ∙ ap (λ x. c.loop-at.literals ++ x) (sym parts.whole) ∙ c.loop-at.invariant.whole;
+    }

@@ -1,0 +1,171 @@
+ghost use Rattle.std.specs.Prelude.{◌≡◌, ◌∷◌, [], ◌++◌, ◌<◌, ◌≤◌, IfOk, OnOk, OnErr, MatchOption, drop, length};
+ghost use Rattle.std.specs.List.{AllByRecursion};
+ghost use Rattle.bool_cubes.specs.Cubes.{count, cubes_of};
+ghost use Rattle.bool_cubes.specs.Laws.{IsSorted};
+ghost use Rattle.bool_cubes.specs.Nodes.{IsPlan, tree_at};
+ghost use Rattle.bool_cubes.specs.Picking.{cube_at};
+ghost use Rattle.bool_cubes.specs.Refusing.{IsRefusedExactly, most_cubes};
+
+use crate::counts::count_terms;
+use crate::fault::CubeFault;
+use crate::literal::{Cube, Literal};
+use crate::node::{Node, NodeKind};
+use crate::past;
+use crate::plan::Plan;
+use crate::planning::all_sides;
+use std::alloc::{AllocError, Global};
+use std::marker::Model;
+use sv_list::{Copied, Items};
+use sv_terms::{MOST_CUBES, Term};
+
+/// The cubes of assertions that are still to be given, one after another.
+///
+/// Contracts see the list of these cubes. It keeps the trees of the assertions, each part once, and how
+/// many cubes were given, and never the cubes themselves.
+#[derive(Drop)]
+pub struct Cubes {
+    nodes: Items<Node>,
+    root: usize,
+    count: u64,
+    given: u64,
+}
+
+impl Model for Cubes {
+    ghost use Rattle.std.specs.Prelude.{List, drop, map};
+    ghost use Rattle.std.specs.Coded.{codes};
+    ghost use Rattle.sv_terms.specs.contracts.regex.Regex as regex;
+    ghost use Rattle.sv_terms.specs.contracts.term.Term as term;
+    ghost use Rattle.bool_cubes.specs.declared.literal.Cube.{Cube as AnyCube};
+    ghost use Rattle.bool_cubes.specs.Cubes.{cube, cubes};
+    ghost use Rattle.bool_cubes.specs.Given.{IsGiving};
+    ghost use Rattle.bool_cubes.specs.Nodes.{tree_at};
+
+    ghost Value = { List AnyCube };
+
+    ghost coded = { Prim.hlevel (codes, regex.the_row.coded, term.the_row.coded) };
+
+    ghost view = { λ c. drop c.given (map cube (cubes (tree_at c.nodes c.root))) };
+
+    ghost invariant = { λ c. IsGiving c.nodes c.root c.count c.given };
+}
+
+impl Cubes {
+    /// The cubes of assertions without opaque parts, each of sort Bool. Takes time and memory linear in the
+    /// terms, but for `distinct`, which has a part for each pair.
+    pub fn new(alloc: Global, terms: &[Term]) -> Result<Cubes, CubeFault>
+        requires { AllByRecursion IsSorted terms.now }
+        ensures cubes { IfOk result (λ c. c ≡ cubes_of terms.now) }
+        ensures refused { IsRefusedExactly terms.now result }
+    {
+        Cubes::of(alloc, terms)
+    }
+
+    /// The same of any terms.
+    pub(crate) fn of(alloc: Global, terms: &[Term]) -> Result<Cubes, CubeFault>
+        ensures cubes { IfOk result (λ c. c ≡ cubes_of terms.now) }
+        ensures refused { IsRefusedExactly terms.now result }
+    {
+        let mut plan = Plan {
+            nodes: Items::new(alloc),
+        };
+        let sides = match all_sides(&mut plan, alloc, terms) {
+            Ok(sides) => sides,
+            Err(error) => return Err(CubeFault::Memory(error)),
+        };
+        match past::tree(alloc, plan.nodes.as_slice(), sides.holding) {
+            Ok(()) => {}
+            Err(fault) => return Err(fault),
+        }
+        let cubes = count_terms(terms);
+        if cubes > MOST_CUBES {
+            return Err(CubeFault::TooMany(cubes));
+        }
+        Ok(Cubes {
+            nodes: plan.nodes,
+            root: sides.holding,
+            count: cubes,
+            given: 0,
+        })
+    }
+
+    /// The next cube, in their order; `None` exactly where all were given. Costs the literals of the cube
+    /// and the depth of the tree.
+    pub fn next(&mut self, alloc: Global) -> Result<Option<Cube>, AllocError>
+        ensures next { IfOk result (λ o. MatchOption o ((self.old ≡ []) × (self.new ≡ [])) (λ c. self.old ≡ c ∷ self.new)) }
+        ensures err { OnErr result (self.new ≡ self.old) }
+    {
+        if self.given >= self.count {
+            return Ok(None);
+        }
+        let literals = pick(alloc, self.nodes.as_slice(), self.root, self.given)?;
+        self.given += 1;
+        Ok(Some(Cube { literals }))
+    }
+
+    /// Leaves the next cubes out, so many or all. Takes no memory.
+    #[tactic(auto, using(crate::proofs::Gathered::skipped))]
+    pub fn skip(&mut self, cubes: u64)
+        ensures { self.new ≡ drop cubes self.old }
+    {
+        self.given += cubes.min(self.count - self.given);
+    }
+}
+
+/// The literals of the cube of this number of a node's tree.
+fn pick(
+    alloc: Global,
+    nodes: &[Node],
+    root: usize,
+    number: u64,
+) -> Result<Items<Literal>, AllocError>
+    requires plan { IsPlan nodes.now }
+    requires root { root < length nodes.now }
+    requires number { number < count (tree_at nodes.now root) }
+    requires most { count (tree_at nodes.now root) ≤ most_cubes }
+    ensures { IfOk result (λ ls. ls ≡ cube_at (tree_at nodes.now root) number) }
+{
+    let mut literals = Items::new(alloc);
+    gather(alloc, nodes, root, number, &mut literals)?;
+    Ok(literals)
+}
+
+/// Appends the literals of a cube. Of a node of both trees the number is cut into one for each, of a node of
+/// either it tells which.
+fn gather(
+    alloc: Global,
+    nodes: &[Node],
+    root: usize,
+    number: u64,
+    literals: &mut Items<Literal>,
+) -> Result<(), AllocError>
+    requires plan { IsPlan nodes.now }
+    requires root { root < length nodes.now }
+    requires number { number < count (tree_at nodes.now root) }
+    requires most { count (tree_at nodes.now root) ≤ most_cubes }
+    ensures { OnOk result (literals.new ≡ literals.old ++ cube_at (tree_at nodes.now root) number) }
+{
+    let mut at = root;
+    let mut left = number;
+    loop {
+        match &nodes[at].kind {
+            NodeKind::Always => return Ok(()),
+            NodeKind::Never => return Ok(()),
+            NodeKind::One(literal) => return literals.push(literal.copy(alloc)?),
+            NodeKind::Both(first, second) => {
+                let cubes = nodes[*second].cubes;
+                gather(alloc, nodes, *first, left / cubes, literals)?;
+                left %= cubes;
+                at = *second;
+            }
+            NodeKind::Either(first, second) => {
+                let cubes = nodes[*first].cubes;
+                if left < cubes {
+                    at = *first;
+                } else {
+                    left -= cubes;
+                    at = *second;
+                }
+            }
+        }
+    }
+}

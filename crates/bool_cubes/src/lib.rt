@@ -1,0 +1,41 @@
+//! The boolean structure of assertions: cubes of literals.
+//!
+//! Assertions are literals joined by and and or, negation carried inward; a cube is one choice of
+//! literals that together make all assertions true. The central fact: values make the assertions true
+//! exactly where they make some cube true. The cubes come one after another, in a fixed order, and a
+//! cube is made from its number alone, so none is kept.
+//!
+//! What leaves 128 bits in the linear form of an atom is found before the first cube is given.
+//!
+//! Costs: `count` goes over the terms once and takes no memory. `Cubes::new` takes time and memory
+//! linear in the terms, but for `distinct`, which has a part for each pair of its arguments, and for the
+//! forms, which are added up from the left. A cube costs its own literals and the depth of the tree.
+//!
+//! ```text
+//! let mut cubes = Cubes::new(alloc, terms)?;     // (or p q), (or r s)
+//! cubes.next(alloc)?;                            // p and r, then p and s, q and r, q and s
+//! ```
+#![tactic(auto)]
+
+mod code;
+mod counts;
+mod cubes;
+mod fault;
+mod forms;
+mod laws;
+mod literal;
+mod node;
+mod past;
+mod plan;
+mod planning;
+mod reading;
+mod term_form;
+#[cfg(test)]
+mod tests;
+mod unknowns;
+
+pub use counts::count;
+pub use cubes::Cubes;
+pub use fault::CubeFault;
+pub use laws::{cubes_counted, cubes_exact, cubes_picked, literals_fit, literals_valued};
+pub use literal::{Cube, Literal};

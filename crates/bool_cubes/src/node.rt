@@ -1,0 +1,40 @@
+use crate::literal::Literal;
+
+/// How a node's tree is made of those of earlier nodes, which are named by their places.
+#[derive(Debug, Drop)]
+pub enum NodeKind {
+    Always,
+    Never,
+    One(Literal),
+    Both(usize, usize),
+    Either(usize, usize),
+}
+
+/// A node, with the number of its tree's cubes, 2^64 - 1 where they are more.
+#[derive(Debug, Drop)]
+pub struct Node {
+    pub kind: NodeKind,
+    pub cubes: u64,
+}
+
+/// The nodes of a formula and of its negation.
+#[derive(Clone, Copy, Debug)]
+pub struct Sides {
+    pub holding: usize,
+    pub failing: usize,
+}
+
+impl Sides {
+    ghost use Rattle.std.specs.Prelude.{◌≡◌};
+
+    /// The sides of the negation.
+    pub fn turned(self) -> Sides
+        ensures holding { result.holding ≡ self.failing }
+        ensures failing { result.failing ≡ self.holding }
+    {
+        Sides {
+            holding: self.failing,
+            failing: self.holding,
+        }
+    }
+}

@@ -1,0 +1,300 @@
+//! The nodes of terms.
+ghost use Rattle.std.specs.Prelude.{◌≡◌, ℕ, ◌<◌, IfOk, IsTrue, List, ◌+◌, ◌++◌, drop, false, length, slice_index_or};
+ghost use Rattle.sv_terms.specs.declared.op.Op.TheVariants as op;
+ghost use Rattle.sv_terms.specs.declared.sort.Sort.TheVariants as sort;
+ghost use Rattle.sv_terms.specs.declared.term.Term.{Term as AnyTerm};
+ghost use Rattle.bool_cubes.specs.Counting.{first_pairs, formulas_of, part_of, parts_of};
+ghost use Rattle.bool_cubes.specs.Nodes.{AreOf, IsLonger, IsPlan, IsPlanned, Stands};
+ghost use Rattle.bool_cubes.specs.Planned.{AreBooleanSides, HasSide};
+ghost use Rattle.bool_cubes.specs.Shapes.{head_sort, seen};
+ghost use Rattle.bool_cubes.specs.Trees.{Formula, applied, chain, conjunction, disjunction, equal, exclusive, formula, implied, negated, neighbours, pairs};
+
+use crate::counts::head_sort;
+use crate::node::Sides;
+use crate::plan::Plan;
+use std::alloc::{AllocError, Global};
+use sv_list::Items;
+use sv_terms::{Op, Sort, Term};
+
+/// The nodes of a term and of its negation.
+#[cycle(planning)]
+#[tactic(auto, using(crate::proofs::Steps::formula_truth, crate::proofs::Steps::formula_apply, crate::proofs::Steps::formula_other, crate::proofs::Steps::planned_as))]
+pub fn term_sides(plan: &mut Plan, alloc: Global, term: &Term) -> Result<Sides, AllocError>
+    requires { IsPlan plan.old.nodes }
+    ensures { IfOk result (λ s. IsPlanned plan.old.nodes plan.new.nodes s (formula (seen term.now))) }
+{
+    match term {
+        Term::Truth(b) => Ok(plan.settle(*b)?),
+        Term::Apply(op, terms) => Ok(applied_sides(plan, alloc, *op, terms.as_slice(), term)?),
+        _ => Ok(plan.atom(alloc, term.copy(alloc)?)?),
+    }
+}
+
+/// The nodes of a function at these arguments, which are those of `term`.
+#[cycle(planning)]
+#[tactic(auto, using(crate::proofs::Steps::and_applied, crate::proofs::Steps::or_applied, crate::proofs::Steps::xor_applied, crate::proofs::Steps::implies_applied))]
+fn applied_sides(
+    plan: &mut Plan,
+    alloc: Global,
+    op: Op,
+    terms: &[Term],
+    term: &Term,
+) -> Result<Sides, AllocError>
+    requires { IsPlan plan.old.nodes }
+    ensures { IfOk result (λ s. IsPlanned plan.old.nodes plan.new.nodes s (applied op (parts_of terms.now) term.now)) }
+{
+    match op {
+        Op::Not => Ok(opposite_sides(plan, alloc, terms, term)?),
+        Op::And => Ok(all_sides(plan, alloc, terms)?),
+        Op::Or => Ok(any_sides(plan, alloc, terms)?),
+        Op::Xor => Ok(exclusive_sides(plan, alloc, terms)?),
+        Op::Implies => Ok(implied_sides(plan, alloc, terms)?),
+        Op::Equal => Ok(equal_sides(plan, alloc, terms)?),
+        Op::Distinct => Ok(distinct_sides(plan, alloc, terms)?),
+        Op::IfThenElse => Ok(choice_sides(plan, alloc, terms, term)?),
+        Op::LessEqual | Op::Less | Op::GreaterEqual | Op::Greater => {
+            Ok(chain_sides(plan, alloc, op, terms)?)
+        }
+        Op::Add
+        | Op::Subtract
+        | Op::Multiply
+        | Op::Length
+        | Op::Concat
+        | Op::Replace
+        | Op::ReplaceAll
+        | Op::PrefixOf
+        | Op::SuffixOf
+        | Op::Contains
+        | Op::IsDigit => Ok(plan.atom(alloc, term.copy(alloc)?)?),
+    }
+}
+
+#[cycle(planning)]
+#[tactic(auto, using(crate::proofs::Steps::not_one, crate::proofs::Steps::not_other))]
+fn opposite_sides(
+    plan: &mut Plan,
+    alloc: Global,
+    terms: &[Term],
+    term: &Term,
+) -> Result<Sides, AllocError>
+    requires { IsPlan plan.old.nodes }
+    ensures { IfOk result (λ s. IsPlanned plan.old.nodes plan.new.nodes s (applied op.Not (parts_of terms.now) term.now)) }
+{
+    if terms.len() == 1 {
+        Ok(term_sides(plan, alloc, &terms[0])?.turned())
+    } else {
+        Ok(plan.atom(alloc, term.copy(alloc)?)?)
+    }
+}
+
+#[cycle(planning)]
+#[tactic(auto, using(crate::proofs::Steps::choice_three, crate::proofs::Steps::choice_other, crate::proofs::Plans::stands_of, crate::proofs::Plans::stands_longer))]
+fn choice_sides(
+    plan: &mut Plan,
+    alloc: Global,
+    terms: &[Term],
+    term: &Term,
+) -> Result<Sides, AllocError>
+    requires { IsPlan plan.old.nodes }
+    ensures { IfOk result (λ s. IsPlanned plan.old.nodes plan.new.nodes s (applied op.IfThenElse (parts_of terms.now) term.now)) }
+{
+    if terms.len() == 3 {
+        let test = term_sides(plan, alloc, &terms[0])?;
+        let first = term_sides(plan, alloc, &terms[1])?;
+        let second = term_sides(plan, alloc, &terms[2])?;
+        Ok(plan.choice(test, first, second)?)
+    } else {
+        Ok(plan.atom(alloc, term.copy(alloc)?)?)
+    }
+}
+
+/// The nodes of the and of terms.
+#[cycle(planning)]
+#[tactic(auto, using(crate::proofs::Steps::all_none, crate::proofs::Steps::all_step, crate::proofs::Plans::stands_of, crate::proofs::Plans::stands_longer, crate::proofs::Plans::plan_of))]
+pub fn all_sides(plan: &mut Plan, alloc: Global, terms: &[Term]) -> Result<Sides, AllocError>
+    requires { IsPlan plan.old.nodes }
+    ensures { IfOk result (λ s. IsPlanned plan.old.nodes plan.new.nodes s (conjunction (formulas_of terms.now))) }
+{
+    let mut all = plan.settle(true)?;
+    for i in (0..terms.len()).rev() {
+        let next = term_sides(plan, alloc, &terms[i])?;
+        all = plan.and(next, all)?;
+    }
+    Ok(all)
+}
+
+#[cycle(planning)]
+#[tactic(auto, using(crate::proofs::Steps::any_none, crate::proofs::Steps::any_step, crate::proofs::Plans::stands_of, crate::proofs::Plans::stands_longer, crate::proofs::Plans::plan_of))]
+fn any_sides(plan: &mut Plan, alloc: Global, terms: &[Term]) -> Result<Sides, AllocError>
+    requires { IsPlan plan.old.nodes }
+    ensures { IfOk result (λ s. IsPlanned plan.old.nodes plan.new.nodes s (disjunction (formulas_of terms.now))) }
+{
+    let mut any = plan.settle(false)?;
+    for i in (0..terms.len()).rev() {
+        let next = term_sides(plan, alloc, &terms[i])?;
+        any = plan.or(next, any)?;
+    }
+    Ok(any)
+}
+
+// From the left: `xor` is the negation of an agreement.
+#[cycle(planning)]
+#[tactic(auto, using(crate::proofs::Steps::exclusive_none, crate::proofs::Steps::exclusive_first, crate::proofs::Steps::exclusive_step, crate::proofs::Steps::exclusive_all, crate::proofs::Plans::stands_of, crate::proofs::Plans::stands_longer, crate::proofs::Plans::plan_of))]
+fn exclusive_sides(plan: &mut Plan, alloc: Global, terms: &[Term]) -> Result<Sides, AllocError>
+    requires { IsPlan plan.old.nodes }
+    ensures { IfOk result (λ s. IsPlanned plan.old.nodes plan.new.nodes s (exclusive (formulas_of terms.now))) }
+{
+    if terms.is_empty() {
+        return Ok(plan.settle(false)?);
+    }
+    let mut odd = term_sides(plan, alloc, &terms[0])?;
+    for i in 1..terms.len() {
+        let next = term_sides(plan, alloc, &terms[i])?;
+        odd = plan.agreement(odd, next)?.turned();
+    }
+    Ok(odd)
+}
+
+// From the right: the negation of one, or what the terms behind it give.
+#[cycle(planning)]
+#[tactic(auto, using(crate::proofs::Steps::implied_none, crate::proofs::Steps::implied_last_one, crate::proofs::Steps::implied_step, crate::proofs::Plans::stands_of, crate::proofs::Plans::stands_longer, crate::proofs::Plans::plan_of))]
+fn implied_sides(plan: &mut Plan, alloc: Global, terms: &[Term]) -> Result<Sides, AllocError>
+    requires { IsPlan plan.old.nodes }
+    ensures { IfOk result (λ s. IsPlanned plan.old.nodes plan.new.nodes s (implied (formulas_of terms.now))) }
+{
+    if terms.is_empty() {
+        return Ok(plan.settle(true)?);
+    }
+    let last = terms.len() - 1;
+    let mut any = term_sides(plan, alloc, &terms[last])?;
+    for i in (0..last).rev() {
+        let next = term_sides(plan, alloc, &terms[i])?;
+        any = plan.implication(next, any)?;
+    }
+    Ok(any)
+}
+
+/// Whether a term of sort Bool is among these.
+fn have_boolean(terms: &[Term]) -> bool
+    ensures { result ≡ false → (k : ℕ) (t : AnyTerm) → k < length terms.now → t ≡ slice_index_or terms.now k t → head_sort (seen t) ≡ sort.Bool → ⊥ }
+{
+    for i in 0..terms.len() {
+        if head_sort(&terms[i]) == Sort::Bool {
+            return true;
+        }
+    }
+    false
+}
+
+/// The nodes of all these terms where one has sort Bool, else none.
+#[cycle(planning)]
+#[tactic(auto, using(crate::proofs::Steps::sides_step, crate::proofs::Plans::longer_trans, crate::proofs::Plans::plan_of))]
+fn boolean_sides(plan: &mut Plan, alloc: Global, terms: &[Term]) -> Result<Items<Sides>, AllocError>
+    requires { IsPlan plan.old.nodes }
+    ensures longer { IfOk result (λ all. IsLonger plan.old.nodes plan.new.nodes) }
+    ensures sides { IfOk result (λ all. AreBooleanSides plan.new.nodes terms.now all) }
+{
+    let mut all = Items::new(alloc);
+    if !have_boolean(terms) {
+        return Ok(all);
+    }
+    for term in terms {
+        all.push(term_sides(plan, alloc, term)?)?;
+    }
+    Ok(all)
+}
+
+/// The nodes of the equality of two terms, whose own sides are at these places where the first has sort Bool.
+#[tactic(auto, using(crate::proofs::Steps::equal_boolean, crate::proofs::Steps::equal_whole, crate::proofs::Steps::equal_text, crate::proofs::Steps::equal_language, crate::proofs::Plans::stands_of))]
+fn pair_sides(
+    plan: &mut Plan,
+    alloc: Global,
+    left: &Term,
+    right: &Term,
+    sides: &[Sides],
+    i: usize,
+    j: usize,
+) -> Result<Sides, AllocError>
+    requires plan { IsPlan plan.old.nodes }
+    requires left { head_sort (seen left.now) ≡ sort.Bool → HasSide plan.old.nodes sides.now i left.now }
+    requires right { head_sort (seen left.now) ≡ sort.Bool → HasSide plan.old.nodes sides.now j right.now }
+    ensures { IfOk result (λ s. IsPlanned plan.old.nodes plan.new.nodes s (equal (part_of left.now) (part_of right.now))) }
+{
+    match head_sort(left) {
+        Sort::Bool => Ok(plan.agreement(sides[i], sides[j])?),
+        Sort::Int => Ok(plan.equal_numbers(alloc, left, right)?),
+        Sort::String | Sort::RegLan => Ok(plan.comparison(alloc, Op::Equal, left, right)?),
+    }
+}
+
+#[cycle(planning)]
+#[tactic(auto, using(crate::proofs::Steps::equal_none, crate::proofs::Steps::equal_step, crate::proofs::Steps::boolean_longer, crate::proofs::Steps::side_left, crate::proofs::Steps::side_right, crate::proofs::Plans::stands_of, crate::proofs::Plans::stands_longer, crate::proofs::Plans::plan_of))]
+fn equal_sides(plan: &mut Plan, alloc: Global, terms: &[Term]) -> Result<Sides, AllocError>
+    requires { IsPlan plan.old.nodes }
+    ensures { IfOk result (λ s. IsPlanned plan.old.nodes plan.new.nodes s (conjunction (neighbours equal (parts_of terms.now)))) }
+{
+    let known = boolean_sides(plan, alloc, terms)?;
+    let sides = known.as_slice();
+    let mut all = plan.settle(true)?;
+    for i in (1..terms.len()).rev() {
+        let (left, right) = (&terms[i - 1], &terms[i]);
+        let next = pair_sides(plan, alloc, left, right, sides, i - 1, i)?;
+        all = plan.and(next, all)?;
+    }
+    Ok(all)
+}
+
+#[cycle(planning)]
+#[tactic(auto, using(crate::proofs::Steps::pairs_none, crate::proofs::Steps::pairs_step, crate::proofs::Steps::boolean_longer, crate::proofs::Plans::stands_of, crate::proofs::Plans::stands_longer, crate::proofs::Plans::plan_of))]
+fn distinct_sides(plan: &mut Plan, alloc: Global, terms: &[Term]) -> Result<Sides, AllocError>
+    requires { IsPlan plan.old.nodes }
+    ensures { IfOk result (λ s. IsPlanned plan.old.nodes plan.new.nodes s (conjunction (pairs (λ p q. negated (equal p q)) (parts_of terms.now)))) }
+{
+    let known = boolean_sides(plan, alloc, terms)?;
+    let sides = known.as_slice();
+    let mut all = plan.settle(true)?;
+    for i in (0..terms.len()).rev() {
+        all = first_sides(plan, alloc, terms, sides, i, all)?;
+    }
+    Ok(all)
+}
+
+/// The nodes of the and of what is given and of this: the term at `i` differs from each behind it.
+#[tactic(auto, using(crate::proofs::Steps::pair_step, crate::proofs::Steps::boolean_longer, crate::proofs::Steps::side_left, crate::proofs::Steps::side_right, crate::proofs::Plans::stands_of, crate::proofs::Plans::stands_longer, crate::proofs::Plans::plan_of))]
+fn first_sides(
+    plan: &mut Plan,
+    alloc: Global,
+    terms: &[Term],
+    sides: &[Sides],
+    i: usize,
+    rest: Sides,
+) -> Result<Sides, AllocError>
+    requires plan { IsPlan plan.old.nodes }
+    requires sides { AreBooleanSides plan.old.nodes terms.now sides.now }
+    requires i { i < length terms.now }
+    requires rest { AreOf plan.old.nodes rest }
+    ensures longer { IfOk result (λ s. IsLonger plan.old.nodes plan.new.nodes) }
+    ensures formula { (t : AnyTerm) (fs : List Formula) → t ≡ slice_index_or terms.now i t → Stands plan.old.nodes rest (conjunction fs) → IfOk result (λ s. IsPlanned plan.old.nodes plan.new.nodes s (conjunction (first_pairs t (drop (i + 1) terms.now) ++ fs))) }
+{
+    let first = &terms[i];
+    let mut all = rest;
+    for j in (i + 1..terms.len()).rev() {
+        let next = pair_sides(plan, alloc, first, &terms[j], sides, i, j)?.turned();
+        all = plan.and(next, all)?;
+    }
+    Ok(all)
+}
+
+/// The nodes of the comparisons of neighbouring terms.
+#[tactic(auto, using(crate::proofs::Steps::chain_none, crate::proofs::Steps::chain_step, crate::proofs::Plans::stands_of, crate::proofs::Plans::stands_longer, crate::proofs::Plans::plan_of))]
+fn chain_sides(plan: &mut Plan, alloc: Global, op: Op, terms: &[Term]) -> Result<Sides, AllocError>
+    requires { IsPlan plan.old.nodes }
+    ensures { IfOk result (λ s. IsPlanned plan.old.nodes plan.new.nodes s (chain op (parts_of terms.now))) }
+{
+    let mut all = plan.settle(true)?;
+    for i in (1..terms.len()).rev() {
+        let next = plan.comparison(alloc, op, &terms[i - 1], &terms[i])?;
+        all = plan.and(next, all)?;
+    }
+    Ok(all)
+}
