@@ -1,5 +1,5 @@
 -- What evaluation tells is what is meant.
-use Rattle.std.proofs.Common.{◌≡◌, refl, sym, ap, ◌∙◌, subst, Bool, true, false, IsTrue, ◌↔◌, Option, Some, None, Result, Ok, Err, if◌then◌else◌, IsSome}
+use Rattle.std.proofs.Common.{◌≡◌, refl, sym, ap, ◌∙◌, subst, Bool, true, false, IsTrue, ◌↔◌, Option, Some, None, Ok, Err, if◌then◌else◌, IsSome}
 use Rattle.sv_terms.specs.Meaning.{Named, val}
 use Rattle.sv_terms.specs.Parts.{is_opaque}
 use Rattle.sv_terms.specs.Sorting.{is_valued, sort_of}
@@ -7,7 +7,6 @@ use Rattle.sv_terms.specs.declared.sort.Sort.{Sort}
 use Rattle.sv_terms.specs.declared.term.Term.{Term}
 use Rattle.sv_terms.specs.declared.value.Value.{Value}
 use Rattle.sv_terms.proofs.ValueSorts.{val-sort}
-use Rattle.term_eval.specs.declared.fault.EvalFault.{EvalFault}
 use Rattle.term_eval.specs.declared.fault.EvalFault.TheVariants.{Opaque}
 use Rattle.term_eval.specs.Evaluation.{evaluated, value_or_fault}
 use Rattle.term_eval.proofs.Evaluating.{Agrees, evaluated-agrees, meant}
