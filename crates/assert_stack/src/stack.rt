@@ -8,10 +8,7 @@ use crate::fault::{Below, StackFault};
 use crate::mark::Mark;
 use std::alloc::{AllocError, Global};
 use sv_list::Items;
-use sv_terms::{Entry, Name, Symbols, Term};
-
-// The most levels that there may be, the outermost one aside.
-const MOST_LEVELS: u64 = 65535;
+use sv_terms::{Entry, MOST_LEVELS, Name, Symbols, Term};
 
 /// The levels of a session, with their symbols and assertions.
 ///
@@ -29,6 +26,7 @@ impl std::marker::Model for Stack {
     ghost use Rattle.std.specs.Coded.{codes};
     ghost use Rattle.sv_terms.specs.contracts.regex.Regex as regex;
     ghost use Rattle.sv_terms.specs.contracts.term.Term as term;
+    ghost use Rattle.sv_terms.specs.declared.limits.TheConstants.{MOST_LEVELS};
     ghost use Rattle.assert_stack.specs.Levels.{Level};
     ghost use Rattle.assert_stack.specs.Marks.{levels_at, AreMarks};
 
@@ -38,7 +36,7 @@ impl std::marker::Model for Stack {
 
     ghost view = { λ s. levels_at (reverse s.marks) s.symbols s.live };
 
-    ghost invariant = { λ s. AreMarks (reverse s.marks) (length s.symbols) (length s.live) × (length s.marks ≤ 65535) };
+    ghost invariant = { λ s. AreMarks (reverse s.marks) (length s.symbols) (length s.live) × (length s.marks ≤ MOST_LEVELS) };
 }
 
 impl Stack {
@@ -70,7 +68,7 @@ impl Stack {
     /// The number of levels that were pushed and not popped, the outermost one aside.
     pub fn levels(&self) -> u32
         ensures count { result + 1 ≡ length self.now }
-        ensures most { result ≤ 65535 }
+        ensures most { result ≤ MOST_LEVELS }
     {
         self.marks.len() as u32
     }
@@ -82,7 +80,7 @@ impl Stack {
     /// `Full` with the number of levels that there would be, where it is above 65,535.
     pub fn push(&mut self, n: u32) -> Result<(), StackFault>
         ensures ok { OnOk result (self.new ≡ pushed n self.old) }
-        ensures fits { OnOk result (length self.old + n ≤ 65536) }
+        ensures fits { OnOk result (length self.old + n ≤ MOST_LEVELS + 1) }
         ensures err { OnErr result (self.new ≡ self.old) }
         ensures fault { IfErr result (IsFaultAt (length self.old + n - 1)) }
     {

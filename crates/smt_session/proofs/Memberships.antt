@@ -1,5 +1,5 @@
 -- What memberships of constants mean, and what the search for their words has found.
-use Rattle.std.proofs.Common.{◌≡◌, refl, sym, ap, ◌∙◌, subst, Bool, true, false, List, [], ◌∷◌, ◌++◌, map, drop, Option, Some, None, IsTrue, inl, inr}
+use Rattle.std.proofs.Common.{◌≡◌, refl, sym, ap, ◌∙◌, subst, Bool, true, false, not, List, [], ◌∷◌, ◌++◌, map, drop, Option, Some, None, IsTrue, inl, inr}
 use Rattle.std.specs.Prelude.{◌↔◌}
 use Rattle.std.specs.List.{AllByRecursion, IsDistinct}
 use Rattle.std.specs.Map.{lookup, keys_of}
@@ -9,6 +9,9 @@ use Rattle.assert_stack.specs.Levels.{Symbol}
 use Rattle.sv_terms.specs.Language.{In, Word, is_plain}
 use Rattle.sv_terms.specs.Matches.{matches}
 use Rattle.sv_terms.specs.Meaning.{Named, tested, val, val_step}
+use Rattle.sv_terms.specs.Parts.{opaque_step, is_opaque}
+use Rattle.sv_terms.specs.Sorting.{is_of, valued_step, is_valued}
+use Rattle.sv_terms.specs.Truth.{clear_of, AreTrueAt, HasNoValues}
 use Rattle.sv_terms.specs.declared.regex.Regex.{Regex}
 use Rattle.sv_terms.specs.declared.sort.Sort.TheVariants as sort
 use Rattle.sv_terms.specs.declared.term.Term.{Term, roll-Term}
@@ -17,10 +20,11 @@ use Rattle.sv_terms.specs.declared.term.Term.TheOpen.{Term-F}
 use Rattle.sv_terms.specs.declared.term.Term.TheVariants as term
 use Rattle.sv_terms.specs.declared.value.Value.{Value}
 use Rattle.sv_terms.specs.declared.value.Value.TheVariants as value
-use Rattle.smt_session.specs.Verdicts.{Name, AllTrue, HasNoValues, IsBuilt, in_re, mention_step, mentions}
+use Rattle.smt_session.specs.Verdicts.{Name, IsBuilt, in_re, mention_step, mentions}
 use Rattle.smt_session.specs.Search.{HasWord, IsText, SomeIsEmpty, Told, IsFound, Extends, AddsWord}
 use Rattle.smt_session.specs.declared.check.Found.{Found}
-use Rattle.smt_session.proofs.Names.{same, all-more, still-found, new-found, distinct-more, clash}
+use Rattle.smt_session.proofs.Names.{same, by-index, all-more, still-found, new-found, distinct-more, clash}
+use mathlib.Core.Bool.{cond}
 
 abbrev pub Membership : Type 0
 Membership = Name × Regex
@@ -51,6 +55,17 @@ val-is values m = at-membership (Option Value) (val_step values) m
 
 pub known-is : (symbols : List Symbol) (m : Membership) → constants_known symbols (in_re m) ≡ is_declared symbols m.0 sort.String
 known-is symbols m = at-membership Bool (constants_step (is_declared symbols)) m
+
+pub valued-is : (values : Named) (m : Membership) → is_valued values (in_re m) ≡ is_of sort.String (lookup (same m.0) values)
+valued-is values m = at-membership Bool (valued_step values) m
+
+clear-is : (m : Membership) → is_opaque (in_re m) ≡ false
+clear-is m = at-membership Bool opaque_step m
+
+-- no membership has an opaque part
+all-clear : (ms : List Membership) → clear_of (map in_re ms) ≡ map in_re ms
+all-clear [] = refl
+all-clear (m ∷ ms) = ap (λ b. cond (not b) (in_re m ∷ clear_of (map in_re ms)) (clear_of (map in_re ms))) (clear-is m) ∙ ap (λ ts. in_re m ∷ ts) (all-clear ms)
 
 pub mentions-is : (name : Name) (m : Membership) → mentions name (in_re m) ≡ same name m.0
 mentions-is name m = at-membership Bool (mention_step name) m
@@ -113,7 +128,7 @@ found-more done t m old new f is plain none a =
       plain = all-more (λ (k : Membership). is_plain k.1 ≡ true) f.memberships (m ∷ []) f.plain (plain, tt);
       names = map-append (λ (e : Name × Value). e.0) old.words ((m.0, value.Text a.word) ∷ []) ∙ ap (λ z. z ++ m.0 ∷ []) f.names ∙ sym (map-append (λ (k : Membership). k.0) f.memberships (m ∷ []));
       distinct = distinct-more old.words (m.0, value.Text a.word) f.distinct none;
-      texts = all-more (λ (e : Name × Value). IsText e.1) old.words ((m.0, value.Text a.word) ∷ []) f.texts (record { word = a.word; is = refl }, tt);
+      texts = all-more (λ (e : Name × Value). IsText e.1) old.words ((m.0, value.Text a.word) ∷ []) f.texts (record { word = a.word; is_word = a.is_word; is = refl }, tt);
       told = told-more old.all new.all old.words f.memberships m a.word none f.told a.extends;
     })
 
@@ -130,11 +145,14 @@ true-in d r (Some (value.Truth b)) e f = cc
 true-in d r (Some (value.Number n)) e f = cc
 true-in d r (Some (value.Text w)) e f = f w ((d r w).0 (cc))
 
-none-true : Decided → (ms : List Membership) (values : Named) → SomeIsEmpty ms → AllTrue values (map in_re ms) → ⊥
+none-true : Decided → (ms : List Membership) (values : Named) → SomeIsEmpty ms → AllByRecursion (λ t. val values t ≡ Some (value.Truth true)) (map in_re ms) → ⊥
 none-true d [] values h a = h
 none-true d (m ∷ ms) values h a =
     elim h [ inl f ↦ true-in d m.1 (lookup (same m.0) values) (sym (val-is values m) ∙ a.0) f | inr g ↦ none-true d ms values g a.1 ]
 
 -- a regular expression without words leaves no values
-pub no-values : Decided → (live : List Term) (words : Named) → IsFound live words false → HasNoValues live
-no-values d live words f values a = none-true d f.memberships values f.told (subst (AllTrue values) f.are a)
+pub no-values : Decided → (live : List Term) (words : Named) → IsFound live words false → HasNoValues (clear_of live)
+no-values d live words f values are =
+    let same_terms : clear_of live ≡ map in_re f.memberships = ap clear_of f.are ∙ all-clear f.memberships in
+    let at = subst (AreTrueAt values) same_terms are in
+    none-true d f.memberships values f.told (by-index (λ t. val values t ≡ Some (value.Truth true)) (map in_re f.memberships) at.holds)

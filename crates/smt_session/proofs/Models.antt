@@ -12,8 +12,9 @@ use Rattle.sort_check.specs.Bodies.{is_escaped}
 use Rattle.sort_check.specs.Signature.{is_some}
 use Rattle.sort_check.specs.WellFormed.{is_constant_of, is_declared, constants_known, is_entry, is_new, follow, is_well_formed, is_given, AreGiven}
 use Rattle.sv_terms.specs.Matches.{matches}
-use Rattle.sv_terms.specs.Meaning.{Named, tested}
-use Rattle.sv_terms.specs.Sorting.{kind, same_sort, is_of}
+use Rattle.sv_terms.specs.Meaning.{Named, tested, val}
+use Rattle.sv_terms.specs.Sorting.{kind, same_sort, is_of, is_valued}
+use Rattle.sv_terms.specs.Truth.{IsWorded, AreTrueAt}
 use Rattle.sv_terms.specs.declared.entry.Entry.{Entry}
 use Rattle.sv_terms.specs.declared.entry.Entry.TheVariants as entry
 use Rattle.sv_terms.specs.declared.sort.Sort.{Sort}
@@ -21,10 +22,10 @@ use Rattle.sv_terms.specs.declared.sort.Sort.TheVariants as sort
 use Rattle.sv_terms.specs.declared.term.Term.{Term}
 use Rattle.sv_terms.specs.declared.value.Value.{Value}
 use Rattle.sv_terms.specs.declared.value.Value.TheVariants as value
-use Rattle.smt_session.specs.Verdicts.{Name, AllTrue, IsRightModel, constants_of, kinds_of, default, in_re, mentions}
+use Rattle.smt_session.specs.Verdicts.{Name, IsRightModel, constants_of, kinds_of, default, in_re, mentions}
 use Rattle.smt_session.specs.Search.{HasWord, IsText, IsFound, or_default, model_of}
 use Rattle.smt_session.proofs.Names.{same, one, one-more, parted, by-index, skip, cases, found-has}
-use Rattle.smt_session.proofs.Memberships.{Membership, Decided, val-is, known-is, mentions-is}
+use Rattle.smt_session.proofs.Memberships.{Membership, Decided, val-is, valued-is, known-is, mentions-is}
 use mathlib.Core.Bool.{cond}
 
 pub model-joined : (words : Named) (xs ys : List Symbol) → model_of words (xs ++ ys) ≡ model_of words xs ++ model_of words ys
@@ -190,16 +191,49 @@ words-placed symbols live words all f known n v h =
       found-has (λ m _. IsDeclaredString symbols m) words n v (of-keys (IsDeclaredString symbols) words names) h,
     )
 
--- the assertions are true at the model
-true-at : Decided → (words : Named) (symbols : List Symbol) (ms : List Membership) → AllByRecursion (HasWord words) ms → AllByRecursion (λ (m : Membership). IsDeclaredString symbols m.0) ms → AllTrue (model_of words symbols) (map in_re ms)
+-- the values are words where they are texts
+worded-default : (s : Sort) → IsWorded (default s)
+worded-default sort.Bool = tt
+worded-default sort.Int = tt
+worded-default sort.String = tt
+worded-default sort.RegLan = tt
+
+worded-or : (s : Sort) (o : Option Value) → ((v : Value) → o ≡ Some v → IsText v) → IsWorded (or_default s o)
+worded-or s None f = worded-default s
+worded-or s (Some v) f = let t = f v refl in subst IsWorded (sym t.is) t.is_word
+
+all-worded : (words : Named) (xs : List Symbol) → AllByRecursion (λ (e : Name × Value). IsText e.1) words → AllByRecursion (λ (e : Name × Value). IsWorded e.1) (model_of words xs)
+all-worded words [] h = tt
+all-worded words ((n, entry.Constant s) ∷ xs) h = (worded-or s (lookup (same n) words) (λ v e. found-has (λ _ w. IsText w) words n v h e), all-worded words xs h)
+all-worded words ((n, entry.Macro ps b) ∷ xs) h = all-worded words xs h
+all-worded words ((n, entry.Machine t) ∷ xs) h = all-worded words xs h
+
+-- the assertions are true at the model, and their constants have values of sort String
+placed-word : (words : Named) (symbols : List Symbol) (m : Membership) (h : HasWord words m) → IsDeclaredString symbols m.0 → lookup (same m.0) (model_of words symbols) ≡ Some (value.Text h.word)
+placed-word words symbols m h k =
+    let placed = as-constant m.0 sort.String symbols (declared-string (lookup (same m.0) symbols) k) in
+    in-model words m.0 sort.String symbols placed ∙ ap (λ o. Some (or_default sort.String o)) h.here
+
+true-at : Decided → (words : Named) (symbols : List Symbol) (ms : List Membership) → AllByRecursion (HasWord words) ms → AllByRecursion (λ (m : Membership). IsDeclaredString symbols m.0) ms
+    → AllByRecursion (λ t. val (model_of words symbols) t ≡ Some (value.Truth true)) (map in_re ms)
 true-at d words symbols [] h k = tt
-true-at d words symbols (m ∷ ms) h k =
-    let placed = as-constant m.0 sort.String symbols (declared-string (lookup (same m.0) symbols) k.0) in (
+true-at d words symbols (m ∷ ms) h k = (
       val-is (model_of words symbols) m
-          ∙ ap (tested (matches m.1)) (in-model words m.0 sort.String symbols placed ∙ ap (λ o. Some (or_default sort.String o)) h.0.here)
+          ∙ ap (tested (matches m.1)) (placed-word words symbols m h.0 k.0)
           ∙ ap (λ b. Some (value.Truth b)) ((d m.1 h.0.word).1 h.0.is_in),
       true-at d words symbols ms h.1 k.1,
     )
+
+valued-at : (words : Named) (symbols : List Symbol) (ms : List Membership) → AllByRecursion (HasWord words) ms → AllByRecursion (λ (m : Membership). IsDeclaredString symbols m.0) ms
+    → AllByRecursion (λ t. IsTrue (is_valued (model_of words symbols) t)) (map in_re ms)
+valued-at words symbols [] h k = tt
+valued-at words symbols (m ∷ ms) h k = (valued-is (model_of words symbols) m ∙ ap (is_of sort.String) (placed-word words symbols m h.0 k.0), valued-at words symbols ms h.1 k.1)
+
+-- each by its place
+all-placed : {X : Type 0} (P : X → Type 0) (xs : List X) → AllByRecursion P xs → All P xs
+all-placed P [] h k d l = absurd (omega (arith, l))
+all-placed P (x ∷ xs) h zero d l = h.0
+all-placed P (x ∷ xs) h (suc k) d l = all-placed P xs h.1 k d (omega (arith, l))
 
 mentioned : (name : Name) (ms : List Membership) → list_any (mentions name) (map in_re ms) ≡ list_any (same name) (keys_of ms)
 mentioned name [] = refl
@@ -229,7 +263,11 @@ right-model d allowed placed symbols live words formed known f =
       covers = kinds-cover words symbols (all-suit words symbols symbols (words-placed symbols live words true f known)
           (by-index (λ (e : Symbol). IsTrue (is_entry symbols e.1)) symbols (allowed symbols formed))
           (by-index (λ (e : Symbol). lookup (same e.0) symbols ≡ Some e.1) symbols (placed symbols formed)));
-      holds = subst (AllTrue (model_of words symbols)) (sym f.are) (true-at d words symbols f.memberships f.told members);
+      holds = subst (AreTrueAt (model_of words symbols)) (sym f.are) (record {
+        worded = all-placed (λ (e : Name × Value). IsWorded e.1) (model_of words symbols) (all-worded words symbols f.texts);
+        valued = all-placed (λ t. IsTrue (is_valued (model_of words symbols) t)) (map in_re f.memberships) (valued-at words symbols f.memberships f.told members);
+        holds = all-placed (λ t. val (model_of words symbols) t ≡ Some (value.Truth true)) (map in_re f.memberships) (true-at d words symbols f.memberships f.told members);
+      });
       defaults = λ name s is no. in-model words name s symbols is ∙ ap (λ o. Some (or_default s o)) (unmentioned live words true f name no);
     }
 

@@ -6,6 +6,8 @@ use Rattle.std.specs.Cmp.Lexicographic.{pointwise}
 use Rattle.assert_stack.specs.Levels.{Symbol}
 use Rattle.sv_terms.specs.Language.{In, Word, is_plain}
 use Rattle.sv_terms.specs.Meaning.{Named}
+use Rattle.sv_terms.specs.Truth.{clear_of, HasNoValues}
+use Rattle.sv_word.specs.Words.{IsWord}
 use Rattle.sv_terms.specs.declared.entry.Entry.TheVariants.{Constant, Macro, Machine}
 use Rattle.sv_terms.specs.declared.regex.Regex.{Regex}
 use Rattle.sv_terms.specs.declared.sort.Sort.{Sort}
@@ -15,7 +17,7 @@ use Rattle.sv_terms.specs.declared.value.Value.TheVariants.{Text}
 use Rattle.smt_session.specs.declared.check.Found.{Found}
 use Rattle.smt_session.specs.declared.check.Verdict.{Verdict}
 use Rattle.smt_session.specs.declared.check.Verdict.TheVariants as verdict
-use Rattle.smt_session.specs.Verdicts.{Name, IsBuilt, IsRightModel, HasNoValues, default, in_re}
+use Rattle.smt_session.specs.Verdicts.{Name, IsBuilt, IsRightModel, default, in_re}
 
 -- the constant has a word of the regular expression
 pub record HasWord (words : Named) (m : Name × Regex) : Type 0 where
@@ -26,6 +28,7 @@ pub record HasWord (words : Named) (m : Name × Regex) : Type 0 where
 -- a value that is a word
 pub record IsText (v : Value) : Type 0 where
   pub word : Word
+  pub is_word : IsWord word
   pub is : v ≡ Text word
 
 -- some regular expression has no word
@@ -56,6 +59,7 @@ Extends before false r w = (before ≡ false) ⊎ ((v : Word) → In r v → ⊥
 -- a word was looked for, for one more constant
 pub record AddsWord (old new : Found) (name : Name) (r : Regex) : Type 0 where
   pub word : Word
+  pub is_word : IsWord word
   pub added : new.words ≡ old.words ++ (name, Text word) ∷ []
   pub extends : Extends old.all new.all r word
 
@@ -79,5 +83,5 @@ model_of words ((name, Machine t) ∷ symbols) = model_of words symbols
 -- what is asked of a verdict
 abbrev pub IsRight : List Symbol → List Term → Verdict → Type 0
 IsRight symbols live (verdict.Sat values) = IsBuilt live × IsRightModel symbols live values
-IsRight symbols live verdict.Unsat = IsBuilt live × HasNoValues live
+IsRight symbols live verdict.Unsat = IsBuilt live × HasNoValues (clear_of live)
 IsRight symbols live verdict.NotBuilt = IsBuilt live → ⊥

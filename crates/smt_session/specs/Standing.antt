@@ -11,7 +11,7 @@ use Rattle.sv_terms.specs.Sorting.{is_valued, sort_of}
 use Rattle.sv_terms.specs.declared.entry.Entry.TheVariants as entry
 use Rattle.sv_terms.specs.declared.sort.Sort.TheVariants as sort
 use Rattle.sv_terms.specs.declared.term.Term.{Term}
-use Rattle.term_eval.specs.Evaluation.{is_plain}
+use Rattle.sv_terms.specs.Parts.{is_plain}
 use Rattle.smt_session.specs.declared.session.Kept.{Kept}
 use Rattle.smt_session.specs.declared.session.Kept.TheVariants as kept
 

@@ -10,7 +10,9 @@ use Rattle.sort_check.specs.declared.commands.Command.{Command}
 use Rattle.sort_check.specs.declared.commands.Command.TheVariants as command
 use Rattle.sv_terms.specs.Meaning.{Named}
 use Rattle.sv_terms.specs.Sorting.{kind}
+use Rattle.sv_terms.specs.Truth.{clear_of, HasNoValues}
 use Rattle.sv_terms.specs.declared.entry.Entry.TheVariants as entry
+use Rattle.sv_terms.specs.declared.limits.TheConstants.{MOST_LEVELS}
 use Rattle.sv_terms.specs.declared.sort.Sort.{Sort}
 use Rattle.sv_terms.specs.declared.term.Term.{Term}
 use Rattle.sv_terms.specs.declared.value.Value.{Value}
@@ -24,7 +26,7 @@ use Rattle.smt_session.specs.declared.reply.Reply.TheVariants as reply
 use Rattle.smt_session.specs.declared.session.Kept.{Kept}
 use Rattle.smt_session.specs.declared.session.Kept.TheVariants as kept
 use Rattle.smt_session.specs.Refusals.{of_check, of_value}
-use Rattle.smt_session.specs.Verdicts.{IsRightModel, HasNoValues, IsBuilt}
+use Rattle.smt_session.specs.Verdicts.{IsRightModel, IsBuilt}
 
 -- the levels, the innermost first; the verdict that is kept, if one is; whether successes are printed; whether `exit` was answered
 pub record State : Type 0 where
@@ -68,9 +70,9 @@ succeeds s = (reply.Success s.prints, s)
 abbrev pub refuses : ErrorKind → State → Outcome
 refuses kind s = (reply.Error kind, s)
 
--- at most 65,535 levels beside the outermost one
+-- the levels beside the outermost one are limited
 abbrev pub pushes : ℕ → State → Outcome
-pushes n s = if nat_le (length s.levels + n) 65536 then succeeds (changed (pushed n s.levels) s) else refuses error.Levels s
+pushes n s = if nat_le (length s.levels + n) (MOST_LEVELS + 1) then succeeds (changed (pushed n s.levels) s) else refuses error.Levels s
 
 -- the outermost level stays
 abbrev pub pops : ℕ → State → Outcome
@@ -124,10 +126,10 @@ AnswersTerms (Some (kept.Sat values)) items r = AnswersValues values items r
 AnswersTerms (Some kept.Unsat) items r = r ≡ reply.Error error.NoModel
 AnswersTerms None items r = r ≡ reply.Error error.NoModel
 
--- a right verdict on the live assertions, which is kept; or `not built`, exactly where there is none as yet
+-- a right verdict on the live assertions, which is kept: values that make all true, or none that make those without opaque parts true; or `not built`, exactly where there is none as yet
 abbrev pub Checks : State → Reply → State → Type 0
 Checks s (reply.Sat values) t = IsBuilt (live s.levels) × IsRightModel (symbols_of s.levels) (live s.levels) values × (t ≡ with_verdict (kept.Sat values) s)
-Checks s reply.Unsat t = IsBuilt (live s.levels) × HasNoValues (live s.levels) × (t ≡ with_verdict kept.Unsat s)
+Checks s reply.Unsat t = IsBuilt (live s.levels) × HasNoValues (clear_of (live s.levels)) × (t ≡ with_verdict kept.Unsat s)
 Checks s (reply.Error kind) t = (kind ≡ error.NotBuilt) × (IsBuilt (live s.levels) → ⊥) × (t ≡ s)
 Checks s _ t = ⊥
 

@@ -1,12 +1,14 @@
 -- When a verdict on the live assertions is right, and on which there is one as yet.
-use Rattle.std.specs.Prelude.{◌≡◌, ℕ, Bool, true, false, ◌||◌, nat_eq, pos, List, [], ◌∷◌, map, Some, ⊤}
+use Rattle.std.specs.Prelude.{◌≡◌, ℕ, Bool, true, false, nat_eq, pos, List, [], ◌∷◌, map, Some}
 use Rattle.std.specs.List.{list_any, AllByRecursion, IsDistinct}
 use Rattle.std.specs.Map.{lookup, keys_of}
 use Rattle.std.specs.Cmp.Lexicographic.{pointwise}
 use Rattle.assert_stack.specs.Levels.{Symbol}
 use Rattle.sv_terms.specs.Language.{is_plain}
-use Rattle.sv_terms.specs.Meaning.{Named, val}
+use Rattle.sv_terms.specs.Meaning.{Named}
+use Rattle.sv_terms.specs.Parts.{some_step}
 use Rattle.sv_terms.specs.Sorting.{kind}
+use Rattle.sv_terms.specs.Truth.{AreTrueAt}
 use Rattle.sv_terms.specs.declared.entry.Entry.TheVariants.{Constant, Macro, Machine}
 use Rattle.sv_terms.specs.declared.regex.Regex.{Regex}
 use Rattle.sv_terms.specs.declared.sort.Sort.{Sort}
@@ -21,22 +23,10 @@ use Rattle.sv_terms.specs.declared.value.Value.TheVariants as value
 abbrev pub Name : Type 0
 Name = List ℕ
 
--- each assertion is true at these values
-abbrev pub AllTrue : Named → List Term → Type 0
-AllTrue values [] = ⊤
-AllTrue values (t ∷ ts) = (val values t ≡ Some (value.Truth true)) × AllTrue values ts
-
 -- whether the constant stands in the term
 module _ (name : Name) where
   abbrev pub mention_step : Term-F Bool → Bool
-  mention_step (Term-F.Truth b) = false
-  mention_step (Term-F.Number n) = false
-  mention_step (Term-F.Text w) = false
-  mention_step (Term-F.Constant other s) = pointwise nat_eq name other
-  mention_step (Term-F.Apply o bs) = list_any (λ b. b) bs
-  mention_step (Term-F.InRe b r) = b
-  mention_step (Term-F.Related t b c) = b || c
-  mention_step (Term-F.Opaque s) = false
+  mention_step = some_step (λ other s. pointwise nat_eq name other) false
 
   abbrev pub mentions : Term → Bool
   mentions = fold-Term Bool mention_step
@@ -59,15 +49,11 @@ default sort.Int = value.Number (pos 0)
 default sort.String = value.Text []
 default sort.RegLan = value.Text []
 
--- a value of its sort for each declared constant, in order, which make all assertions true; one that no assertion mentions has the default of its sort
+-- a value of its sort for each declared constant, in order, a text being a word, which make all assertions true; one that no assertion mentions has the default of its sort
 pub record IsRightModel (symbols : List Symbol) (live : List Term) (values : Named) : Type 0 where
   pub covers : kinds_of values ≡ constants_of symbols
-  pub holds : AllTrue values live
+  pub holds : AreTrueAt values live
   pub defaults : (name : Name) (s : Sort) → lookup (pointwise nat_eq name) (constants_of symbols) ≡ Some s → list_any (mentions name) live ≡ false → lookup (pointwise nat_eq name) values ≡ Some (default s)
-
--- no values make all of them true
-abbrev pub HasNoValues : List Term → Type 0
-HasNoValues live = (values : Named) → AllTrue values live → ⊥
 
 -- the membership of this constant of sort String in this regular expression
 abbrev pub in_re : Name × Regex → Term

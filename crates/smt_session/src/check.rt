@@ -68,7 +68,10 @@ fn find(alloc: Global, found: &mut Found, name: &Name, regex: &Regex) -> Result<
     ensures { OnOk result (AddsWord found.old found.new name.now regex.now) }
 {
     match witness(alloc, regex)? {
-        Some(word) => set(alloc, &mut found.words, name, word),
+        Some(word) => {
+            word.is_word();
+            set(alloc, &mut found.words, name, word)
+        }
         None => {
             found.all = false;
             set(alloc, &mut found.words, name, Word::new(alloc))

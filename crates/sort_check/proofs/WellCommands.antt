@@ -31,7 +31,8 @@ use Rattle.sort_check.specs.Passes.{at_variables, looked}
 use Rattle.sort_check.specs.Signature.{Name, same_name, stands_in, is_reserved, is_some}
 use Rattle.sort_check.specs.Sizes.{fits}
 use Rattle.sort_check.specs.Tokens as t
-use Rattle.sort_check.specs.WellFormed.{is_constant_of, is_declared, IsTermOf, IsWritten, hidden_by, is_bound, is_sort, is_plain, constants_are, is_entry, is_well_formed, IsAdded}
+use Rattle.sv_terms.specs.Parts.{is_plain}
+use Rattle.sort_check.specs.WellFormed.{is_constant_of, is_declared, IsTermOf, IsWritten, hidden_by, is_bound, is_sort, constants_are, is_entry, is_well_formed, IsAdded}
 use Rattle.sort_check.proofs.WellApplied.{same-is, same-self, IsWell}
 use Rattle.sort_check.proofs.WellMeant.{Knows, AreWell, Scoped, Any, any-gives, constants-well, all-well}
 use Rattle.sort_check.proofs.WellNames.{same-name-self, sound-entry, one-more, not-true, not-false}

@@ -25,7 +25,8 @@ use Rattle.sort_check.specs.Meant.{Scope, Names, Head, theory, constant, macro, 
 use Rattle.sort_check.specs.Ranks.{are_of}
 use Rattle.sort_check.specs.Signature.{Name, same_name, stands_in, signature, indexed_names, power, loop, character}
 use Rattle.sort_check.specs.Tokens.{symbol, digits, value, is_too_large, literal_word, character_token, opening, is_identifier}
-use Rattle.sort_check.specs.WellFormed.{is_constant_of, is_declared, hidden_by, is_bound, is_sort, is_plain, constants_are, is_body, is_well_formed}
+use Rattle.sv_terms.specs.Parts.{is_plain}
+use Rattle.sort_check.specs.WellFormed.{is_constant_of, is_declared, hidden_by, is_bound, is_sort, constants_are, is_body, is_well_formed}
 use Rattle.sort_check.proofs.WellApplied.{same-is, same-self, Sound, function-sound, IsWell, well-term, well-opaque, well-language, well-applied}
 use Rattle.sort_check.proofs.WellNames.{sound-entry}
 use Rattle.sort_check.proofs.WellSteps.{Gives, Maybe, need-gives, refuse-gives, or-gives, some-maybe, else-maybe, if-maybe, each-append, one-of, variable-gives, then-gives, mapped-maybe}

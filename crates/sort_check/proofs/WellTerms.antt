@@ -18,7 +18,8 @@ use Rattle.sv_terms.specs.Meaning.{Named, all_of}
 use Rattle.sv_terms.specs.Sorting.{applied_sort, applied_sort_if, tested_sort, sort_step, sort_of, is_of, valued_step, is_valued}
 use Rattle.sort_check.specs.Bodies.{op_sort, layer_sort, or_constant, put_in_layer, put_in}
 use Rattle.sort_check.specs.Signature.{Name, same_name}
-use Rattle.sort_check.specs.WellFormed.{plain_step, is_plain, constants_step, constants_are}
+use Rattle.sv_terms.specs.Parts.{plain_step, is_plain}
+use Rattle.sort_check.specs.WellFormed.{constants_step, constants_are}
 
 pub both : (a b : Bool) → IsTrue (a && b) → IsTrue a × IsTrue b
 both true b h = (refl, h)

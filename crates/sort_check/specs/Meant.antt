@@ -15,6 +15,7 @@ use Rattle.sv_terms.specs.declared.sort.Sort.TheVariants as sort
 use Rattle.sv_terms.specs.declared.term.Term.{Term}
 use Rattle.sv_terms.specs.declared.term.Term.TheVariants as term
 use Rattle.sv_terms.specs.declared.transducer.Transducer.{Transducer}
+use Rattle.sv_terms.specs.declared.limits.TheConstants.{MOST_TIMES}
 use Rattle.sort_check.specs.declared.check_fault.CheckFault.{CheckFault}
 use Rattle.sort_check.specs.declared.check_fault.CheckFault.TheVariants as fault
 use Rattle.sort_check.specs.declared.function.Function.{Function}
@@ -59,10 +60,10 @@ mapped f None = None
 abbrev pub named : Names → Name → Result Head CheckFault
 named symbols n = refuse (stands_in indexed_names n) fault.Index >> or_fault fault.Unknown (or_else (mapped theory (lookup (same_name n) signature)) (mapped (of_entry n) (lookup (same_name n) symbols)))
 
--- an index is a numeral up to 65,535
+-- an index is a numeral, and not too great
 abbrev pub index_of : Option (List ℕ) → Result ℕ CheckFault
 index_of None = Err fault.Index
-index_of (Some ds) = refuse (is_too_large ds) fault.Number >> refuse (nat_lt 65535 (value ds)) fault.Index >> Ok (value ds)
+index_of (Some ds) = refuse (is_too_large ds) fault.Number >> refuse (nat_lt MOST_TIMES (value ds)) fault.Index >> Ok (value ds)
 
 -- the functions with indices; an index too many or too few is Index too
 abbrev pub powered : Forms → Result Function CheckFault

@@ -11,6 +11,7 @@ use Rattle.sv_terms.specs.declared.sort.Sort.{Sort}
 use Rattle.sv_terms.specs.declared.sort.Sort.TheVariants as sort
 use Rattle.sv_terms.specs.declared.term.Term.TheVariants as term
 use Rattle.sv_terms.specs.Sorting.{same_sort}
+use Rattle.sv_word.specs.Words.{greatest_character}
 use Rattle.sort_check.specs.declared.function.Function.{Function}
 use Rattle.sort_check.specs.declared.function.Takes.{Takes}
 use Rattle.sort_check.specs.declared.function.Takes.TheVariants.{Nothing, One, Two, Three, Each, Many, Alike, Choice}
@@ -98,9 +99,9 @@ abbrev pub of_one : (Regex → Regex) → List Regex → Regex
 of_one make (r ∷ []) = make r
 of_one make _ = re.Empty
 
--- the word of a character; no word has one above 0x2FFFF
+-- the word of a character; no word has a greater number
 abbrev pub word_of : ℕ → List ℕ
-word_of c = if nat_le c 0x2FFFF then c ∷ [] else []
+word_of c = if nat_le c greatest_character then c ∷ [] else []
 
 -- what an application is by the sense of its function, which gives this sort
 abbrev pub applied_as : Sort → Sense → List Body → Body

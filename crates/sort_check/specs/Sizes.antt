@@ -4,6 +4,7 @@ use Rattle.sv_terms.specs.declared.regex.Regex.{Regex}
 use Rattle.sv_terms.specs.declared.regex.Regex.TheFolds.{fold-Regex}
 use Rattle.sv_terms.specs.declared.regex.Regex.TheOpen.{Regex-F}
 use Rattle.sv_terms.specs.declared.entry.Body.{Body}
+use Rattle.sv_terms.specs.declared.limits.TheConstants.{MOST_NODES, MOST_NESTING}
 use Rattle.sv_terms.specs.declared.entry.Body.TheVariants as body
 use Rattle.sv_terms.specs.declared.term.Term.{Term}
 use Rattle.sv_terms.specs.declared.term.Term.TheOpen.{Term-F}
@@ -62,6 +63,6 @@ abbrev pub nesting : Body → ℕ
 nesting (body.Term t) = fold-Term ℕ (term_measure regex_nesting one_deeper) t
 nesting (body.Language r) = regex_nesting r
 
--- at most 1,048,576 nodes, nested at most 1,000 deep
+-- not too many nodes, and not nested too deep
 abbrev pub fits : Body → Bool
-fits b = nat_le (nodes b) 1048576 && nat_le (nesting b) 1000
+fits b = nat_le (nodes b) MOST_NODES && nat_le (nesting b) MOST_NESTING

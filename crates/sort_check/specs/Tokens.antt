@@ -8,6 +8,7 @@ use Rattle.sexpr_reader.specs.declared.kind.Kind.{Kind}
 use Rattle.sexpr_reader.specs.declared.kind.Kind.TheVariants.{Numeral, Decimal, Hexadecimal, Binary, Symbol, Quoted, Keyword, Literal}
 use Rattle.sv_word.specs.declared.literal_fault.LiteralFault.{LiteralFault}
 use Rattle.sv_word.specs.Literals.{lit}
+use Rattle.sv_word.specs.Words.{greatest_character}
 use Rattle.sv_terms.specs.Names.{symbol_name}
 use Rattle.sv_terms.specs.declared.sort.Sort.{Sort}
 use Rattle.sort_check.specs.declared.opening.Opening.{Opening}
@@ -73,7 +74,7 @@ literal_word text = read_word (lit (take (length text - 2) (drop 1 text)))
 
 -- one to five hexadecimal digits that write a character
 abbrev pub character_of : List ℕ → Option ℕ
-character_of ds = if nat_le 1 (length ds) && nat_le (length ds) 5 && list_all is_ascii_hexdigit ds && nat_le (digits_value 16 ds) 0x2FFFF then Some (digits_value 16 ds) else None
+character_of ds = if nat_le 1 (length ds) && nat_le (length ds) 5 && list_all is_ascii_hexdigit ds && nat_le (digits_value 16 ds) greatest_character then Some (digits_value 16 ds) else None
 
 -- the character of a hexadecimal token
 abbrev pub character_token : Form → Option ℕ

@@ -5,6 +5,7 @@ use Rattle.std.specs.Option.{option_map}
 use Rattle.sv_terms.specs.declared.regex.Regex.{Regex}
 use Rattle.sv_terms.specs.declared.regex.Regex.TheVariants as re
 use Rattle.sv_terms.specs.declared.entry.Body.{Body}
+use Rattle.sv_terms.specs.declared.limits.TheConstants.{MOST_NODES, MOST_NESTING}
 use Rattle.sv_terms.specs.declared.entry.Body.TheVariants as body
 use Rattle.sv_terms.specs.declared.op.Op.{Op}
 use Rattle.sv_terms.specs.declared.op.Op.TheVariants as op
@@ -32,7 +33,7 @@ abbrev pub weight_of : Body → Weight
 weight_of b = record { sort = body_sort b; factor = factor b; is_language = is_language b; nodes = capped (nodes b); nesting = capped (nesting b) }
 
 abbrev pub weight_fits : Weight → Bool
-weight_fits w = nat_le w.nodes 1048576 && nat_le w.nesting 1000
+weight_fits w = nat_le w.nodes MOST_NODES && nat_le w.nesting MOST_NESTING
 
 -- a term of one node
 abbrev pub leaf : Sort → Factor → Weight

@@ -1,6 +1,5 @@
 -- What keeps the declared names such that every term that is read has a sort, and a value for each of its constants.
 use Rattle.std.specs.Prelude.{◌≡◌, IsTrue, All, Bool, true, false, not, ◌&&◌, List, [], ◌∷◌, ◌++◌, Option, Some, None}
-use Rattle.std.specs.List.{list_all}
 use Rattle.std.specs.Map.{lookup}
 use Rattle.sv_terms.specs.declared.entry.Body.{Body}
 use Rattle.sv_terms.specs.declared.entry.Body.TheVariants as body
@@ -12,36 +11,16 @@ use Rattle.sv_terms.specs.declared.term.Term.{Term}
 use Rattle.sv_terms.specs.declared.term.Term.TheOpen.{Term-F}
 use Rattle.sv_terms.specs.declared.term.Term.TheFolds.{fold-Term}
 use Rattle.sv_terms.specs.Meaning.{Named}
+use Rattle.sv_terms.specs.Parts.{every_step, is_plain}
 use Rattle.sv_terms.specs.Sorting.{same_sort, sort_of, is_of}
 use Rattle.sort_check.specs.Bodies.{body_sort, is_escaped}
 use Rattle.sort_check.specs.Meant.{Names}
 use Rattle.sort_check.specs.Signature.{Name, same_name, is_some}
 
--- whether no transducer stands in a term
-abbrev pub plain_step : Term-F Bool → Bool
-plain_step (Term-F.Truth b) = true
-plain_step (Term-F.Number n) = true
-plain_step (Term-F.Text w) = true
-plain_step (Term-F.Constant name s) = true
-plain_step (Term-F.Apply o bs) = list_all (λ b. b) bs
-plain_step (Term-F.InRe b r) = b
-plain_step (Term-F.Related t b c) = false
-plain_step (Term-F.Opaque s) = true
-
-abbrev pub is_plain : Term → Bool
-is_plain = fold-Term Bool plain_step
-
 -- whether each constant of a term is known, by its name and sort
 module _ (known : Name → Sort → Bool) where
   abbrev pub constants_step : Term-F Bool → Bool
-  constants_step (Term-F.Truth b) = true
-  constants_step (Term-F.Number n) = true
-  constants_step (Term-F.Text w) = true
-  constants_step (Term-F.Constant name s) = known name s
-  constants_step (Term-F.Apply o bs) = list_all (λ b. b) bs
-  constants_step (Term-F.InRe b r) = b
-  constants_step (Term-F.Related t b c) = b && c
-  constants_step (Term-F.Opaque s) = true
+  constants_step = every_step known (λ t. true)
 
   abbrev pub constants_are : Term → Bool
   constants_are = fold-Term Bool constants_step

@@ -10,7 +10,7 @@ use crate::weight::op_sort;
 use std::alloc::{AllocError, Global};
 use sv_list::{Boxed, Copied, Items};
 use sv_terms::{Body, Op, Regex, Sort, Term, Transducer};
-use sv_word::Word;
+use sv_word::{GREATEST_CHARACTER, Word};
 
 /// The sort of a sorted term, from its outermost function. Constant.
 #[tactic(auto, using(crate::proofs::Layers::sorts))]
@@ -271,7 +271,7 @@ fn one_character(alloc: Global, c: u32) -> Result<Word, AllocError>
     ensures { IfOk result (λ x. x ≡ r.word_of c) }
 {
     let mut word = Word::new(alloc);
-    if c <= 0x2FFFF {
+    if c <= GREATEST_CHARACTER {
         word.push(c)?;
         return Ok(word);
     }

@@ -19,7 +19,7 @@ use crate::token::{character_token, digits, number, opening, symbol, unquoted};
 use crate::weight::Weight;
 use sexpr_reader::Sexpr;
 use std::alloc::Global;
-use sv_terms::{Body, Entry, Name, Sort, Symbols, Transducer};
+use sv_terms::{Body, Entry, MOST_TIMES, Name, Sort, Symbols, Transducer};
 
 /// What an identifier stands for where it is no variable.
 #[derive(Drop)]
@@ -61,7 +61,7 @@ fn index(item: &Sexpr) -> Result<u32, CheckFault>
     match digits(item) {
         Some(digits) => match number(digits) {
             Some(n) => {
-                if n > 65535 {
+                if n > MOST_TIMES as i128 {
                     Err(CheckFault::Index)
                 } else {
                     Ok(n as u32)

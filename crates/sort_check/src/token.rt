@@ -13,7 +13,7 @@ ghost use Rattle.sort_check.specs.Tokens as t;
 use crate::opening::Opening;
 use sexpr_reader::{Kind, Sexpr};
 use std::alloc::{AllocError, Global};
-use sv_word::{LiteralFault, Word, read_literal};
+use sv_word::{GREATEST_CHARACTER, LiteralFault, Word, read_literal};
 
 /// A symbol's name, without the bars of a quoted one.
 pub fn unquoted(text: &[u8]) -> &[u8]
@@ -171,7 +171,7 @@ fn character_of(digits: &[u8]) -> Option<u32>
         return None;
     }
     match hexadecimals(digits) {
-        Some(c) => { if c <= 0x2FFFF { Some(c) } else { None } }
+        Some(c) => { if c <= GREATEST_CHARACTER { Some(c) } else { None } }
         None => None,
     }
 }

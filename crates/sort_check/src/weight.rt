@@ -5,7 +5,7 @@ ghost use Rattle.sort_check.specs.Sizes as z;
 ghost use Rattle.sort_check.specs.Weights as w;
 
 use crate::function::Sense;
-use sv_terms::{Op, Sort};
+use sv_terms::{MOST_NESTING, MOST_NODES, Op, Sort};
 
 /// What a factor of a product is: a literal word, something without unknowns, or something that
 /// holds an unknown: a constant, the length of a term that is no literal, or an opaque part.
@@ -27,12 +27,6 @@ pub struct Weight {
     pub nodes: u32,
     pub nesting: u32,
 }
-
-/// The most nodes that a term may have.
-const MOST_NODES: u32 = 1048576;
-
-/// The deepest nesting that a term may have.
-const MOST_NESTING: u32 = 1000;
 
 impl Weight {
     /// A term of one node.

@@ -18,7 +18,10 @@ use Rattle.smt_session.specs.declared.reply.Reply.{Reply}
 use Rattle.smt_session.specs.declared.reply.Reply.TheVariants.{Success, Unsupported, Echo, Error, Sat, Unsat, Definitions, Values, Info}
 use Rattle.smt_session.specs.declared.session.Kept.{Kept}
 use Rattle.smt_session.specs.declared.session.Kept.TheVariants as kept
-use Rattle.strsolve.specs.Scripts.{Follows, none, next, Answers, to_end, to_exit, to_fault, AnswersFront, so_far, all, IsTrueOf, IsTrueBehind}
+use Rattle.strsolve.specs.Scripts.{Follows, none, next, Answers, to_end, to_exit, to_fault, AnswersFront, so_far, all, IsTrueOf}
+use Rattle.strsolve.specs.Runs.{IsRead, IsTrueBehind}
+use Rattle.sexpr_reader.specs.Reads.{Begins}
+use Rattle.std.proofs.lemmas.List.{append-nil}
 
 is_verdict : Reply → Bool
 is_verdict (Sat values) = true
@@ -123,14 +126,16 @@ claims s t item (Definitions ds) h = tt
 claims s t item (Values vs) h = tt
 claims s t item (Info i) h = tt
 
-behind : (s t : State) (items : List Sexpr) (log early late : List Reply) (r : Reply) → Follows s items log t → log ≡ early ++ r ∷ late → (before : List Sexpr) × (u : State) × Follows s before early u × IsTrueOf u r
+behind : (s t : State) (items : List Sexpr) (log early late : List Reply) (r : Reply) → Follows s items log t → log ≡ early ++ r ∷ late
+    → (before after : List Sexpr) × (u : State) × (items ≡ before ++ after) × Follows s before early u × IsTrueOf u r
 behind s t items log [] late r (none a) e = absurd (omega (arith, ap length e))
 behind s t items log (x ∷ early) late r (none a) e = absurd (omega (arith, ap length e))
-behind s t items log [] late r (next a b c i q is l goes step rest) e = let same : q ≡ r = cc in ([], a, none a, subst (IsTrueOf a) same (claims a b i q step))
+behind s t items log [] late r (next a b c i q is l goes step rest) e = let same : q ≡ r = cc in ([], i ∷ is, a, refl, none a, subst (IsTrueOf a) same (claims a b i q step))
 behind s t items log (x ∷ early) late r (next a b c i q is l goes step rest) e =
     let same : q ≡ x = cc in
     let left : l ≡ early ++ r ∷ late = cc in
-    let k = behind b c is l early late r rest left in (i ∷ k.0, k.1, next a b k.1 i x k.0 early goes (subst (λ (y : Reply). Steps a i y b) same step) k.2, k.3)
+    let k = behind b c is l early late r rest left in
+    (i ∷ k.0, k.1, k.2, ap (λ (z : List Sexpr). i ∷ z) k.3, next a b k.2 i x k.0 early goes (subst (λ (y : Reply). Steps a i y b) same step) k.4, k.5)
 
 -- one reply more before both
 more_before : (y z : Reply) (early log : List Reply) (r x : Reply) → y ≡ z → ((early ≡ log) × (r ≡ x)) ⊎ ((more : List Reply) × (log ≡ early ++ r ∷ more)) → ((z ∷ early ≡ y ∷ log) × (r ≡ x)) ⊎ ((more : List Reply) × (y ∷ log ≡ z ∷ early ++ r ∷ more))
@@ -147,22 +152,36 @@ last_or_before (z ∷ early) late (y ∷ log) r x e =
     let left : log ++ x ∷ [] ≡ early ++ r ∷ late = cc in
     more_before y z early log r x same (last_or_before early late log r x left)
 
-told : (early : List Reply) (r : Reply) → (before : List Sexpr) × (u : State) × Follows opened before early u × IsTrueOf u r → IsTrueBehind early r
-told early r h = record { items = h.0; session = h.1; follows = h.2; holds = h.3 }
-
-at_fault : (items : List Sexpr) (s : State) (first early : List Reply) (r : Reply) (kind : ErrorKind) → Follows opened items first s → ((early ≡ first) × (r ≡ Error kind)) ⊎ ((more : List Reply) × (first ≡ early ++ r ∷ more)) → IsTrueBehind early r
-at_fault items s first early r kind follows (inl h) = record { items = items; session = s; follows = subst (λ (l : List Reply). Follows opened items l s) (sym h.0) follows; holds = subst (IsTrueOf s) (sym h.1) tt }
-at_fault items s first early r kind follows (inr h) = told early r (behind opened s items first early h.0 r follows h.1)
-
-in_answers : (ended : Bool) (bytes : List ℕ) (log early late : List Reply) (r : Reply) → Answers ended bytes log → log ≡ early ++ r ∷ late → IsTrueBehind early r
-in_answers ended bytes log early late r (to_end items s is ends follows) e = told early r (behind opened s items log early late r follows e)
-in_answers ended bytes log early late r (to_exit items rest s begins follows is) e = told early r (behind opened s items log early late r follows e)
-in_answers ended bytes log early late r (to_fault items first s fault kind faulty follows goes is last) e = at_fault items s first early r kind follows (last_or_before early late first r (Error kind) (sym last ∙ e))
-
 -- each verdict of a right log is true
-pub verdict_true : (ended : Bool) (bytes : List ℕ) (log early late : List Reply) (r : Reply) → AnswersFront ended bytes log → log ≡ early ++ r ∷ late → IsTrueBehind early r
-verdict_true ended bytes log early late r (so_far items rest s begins follows) e = told early r (behind opened s items log early late r follows e)
-verdict_true ended bytes log early late r (all h) e = in_answers ended bytes log early late r h e
+module _ (left_old left_new : Option (List ℕ)) (ended : Bool) (bytes : List ℕ) (read : IsRead ended left_old left_new bytes) where
+  told : (items : List Sexpr) (rest : List ℕ) (early : List Reply) (r : Reply) → Begins ended bytes items rest
+      → (before after : List Sexpr) × (u : State) × (items ≡ before ++ after) × Follows opened before early u × IsTrueOf u r → IsTrueBehind left_old left_new early r
+  told items rest early r begins h = record {
+    ended = ended;
+    bytes = bytes;
+    read = read;
+    items = h.0;
+    others = h.1;
+    rest = rest;
+    begins = subst (λ (z : List Sexpr). Begins ended bytes z rest) h.3 begins;
+    session = h.2;
+    follows = h.4;
+    holds = h.5;
+  }
 
-pub no_verdict : (log early late : List Reply) (r : Reply) → log ≡ [] → log ≡ early ++ r ∷ late → IsTrueBehind early r
-no_verdict log early late r none_ e = absurd (omega (arith, ap length none_, ap length e, length-append early (r ∷ late)))
+  at_fault : (items : List Sexpr) (rest : List ℕ) (s : State) (first early : List Reply) (r : Reply) (kind : ErrorKind) → Begins ended bytes items rest → Follows opened items first s
+      → ((early ≡ first) × (r ≡ Error kind)) ⊎ ((more : List Reply) × (first ≡ early ++ r ∷ more)) → IsTrueBehind left_old left_new early r
+  at_fault items rest s first early r kind begins follows (inl h) =
+      told items rest early r begins (items, [], s, sym (append-nil items), subst (λ (l : List Reply). Follows opened items l s) (sym h.0) follows, subst (IsTrueOf s) (sym h.1) tt)
+  at_fault items rest s first early r kind begins follows (inr h) = told items rest early r begins (behind opened s items first early h.0 r follows h.1)
+
+  in_answers : (log early late : List Reply) (r : Reply) → Answers ended bytes log → log ≡ early ++ r ∷ late → IsTrueBehind left_old left_new early r
+  in_answers log early late r (to_end items s is ends follows) e =
+      told items ends.rest early r (subst (λ b. Begins b bytes items ends.rest) (sym is) ends.reads.begins) (behind opened s items log early late r follows e)
+  in_answers log early late r (to_exit items rest s begins follows is) e = told items rest early r begins (behind opened s items log early late r follows e)
+  in_answers log early late r (to_fault items first s fault kind faulty follows goes is last) e =
+      at_fault items faulty.rest s first early r kind faulty.reads.begins follows (last_or_before early late first r (Error kind) (sym last ∙ e))
+
+  pub verdict_true : (log early late : List Reply) (r : Reply) → AnswersFront ended bytes log → log ≡ early ++ r ∷ late → IsTrueBehind left_old left_new early r
+  verdict_true log early late r (so_far items rest s begins follows) e = told items rest early r begins (behind opened s items log early late r follows e)
+  verdict_true log early late r (all h) e = in_answers log early late r h e

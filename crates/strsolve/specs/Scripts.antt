@@ -7,7 +7,7 @@ use Rattle.sexpr_reader.specs.declared.syntax_fault.SyntaxFault.{SyntaxFault}
 use Rattle.smt_session.specs.Refusals.{of_syntax}
 use Rattle.smt_session.specs.Replies.{text_of, is_error}
 use Rattle.smt_session.specs.Steps.{State, opened, Steps}
-use Rattle.smt_session.specs.Verdicts.{AllTrue, HasNoValues}
+use Rattle.sv_terms.specs.Truth.{AreTrueAt, HasNoValues, clear_of}
 use Rattle.smt_session.specs.declared.error_kind.ErrorKind.{ErrorKind}
 use Rattle.smt_session.specs.declared.reply.Reply.{Reply}
 use Rattle.smt_session.specs.declared.reply.Reply.TheVariants.{Error, Sat, Unsat}
@@ -39,18 +39,11 @@ pub data AnswersFront (ended : Bool) (bytes : List ℕ) (log : List Reply) : Typ
   so_far : (items : List Sexpr) (rest : List ℕ) (s : State) → Begins ended bytes items rest → Follows opened items log s → AnswersFront ended bytes log
   all : Answers ended bytes log → AnswersFront ended bytes log
 
--- what a verdict says of the session that it was given in: its values make each live assertion true, or there are none that do
+-- what a verdict says of the session that it was given in: its values make each live assertion true, or no values make those without opaque parts true
 abbrev pub IsTrueOf : State → Reply → Type 0
-IsTrueOf s (Sat values) = AllTrue values (live s.levels)
-IsTrueOf s Unsat = HasNoValues (live s.levels)
+IsTrueOf s (Sat values) = AreTrueAt values (live s.levels)
+IsTrueOf s Unsat = HasNoValues (clear_of (live s.levels))
 IsTrueOf s _ = ⊤
-
--- the session that gave the replies before a verdict, of which the verdict is true
-pub record IsTrueBehind (early : List Reply) (verdict : Reply) : Type 0 where
-  pub items : List Sexpr
-  pub session : State
-  pub follows : Follows opened items early session
-  pub holds : IsTrueOf session verdict
 
 -- the printed replies, in order
 abbrev pub texts_of : List Reply → List ℕ

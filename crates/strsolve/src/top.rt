@@ -7,8 +7,8 @@ ghost use Rattle.sv_io.specs.Counts.{Rose};
 ghost use Rattle.sv_io.specs.Names.{IsOwn};
 ghost use Rattle.smt_session.specs.declared.reply.Reply.{Reply as AnyReply};
 ghost use Rattle.strsolve.specs.CommandLine.{named, usage};
-ghost use Rattle.strsolve.specs.Runs.{IsAnswered, IsFront, IsRefused, IsUnfinished};
-ghost use Rattle.strsolve.specs.Scripts.{IsTrueBehind, has_error};
+ghost use Rattle.strsolve.specs.Runs.{IsTrueBehind, IsAnswered, IsFront, IsRefused, IsUnfinished};
+ghost use Rattle.strsolve.specs.Scripts.{has_error};
 ghost use Rattle.strsolve.specs.Standing.{Ended};
 
 use crate::answering::Answering;
@@ -132,7 +132,7 @@ pub fn run<R: Threads + Sync, S: Source, K: Sink>(
     ensures answered { (result.status ≡ 0) ⊎ (result.status ≡ 1) → IsAnswered (S.left source.old) (S.left source.new) (K.taken sink.old) (K.taken sink.new) result.log }
     ensures right { result.status ≡ 0 → has_error result.log ≡ false }
     ensures error { result.status ≡ 1 → has_error result.log ≡ true }
-    ensures verdicts { (early late : List AnyReply) (verdict : AnyReply) → result.log ≡ early ++ verdict ∷ late → IsTrueBehind early verdict }
+    ensures verdicts { (early late : List AnyReply) (verdict : AnyReply) → result.log ≡ early ++ verdict ∷ late → IsTrueBehind (S.left source.old) (S.left source.new) early verdict }
     ensures wrong_words { result.status ≡ 2 → (named words.now ≡ None) × Appends (K.taken sink.old) (K.taken sink.new) usage }
     ensures words { named words.now ≡ None → (result.status ≡ 2) ⊎ (result.status ≡ 4) ⊎ (result.status ≡ 5) }
     ensures refused { named words.now ≡ None → (source.new ≡ source.old) × IsRefused (K.taken sink.old) (K.taken sink.new) result.log }

@@ -7,7 +7,7 @@ use Rattle.std.proofs.Math.Seq.{drop-append_seam}
 use Rattle.sv_terms.specs.Language.{Word}
 use Rattle.sv_terms.specs.Replacement.{Stands, StandsFirst, StandsNowhere, ReplacedFirst, at_first, at_none, ReplacedAll, every_none, every_first, every_last, begins, replace_first, replace_from, replace_all}
 
-both : (a b : Bool) → (a && b) ≡ true → (a ≡ true) × (b ≡ true)
+pub both : (a b : Bool) → (a && b) ≡ true → (a ≡ true) × (b ≡ true)
 both true b e = (refl, e)
 both false b e = absurd (cc)
 
@@ -27,7 +27,7 @@ begins-split (c ∷ p) (d ∷ w) e =
     ap (λ x. x ∷ w) (sym (eqb-true c d h.0)) ∙ ap (λ (v : Word). c ∷ v) (begins-split p w h.1)
 
 -- a test that isn't true is false
-refuted : (b : Bool) → (b ≡ true → ⊥) → b ≡ false
+pub refuted : (b : Bool) → (b ≡ true → ⊥) → b ≡ false
 refuted true n = absurd (n refl)
 refuted false n = refl
 
@@ -45,7 +45,7 @@ first-here (a ∷ p) u w =
 pub first-skips : (p u : Word) (c : ℕ) (w : Word) → begins p (c ∷ w) ≡ false → replace_first p u (c ∷ w) ≡ c ∷ replace_first p u w
 first-skips p u c w e = ap (λ b. if b then u ++ drop (length p) (c ∷ w) else (c ∷ replace_first p u w)) e
 
-passed : (p u : Word) (k : ℕ) (v : Word) → replace_from p u k v ≡ replace_from p u zero (drop k v)
+pub passed : (p u : Word) (k : ℕ) (v : Word) → replace_from p u k v ≡ replace_from p u zero (drop k v)
 passed p u zero [] = refl
 passed p u zero (c ∷ v) = refl
 passed p u (suc k) [] = refl

@@ -2,8 +2,9 @@ ghost use Rattle.std.specs.Prelude.{◌≡◌, map, Some, IfOk, IsTrue, IsSome};
 ghost use Rattle.std.specs.List.{list_all, list_any};
 ghost use Rattle.sv_terms.specs.Meaning.{tested, val};
 ghost use Rattle.sv_terms.specs.Matches.{matches};
-ghost use Rattle.sv_terms.specs.Sorting.{is_opaque, is_valued, sort_of};
-ghost use Rattle.term_eval.specs.Evaluation.{Answers, evaluated, in_turn, is_plain, or_opaque, value_or_fault};
+ghost use Rattle.sv_terms.specs.Parts.{is_opaque, is_plain};
+ghost use Rattle.sv_terms.specs.Sorting.{is_valued, sort_of};
+ghost use Rattle.term_eval.specs.Evaluation.{Answers, evaluated, in_turn, or_opaque, value_or_fault};
 
 use crate::fault::EvalFault;
 use crate::functions::apply;

@@ -14,6 +14,7 @@ mod comparing;
 mod evaluation;
 mod fault;
 mod functions;
+mod laws;
 mod strings;
 mod sums;
 #[cfg(test)]
@@ -22,3 +23,4 @@ mod truths;
 
 pub use evaluation::eval;
 pub use fault::EvalFault;
+pub use laws::{opaque_is_told, value_is_meant};

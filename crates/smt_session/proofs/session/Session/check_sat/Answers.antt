@@ -4,7 +4,8 @@ use Rattle.assert_stack.specs.Levels.{symbols_of, live}
 use Rattle.sort_check.specs.WellFormed.{is_well_formed, constants_known}
 use Rattle.smt_session.specs.Search.{IsRight}
 use Rattle.smt_session.specs.Steps.{State, with_verdict}
-use Rattle.smt_session.specs.Verdicts.{HasNoValues, IsBuilt, constants_of}
+use Rattle.sv_terms.specs.Truth.{clear_of, HasNoValues}
+use Rattle.smt_session.specs.Verdicts.{IsBuilt, constants_of}
 use Rattle.smt_session.specs.declared.session.Kept.TheVariants as kept
 use Rattle.smt_session.proofs.Models.{given}
 use Rattle.smt_session.proofs.Soundness.{live-known, sound-formed}
@@ -29,4 +30,4 @@ pub returns-in-Unsat-clause-ok : goal.returns-in-Unsat-clause-ok
 returns-in-Unsat-clause-ok c =
     let right = subst (IsRight c.symbols.result.now c.live.result.now) c.in-Unsat.is c.in_ok-model.ensures in
     let all = c.live.ensures ∙ ap live (ap (λ (s : State). s.levels) c.self.view_is) in
-    (subst IsBuilt all right.0, subst HasNoValues all right.1, ap (with_verdict kept.Unsat) c.self.view_is)
+    (subst IsBuilt all right.0, subst (λ ts. HasNoValues (clear_of ts)) all right.1, ap (with_verdict kept.Unsat) c.self.view_is)
