@@ -1,0 +1,12 @@
+pub mod PreRuns
+pub mod PreBounds
+pub mod JoinLemmas
+pub mod LeadLemmas
+pub mod LikeLemmas
+pub mod MoreLemmas
+pub mod EndLemmas
+pub mod WayLemmas
+pub mod LiftLemmas
+pub mod MovedLemmas
+pub mod PartLemmas
+pub mod FreeLemmas

@@ -1,0 +1,70 @@
+-- Characters of a set that are in another set once they are moved.
+use Rattle.std.proofs.Common.{◌≡◌, ℕ, zero, suc, ℤ, pos, ◌+ℤ◌, Some, None, if◌then◌else◌, ◌+◌, ◌<◌, ◌≤◌, ◌&&◌, ◌||◌, nat_le, Bool, true, false, IsTrue, List, [], ◌∷◌, ◌++◌, length, get_or, take, refl, sym, ap, ap₂, ◌∙◌, subst, arith}
+use Rattle.std.specs.List.{list_any}
+use Rattle.std.specs.Option.{unwrap_or}
+use Rattle.std.proofs.lemmas.Bool.{leb-true, le-leb}
+use Rattle.std.proofs.lemmas.List.{take_more}
+use Rattle.std.proofs.lemmas.List.Folds.{list_any-append}
+use Rattle.sv_word.specs.Ranges.{in_pair, in_ranges, IsApartFrom}
+use Rattle.sv_terms.specs.Transduction.{character}
+use Rattle.pre_image.specs.Spelling.{moved_to, no_character}
+
+-- sets hold characters alone
+pub apart-top : (low : ℕ) (rs : List (ℕ × ℕ)) (i : ℕ) → IsApartFrom low rs → i < length rs → (get_or rs i (0, 0)).1 ≤ 0x2FFFF
+apart-top low [] i h lt = absurd (omega (arith, lt))
+apart-top low (p ∷ ps) zero h lt = h.2
+apart-top low (p ∷ ps) (suc i) h lt = apart-top (p.1 + 2) ps i h.3 (omega (arith, lt))
+
+pub in-top : (low : ℕ) (rs : List (ℕ × ℕ)) (c : ℕ) → IsApartFrom low rs → in_ranges rs c ≡ true → c ≤ 0x2FFFF
+in-top low [] c h e = absurd (cc)
+in-top low (p ∷ ps) c h e = by (nat_le p.0 c) (nat_le c p.1) refl e (in-top (p.1 + 2) ps c h.3)
+  where
+    by : (a b : Bool) → nat_le c p.1 ≡ b → ((a && b) || in_ranges ps c) ≡ true → (in_ranges ps c ≡ true → c ≤ 0x2FFFF) → c ≤ 0x2FFFF
+    by true true below f later = let le = leb-true c p.1 below in let top = h.2 in omega (arith, le, top)
+    by true false below f later = later f
+    by false b below f later = later f
+
+or-false : (b : Bool) → (b || false) ≡ b
+or-false true = refl
+or-false false = refl
+
+-- one pair more was looked at
+pub moved-more : (lead step on window more new : List (ℕ × ℕ)) (i : ℕ) (k : ℤ) (c : ℕ) → i < length step → IsApartFrom 0 lead
+    → in_ranges on c ≡ (in_ranges lead c && in_ranges (take i step) (moved_to k c))
+    → (c ≤ 0x2FFFF → in_ranges window c ≡ in_pair (get_or step i (0, 0)) (moved_to k c))
+    → in_ranges more c ≡ (in_ranges lead c && in_ranges window c)
+    → in_ranges new c ≡ (in_ranges on c || in_ranges more c)
+    → in_ranges new c ≡ (in_ranges lead c && in_ranges (take (i + 1) step) (moved_to k c))
+moved-more lead step on window more new i k c lt apart before at meets joins = joins ∙ by (in_ranges lead c) refl
+  where
+    next : in_ranges (take (i + 1) step) (moved_to k c) ≡ (in_ranges (take i step) (moved_to k c) || in_pair (get_or step i (0, 0)) (moved_to k c))
+    next =
+        ap (λ (l : List (ℕ × ℕ)). in_ranges l (moved_to k c)) (take_more step i (0, 0) lt)
+        ∙ list_any-append (λ p. nat_le p.0 (moved_to k c) && nat_le (moved_to k c) p.1) (take i step) (get_or step i (0, 0) ∷ [])
+        ∙ ap (λ b. in_ranges (take i step) (moved_to k c) || b) (or-false (in_pair (get_or step i (0, 0)) (moved_to k c)))
+
+    by : (b : Bool) → in_ranges lead c ≡ b → (in_ranges on c || in_ranges more c) ≡ (in_ranges lead c && in_ranges (take (i + 1) step) (moved_to k c))
+    by false e =
+        ap₂ (λ x y. x || y) (before ∙ ap (λ b. b && in_ranges (take i step) (moved_to k c)) e) (meets ∙ ap (λ b. b && in_ranges window c) e)
+        ∙ sym (ap (λ b. b && in_ranges (take (i + 1) step) (moved_to k c)) e)
+    by true e =
+        ap₂ (λ x y. x || y) (before ∙ ap (λ b. b && in_ranges (take i step) (moved_to k c)) e) (meets ∙ ap (λ b. b && in_ranges window c) e ∙ at (in-top 0 lead c apart e))
+        ∙ sym next ∙ sym (ap (λ b. b && in_ranges (take (i + 1) step) (moved_to k c)) e)
+
+-- all pairs were looked at
+pub moved-all : (lead step items on : List (ℕ × ℕ)) (i : ℕ) (k : ℤ) (c : ℕ) → take i items ≡ step
+    → in_ranges on c ≡ (in_ranges lead c && in_ranges (take i items) (moved_to k c)) → in_ranges on c ≡ (in_ranges lead c && in_ranges step (moved_to k c))
+moved-all lead step items on i k c all h = h ∙ ap (λ (l : List (ℕ × ℕ)). in_ranges lead c && in_ranges l (moved_to k c)) all
+
+moved-none : (c : ℕ) → c ≤ 0x2FFFF → moved_to (pos 0) c ≡ c
+moved-none c h =
+    let same : c + 0 ≡ c = omega arith in
+    ap (λ d. unwrap_or (character (pos d)) no_character) same ∙ ap (λ b. unwrap_or (if b then Some c else None) no_character) (le-leb c 0x2FFFF h)
+
+-- moved by nothing
+pub still-met : (lead step both : List (ℕ × ℕ)) (c : ℕ) → IsApartFrom 0 lead → in_ranges both c ≡ (in_ranges lead c && in_ranges step c) → in_ranges both c ≡ (in_ranges lead c && in_ranges step (moved_to (pos 0) c))
+still-met lead step both c apart h = h ∙ by (in_ranges lead c) refl
+  where
+    by : (b : Bool) → in_ranges lead c ≡ b → (b && in_ranges step c) ≡ (b && in_ranges step (moved_to (pos 0) c))
+    by false e = refl
+    by true e = ap (in_ranges step) (sym (moved-none c (in-top 0 lead c apart e)))

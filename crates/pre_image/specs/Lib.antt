@@ -1,0 +1,10 @@
+pub mod Slices
+pub mod SliceLaws
+pub mod Spelling
+pub mod FormedProps
+pub mod PreImages
+pub mod PreLaws
+pub mod Lifts
+pub mod Leading
+pub mod Liftings
+pub mod Parts

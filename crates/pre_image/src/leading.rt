@@ -1,0 +1,288 @@
+//! Where a target may be once it went along what a transducer writes.
+ghost use Rattle.std.specs.Prelude.{◌≡◌, ⊤, ℕ, ◌++◌, ◌*◌, ◌<◌, ◌≤◌, ◌^◌, ◌↔◌, ◌⊎◌, ◌&&◌, List, [], ◌∷◌, length, IfOk, IfSome, OnOk, Any, Contains, MatchOption};
+ghost use Rattle.sv_word.specs.Ranges.{in_pair, in_ranges, IsInhabited};
+ghost use Rattle.machine_core.specs.declared.machine.Move.{Move};
+ghost use Rattle.machine_core.specs.Moves.{Moves};
+ghost use Rattle.machine_core.specs.Edges.{edges_top};
+ghost use Rattle.pre_image.specs.Spelling.{moved_to, spelling};
+ghost use Rattle.pre_image.specs.Leading.{CanAdd, next_of, spelled, GoesOn, Led, IsLead, IsLike, AreLeads};
+
+use crate::letter::Letter;
+use machine_core::{Cost, Explicit, Machine, Move};
+use std::alloc::{AllocError, Global};
+use sv_list::{Copied, Items};
+use sv_terms::Item;
+use sv_word::{GREATEST_CHARACTER, Ranges};
+
+// What a word has next, in order.
+fn push_word(nexts: &mut Items<Letter>, word: &[u32]) -> Result<(), AllocError>
+    ensures { OnOk result ((c : ℕ) → spelled nexts.new c ≡ spelled nexts.old c ++ word.now) }
+{
+    for d in word {
+        nexts.push(Letter::Fixed(*d))?;
+    }
+    Ok(())
+}
+
+/// What a word is written by, character by character.
+pub fn spell_word(alloc: Global, word: &[u32]) -> Result<Items<Letter>, AllocError>
+    ensures { IfOk result (λ nexts. (c : ℕ) → spelled nexts c ≡ word.now) }
+{
+    let mut nexts = Items::new(alloc);
+    push_word(&mut nexts, word)?;
+    Ok(nexts)
+}
+
+// What an item writes, in order.
+fn push_item(nexts: &mut Items<Letter>, item: &Item) -> Result<(), AllocError>
+    ensures { OnOk result ((c : ℕ) → spelled nexts.new c ≡ spelled nexts.old c ++ spelling c (item.now ∷ [])) }
+{
+    match item {
+        Item::Text(word) => {
+            push_word(nexts, word.as_slice())?;
+            Ok(())
+        }
+        Item::Shift(by) => {
+            nexts.push(Letter::Moved(*by))?;
+            Ok(())
+        }
+    }
+}
+
+/// What items write, letter by letter.
+pub fn spell(alloc: Global, items: &[Item]) -> Result<Items<Letter>, AllocError>
+    ensures { IfOk result (λ nexts. (c : ℕ) → spelled nexts c ≡ spelling c items.now) }
+{
+    let mut nexts = Items::new(alloc);
+    for item in items {
+        push_item(&mut nexts, item)?;
+    }
+    Ok(nexts)
+}
+
+// The characters that are in the pair once they are moved by this number.
+fn before(alloc: Global, pair: (u32, u32), by: i32) -> Result<Ranges, AllocError>
+    requires { pair.1 ≤ 0x2FFFF }
+    ensures { IfOk result (λ r. (c : ℕ) → c ≤ 0x2FFFF → in_ranges r c ≡ in_pair pair (moved_to by c)) }
+{
+    let steps = by.unsigned_abs();
+    if by < 0 {
+        let least = pair.0.saturating_add(steps);
+        let greatest = pair.1.saturating_add(steps).min(GREATEST_CHARACTER);
+        let all = Ranges::of(alloc, least, greatest)?;
+        return Ok(all);
+    }
+    if pair.1 < steps {
+        return Ok(Ranges::none(alloc));
+    }
+    let all = Ranges::of(alloc, pair.0.saturating_sub(steps), pair.1 - steps)?;
+    Ok(all)
+}
+
+// The characters of a lead that are read by a move once they are moved by this number.
+fn meet_moved(alloc: Global, lead: &Ranges, step: &Ranges, by: i32) -> Result<Ranges, AllocError>
+    ensures { IfOk result (λ r. (c : ℕ) → in_ranges r c ≡ (in_ranges lead.now c && in_ranges step.now (moved_to by c))) }
+{
+    let _lead = lead.as_slice();
+    let mut on = Ranges::none(alloc);
+    for pair in step.as_slice() {
+        let window = before(alloc, *pair, by)?;
+        let more = lead.meet(alloc, &window)?;
+        on = on.join(alloc, &more)?;
+    }
+    Ok(on)
+}
+
+// The characters of a lead for which a move reads what is written next.
+fn characters(
+    alloc: Global,
+    lead: &Ranges,
+    step: &Ranges,
+    next: Letter,
+) -> Result<Ranges, AllocError>
+    ensures { IfOk result (λ r. (c : ℕ) → in_ranges r c ≡ (in_ranges lead.now c && in_ranges step.now (next_of next c))) }
+{
+    match next {
+        Letter::Moved(0) => {
+            let _lead = lead.as_slice();
+            let both = lead.meet(alloc, step)?;
+            Ok(both)
+        }
+        Letter::Moved(by) => {
+            let both = meet_moved(alloc, lead, step, by)?;
+            Ok(both)
+        }
+        Letter::Fixed(d) => {
+            if step.holds(d) {
+                let all = lead.copy(alloc)?;
+                return Ok(all);
+            }
+            Ok(Ranges::none(alloc))
+        }
+    }
+}
+
+// The lead, gone on by this move; none where that is for no character.
+fn follow(
+    alloc: Global,
+    lead: &Move<u32>,
+    step: &Move<u32>,
+    next: Letter,
+) -> Result<Option<Move<u32>>, AllocError>
+    requires { CanAdd lead.now.cost step.now.cost }
+    ensures exact { IfOk result (λ o. (c : ℕ) (cost : List ℕ) (to : ℕ) → GoesOn next lead.now c cost to step.now ↔ MatchOption o ⊥ (Moves c cost to)) }
+    ensures inhabited { IfOk result (λ o. MatchOption o ⊤ (λ m. IsInhabited m.on)) }
+{
+    let on = characters(alloc, &lead.on, &step.on, next)?;
+    if on.is_empty() {
+        return Ok(None);
+    }
+    let cost = lead.cost.add(alloc, &step.cost)?;
+    Ok(Some(Move {
+        on,
+        cost,
+        to: step.to,
+    }))
+}
+
+// The place of a lead that ends in the same state at the same cost, if there is one.
+fn place_of(leads: &[Move<u32>], further: &Move<u32>) -> Option<usize>
+    ensures { IfSome result (λ at. IsLike leads.now further.now at) }
+{
+    for at in 0..leads.len() {
+        let lead = &leads[at];
+        if lead.to == further.to && lead.cost.as_slice() == further.cost.as_slice() {
+            return Some(at);
+        }
+    }
+    None
+}
+
+// Joins the characters of the lead at this place with those of a lead like it.
+fn join_lead(
+    alloc: Global,
+    leads: &mut Items<Move<u32>>,
+    at: usize,
+    further: Move<u32>,
+) -> Result<(), AllocError>
+    requires like { IsLike leads.old further at }
+    requires old { (l : Move ℕ) → Contains leads.old l → IsInhabited l.on }
+    ensures exact { OnOk result ((c : ℕ) (cost : List ℕ) (to : ℕ) →
+        Any (Moves c cost to) leads.new ↔ (Any (Moves c cost to) leads.old ⊎ Moves c cost to further)) }
+    ensures inhabited { OnOk result ((l : Move ℕ) → Contains leads.new l → IsInhabited l.on) }
+{
+    let on = leads.as_slice()[at].on.join(alloc, &further.on)?;
+    let _ = on.as_slice();
+    let Move { on: _, cost, to } = further;
+    leads.set(at, Move { on, cost, to });
+    Ok(())
+}
+
+// Adds a lead; one with the same end and cost becomes one with it, for the characters of both, so that
+// there is one lead for each end and cost.
+fn add_lead(
+    alloc: Global,
+    leads: &mut Items<Move<u32>>,
+    further: Move<u32>,
+) -> Result<(), AllocError>
+    requires old { (l : Move ℕ) → Contains leads.old l → IsInhabited l.on }
+    requires inhabited { IsInhabited further.on }
+    ensures exact { OnOk result ((c : ℕ) (cost : List ℕ) (to : ℕ) →
+        Any (Moves c cost to) leads.new ↔ (Any (Moves c cost to) leads.old ⊎ Moves c cost to further)) }
+    ensures inhabited { OnOk result ((l : Move ℕ) → Contains leads.new l → IsInhabited l.on) }
+{
+    if let Some(at) = place_of(leads.as_slice(), &further) {
+        return join_lead(alloc, leads, at, further);
+    }
+    leads.push(further)?;
+    Ok(())
+}
+
+// Adds a lead, where there is one.
+fn push_some(
+    alloc: Global,
+    leads: &mut Items<Move<u32>>,
+    lead: Option<Move<u32>>,
+) -> Result<(), AllocError>
+    requires old { (l : Move ℕ) → Contains leads.old l → IsInhabited l.on }
+    requires some { MatchOption lead ⊤ (λ m. IsInhabited m.on) }
+    ensures exact { OnOk result ((c : ℕ) (cost : List ℕ) (to : ℕ) →
+        Any (Moves c cost to) leads.new ↔ (Any (Moves c cost to) leads.old ⊎ MatchOption lead ⊥ (Moves c cost to))) }
+    ensures inhabited { OnOk result ((l : Move ℕ) → Contains leads.new l → IsInhabited l.on) }
+{
+    match lead {
+        None => Ok(()),
+        Some(further) => {
+            add_lead(alloc, leads, further)?;
+            Ok(())
+        }
+    }
+}
+
+// Adds the lead, gone on by each of these moves.
+fn follow_all(
+    alloc: Global,
+    leads: &mut Items<Move<u32>>,
+    lead: &Move<u32>,
+    steps: &[Move<u32>],
+    next: Letter,
+) -> Result<(), AllocError>
+    requires add { (s : Move ℕ) → Contains steps.now s → CanAdd lead.now.cost s.cost }
+    requires old { (l : Move ℕ) → Contains leads.old l → IsInhabited l.on }
+    ensures exact { OnOk result ((c : ℕ) (cost : List ℕ) (to : ℕ) →
+        Any (Moves c cost to) leads.new ↔ (Any (Moves c cost to) leads.old ⊎ Any (GoesOn next lead.now c cost to) steps.now)) }
+    ensures inhabited { OnOk result ((l : Move ℕ) → Contains leads.new l → IsInhabited l.on) }
+{
+    for step in steps {
+        let further = follow(alloc, lead, step, next)?;
+        push_some(alloc, leads, further)?;
+    }
+    Ok(())
+}
+
+// The leads, gone on by the target's steps on what is written next.
+fn go_on(
+    alloc: Global,
+    target: &Explicit,
+    leads: &[Move<u32>],
+    next: Letter,
+) -> Result<Items<Move<u32>>, AllocError>
+    requires { (l : Move ℕ) → Contains leads.now l → IsLead target.now l }
+    ensures exact { IfOk result (λ all. (c : ℕ) (cost : List ℕ) (to : ℕ) → Any (Moves c cost to) all ↔ Any (Led target.now next c cost to) leads.now) }
+    ensures inhabited { IfOk result (λ all. (l : Move ℕ) → Contains all l → IsInhabited l.on) }
+{
+    let mut all = Items::new(alloc);
+    for lead in leads {
+        let steps = target.moves(alloc, &lead.to)?;
+        follow_all(alloc, &mut all, lead, steps.as_slice(), next)?;
+    }
+    Ok(all)
+}
+
+/// Where the target may be, from the state `from` on, once it went along what is written for a
+/// character from `low` to `high`, and at which costs: a move for each way.
+pub fn along(
+    alloc: Global,
+    target: &Explicit,
+    from: u32,
+    low: u32,
+    high: u32,
+    nexts: &[Letter],
+) -> Result<Items<Move<u32>>, AllocError>
+    requires from { from < target.now.states }
+    requires order { low ≤ high }
+    requires high { high ≤ 0x2FFFF }
+    requires fits { edges_top target.now.edges * length nexts.now < 2 ^ 64 }
+    ensures { IfOk result (AreLeads target.now from low high (spelled nexts.now)) }
+{
+    let mut leads = Items::new(alloc);
+    leads.push(Move {
+        on: Ranges::of(alloc, low, high)?,
+        cost: Cost::zeros(alloc, target.registers())?,
+        to: from,
+    })?;
+    for next in nexts {
+        leads = go_on(alloc, target, leads.as_slice(), *next)?;
+    }
+    Ok(leads)
+}

@@ -1,0 +1,120 @@
+//! Slices and pre-images at concrete machines.
+ghost use Rattle.std.specs.Prelude.{◌≡◌, ◌<◌, [], ◌∷◌, IfOk};
+
+use crate::{Pre, Slice, lift_concat, lift_pre};
+use machine_core::{Cost, Explicit, Run};
+use replace_machines::replace_all;
+use std::alloc::{AllocError, Global};
+use std::test::Fail;
+use sv_list::Items;
+use sv_word::{Ranges, Word};
+use trim_search::{lifted_runs_are_runs, materialise, shortest};
+
+fn word(alloc: Global, text: &[u8]) -> Result<Word, AllocError> {
+    let mut word = Word::new(alloc);
+    for byte in text {
+        word.push(u32::from(*byte))?;
+    }
+    Ok(word)
+}
+
+fn add_edge(
+    machine: &mut Explicit,
+    alloc: Global,
+    at: u32,
+    c: u8,
+    to: u32,
+) -> Result<(), AllocError>
+    requires at { at < machine.old.states }
+    requires to { to < machine.old.states }
+    requires registers { machine.old.registers ≡ 0 }
+    ensures states { machine.new.states ≡ machine.old.states }
+    ensures registers { machine.new.registers ≡ 0 }
+{
+    let on = Ranges::of(alloc, u32::from(c), u32::from(c))?;
+    machine.add_edge(at, on, Cost::new(alloc), to)
+}
+
+// The machine of the word `x&lt;`.
+fn escaped(alloc: Global) -> Result<Explicit, AllocError>
+    ensures states { IfOk result (λ m. m.states ≡ 6) }
+    ensures registers { IfOk result (λ m. m.registers ≡ 0) }
+{
+    let mut machine = Explicit::new(alloc, 6, 0)?;
+    add_edge(&mut machine, alloc, 0, b'x', 1)?;
+    add_edge(&mut machine, alloc, 1, b'&', 2)?;
+    add_edge(&mut machine, alloc, 2, b'l', 3)?;
+    add_edge(&mut machine, alloc, 3, b't', 4)?;
+    add_edge(&mut machine, alloc, 4, b';', 5)?;
+    machine.add_end(5, Cost::new(alloc))?;
+    Ok(machine)
+}
+
+// A shortest word of the pre-image, and what is written for it.
+fn pair(alloc: Global, pre: &Pre) -> Result<Option<(Word, Word)>, Fail> {
+    let built = materialise(alloc, pre, 100)?;
+    match shortest(alloc, &built.machine)? {
+        None => Ok(None),
+        Some(run) => {
+            let lifted = built.lift(alloc, &run)?;
+            lifted_runs_are_runs(pre, &built);
+            let (written, _way) = lift_pre(alloc, pre, &lifted)?;
+            Ok(Some((lifted.word, written)))
+        }
+    }
+}
+
+#[test]
+fn words_are_found_before_a_replacement(rt: HostRuntime) -> Result<(), Fail> {
+    let alloc = rt.alloc();
+    let escape = replace_all(alloc, &word(alloc, b"<")?, &word(alloc, b"&lt;")?)?;
+    let target = escaped(alloc)?;
+    let pre = Pre::of(&escape, &target);
+    match pair(alloc, &pre)? {
+        None => assert!(rt; false),
+        Some((read, written)) => {
+            assert_eq!(rt; read.as_slice(), word(alloc, b"x<")?.as_slice());
+            assert_eq!(rt; written.as_slice(), word(alloc, b"x&lt;")?.as_slice());
+        }
+    }
+    Ok(())
+}
+
+#[test]
+fn slices_have_the_runs_between(rt: HostRuntime) -> Result<(), Fail> {
+    let alloc = rt.alloc();
+    let target = escaped(alloc)?;
+    let built = materialise(alloc, &Slice::of(&target, 1, Some(3)), 100)?;
+    match shortest(alloc, &built.machine)? {
+        None => assert!(rt; false),
+        Some(run) => assert_eq!(rt; run.word.as_slice(), word(alloc, b"&l")?.as_slice()),
+    }
+    let tail = materialise(alloc, &Slice::of(&target, 3, None), 100)?;
+    match shortest(alloc, &tail.machine)? {
+        None => assert!(rt; false),
+        Some(run) => assert_eq!(rt; run.word.as_slice(), word(alloc, b"t;")?.as_slice()),
+    }
+    Ok(())
+}
+
+// A run that stays in one state without costs.
+fn still(alloc: Global, at: u32) -> Result<Run<u32>, AllocError>
+    ensures states { IfOk result (λ r. r.states ≡ at ∷ []) }
+    ensures costs { IfOk result (λ r. r.costs ≡ []) }
+    ensures last { IfOk result (λ r. r.last ≡ []) }
+{
+    Ok(Run {
+        word: Word::new(alloc),
+        states: Items::from_slice(alloc, &[at])?,
+        costs: Items::new(alloc),
+        last: Cost::new(alloc),
+    })
+}
+
+#[test]
+fn runs_are_joined(rt: HostRuntime) -> Result<(), AllocError> {
+    let alloc = rt.alloc();
+    let whole = lift_concat(alloc, &still(alloc, 7)?, &still(alloc, 7)?)?;
+    assert_eq!(rt; whole.states.as_slice(), [7].as_slice());
+    Ok(())
+}
