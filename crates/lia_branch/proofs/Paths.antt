@@ -1,0 +1,179 @@
+-- The way from a node up to the root.
+use Rattle.std.proofs.Common.{◌≡◌, ℕ, ℤ, zero, suc, ◌+◌, ◌-◌, ◌<◌, List, [], ◌∷◌, ◌++◌, length, length-append, ◌⊎◌, inl, inr, refl, ap, sym, ◌∙◌, subst, arith}
+use Rattle.std.specs.List.{count_by}
+use Rattle.std.specs.Prelude.{true, false, Bool}
+use Rattle.sv_linear.specs.declared.row.Row.{Row}
+use Rattle.farkas_check.specs.Systems.{Constraint}
+use Rattle.farkas_check.specs.declared.net.Net.{Net}
+use Rattle.farkas_check.specs.declared.system.System.{System}
+use Rattle.farkas_check.specs.declared.tree.Tree.{Tree}
+use Rattle.farkas_check.specs.declared.tree.Tree.TheVariants as v
+use Rattle.lia_tableau.specs.Adding.{IsRowAdded, IsPastRow}
+use Rattle.lia_tableau.specs.Crossing.{IsPast}
+use Rattle.lia_tableau.specs.declared.table.Table.{Table}
+use Rattle.lia_branch.specs.Nodes.{Node, BeginsAt, IsRowOf, root_of, child_of}
+use Rattle.lia_branch.specs.EvidenceHolds.{split_limit}
+use Rattle.lia_branch.specs.Founds.{IsReady, IsNodeOf, IsNodeSolution, IsNodeClosing, IsNodeStop}
+use Rattle.lia_branch.specs.Forks.{fork_tree, AreSides, IsForkAt, IsWaiting, Path, top, in_first, in_second, IsSearching, IsClosing, IsResumed, IsStopping, is_first}
+use Rattle.lia_branch.specs.declared.fork.Fork.{Fork}
+use Rattle.lia_branch.specs.declared.level.Level.{Level}
+use Rattle.lia_branch.specs.declared.level.Level.TheVariants.{First, Second}
+use Rattle.lia_branch.specs.declared.stop.Stop.{Stop}
+use Rattle.lia_branch.proofs.Branching.{solution_above, side_ready, side_node, goes_on}
+use Rattle.lia_branch.proofs.Forking.{fork_closed, stopped_first, stopped_second, sides_of}
+use Rattle.sv_linear.specs.Rows.{IsRowWithin}
+
+ends_same : {X : Type 0} (xs ys : List X) (x y : X) → xs ++ x ∷ [] ≡ ys ++ y ∷ [] → (xs ≡ ys) × (x ≡ y)
+ends_same [] [] x y e = (refl, cc)
+ends_same {X} [] (z ∷ zs) x y e = absurd (omega (arith, ap length e, length-append zs (y ∷ [])))
+ends_same {X} (z ∷ zs) [] x y e = absurd (omega (arith, ap length e, length-append zs (x ∷ [])))
+ends_same (w ∷ ws) (z ∷ zs) x y e =
+    let tails : ws ++ x ∷ [] ≡ zs ++ y ∷ [] = cc in
+    let heads : w ≡ z = cc in
+    let r = ends_same ws zs x y tails in
+    (ap (λ l. w ∷ l) r.0 ∙ ap (λ a. a ∷ zs) heads, r.1)
+
+no_end : {X : Type 0} (xs : List X) (x : X) → xs ++ x ∷ [] ≡ [] → ⊥
+no_end {X} xs x e = absurd (omega (arith, ap length e, length-append xs (x ∷ [])))
+
+abbrev fork_of : Level → Fork
+fork_of (First f t) = f
+fork_of (Second f tree) = f
+
+abbrev table_of : Table → Level → Table
+table_of d (First f t) = t
+table_of d (Second f tree) = d
+
+abbrev tree_of : Level → Tree
+tree_of (First f t) = v.Open
+tree_of (Second f tree) = tree
+
+pub record IsInFirst (s : System) (below : List Level) (node : Node) (left : ℕ) (t : Table) (fork : Fork) : Type 0 where
+  pub above : Node
+  pub first : Constraint
+  pub second : Constraint
+  pub path : Path s below above (suc left)
+  pub waiting : IsWaiting s above t fork first second
+  pub is : child_of above t first ≡ node
+
+pub record IsInSecond (s : System) (below : List Level) (node : Node) (left : ℕ) (fork : Fork) (tree : Tree) : Type 0 where
+  pub above : Node
+  pub first : Constraint
+  pub second : Constraint
+  pub splits : ℕ
+  pub t : Table
+  pub path : Path s below above (suc (splits + left))
+  pub waiting : IsWaiting s above t fork first second
+  pub closing : IsNodeClosing (child_of above t first) tree splits
+  pub is : child_of above t second ≡ node
+
+up_first : (s : System) (levels below : List Level) (node : Node) (left : ℕ) (t : Table) (fork : Fork) → levels ≡ below ++ First fork t ∷ [] → Path s levels node left → IsInFirst s below node left t fork
+up_first s levels below node left t fork e (top r) = absurd (no_end below (First fork t) (sym e))
+up_first s levels below node left t fork e (in_first r b l above k u f c d g p w) =
+    let same = ends_same b below (First f u) (First fork t) (sym g ∙ e) in
+    let forks : f ≡ fork = ap fork_of same.1 in
+    let tables : u ≡ t = ap (table_of t) same.1 in
+    subst (λ (x : List Level). IsInFirst s x node left t fork) same.0
+    (subst (λ (x : Fork). IsInFirst s b node left t x) forks
+    (subst (λ (x : Table). IsInFirst s b node left x f) tables
+    (record { above = above; first = c; second = d; path = p; waiting = w; is = refl })))
+up_first s levels below node left t fork e (in_second r b l above k n u f tree c d g p w cl) =
+    let same = ends_same b below (Second f tree) (First fork t) (sym g ∙ e) in
+    absurd (let z = ap is_first same.1 in cc)
+
+up_second : (s : System) (levels below : List Level) (node : Node) (left : ℕ) (fork : Fork) (tree : Tree) → levels ≡ below ++ Second fork tree ∷ [] → Path s levels node left → IsInSecond s below node left fork tree
+up_second s levels below node left fork tree e (top r) = absurd (no_end below (Second fork tree) (sym e))
+up_second s levels below node left fork tree e (in_first r b l above k u f c d g p w) =
+    let same = ends_same b below (First f u) (Second fork tree) (sym g ∙ e) in
+    absurd (let z = ap is_first same.1 in cc)
+up_second s levels below node left fork tree e (in_second r b l above k n u f own c d g p w cl) =
+    let same = ends_same b below (Second f own) (Second fork tree) (sym g ∙ e) in
+    subst (λ (x : List Level). IsInSecond s x node left fork tree) same.0
+    (subst (λ (x : Fork). IsInSecond s b node left x tree) (ap fork_of same.1)
+    (subst (λ (x : Tree). IsInSecond s b node left f x) (ap tree_of same.1)
+    (record { above = above; first = c; second = d; splits = n; t = u; path = p; waiting = w; closing = cl; is = refl })))
+
+pub at_top : (s : System) (levels : List Level) (node : Node) (left : ℕ) → levels ≡ [] → Path s levels node left → (root_of s ≡ node) × (split_limit ≡ left)
+at_top s levels node left e (top r) = (refl, refl)
+at_top s levels node left e (in_first r b l above k u f c d g p w) = absurd (no_end b (First f u) (sym g ∙ e))
+at_top s levels node left e (in_second r b l above k n u f own c d g p w cl) = absurd (no_end b (Second f own) (sym g ∙ e))
+
+pub closing_up : (s : System) (levels below : List Level) (left : ℕ) (fork : Fork) (first tree : Tree) → levels ≡ below ++ Second fork first ∷ [] → IsClosing s levels left tree → IsClosing s below left (fork_tree fork first tree)
+closing_up s levels below left fork first tree e k =
+    let u = up_second s levels below k.node (k.splits + left) fork first e k.path in
+    let inner = subst (λ (x : Node). IsNodeClosing x tree k.splits) (sym u.is) k.closing in
+    let count : suc (u.splits + (k.splits + left)) ≡ (u.splits + k.splits + 1) + left = omega arith in
+    record {
+      node = u.above;
+      splits = u.splits + k.splits + 1;
+      path = subst (Path s below u.above) count u.path;
+      closing = fork_closed s u.above u.t fork u.first u.second u.waiting.at u.waiting.sides first tree u.splits k.splits u.closing inner;
+    }
+
+pub closing_first : (s : System) (levels below : List Level) (left : ℕ) (fork : Fork) (t : Table) (tree : Tree) → levels ≡ below ++ First fork t ∷ [] → IsClosing s levels left tree → IsResumed s below left t fork tree
+closing_first s levels below left fork t tree e k =
+    let u = up_first s levels below k.node (k.splits + left) t fork e k.path in
+    record {
+      node = u.above;
+      splits = k.splits;
+      first = u.first;
+      second = u.second;
+      path = u.path;
+      waiting = u.waiting;
+      closing = subst (λ (x : Node). IsNodeClosing x tree k.splits) (sym u.is) k.closing;
+    }
+
+pub closing_top : (s : System) (levels : List Level) (left : ℕ) (tree : Tree) → levels ≡ [] → IsClosing s levels left tree → (splits : ℕ) × IsNodeClosing (root_of s) tree splits
+closing_top s levels left tree e k = (k.splits, subst (λ (x : Node). IsNodeClosing x tree k.splits) (sym (at_top s levels k.node (k.splits + left) e k.path).0) k.closing)
+
+pub stopping_first : (s : System) (levels below : List Level) (fork : Fork) (t : Table) (tree : Tree) (stop : Stop) → levels ≡ below ++ First fork t ∷ [] → IsStopping s levels tree stop → IsStopping s below (fork_tree fork tree v.Open) stop
+stopping_first s levels below fork t tree stop e k =
+    let u = up_first s levels below k.node k.left t fork e k.path in
+    record {
+      node = u.above;
+      left = suc k.left;
+      path = u.path;
+      stops = stopped_first s u.above t fork u.first u.second u.waiting.at u.waiting.sides k.left tree stop (subst (λ (x : Node). IsNodeStop x k.left tree stop) (sym u.is) k.stops);
+    }
+
+pub stopping_second : (s : System) (levels below : List Level) (fork : Fork) (first tree : Tree) (stop : Stop) → levels ≡ below ++ Second fork first ∷ [] → IsStopping s levels tree stop → IsStopping s below (fork_tree fork first tree) stop
+stopping_second s levels below fork first tree stop e k =
+    let u = up_second s levels below k.node k.left fork first e k.path in
+    record {
+      node = u.above;
+      left = suc (u.splits + k.left);
+      path = u.path;
+      stops = stopped_second s u.above u.t fork u.first u.second u.waiting.at u.waiting.sides k.left u.splits first tree stop u.closing (subst (λ (x : Node). IsNodeStop x k.left tree stop) (sym u.is) k.stops);
+    }
+
+pub stopping_top : (s : System) (levels : List Level) (tree : Tree) (stop : Stop) → levels ≡ [] → IsStopping s levels tree stop → IsNodeStop (root_of s) split_limit tree stop
+stopping_top s levels tree stop e k =
+    let u = at_top s levels k.node k.left e k.path in
+    subst (λ (x : Node). IsNodeStop x split_limit tree stop) (sym u.0) (subst (λ n. IsNodeStop k.node n tree stop) (sym u.1) k.stops)
+
+pub path_solution : (s : System) (levels : List Level) (node : Node) (left : ℕ) (point : List ℤ) → Path s levels node left → IsNodeSolution node point → IsNodeSolution (root_of s) point
+path_solution s levels node left point (top r) h = h
+path_solution s levels node left point (in_first r b l above k u f c d g p w) h = path_solution s b above (suc k) point p (solution_above above u c point h)
+path_solution s levels node left point (in_second r b l above k n u f own c d g p w cl) h = path_solution s b above (suc (n + k)) point p (solution_above above u d point h)
+
+-- the row of one side of a split, added to the basis of the split's node
+module _ (s : System) (node : Node) (t after : Table) (fork : Fork) (c : Constraint) (row : Row) (at : IsForkAt s node t fork) (ready : IsReady s t.rows t) (means : IsRowOf c row) (within : IsRowWithin s.unknowns row)
+    (unknowns : after.unknowns ≡ t.unknowns) (rows : after.rows ≡ t.rows ++ row ∷ []) (added : IsRowAdded t.lines after.lines row) where
+  pub side_searched : (levels : List Level) (left : ℕ) → Path s levels (child_of node t c) left → 0 < left → IsSearching s levels after left
+  side_searched levels left path positive = record {
+    node = child_of node t c;
+    path = path;
+    node_of = subst (λ (rs : List Row). IsNodeOf s rs (child_of node t c)) (sym rows) (side_node s t.rows node t c row at.node_of means);
+    begins = goes_on t after c row means unknowns rows added;
+    ready = subst (λ (rs : List Row). IsReady s rs after) (sym rows) (side_ready s t.rows t after row ready within unknowns rows);
+    positive = positive;
+  }
+
+pub first_path : (s : System) (below levels : List Level) (node : Node) (left : ℕ) (t : Table) (fork : Fork) (c d : Constraint) → levels ≡ below ++ First fork t ∷ [] → 0 < left → Path s below node left → IsForkAt s node t fork → AreSides s.nets fork c d → IsReady s t.rows t →
+    Path s levels (child_of node t c) (left - 1)
+first_path s below levels node left t fork c d e p path at sides ready =
+    let same : left ≡ suc (left - 1) = omega (arith, p) in
+    in_first s below levels node (left - 1) t fork c d e (subst (Path s below node) same path) (record { at = at; sides = sides; ready = ready })
+
+pub second_path : (s : System) (below levels : List Level) (left : ℕ) (t : Table) (fork : Fork) (tree : Tree) → levels ≡ below ++ Second fork tree ∷ [] → (k : IsResumed s below left t fork tree) → Path s levels (child_of k.node t k.second) left
+second_path s below levels left t fork tree e k = in_second s below levels k.node left k.splits t fork tree k.first k.second e k.path k.waiting k.closing

@@ -1,0 +1,10 @@
+pub mod DueSplits
+pub mod DueTrees
+pub mod EdgeSums
+pub mod EvidenceHolds
+pub mod Forks
+pub mod Founds
+pub mod LeafMultipliers
+pub mod Nodes
+pub mod Outcomes
+pub mod PastSums

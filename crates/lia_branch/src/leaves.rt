@@ -1,0 +1,91 @@
+ghost use Rattle.std.specs.Prelude.{◌≡◌, pos, ◌<ℤ◌, ◌≤ℤ◌, false, IsTrue, IfOk};
+ghost use Rattle.lia_tableau.specs.Crossing.{column_number};
+ghost use Rattle.lia_tableau.specs.Shown.{IsStatus};
+ghost use Rattle.lia_tableau.specs.declared.status.Status.TheVariants.{Divisor, Conflict};
+ghost use Rattle.lia_branch.specs.Nodes.{Node, ComesTo};
+ghost use Rattle.lia_branch.specs.Founds.{IsReady, IsNodeOf};
+ghost use Rattle.lia_branch.specs.Forks.{VisitHolds};
+
+use crate::leaf_sums::{multipliers_of, remainders_of};
+use crate::stop::Stop;
+use crate::visit::Visit;
+use farkas_check::{LeafTest, System, Tree, test_divisor, test_farkas};
+use lia_tableau::{Tableau, unknowns_divisor};
+use std::alloc::{AllocError, Global};
+use sv_linear::{Column, Row};
+
+/// The leaf of the line at a place, which shows a conflict.
+pub(crate) fn conflict_leaf(
+    alloc: Global,
+    system: &System,
+    rows: &[Row],
+    tableau: &Tableau,
+    at: u32,
+) -> Result<Visit, AllocError>
+    requires ready { IsReady system.now rows.now tableau.now }
+    requires status { IsStatus tableau.now (Conflict at) }
+    ensures { (node : Node) → IsNodeOf system.now rows.now node → ComesTo node tableau.now → IfOk result (VisitHolds system.now tableau.now node) }
+{
+    let line = tableau.identity(at);
+    let negated = is_negative(line.form.constant);
+    let multipliers = multipliers_of(alloc, system.unknowns, &line.form, negated)?;
+    match test_farkas(alloc, system.unknowns, rows, multipliers.as_slice())? {
+        LeafTest::Closes => Ok(Visit::Closed(Tree::Farkas { multipliers })),
+        LeafTest::Fails => unreachable!(),
+        LeafTest::Past(column) => Ok(Visit::Stopped(Stop::PastSum(number_of(
+            column,
+            system.unknowns,
+        )))),
+    }
+}
+
+/// The leaf of the line at a place, which shows a divisor.
+pub(crate) fn divisor_leaf(
+    alloc: Global,
+    system: &System,
+    rows: &[Row],
+    tableau: &Tableau,
+    at: u32,
+) -> Result<Visit, AllocError>
+    requires ready { IsReady system.now rows.now tableau.now }
+    requires status { IsStatus tableau.now (Divisor at) }
+    ensures { (node : Node) → IsNodeOf system.now rows.now node → ComesTo node tableau.now → IfOk result (VisitHolds system.now tableau.now node) }
+{
+    let line = tableau.identity(at);
+    let divisor = unknowns_divisor(system.unknowns, &line.form);
+    let multipliers = remainders_of(alloc, system.unknowns, &line.form, divisor)?;
+    match test_divisor(
+        alloc,
+        system.unknowns,
+        rows,
+        multipliers.as_slice(),
+        divisor,
+    )? {
+        LeafTest::Closes => Ok(Visit::Closed(Tree::Divisor {
+            multipliers,
+            divisor,
+        })),
+        LeafTest::Fails => unreachable!(),
+        LeafTest::Past(column) => Ok(Visit::Stopped(Stop::PastSum(number_of(
+            column,
+            system.unknowns,
+        )))),
+    }
+}
+
+/// The number of a column, where the constant's comes after the last unknown.
+fn number_of(column: Column, unknowns: u32) -> u32
+    ensures { result ≡ column_number unknowns column }
+{
+    match column {
+        Column::Unknown(unknown) => unknown,
+        Column::Constant => unknowns,
+    }
+}
+
+fn is_negative(number: i128) -> bool
+    ensures negative { IsTrue result → number <ℤ pos 0 }
+    ensures not_negative { result ≡ false → pos 0 ≤ℤ number }
+{
+    number < 0
+}

@@ -1,0 +1,212 @@
+ghost use Rattle.std.specs.Prelude.{◌≡◌, ℕ, suc, ◌<◌, ◌-◌, IfOk};
+ghost use Rattle.std.specs.List.{count_by};
+ghost use Rattle.sv_linear.specs.Rows.{IsRowWithin};
+ghost use Rattle.lia_tableau.specs.Crossing.{IsPast};
+ghost use Rattle.lia_branch.specs.Forks.{IsForkWithin};
+ghost use Rattle.lia_branch.specs.Forks.{Path};
+ghost use Rattle.farkas_check.specs.declared.tree.Tree.TheVariants.{Open};
+ghost use Rattle.lia_branch.specs.Nodes.{Node, BeginsAt, IsFirst};
+ghost use Rattle.lia_branch.specs.EvidenceHolds.{IsPastAt, Holds};
+ghost use Rattle.lia_branch.specs.Founds.{IsReady, IsNodeOf, IsNodeStop};
+ghost use Rattle.lia_branch.specs.Forks.{VisitHolds, IsSearching, IsForkAt, IsResumed, EnteredHolds, NextHolds, IsNextSmaller, EnteredBy, is_first};
+ghost use Rattle.lia_branch.specs.Outcomes.{IfSolution, IfClosed, IfGaveUp, IsSolution, IsAccepted};
+
+use crate::fork::Fork;
+use crate::leaves::{conflict_leaf, divisor_leaf};
+use crate::level::{Entered, Level, Next, Resumed, give_up, resume};
+use crate::outcome::Outcome;
+use crate::points::{Fraction, first_fraction, whole_point};
+use crate::stop::Stop;
+use crate::visit::Visit;
+use farkas_check::{Cutter, System, Tree};
+use lia_tableau::{Status, Tableau, TableauFault, settle};
+use std::alloc::{AllocError, Global};
+use sv_linear::Row;
+use sv_list::{Copied, Items};
+
+/// How many splits a search may have.
+const SPLIT_LIMIT: u32 = 2000;
+
+/// Why a search stops where a row leaves 128 bits.
+fn stop_of(fault: TableauFault) -> Result<Stop, AllocError>
+    ensures { (node : Node) → IsPast (λ first second at column. IsPastAt first second at column node) fault → IfOk result (λ stop. (left : ℕ) → IsNodeStop node left Open stop) }
+{
+    match fault {
+        TableauFault::Past {
+            first,
+            second,
+            unknown,
+            column,
+        } => Ok(Stop::PastRow {
+            first,
+            second,
+            unknown,
+            column,
+        }),
+        TableauFault::Memory(error) => Err(error),
+    }
+}
+
+/// Makes the due pivots of a node, and finds what stands there.
+fn visit<C: Cutter>(
+    alloc: Global,
+    system: &System,
+    cutter: &C,
+    tableau: &mut Tableau,
+) -> Result<Visit, AllocError>
+    requires ready { IsReady system.now tableau.old.rows tableau.old }
+    requires cutter { C.nets cutter.now ≡ system.now.nets }
+    ensures ready { IsReady system.now tableau.new.rows tableau.new }
+    ensures found { (node : Node) → IsNodeOf system.now tableau.old.rows node → BeginsAt node.unknowns node.origin tableau.old → IfOk result (VisitHolds system.now tableau.new node) }
+{
+    if let Err(fault) = settle(alloc, tableau) {
+        return Ok(Visit::Stopped(stop_of(fault)?));
+    }
+    match tableau.status() {
+        Status::Divisor(at) => divisor_leaf(alloc, system, tableau.rows(), tableau, at),
+        Status::Conflict(at) => conflict_leaf(alloc, system, tableau.rows(), tableau, at),
+        Status::Point => match first_fraction(tableau, system.unknowns) {
+            Some(Fraction { unknown, at }) => Ok(Visit::Split(Fork::Unknown { unknown, at })),
+            None => {
+                let point = whole_point(alloc, tableau, system.unknowns)?;
+                match cutter.cut(alloc, point.as_slice())? {
+                    None => Ok(Visit::Solution(point)),
+                    Some((net, states)) => Ok(Visit::Split(Fork::Set { net, states })),
+                }
+            }
+        },
+        Status::Due => unreachable!(),
+    }
+}
+
+/// Adds the row of one side of a split to the basis of the split's node.
+fn enter(alloc: Global, tableau: Tableau, row: Row) -> Result<Entered, AllocError>
+    requires { IsRowWithin tableau.unknowns row }
+    ensures { IfOk result (EnteredHolds tableau row) }
+{
+    let mut tableau = tableau;
+    match tableau.add_row(alloc, &row) {
+        Ok(()) => Ok(Entered::Node(tableau)),
+        Err(fault) => Ok(Entered::Past(stop_of(fault)?)),
+    }
+}
+
+/// Goes to the first side of a split that is due.
+fn descend(
+    alloc: Global,
+    system: &System,
+    levels: &mut Items<Level>,
+    tableau: Tableau,
+    fork: Fork,
+) -> Result<Entered, AllocError>
+    requires within { IsForkWithin system.now fork }
+    requires ready { IsReady system.now tableau.rows tableau }
+    ensures found { (node : Node) (left : ℕ) → Path system.now levels.old node left → 1 < left → IsForkAt system.now node tableau fork → IfOk result (EnteredBy system.now levels.new (left - 1)) }
+    ensures waiting { IfOk result (λ _. count_by is_first levels.new ≡ suc (count_by is_first levels.old)) }
+{
+    let row = fork.first_row(alloc, system)?;
+    let copy = tableau.copy(alloc)?;
+    levels.push(Level::First { fork, tableau })?;
+    enter(alloc, copy, row)
+}
+
+/// Goes to the second side of a split whose first the tree closes.
+fn cross(
+    alloc: Global,
+    system: &System,
+    levels: &mut Items<Level>,
+    tableau: Tableau,
+    fork: Fork,
+    tree: Tree,
+) -> Result<Entered, AllocError>
+    requires within { IsForkWithin system.now fork }
+    requires ready { IsReady system.now tableau.rows tableau }
+    ensures found { (left : ℕ) → 0 < left → IsResumed system.now levels.old left tableau fork tree → IfOk result (EnteredBy system.now levels.new left) }
+    ensures waiting { IfOk result (λ _. count_by is_first levels.new ≡ count_by is_first levels.old) }
+{
+    let row = fork.second_row(alloc, system)?;
+    levels.push(Level::Second { fork, tree })?;
+    enter(alloc, tableau, row)
+}
+
+/// Where the search goes from a node that was visited.
+fn next(
+    alloc: Global,
+    system: &System,
+    levels: &mut Items<Level>,
+    left: u32,
+    tableau: Tableau,
+    visit: Visit,
+) -> Result<Next, AllocError>
+    requires left { 0 < left }
+    requires visit { (node : Node) × (Path system.now levels.old node left × VisitHolds system.now tableau node visit) }
+    requires ready { IsReady system.now tableau.rows tableau }
+    ensures found { IfOk result (NextHolds system.now levels.new) }
+    ensures smaller { IfOk result (IsNextSmaller levels.old levels.new left) }
+{
+    match visit {
+        Visit::Solution(point) => Ok(Next::Solution(point)),
+        Visit::Stopped(stop) => Ok(Next::Stopped {
+            tree: Tree::Open,
+            stop,
+        }),
+        Visit::Split(fork) => {
+            if left == 1 {
+                let tree = fork.tree(alloc, Tree::Open, Tree::Open)?;
+                return Ok(Next::Stopped {
+                    tree,
+                    stop: Stop::Branches,
+                });
+            }
+            let entered = descend(alloc, system, levels, tableau, fork)?;
+            Ok(entered.next(left - 1))
+        }
+        Visit::Closed(leaf) => match resume(alloc, levels, leaf)? {
+            Resumed::Whole(tree) => Ok(Next::Closed(tree)),
+            Resumed::Waiting {
+                fork,
+                tree,
+                tableau: waiting,
+            } => {
+                let entered = cross(alloc, system, levels, waiting, fork, tree)?;
+                Ok(entered.next(left))
+            }
+        },
+    }
+}
+
+/// Searches the tree of a system whose first basis this is, first sides first.
+pub(crate) fn search<C: Cutter>(
+    alloc: Global,
+    system: &System,
+    cutter: &C,
+    tableau: Tableau,
+) -> Result<Outcome, AllocError>
+    requires ready { IsReady system.now system.now.rows tableau }
+    requires cutter { C.nets cutter.now ≡ system.now.nets }
+    requires begins { IsFirst system.now.unknowns system.now.rows tableau }
+    ensures solution { IfOk result (λ o. IfSolution o (IsSolution system.now)) }
+    ensures closed { IfOk result (λ o. IfClosed o (IsAccepted system.now)) }
+    ensures gave_up { IfOk result (λ o. IfGaveUp o (Holds system.now)) }
+{
+    let mut tableau = tableau;
+    let mut levels = Items::new(alloc);
+    let mut left = SPLIT_LIMIT;
+    'nodes: loop {
+        let visit = visit(alloc, system, cutter, &mut tableau)?;
+        match next(alloc, system, &mut levels, left, tableau, visit)? {
+            Next::Node {
+                tableau: node,
+                left: fewer,
+            } => {
+                tableau = node;
+                left = fewer;
+            }
+            Next::Solution(point) => return Ok(Outcome::Solution(point)),
+            Next::Closed(tree) => return Ok(Outcome::Closed(tree)),
+            Next::Stopped { tree, stop } => {
+                return Ok(Outcome::GaveUp(give_up(alloc, levels, tree, stop)?));
+            }
+        }
+    }
+}

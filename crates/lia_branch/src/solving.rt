@@ -1,0 +1,47 @@
+ghost use Rattle.std.specs.Prelude.{◌≡◌, ℕ, Some, slice_get, All, IfOk};
+ghost use Rattle.sv_linear.specs.declared.row.Row.{Row};
+ghost use Rattle.farkas_check.specs.Cuts.{IsNetWithin};
+ghost use Rattle.lia_branch.specs.EvidenceHolds.{Holds};
+ghost use Rattle.lia_branch.specs.Outcomes.{CountsEdges, IfSolution, IfClosed, IfGaveUp, IsSolution, IsAccepted};
+ghost use Rattle.sv_linear.specs.Rows.{IsRowWithin};
+
+use crate::eliminating::close_by_divisor;
+use crate::outcome::Outcome;
+use crate::searching::search;
+use farkas_check::{Cutter, System};
+use lia_tableau::{Tableau, TableauFault};
+use std::alloc::{AllocError, Global};
+
+/// Whole numbers that meet the system's rows and join its nets, or a tree that closes it.
+pub fn solve<C: Cutter>(alloc: Global, system: &System, cutter: &C) -> Result<Outcome, AllocError>
+    requires rows { (i : ℕ) (r : Row) → slice_get system.now.rows i ≡ Some r → IsRowWithin system.now.unknowns r }
+    requires nets { All (IsNetWithin system.now.unknowns) system.now.nets }
+    requires counts { CountsEdges system.now }
+    requires cutter { C.nets cutter.now ≡ system.now.nets }
+    ensures solution { IfOk result (λ o. IfSolution o (IsSolution system.now)) }
+    ensures closed { IfOk result (λ o. IfClosed o (IsAccepted system.now)) }
+    ensures gave_up { IfOk result (λ o. IfGaveUp o (Holds system.now)) }
+{
+    match close_by_divisor(alloc, system)? {
+        Some(tree) => Ok(Outcome::Closed(tree)),
+        None => search_tree(alloc, system, cutter),
+    }
+}
+
+/// `solve` by the tree whose splits are due.
+fn search_tree<C: Cutter>(alloc: Global, system: &System, cutter: &C) -> Result<Outcome, AllocError>
+    requires rows { (i : ℕ) (r : Row) → slice_get system.now.rows i ≡ Some r → IsRowWithin system.now.unknowns r }
+    requires nets { All (IsNetWithin system.now.unknowns) system.now.nets }
+    requires counts { CountsEdges system.now }
+    requires cutter { C.nets cutter.now ≡ system.now.nets }
+    ensures solution { IfOk result (λ o. IfSolution o (IsSolution system.now)) }
+    ensures closed { IfOk result (λ o. IfClosed o (IsAccepted system.now)) }
+    ensures gave_up { IfOk result (λ o. IfGaveUp o (Holds system.now)) }
+{
+    let tableau = match Tableau::new(alloc, system.rows.as_slice(), system.unknowns) {
+        Ok(tableau) => tableau,
+        Err(TableauFault::Memory(error)) => return Err(error),
+        Err(TableauFault::Past { .. }) => unreachable!(),
+    };
+    search(alloc, system, cutter, tableau)
+}
