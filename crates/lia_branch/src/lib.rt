@@ -1,4 +1,18 @@
 //! Linear constraints over whole numbers, solved or closed by branch and bound.
+//!
+//! The central fact: whatever way was taken, a solution is one because every row is met and the cutter
+//! finds no net that isn't joined, and a system is closed because the checker of certificates takes the
+//! tree. What was given up shows evidence that can't be invented: 2,000 splits, each the one that is due,
+//! or two rows or a sum past 128 bits.
+//!
+//! First one pass of elimination, by unknowns with coefficient 1 or -1, looks for an equation that no whole
+//! numbers meet. Then the tree whose splits are due is searched, depth first and low before high, by a loop
+//! with a stack of its own. The trail of a node ends by itself, since no basis comes twice. A node that waits
+//! keeps its tableau, so memory is that of the rows times the depth.
+//!
+//! ```text
+//! solve(alloc, &system, &NoCut)?   // a system without nets: Solution, Closed or GaveUp
+//! ```
 #![tactic(auto)]
 
 mod branch_rows;

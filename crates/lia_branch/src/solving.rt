@@ -12,7 +12,11 @@ use farkas_check::{Cutter, System};
 use lia_tableau::{Tableau, TableauFault};
 use std::alloc::{AllocError, Global};
 
-/// Whole numbers that meet the system's rows and join its nets, or a tree that closes it.
+/// Whole numbers that meet the system's rows and join its nets, a tree that closes it, or the evidence with
+/// which it was given up.
+///
+/// The cutter is one for the system's nets. An equation that one pass of elimination shows to have no whole
+/// numbers closes the system at once; else the tree is searched whose splits are due, up to 2,000 of them.
 pub fn solve<C: Cutter>(alloc: Global, system: &System, cutter: &C) -> Result<Outcome, AllocError>
     requires rows { (i : ℕ) (r : Row) → slice_get system.now.rows i ≡ Some r → IsRowWithin system.now.unknowns r }
     requires nets { All (IsNetWithin system.now.unknowns) system.now.nets }
