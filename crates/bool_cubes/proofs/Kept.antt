@@ -1,5 +1,5 @@
 -- The atoms of the cubes of assertions have no constants but those of the assertions.
-use Rattle.std.proofs.Common.{sym, ◌∙◌, subst, Bool, true, false, not, ◌&&◌, IsTrue, List, [], ◌∷◌, map}
+use Rattle.std.proofs.Common.{◌≡◌, refl, ap, sym, ◌∙◌, subst, Bool, true, false, not, ◌&&◌, IsTrue, List, [], ◌∷◌, map}
 use Rattle.std.specs.List.{AllByRecursion, list_all}
 use Rattle.sv_terms.specs.declared.op.Op.{Op}
 use Rattle.sv_terms.specs.declared.op.Op.TheVariants as op
@@ -10,8 +10,8 @@ use Rattle.sv_terms.specs.declared.term.Term.TheVariants as term
 use Rattle.sv_terms.specs.Meaning.{Named}
 use Rattle.sv_terms.specs.Sorting.{is_valued}
 use Rattle.bool_cubes.specs.declared.literal.Literal.{Literal}
-use Rattle.bool_cubes.specs.Cubes.{cubes}
-use Rattle.bool_cubes.specs.Laws.{IsAssertion, LiteralsAreValued}
+use Rattle.bool_cubes.specs.Cubes.{cubes, cubes_of}
+use Rattle.bool_cubes.specs.Laws.{IsAssertion, IsPassedCube, IsPassedOn, LiteralsAreValued, LiteralsPass}
 use Rattle.bool_cubes.specs.Mirrors.{raw-seen}
 use Rattle.bool_cubes.specs.Shapes.{Shape, Shapes, truth, number, text, constant, apply, member, related, opaque, end, ◌⨾◌, seen, raw, raws}
 use Rattle.bool_cubes.specs.Trees.{Tree, every_of, any_of, Formula, Part, fixed, negated, trees, conjunction, disjunction, agreement, choice, exclusive, exclusive_from, implied, neighbours, pairs, comparison, equal_numbers, equal_at, equal, chain, formulas, applied, formula, parts, tree_of}
@@ -19,9 +19,9 @@ use Rattle.bool_cubes.proofs.Carried.{TreeAll, cubes_all, made_all}
 use Rattle.bool_cubes.proofs.Choosing.{all_join}
 use Rattle.bool_cubes.proofs.Meanings.{and_parts, valued_apply}
 
-module _ (values : Named) where
+module _ (p : Term → Bool) (passes : IsPassedOn p) where
   abbrev Fine : Term → Type 0
-  Fine t = IsTrue (is_valued values t)
+  Fine t = IsTrue (p t)
 
   abbrev FineLiteral : Literal → Type 0
   FineLiteral l = Fine l.atom
@@ -77,12 +77,12 @@ module _ (values : Named) where
   fine_implied (f ∷ []) a = a.0
   fine_implied (f ∷ g ∷ gs) a = fine_disjunction (negated f ∷ implied (g ∷ gs) ∷ []) (fine_negated f a.0, (fine_implied (g ∷ gs) a.1, tt))
 
-  pub record FinePart (p : Part) : Type 0 where
-    pub raw : Fine p.raw
-    pub formula : FineFormula p.formula
+  pub record FinePart (part : Part) : Type 0 where
+    pub raw : Fine part.raw
+    pub formula : FineFormula part.formula
 
   fine_two : (o : Op) (s t : Term) → Fine s → Fine t → Fine (term.Apply o (s ∷ t ∷ []))
-  fine_two o s t h k = valued_apply values o (s ∷ t ∷ []) ∙ (λ i. h i && (k i && true))
+  fine_two o s t h k = passes.joined o s t h k
 
   fine_compared : (o : Op) (p q : Part) → FinePart p → FinePart q → FineFormula (comparison o p.raw q.raw)
   fine_compared o p q h k b = fine_two o p.raw q.raw h.raw k.raw
@@ -148,7 +148,7 @@ module _ (values : Named) where
   mutual
     fine_shape : (s : Shape) → Fine (raw s) → FineFormula (formula s)
     fine_shape (truth b) h = fine_truth b
-    fine_shape (apply o ss) h = fine_applied o (parts ss) (raw (apply o ss)) h (fine_parts ss (sym (valued_apply values o (raws ss)) ∙ h))
+    fine_shape (apply o ss) h = fine_applied o (parts ss) (raw (apply o ss)) h (fine_parts ss (passes.parts o (raws ss) h))
     fine_shape (number n) h = λ b. h
     fine_shape (text w) h = λ b. h
     fine_shape (constant n s) h = λ b. h
@@ -156,15 +156,39 @@ module _ (values : Named) where
     fine_shape (related t s u) h = λ b. h
     fine_shape (opaque s) h = λ b. h
 
-    fine_parts : (ss : Shapes) → IsTrue (list_all (λ b. b) (map (is_valued values) (raws ss))) → AllByRecursion FinePart (parts ss)
+    fine_parts : (ss : Shapes) → IsTrue (list_all p (raws ss)) → AllByRecursion FinePart (parts ss)
     fine_parts end h = tt
     fine_parts (s ⨾ ss) h =
-        let a = and_parts (is_valued values (raw s)) (list_all (λ b. b) (map (is_valued values) (raws ss))) h in
+        let a = and_parts (p (raw s)) (list_all p (raws ss)) h in
         (record { raw = a.0; formula = fine_shape s a.0 }, fine_parts ss a.1)
 
-  fine_tree : (ts : List Term) → AllByRecursion (IsAssertion values) ts → FineTree (tree_of ts)
+  fine_tree : (ts : List Term) → IsTrue (list_all p ts) → FineTree (tree_of ts)
   fine_tree [] a = tt
-  fine_tree (t ∷ ts) a = (fine_shape (seen t) (subst Fine (sym (raw-seen t)) a.0.valued) true, fine_tree ts a.1)
+  fine_tree (t ∷ ts) a =
+      let h = and_parts (p t) (list_all p ts) a in
+      (fine_shape (seen t) (subst Fine (sym (raw-seen t)) h.0) true, fine_tree ts h.1)
+
+  pub passed_on : (ts : List Term) → IsTrue (list_all p ts) → AllByRecursion (IsPassedCube p) (cubes_of ts)
+  passed_on ts a = made_all FineLiteral (cubes (tree_of ts)) (cubes_all FineLiteral (tree_of ts) (fine_tree ts a))
+
+pub literals_pass : LiteralsPass
+literals_pass p passes ts a = passed_on p passes ts a
+
+-- whether each constant has a value of its sort is such a test
+module _ (values : Named) where
+  valued_list : (ts : List Term) → list_all (λ b. b) (map (is_valued values) ts) ≡ list_all (is_valued values) ts
+  valued_list [] = refl
+  valued_list (t ∷ ts) = ap (λ b. is_valued values t && b) (valued_list ts)
+
+  valued_passes : IsPassedOn (is_valued values)
+  valued_passes = record {
+    joined = λ o s t h k. valued_apply values o (s ∷ t ∷ []) ∙ (λ i. h i && (k i && true));
+    parts = λ o ts h. sym (valued_list ts) ∙ sym (valued_apply values o ts) ∙ h;
+  }
+
+  all_valued : (ts : List Term) → AllByRecursion (IsAssertion values) ts → IsTrue (list_all (is_valued values) ts)
+  all_valued [] a = refl
+  all_valued (t ∷ ts) a = (λ i. a.0.valued i && list_all (is_valued values) ts) ∙ all_valued ts a.1
 
 pub literals_valued : LiteralsAreValued
-literals_valued values ts a = made_all (FineLiteral values) (cubes (tree_of ts)) (cubes_all (FineLiteral values) (tree_of ts) (fine_tree values ts a))
+literals_valued values ts a = passed_on (is_valued values) (valued_passes values) ts (all_valued values ts a)

@@ -1,12 +1,14 @@
 -- The law of cubes.
-use Rattle.std.specs.Prelude.{◌≡◌, false, IsTrue, ◌↔◌, Some, List, length}
-use Rattle.std.specs.List.{AllByRecursion}
+use Rattle.std.specs.Prelude.{◌≡◌, Bool, false, IsTrue, ◌↔◌, Some, List, [], ◌∷◌, length}
+use Rattle.std.specs.List.{AllByRecursion, list_all}
 use Rattle.sv_terms.specs.Meaning.{Named}
 use Rattle.sv_terms.specs.Parts.{is_opaque}
 use Rattle.sv_terms.specs.Truth.{AllTrue}
 use Rattle.sv_terms.specs.Sorting.{is_valued, sort_of}
+use Rattle.sv_terms.specs.declared.op.Op.{Op}
 use Rattle.sv_terms.specs.declared.sort.Sort.TheVariants as sort
 use Rattle.sv_terms.specs.declared.term.Term.{Term}
+use Rattle.sv_terms.specs.declared.term.Term.TheVariants as term
 use Rattle.bool_cubes.specs.Cubes.{SomeCubeTrue, cubes_of, count}
 use Rattle.bool_cubes.specs.Past.{HasNoPast, IsFitting}
 use Rattle.bool_cubes.specs.Trees.{tree_of}
@@ -46,3 +48,15 @@ IsFittingCube c = AllByRecursion IsFitting c.literals
 
 abbrev pub LiteralsFit : Type 0
 LiteralsFit = (ts : List Term) → HasNoPast ts → AllByRecursion IsFittingCube (cubes_of ts)
+
+-- a test that a function of two terms passes where both do, and the arguments of a function where it does
+pub record IsPassedOn (p : Term → Bool) : Type 0 where
+  pub joined : (o : Op) (s t : Term) → IsTrue (p s) → IsTrue (p t) → IsTrue (p (term.Apply o (s ∷ t ∷ [])))
+  pub parts : (o : Op) (ts : List Term) → IsTrue (p (term.Apply o ts)) → IsTrue (list_all p ts)
+
+abbrev pub IsPassedCube : (Term → Bool) → Cube → Type 0
+IsPassedCube p c = AllByRecursion (λ (l : Literal). IsTrue (p l.atom)) c.literals
+
+-- where assertions pass such a test, the atoms of their cubes do: that each constant has one sort, that each text is a word, that each transducer is formed
+abbrev pub LiteralsPass : Type 0
+LiteralsPass = (p : Term → Bool) → IsPassedOn p → (ts : List Term) → IsTrue (list_all p ts) → AllByRecursion (IsPassedCube p) (cubes_of ts)

@@ -37,5 +37,7 @@ mod unknowns;
 pub use counts::count;
 pub use cubes::Cubes;
 pub use fault::CubeFault;
-pub use laws::{cubes_counted, cubes_exact, cubes_picked, literals_fit, literals_valued};
+pub use laws::{
+    cubes_counted, cubes_exact, cubes_picked, literals_fit, literals_pass, literals_valued,
+};
 pub use literal::{Cube, Literal};
