@@ -5,10 +5,9 @@ use crate::{Pre, Slice, lift_concat, lift_pre};
 use machine_core::{Cost, Explicit, Run};
 use replace_machines::replace_all;
 use std::alloc::{AllocError, Global};
-use std::test::Fail;
 use sv_list::Items;
 use sv_word::{Ranges, Word};
-use trim_search::{lifted_runs_are_runs, materialise, shortest};
+use trim_search::{BuildFault, lifted_runs_are_runs, materialise, shortest};
 
 fn word(alloc: Global, text: &[u8]) -> Result<Word, AllocError> {
     let mut word = Word::new(alloc);
@@ -50,50 +49,53 @@ fn escaped(alloc: Global) -> Result<Explicit, AllocError>
     Ok(machine)
 }
 
-// A shortest word of the pre-image, and what is written for it.
-fn pair(alloc: Global, pre: &Pre) -> Result<Option<(Word, Word)>, Fail> {
+// Whether this word is a shortest one of the pre-image, and that is written for it.
+fn is_pair(alloc: Global, pre: &Pre, read: &[u32], written: &[u32]) -> Result<bool, BuildFault> {
     let built = materialise(alloc, pre, 100)?;
     match shortest(alloc, &built.machine)? {
-        None => Ok(None),
+        None => Ok(false),
         Some(run) => {
             let lifted = built.lift(alloc, &run)?;
             lifted_runs_are_runs(pre, &built);
-            let (written, _way) = lift_pre(alloc, pre, &lifted)?;
-            Ok(Some((lifted.word, written)))
+            let (text, _way) = lift_pre(alloc, pre, &lifted)?;
+            Ok(lifted.word.as_slice() == read && text.as_slice() == written)
         }
     }
 }
 
 #[test]
-fn words_are_found_before_a_replacement(rt: HostRuntime) -> Result<(), Fail> {
+fn words_are_found_before_a_replacement(rt: HostRuntime) -> Result<(), BuildFault> {
     let alloc = rt.alloc();
     let escape = replace_all(alloc, &word(alloc, b"<")?, &word(alloc, b"&lt;")?)?;
     let target = escaped(alloc)?;
     let pre = Pre::of(&escape, &target);
-    match pair(alloc, &pre)? {
-        None => assert!(rt; false),
-        Some((read, written)) => {
-            assert_eq!(rt; read.as_slice(), word(alloc, b"x<")?.as_slice());
-            assert_eq!(rt; written.as_slice(), word(alloc, b"x&lt;")?.as_slice());
-        }
-    }
+    assert!(rt; is_pair(alloc, &pre, &[0x78, 0x3c], &[0x78, 0x26, 0x6c, 0x74, 0x3b])?);
     Ok(())
 }
 
-#[test]
-fn slices_have_the_runs_between(rt: HostRuntime) -> Result<(), Fail> {
-    let alloc = rt.alloc();
-    let target = escaped(alloc)?;
-    let built = materialise(alloc, &Slice::of(&target, 1, Some(3)), 100)?;
+// Whether this is a shortest word from one state of the machine to another, or to an end.
+fn is_between(
+    alloc: Global,
+    target: &Explicit,
+    from: u32,
+    to: Option<u32>,
+    text: &[u32],
+) -> Result<bool, BuildFault>
+    requires started { from < target.now.states }
+{
+    let slice = Slice::of(target, from, to);
+    let built = materialise(alloc, &slice, 100)?;
     match shortest(alloc, &built.machine)? {
-        None => assert!(rt; false),
-        Some(run) => assert_eq!(rt; run.word.as_slice(), word(alloc, b"&l")?.as_slice()),
+        None => Ok(false),
+        Some(run) => Ok(run.word.as_slice() == text),
     }
-    let tail = materialise(alloc, &Slice::of(&target, 3, None), 100)?;
-    match shortest(alloc, &tail.machine)? {
-        None => assert!(rt; false),
-        Some(run) => assert_eq!(rt; run.word.as_slice(), word(alloc, b"t;")?.as_slice()),
-    }
+}
+
+#[test]
+fn slices_have_the_runs_between(rt: HostRuntime) -> Result<(), BuildFault> {
+    let target = escaped(rt.alloc())?;
+    assert!(rt; is_between(rt.alloc(), &target, 1, Some(3), &[0x26, 0x6c])?);
+    assert!(rt; is_between(rt.alloc(), &target, 3, None, &[0x74, 0x3b])?);
     Ok(())
 }
 

@@ -2,4 +2,4 @@ use Rattle.pre_image.proofs.FreeLemmas.{free-fits}
 use Rattle.pre_image.proofs.tests.words_are_found_before_a_replacement.Goals as goal
 
 pub of-pre-requires-clause-fits : goal.of-pre-requires-clause-fits
-of-pre-requires-clause-fits c = free-fits c.in_ok-escape.escape c.in_ok-target.target c.in_ok-target.ensures.registers
+of-pre-requires-clause-fits g c = free-fits c.in_ok-escape.escape c.in_ok-target.target c.in_ok-target.ensures.registers
