@@ -218,11 +218,11 @@ true-at : Decided → (words : Named) (symbols : List Symbol) (ms : List Members
     → AllByRecursion (λ t. val (model_of words symbols) t ≡ Some (value.Truth true)) (map in_re ms)
 true-at d words symbols [] h k = tt
 true-at d words symbols (m ∷ ms) h k = (
-      val-is (model_of words symbols) m
-          ∙ ap (tested (matches m.1)) (placed-word words symbols m h.0 k.0)
-          ∙ ap (λ b. Some (value.Truth b)) ((d m.1 h.0.word).1 h.0.is_in),
-      true-at d words symbols ms h.1 k.1,
-    )
+  val-is (model_of words symbols) m
+      ∙ ap (tested (matches m.1)) (placed-word words symbols m h.0 k.0)
+      ∙ ap (λ b. Some (value.Truth b)) ((d m.1 h.0.word).1 h.0.is_in),
+  true-at d words symbols ms h.1 k.1,
+)
 
 valued-at : (words : Named) (symbols : List Symbol) (ms : List Membership) → AllByRecursion (HasWord words) ms → AllByRecursion (λ (m : Membership). IsDeclaredString symbols m.0) ms
     → AllByRecursion (λ t. IsTrue (is_valued (model_of words symbols) t)) (map in_re ms)

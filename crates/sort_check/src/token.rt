@@ -171,7 +171,13 @@ fn character_of(digits: &[u8]) -> Option<u32>
         return None;
     }
     match hexadecimals(digits) {
-        Some(c) => { if c <= GREATEST_CHARACTER { Some(c) } else { None } }
+        Some(c) => {
+            if c <= GREATEST_CHARACTER {
+                Some(c)
+            } else {
+                None
+            }
+        }
         None => None,
     }
 }
