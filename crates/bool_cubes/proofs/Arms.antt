@@ -12,7 +12,8 @@ use Rattle.bool_cubes.specs.declared.counts.Counts.{Counts}
 use Rattle.bool_cubes.proofs.Tallies.{counts_choice, first_before, pairs_more}
 use Rattle.std.specs.Prelude.{true, map}
 use Rattle.bool_cubes.specs.Cubes.{count}
-use Rattle.bool_cubes.specs.Refusing.{cut_off, count_of}
+use Rattle.bool_cubes.specs.Refusing.{count_of}
+use Rattle.sv_terms.specs.CutOff.{cut_off}
 
 pub not_atom : (ts : List Term) (t : Term) → (length ts ≡ 1 → ⊥) → counts_of (applied op.Not (parts_of ts) t) ≡ atom_counts
 not_atom [] t h = refl

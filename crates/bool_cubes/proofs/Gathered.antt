@@ -10,7 +10,8 @@ use Rattle.bool_cubes.specs.Given.{IsGiving}
 use borrow.Author.Tests.{ltb-true, ltb-false}
 use Rattle.bool_cubes.specs.Nodes.{IsMade, IsOfEarlier, IsPlan, IsPlanned, made, tree_at, trees_of}
 use Rattle.bool_cubes.specs.Picking.{cube_at}
-use Rattle.bool_cubes.specs.Refusing.{IsRefusedExactly, count_of, cut_off, most_cubes}
+use Rattle.bool_cubes.specs.Refusing.{IsRefusedExactly, count_of, most_cubes}
+use Rattle.sv_terms.specs.CutOff.{cut_off}
 use Rattle.bool_cubes.specs.Past.{IsPlainExactly, tree_steps}
 use Rattle.bool_cubes.specs.declared.fault.CubeFault.{CubeFault}
 use Rattle.bool_cubes.specs.declared.fault.CubeFault.TheVariants.{Past, TooMany, Memory}

@@ -3,7 +3,6 @@ pub mod Deciding
 pub mod Ranked
 pub mod Meanings
 pub mod Exact
-pub mod Cut
 pub mod Tallies
 pub mod Arms
 pub mod Picked

@@ -3,7 +3,7 @@ use Rattle.std.proofs.Common.{◌≡◌, refl, sym, ap, ◌∙◌, subst, ℕ, z
 use Rattle.std.proofs.lemmas.Bool.{cases_lt}
 use Rattle.bool_cubes.specs.Cubes.{count}
 use Rattle.bool_cubes.specs.Nodes.{AreOf, IsAdded, IsLonger, IsMade, IsOfEarlier, IsPlan, IsPlanned, Stands, listed_at, made, tree_at, trees_from, trees_of}
-use Rattle.bool_cubes.specs.Refusing.{cut_off}
+use Rattle.sv_terms.specs.CutOff.{cut_off}
 use Rattle.bool_cubes.proofs.Tallies.{cut_product, cut_sum}
 use Rattle.bool_cubes.specs.Trees.{Formula, Tree, both, either, negated, conjoined, disjoined, agreement, choice, fixed, implication}
 use Rattle.bool_cubes.specs.declared.node.Node.{Node}

@@ -14,6 +14,7 @@ pub mod Flats
 pub mod Nodes
 pub mod Planned
 pub mod Numbered
+pub mod CodeLaws
 pub mod Formed
 pub mod Marked
 pub mod Given

@@ -1,7 +1,7 @@
 -- Trees by nodes, each made of nodes before it. So a tree that stands in several others is kept once.
 use Rattle.std.specs.Prelude.{◌≡◌, ℕ, zero, suc, ◌<◌, ◌≤◌, List, [], ◌∷◌, ◌++◌, length, slice_index_or, ⊤, true, false}
 use Rattle.bool_cubes.specs.Cubes.{count}
-use Rattle.bool_cubes.specs.Refusing.{cut_off}
+use Rattle.sv_terms.specs.CutOff.{cut_off}
 use Rattle.bool_cubes.specs.Trees.{Formula, Tree, always, never, one, both, either}
 use Rattle.bool_cubes.specs.declared.node.Node.{Node}
 use Rattle.bool_cubes.specs.declared.node.NodeKind.{NodeKind}

@@ -6,7 +6,8 @@ ghost use Rattle.sv_terms.specs.declared.op.Op.TheVariants as op;
 ghost use Rattle.sv_terms.specs.declared.term.Term.{Term as AnyTerm};
 ghost use Rattle.bool_cubes.specs.Counting.{and_counts, atom_counts, choice_counts, counts_of, equal_counts, first_pairs, formulas_of, not_counts, or_counts, ordered_pairs, parts_of, same_counts};
 ghost use Rattle.bool_cubes.specs.Laws.{IsSorted};
-ghost use Rattle.bool_cubes.specs.Refusing.{count_of, cut_off};
+ghost use Rattle.bool_cubes.specs.Refusing.{count_of};
+ghost use Rattle.sv_terms.specs.CutOff.{cut_off};
 ghost use Rattle.bool_cubes.specs.Shapes.{head_sort, op_sort, seen};
 ghost use Rattle.bool_cubes.specs.Trees.{applied, conjunction, disjunction, equal, exclusive, formula, implied, negated, neighbours, pairs, fixed};
 

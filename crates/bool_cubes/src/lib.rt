@@ -34,10 +34,14 @@ mod term_form;
 mod tests;
 mod unknowns;
 
-pub use counts::count;
+pub use code::Written;
+pub use counts::{count, head_sort};
 pub use cubes::Cubes;
 pub use fault::CubeFault;
 pub use laws::{
     cubes_counted, cubes_exact, cubes_picked, literals_fit, literals_pass, literals_valued,
 };
 pub use literal::{Cube, Literal};
+pub use past::{Differences, subtract};
+pub use term_form::TermForm;
+pub use unknowns::Unknowns;

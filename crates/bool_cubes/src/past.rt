@@ -20,13 +20,17 @@ use sv_terms::{Sort, Term};
 
 /// The difference of two terms and its negative.
 #[derive(Drop)]
-struct Differences {
-    less: TermForm,
-    more: TermForm,
+pub struct Differences {
+    pub less: TermForm,
+    pub more: TermForm,
 }
 
+/// The difference of two terms of sort Int and its negative, over numbered unknowns.
+///
+/// `Past` comes only where a step by which they are built leaves 128 bits. Time is linear in the terms, but for the forms, which
+/// are added up from the left, and the look-up of each unknown among those of the two terms.
 #[tactic(auto, using(crate::proofs::Checked::differences_made, crate::proofs::Checked::first_past, crate::proofs::Checked::second_past, crate::proofs::Checked::less_past, crate::proofs::Checked::more_past))]
-fn subtract(
+pub fn subtract(
     unknowns: &mut Unknowns,
     alloc: Global,
     left: &Term,

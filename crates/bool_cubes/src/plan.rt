@@ -4,7 +4,7 @@ ghost use Rattle.sv_terms.specs.declared.op.Op.TheVariants as op;
 ghost use Rattle.sv_terms.specs.declared.term.Term.TheVariants as any_term;
 ghost use Rattle.bool_cubes.specs.Cubes.{count};
 ghost use Rattle.bool_cubes.specs.Nodes.{AreOf, IsAdded, IsLonger, IsOfEarlier, IsPlan, IsPlanned, Stands, made, tree_at, trees_of};
-ghost use Rattle.bool_cubes.specs.Refusing.{cut_off};
+ghost use Rattle.sv_terms.specs.CutOff.{cut_off};
 ghost use Rattle.bool_cubes.specs.Trees.{Formula, agreement, always, atom, both, choice, comparison, conjoined, disjoined, either, equal_numbers, fixed, implication, never, one};
 
 use crate::literal::Literal;

@@ -10,6 +10,7 @@ use Rattle.machine_core.specs.Places.{add_to}
 use Rattle.machine_core.specs.Edges.{IsEdge, IsEnd, IsFormed}
 use Rattle.machine_core.specs.Indexed.{AreIndexed}
 use Rattle.machine_core.specs.PlaceLaws.{index-add, length-add_to}
+use Rattle.sv_word.specs.Words.{greatest_character}
 
 module _ (states width : ℕ) (edges : List Edge) (ends : List End) (formed : IsFormed states width edges ends) where
   formed-edge : (e : Edge) → IsEdge states width e → IsFormed states width (edges ++ e ∷ []) ends
@@ -68,11 +69,11 @@ either : (a b : Bool) → IsTrue (a || b) → IsTrue a ⊎ IsTrue b
 either true b h = inl refl
 either false b h = inr h
 
-below_last : (low high c : ℕ) → IsTrue (nat_le low c && nat_le c high) → high ≤ 0x2FFFF → c ≤ 0x2FFFF
+below_last : (low high c : ℕ) → IsTrue (nat_le low c && nat_le c high) → high ≤ greatest_character → c ≤ greatest_character
 below_last low high c h e = grind (arith, nat_tests)
 
 -- ranges hold characters alone
-pub apart-characters : (low : ℕ) (rs : List (ℕ × ℕ)) → IsApartFrom low rs → (c : ℕ) → IsTrue (in_ranges rs c) → c ≤ 0x2FFFF
+pub apart-characters : (low : ℕ) (rs : List (ℕ × ℕ)) → IsApartFrom low rs → (c : ℕ) → IsTrue (in_ranges rs c) → c ≤ greatest_character
 apart-characters low [] h c e = cc
 apart-characters low (p ∷ ps) h c e = elim (either (nat_le p.0 c && nat_le c p.1) (in_ranges ps c) e) [
   | inl here ↦ below_last p.0 p.1 c here h.2

@@ -1,9 +1,8 @@
 -- The edges and ends of one state, found by their places.
-use Rattle.std.proofs.Common.{◌≡◌, ℕ, ◌+◌, ◌<◌, ◌↔◌, ◌⊎◌, inl, inr, nat_eq, cond, Bool, true, false, List, [], ◌∷◌, ◌++◌, length, slice_get, get_or, Option, Some, None, map, take, Any, All, refl, ap, sym, ◌∙◌, arith}
-use Rattle.std.specs.List.{filter, cons_option}
+use Rattle.std.proofs.Common.{◌≡◌, ℕ, ◌+◌, ◌<◌, ◌↔◌, ◌⊎◌, inl, inr, nat_eq, cond, Bool, true, false, List, [], ◌∷◌, ◌++◌, length, slice_get, get_or, Some, map, take, Any, All, refl, ap, sym, ◌∙◌, arith}
+use Rattle.std.specs.List.{filter}
 use Rattle.std.proofs.lemmas.Bool.Decides.{nat_tests}
-use Rattle.std.proofs.lemmas.Option.{slice_get_read, slice_get-get_or}
-use Rattle.std.proofs.lemmas.List.{take_more, map_push}
+use Rattle.std.proofs.lemmas.List.{map_push}
 use Rattle.std.proofs.lemmas.List.Elements.{All-map, All-filter, All-contains_itself, All-weaker}
 use Rattle.sv_word.specs.Ranges.{IsInhabited}
 use Rattle.machine_core.specs.declared.machine.Move.{Move}
@@ -12,16 +11,8 @@ use Rattle.machine_core.specs.declared.end.End.{End}
 use Rattle.machine_core.specs.Lists.{Any-here, Any-there, Any-cases, Any-none}
 use Rattle.machine_core.specs.Moves.{Moves}
 use Rattle.machine_core.specs.Places.{pick}
+use Rattle.machine_core.specs.PlaceLaws.{pick-more}
 use Rattle.machine_core.specs.Edges.{EndsAt, StepsBy, IsFormed, move_of, from_of, at_of}
-
--- one more of the picked elements
-pick-end : {X : Type 0} (xs : List X) (ps : List ℕ) (p : ℕ) (x : X) → slice_get xs p ≡ Some x → pick xs (ps ++ p ∷ []) ≡ pick xs ps ++ x ∷ []
-pick-end xs [] p x e = rw e refl
-pick-end {X = X} xs (q ∷ ps) p x e = by_get (slice_get xs q) (pick-end xs ps p x e)
-  where
-    by_get : (o : Option X) → pick xs (ps ++ p ∷ []) ≡ pick xs ps ++ x ∷ [] → cons_option o (pick xs (ps ++ p ∷ [])) ≡ cons_option o (pick xs ps) ++ x ∷ []
-    by_get None h = h
-    by_get (Some y) h = ap (λ l. y ∷ l) h
 
 -- the step of a loop over places, where the element is read by its place
 pub picked-step : {X Y : Type 0} (f : X → Y) (xs : List X) (ps : List ℕ) (i : ℕ) (x : X) (out new : List Y) (y : Y)
@@ -29,10 +20,8 @@ pub picked-step : {X Y : Type 0} (f : X → Y) (xs : List X) (ps : List ℕ) (i 
     → out ≡ map f (pick xs (take i ps)) → new ≡ out ++ y ∷ [] → y ≡ f x
     → new ≡ map f (pick xs (take (i + 1) ps))
 picked-step f xs ps i x out new y within lt read so_far pushed made =
-    let p = get_or ps i 0 in
-    let inside = within i p (slice_get-get_or ps i 0 lt) in
     pushed ∙ ap (λ v. out ++ v ∷ []) made ∙ ap (λ l. l ++ f x ∷ []) so_far
-    ∙ sym (ap (λ l. map f (pick xs l)) (take_more ps i 0 lt) ∙ ap (map f) (pick-end xs (take i ps) p x (slice_get_read xs (length xs) p x refl inside read)) ∙ map_push f (pick xs (take i ps)) x)
+    ∙ sym (ap (map f) (pick-more xs ps i x within lt read) ∙ map_push f (pick xs (take i ps)) x)
 
 -- what a filter by the state keeps has a fact where an element with this state has it
 module _ {X Y : Type 0} (key : X → ℕ) (f : X → Y) (P : Y → Type 0) (s : ℕ) where

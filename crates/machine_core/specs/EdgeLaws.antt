@@ -10,6 +10,7 @@ use Rattle.machine_core.specs.RunBounds.{RunsWithin, PathsWithin, step_within, e
 use Rattle.machine_core.specs.Edges.{EndsAt, StepsBy, IsFormed, edges_top, ends_top, listed_top}
 use Rattle.machine_core.specs.declared.edge.Edge.{Edge}
 use Rattle.machine_core.specs.declared.end.End.{End}
+use Rattle.sv_word.specs.Words.{greatest_character}
 
 -- the greatest cost after one edge or one end more
 pub listed_top-edge : (edges new : List Edge) (ends : List End) (e : Edge) → new ≡ edges ++ e ∷ [] → listed_top new ends ≡ max (listed_top edges ends) (cost_top e.cost)
@@ -22,7 +23,7 @@ module _ (states width : ℕ) (edges : List Edge) (ends : List End) (formed : Is
   pub step_target : (s t c : ℕ) (cost : List ℕ) → StepsBy edges s c cost t → t < states
   step_target s t c cost m = subst (λ n. n < states) m.4.1.2 (formed.edge m.1 (m.0, m.2, m.3)).to
 
-  pub step_character : (s t c : ℕ) (cost : List ℕ) → StepsBy edges s c cost t → c ≤ 0x2FFFF
+  pub step_character : (s t c : ℕ) (cost : List ℕ) → StepsBy edges s c cost t → c ≤ greatest_character
   step_character s t c cost m = (formed.edge m.1 (m.0, m.2, m.3)).characters c m.4.1.0
 
   pub step_most : (s t c : ℕ) (cost : List ℕ) → StepsBy edges s c cost t → IsCost width (edges_top edges) cost

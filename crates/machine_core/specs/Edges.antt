@@ -6,6 +6,7 @@ use Rattle.machine_core.specs.Moves.{Moves}
 use Rattle.machine_core.specs.declared.machine.Move.{Move}
 use Rattle.machine_core.specs.declared.edge.Edge.{Edge}
 use Rattle.machine_core.specs.declared.end.End.{End}
+use Rattle.sv_word.specs.Words.{greatest_character}
 
 abbrev pub edge : ℕ → List (ℕ × ℕ) → List ℕ → ℕ → Edge
 edge from on cost to = record { from = from; on = on; cost = cost; to = to }
@@ -50,7 +51,7 @@ pub record IsEdge (states width : ℕ) (e : Edge) : Type 0 where
   pub to : e.to < states
   pub cost : length e.cost ≡ width
   pub on : IsInhabited e.on
-  pub characters : (c : ℕ) → IsTrue (in_ranges e.on c) → c ≤ 0x2FFFF
+  pub characters : (c : ℕ) → IsTrue (in_ranges e.on c) → c ≤ greatest_character
 
 -- it stands at a state, and has one number for each register
 pub record IsEnd (states width : ℕ) (e : End) : Type 0 where

@@ -1,7 +1,7 @@
 -- Laws of languages, over bare relations.
 use Rattle.std.specs.Prelude.{◌≡◌, ℕ, ◌≤◌, List, [], ◌∷◌, ◌++◌, length}
 use Rattle.std.proofs.Common.{refl, sym, ap, ◌∙◌, subst}
-use Rattle.sv_word.specs.Words.{IsWord}
+use Rattle.sv_word.specs.Words.{IsWord, greatest_character}
 use Rattle.machine_core.specs.Costs.{add_costs, zeros}
 use Rattle.machine_core.specs.CostLaws.{add_costs-assoc, add_costs-length, zeros-add_costs}
 use Rattle.machine_core.specs.Language.{RunsFrom, SameRuns, IsReached, here, next, StopsAt}
@@ -28,7 +28,7 @@ module _ {S : Type 0} (is_state : S → Type 0) (steps : S → ℕ → List ℕ 
 
   module _ (ends : S → List ℕ → Type 0) where
     -- a machine that steps on characters alone has words in its language, and no other lists
-    pub runs_are_words : ((s t : S) (c : ℕ) (cost : List ℕ) → is_state s → steps s c cost t → c ≤ 0x2FFFF)
+    pub runs_are_words : ((s t : S) (c : ℕ) (cost : List ℕ) → is_state s → steps s c cost t → c ≤ greatest_character)
         → (word : List ℕ) (s : S) (cost : List ℕ) → is_state s → RunsFrom ends steps s word cost → IsWord word
     runs_are_words step_character [] s cost h r = tt
     runs_are_words step_character (c ∷ word) s cost h r =

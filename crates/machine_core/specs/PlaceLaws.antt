@@ -1,8 +1,9 @@
 -- Places that grow with a list, and what stands at them.
-use Rattle.std.proofs.Common.{◌≡◌, ℕ, zero, suc, ◌+◌, ◌<◌, nat_eq, cond, Bool, true, false, List, [], ◌∷◌, ◌++◌, length, slice_get, slice_set, get_or, Some, replicate, refl, ap, sym, ◌∙◌, subst, arith}
-use Rattle.std.specs.List.{filter}
+use Rattle.std.proofs.Common.{◌≡◌, ℕ, zero, suc, ◌+◌, ◌<◌, nat_eq, cond, Bool, true, false, List, [], ◌∷◌, ◌++◌, length, slice_get, slice_set, get_or, Option, Some, None, replicate, take, refl, ap, sym, ◌∙◌, subst, arith}
+use Rattle.std.specs.List.{filter, cons_option}
 use Rattle.std.proofs.lemmas.Bool.Decides.{nat_tests}
-use Rattle.std.proofs.lemmas.Option.{slice_get_read}
+use Rattle.std.proofs.lemmas.List.{take_more}
+use Rattle.std.proofs.lemmas.Option.{slice_get_read, slice_get-get_or}
 use Rattle.machine_core.specs.Places.{places_from, places, pick, add_to, IsIndex}
 
 pub add_to-set : (at place : ℕ) (rows : List (List ℕ)) (row : List ℕ) → slice_get rows at ≡ Some row → slice_set rows at (row ++ place ∷ []) ≡ add_to at place rows
@@ -97,3 +98,20 @@ module _ {X : Type 0} (key : X → ℕ) where
 pub add_to-read : (rows : List (List ℕ)) (at place : ℕ) (row new : List ℕ) (n : ℕ) → n ≡ length rows → at < n → row ≡ get_or rows at row → new ≡ row ++ place ∷ []
     → slice_set rows at new ≡ add_to at place rows
 add_to-read rows at place row new n len lt e f = ap (slice_set rows at) f ∙ add_to-set at place rows row (slice_get_read rows n at row len lt e)
+
+-- one more of the picked elements
+pick-end : {X : Type 0} (xs : List X) (ps : List ℕ) (p : ℕ) (x : X) → slice_get xs p ≡ Some x → pick xs (ps ++ p ∷ []) ≡ pick xs ps ++ x ∷ []
+pick-end xs [] p x e = rw e refl
+pick-end {X = X} xs (q ∷ ps) p x e = by_get (slice_get xs q) (pick-end xs ps p x e)
+  where
+    by_get : (o : Option X) → pick xs (ps ++ p ∷ []) ≡ pick xs ps ++ x ∷ [] → cons_option o (pick xs (ps ++ p ∷ [])) ≡ cons_option o (pick xs ps) ++ x ∷ []
+    by_get None h = h
+    by_get (Some y) h = ap (λ l. y ∷ l) h
+
+-- the step of a loop over places, where the element is read by its place
+pub pick-more : {X : Type 0} (xs : List X) (ps : List ℕ) (i : ℕ) (x : X) → ((j p : ℕ) → slice_get ps j ≡ Some p → p < length xs) → i < length ps
+    → x ≡ get_or xs (get_or ps i 0) x → pick xs (take (i + 1) ps) ≡ pick xs (take i ps) ++ x ∷ []
+pick-more xs ps i x within lt read =
+    let p = get_or ps i 0 in
+    let inside = within i p (slice_get-get_or ps i 0 lt) in
+    ap (pick xs) (take_more ps i 0 lt) ∙ pick-end xs (take i ps) p x (slice_get_read xs (length xs) p x refl inside read)

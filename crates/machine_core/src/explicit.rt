@@ -197,7 +197,8 @@ fn moves_of(alloc: Global, edges: &[Edge], places: &[usize]) -> Result<Items<Mov
     requires { (i p : ℕ) → slice_get places.now i ≡ Some p → p < length edges.now }
     ensures { IfOk result (λ moves. moves ≡ map move_of (pick edges.now places.now)) }
 {
-    let mut moves = Items::new(alloc);
+    let room = Vec::with_capacity(alloc, places.len())?;
+    let mut moves = Items::from_vec(room);
     for place in places {
         let edge = &edges[*place];
         moves.push(Move {

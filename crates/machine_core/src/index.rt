@@ -25,7 +25,7 @@ impl Index {
     pub fn new(alloc: Global, rows: u32) -> Result<Index, AllocError>
         ensures { IfOk result (λ i. i ≡ replicate rows []) }
     {
-        let mut list = Vec::new(alloc);
+        let mut list = Vec::with_capacity(alloc, rows as usize)?;
         for _row in 0..rows {
             list.push(Items::new(alloc))?;
         }

@@ -3,6 +3,7 @@ ghost use Rattle.sv_word.specs.Ranges.{IsInhabited};
 ghost use Rattle.machine_core.specs.Costs.{IsCost};
 ghost use Rattle.machine_core.specs.Counts.{AreAtMost};
 ghost use Rattle.machine_core.specs.Moves.{Moves};
+ghost use Rattle.sv_word.specs.Words.{greatest_character};
 
 use crate::cost::Cost;
 use crate::state::State;
@@ -82,7 +83,7 @@ pub trait Machine {
         is_state m s → steps_to m s c cost t → is_state m t };
 
     ghost step_character: { (m : Self) (s t : Self.St) (c : ℕ) (cost : List ℕ) →
-        is_state m s → steps_to m s c cost t → c ≤ 0x2FFFF };
+        is_state m s → steps_to m s c cost t → c ≤ greatest_character };
 
     ghost step_cost: { (m : Self) (s t : Self.St) (c : ℕ) (cost : List ℕ) →
         is_state m s → steps_to m s c cost t → IsCost (width m) (top m) cost };

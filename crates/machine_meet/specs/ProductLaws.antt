@@ -6,6 +6,7 @@ use Rattle.machine_core.specs.CostLaws.{IsCost-add, IsCost-zeros}
 use Rattle.machine_core.specs.Counts.{AreAtMost, at_most-weaker, at_most-one, at_most-made, at_most-pairs}
 use Rattle.machine_core.specs.Lists.{Contains-here, Contains-there}
 use Rattle.machine_meet.specs.Products.{AreStates, MeetEnds, MeetSteps, summed, multiplied}
+use Rattle.sv_word.specs.Words.{greatest_character}
 
 module _ {P S : Type 0} (is_state : P → S → Type 0) where
   pub first-states : (first : P → S) → ((p : P) → is_state p (first p)) → (ps : List P) → AreStates is_state ps (map first ps)
@@ -22,8 +23,8 @@ module _ {P S : Type 0} (is_state : P → S → Type 0) where
         let both : AreStates is_state (p ∷ ps) (st.2 ∷ st.3) = (ok p s st.2 c st.0 h.0 st.4, step-states ok ps ss st.3 c st.1 h.1 st.5) in
         subst (AreStates is_state (p ∷ ps)) st.7 both
 
-    pub step-character : ((p : P) (s t : S) (c : ℕ) (cost : List ℕ) → is_state p s → steps p s c cost t → c ≤ 0x2FFFF)
-        → (ps : List P) (ss ts : List S) (c : ℕ) (cost : List ℕ) → AreStates is_state ps ss → MeetSteps steps width ps ss c cost ts → c ≤ 0x2FFFF
+    pub step-character : ((p : P) (s t : S) (c : ℕ) (cost : List ℕ) → is_state p s → steps p s c cost t → c ≤ greatest_character)
+        → (ps : List P) (ss ts : List S) (c : ℕ) (cost : List ℕ) → AreStates is_state ps ss → MeetSteps steps width ps ss c cost ts → c ≤ greatest_character
     step-character ok [] [] ts c cost h st = st.0
     step-character ok [] (s ∷ ss) ts c cost h st = absurd h
     step-character ok (p ∷ ps) [] ts c cost h st = absurd h

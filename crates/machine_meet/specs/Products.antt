@@ -1,6 +1,6 @@
 -- The product of machines: each of them reads the word, and their costs are added up.
 use Rattle.std.specs.Prelude.{◌≡◌, ℕ, ◌≤◌, ◌+◌, ◌*◌, ⊤, List, [], ◌∷◌, map, Any, ◌↔◌}
-use Rattle.sv_word.specs.Words.{IsWord}
+use Rattle.sv_word.specs.Words.{IsWord, greatest_character}
 use Rattle.machine_core.specs.Moves.{Moves}
 use Rattle.machine_core.specs.declared.machine.Move.{Move}
 use Rattle.machine_core.specs.Costs.{add_costs, zeros}
@@ -51,7 +51,7 @@ module _ {P S : Type 0} where
 
   -- each part steps on the character, and the costs of these steps are added up
   abbrev pub MeetSteps : (P → S → ℕ → List ℕ → S → Type 0) → ℕ → List P → List S → ℕ → List ℕ → List S → Type 0
-  MeetSteps steps width [] [] c cost to = (c ≤ 0x2FFFF) × (cost ≡ zeros width) × (to ≡ [])
+  MeetSteps steps width [] [] c cost to = (c ≤ greatest_character) × (cost ≡ zeros width) × (to ≡ [])
   MeetSteps steps width [] (s ∷ ss) c cost to = ⊥
   MeetSteps steps width (p ∷ ps) [] c cost to = ⊥
   MeetSteps steps width (p ∷ ps) (s ∷ ss) c cost to = (a b : List ℕ) × (t : S) × (ts : List S)
@@ -70,7 +70,7 @@ MeetsAll ends steps first width ps = (word cost : List ℕ) →
 
 -- the moves of a product without parts
 abbrev pub IsNothing : {S : Type 0} → ℕ → List (Move (List S)) → Type 0
-IsNothing {S} width all = (c : ℕ) (cost : List ℕ) (to : List S) → ((c ≤ 0x2FFFF) × (cost ≡ zeros width) × (to ≡ [])) ↔ Any (Moves c cost to) all
+IsNothing {S} width all = (c : ℕ) (cost : List ℕ) (to : List S) → ((c ≤ greatest_character) × (cost ≡ zeros width) × (to ≡ [])) ↔ Any (Moves c cost to) all
 
 -- these are the moves of the product
 abbrev pub AreProduct : {P S : Type 0} → (P → S → ℕ → List ℕ → S → Type 0) → ℕ → List P → List S → List (Move (List S)) → Type 0

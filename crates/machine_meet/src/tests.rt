@@ -1,4 +1,5 @@
 ghost use Rattle.std.specs.Prelude.{◌≡◌, ◌≤◌, ◌<◌, ◌^◌, [], ◌∷◌, IfOk, OnOk};
+ghost use Rattle.sv_word.specs.Words.{greatest_character};
 ghost use Rattle.std.specs.Option.{IfSome};
 ghost use Rattle.machine_core.specs.Graphs.{graph_top};
 ghost use Rattle.machine_core.specs.Runs.{IsRun};
@@ -7,7 +8,7 @@ use crate::{Meet, concat, costs_of_meets_are_bounded, split_run, star, union};
 use machine_core::{Cost, Explicit, Machine, Move, Run, State};
 use std::alloc::{AllocError, Global};
 use sv_list::{Copied, Items};
-use sv_word::{Ranges, Word};
+use sv_word::{GREATEST_CHARACTER, Ranges, Word};
 
 const A: u32 = 0x61;
 
@@ -24,7 +25,7 @@ fn add_edge(
     requires from { from < machine.old.states }
     requires to { to < machine.old.states }
     requires order { on.0 ≤ on.1 }
-    requires characters { on.1 ≤ 0x2FFFF }
+    requires characters { on.1 ≤ greatest_character }
     requires registers { machine.old.registers ≡ 1 }
     requires top { graph_top machine.old < 2 ^ 32 }
     ensures states { machine.new.states ≡ machine.old.states }
@@ -50,7 +51,7 @@ fn add_end(alloc: Global, machine: &mut Explicit, at: u32, price: u32) -> Result
 
 // The word of this one letter, at this price and 10 for the end.
 fn letter(alloc: Global, c: u32, price: u32) -> Result<Explicit, AllocError>
-    requires { c ≤ 0x2FFFF }
+    requires { c ≤ greatest_character }
     ensures registers { IfOk result (λ m. m.registers ≡ 1) }
     ensures top { IfOk result (λ m. graph_top m < 2 ^ 32) }
 {
@@ -252,7 +253,7 @@ fn step_on<M: Machine>(
 
 // A run on the word of one letter.
 fn run_on<M: Machine>(alloc: Global, machine: &M, c: u32) -> Result<Option<Run<M::St>>, AllocError>
-    requires { c ≤ 0x2FFFF }
+    requires { c ≤ greatest_character }
     ensures { IfOk result (λ run. IfSome run (IsRun (M.ends_with machine.now) (M.steps_to machine.now) (M.first machine.now))) }
 {
     let start = machine.start(alloc)?;
@@ -275,7 +276,7 @@ fn one_step<S: State>(
     step: &Move<S>,
     last: &Cost,
 ) -> Result<Run<S>, AllocError>
-    requires { c ≤ 0x2FFFF }
+    requires { c ≤ greatest_character }
     ensures word { IfOk result (λ run. run.word ≡ c ∷ []) }
     ensures states { IfOk result (λ run. run.states ≡ from ∷ step.now.to ∷ []) }
     ensures costs { IfOk result (λ run. run.costs ≡ step.now.cost ∷ []) }
@@ -299,7 +300,7 @@ fn one_step<S: State>(
 
 // What the parts of a product of two machines pay for the word of one letter.
 fn shares(alloc: Global, a: Explicit, b: Explicit, c: u32) -> Result<Vec<u64>, AllocError>
-    requires c { c ≤ 0x2FFFF }
+    requires c { c ≤ greatest_character }
     requires a { a.registers ≡ 1 }
     requires b { b.registers ≡ 1 }
     requires low { graph_top a < 2 ^ 32 }
@@ -331,7 +332,7 @@ fn pay<S>(run: &Run<S>) -> u64 {
 
 // Whether `a` and this letter together pay so for the word `a`.
 fn pays(alloc: Global, other: u32, want: &[u64]) -> Result<bool, AllocError>
-    requires { other ≤ 0x2FFFF }
+    requires { other ≤ greatest_character }
 {
     let a = letter(alloc, A, 2)?;
     let b = letter(alloc, other, 5)?;
@@ -354,7 +355,7 @@ fn no_part_reads_every_character(rt: HostRuntime) -> Result<(), AllocError> {
     let moves = none.moves(rt.alloc(), &start)?;
     assert_eq!(rt; moves.len(), 1);
     for step in moves.as_slice() {
-        assert!(rt; step.on.holds(0x2FFFF));
+        assert!(rt; step.on.holds(GREATEST_CHARACTER));
     }
     Ok(())
 }

@@ -9,4 +9,4 @@ pub mod WayLemmas
 pub mod LiftLemmas
 pub mod MovedLemmas
 pub mod PartLemmas
-pub mod FreeLemmas
+pub mod RowLemmas

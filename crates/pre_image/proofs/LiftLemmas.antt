@@ -1,7 +1,7 @@
 -- A run of a pre-image taken back, step by step.
 use Rattle.std.proofs.Common.{◌≡◌, ℕ, List, [], ◌∷◌, ◌++◌, zero, suc, ◌+◌, ◌<◌, ◌≤◌, take, arith, get_or, length, Contains, refl, sym, ap, ap₂, ◌∙◌, subst, append-nil, append_assoc}
 use Rattle.std.proofs.lemmas.List.{take_more}
-use Rattle.sv_word.specs.Words.{IsWord}
+use Rattle.sv_word.specs.Words.{IsWord, greatest_character}
 use Rattle.machine_core.specs.declared.graph.Graph.{Graph}
 use Rattle.machine_core.specs.declared.run.Run.{Run}
 use Rattle.machine_core.specs.Costs.{add_costs, zeros, total_of}
@@ -20,7 +20,7 @@ use Rattle.pre_image.specs.Liftings.{IsLiftedStep, IsLiftedEnd, IsLifting}
 use Rattle.pre_image.proofs.JoinLemmas.{behind}
 
 -- each of a word is a character
-pub word-at : (w : Word) (i : ℕ) → IsWord w → i < length w → get_or w i 0 ≤ 0x2FFFF
+pub word-at : (w : Word) (i : ℕ) → IsWord w → i < length w → get_or w i 0 ≤ greatest_character
 word-at [] i h lt = absurd (omega (arith, lt))
 word-at (c ∷ w) zero h lt = h.0
 word-at (c ∷ w) (suc i) h lt = word-at w i h.1 (omega (arith, lt))

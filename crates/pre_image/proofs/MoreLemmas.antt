@@ -17,7 +17,7 @@ any-more P xs new x e = (
   λ h. subst (Any P) (sym e) (elim h [ inl a ↦ Any-append_left P xs (x ∷ []) a | inr p ↦ Any-append_right P xs (x ∷ []) (Any-here P x [] p) ]),
 )
 
-taken : {X : Type 0} (xs : List X) (i : ℕ) (x : X) → i < length xs → x ≡ get_or xs i x → take (i + 1) xs ≡ take i xs ++ x ∷ []
+pub taken : {X : Type 0} (xs : List X) (i : ℕ) (x : X) → i < length xs → x ≡ get_or xs i x → take (i + 1) xs ≡ take i xs ++ x ∷ []
 taken xs i x lt e = take_more xs i x lt ∙ ap (λ y. take i xs ++ y ∷ []) (sym e)
 
 -- one more was looked at

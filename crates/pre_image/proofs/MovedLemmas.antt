@@ -8,18 +8,19 @@ use Rattle.std.proofs.lemmas.List.Folds.{list_any-append}
 use Rattle.sv_word.specs.Ranges.{in_pair, in_ranges, IsApartFrom}
 use Rattle.sv_terms.specs.Transduction.{character}
 use Rattle.pre_image.specs.Spelling.{moved_to, no_character}
+use Rattle.sv_word.specs.Words.{greatest_character}
 
 -- sets hold characters alone
-pub apart-top : (low : ℕ) (rs : List (ℕ × ℕ)) (i : ℕ) → IsApartFrom low rs → i < length rs → (get_or rs i (0, 0)).1 ≤ 0x2FFFF
+pub apart-top : (low : ℕ) (rs : List (ℕ × ℕ)) (i : ℕ) → IsApartFrom low rs → i < length rs → (get_or rs i (0, 0)).1 ≤ greatest_character
 apart-top low [] i h lt = absurd (omega (arith, lt))
 apart-top low (p ∷ ps) zero h lt = h.2
 apart-top low (p ∷ ps) (suc i) h lt = apart-top (p.1 + 2) ps i h.3 (omega (arith, lt))
 
-pub in-top : (low : ℕ) (rs : List (ℕ × ℕ)) (c : ℕ) → IsApartFrom low rs → in_ranges rs c ≡ true → c ≤ 0x2FFFF
+pub in-top : (low : ℕ) (rs : List (ℕ × ℕ)) (c : ℕ) → IsApartFrom low rs → in_ranges rs c ≡ true → c ≤ greatest_character
 in-top low [] c h e = absurd (cc)
 in-top low (p ∷ ps) c h e = by (nat_le p.0 c) (nat_le c p.1) refl e (in-top (p.1 + 2) ps c h.3)
   where
-    by : (a b : Bool) → nat_le c p.1 ≡ b → ((a && b) || in_ranges ps c) ≡ true → (in_ranges ps c ≡ true → c ≤ 0x2FFFF) → c ≤ 0x2FFFF
+    by : (a b : Bool) → nat_le c p.1 ≡ b → ((a && b) || in_ranges ps c) ≡ true → (in_ranges ps c ≡ true → c ≤ greatest_character) → c ≤ greatest_character
     by true true below f later = let le = leb-true c p.1 below in let top = h.2 in omega (arith, le, top)
     by true false below f later = later f
     by false b below f later = later f
@@ -31,7 +32,7 @@ or-false false = refl
 -- one pair more was looked at
 pub moved-more : (lead step on window more new : List (ℕ × ℕ)) (i : ℕ) (k : ℤ) (c : ℕ) → i < length step → IsApartFrom 0 lead
     → in_ranges on c ≡ (in_ranges lead c && in_ranges (take i step) (moved_to k c))
-    → (c ≤ 0x2FFFF → in_ranges window c ≡ in_pair (get_or step i (0, 0)) (moved_to k c))
+    → (c ≤ greatest_character → in_ranges window c ≡ in_pair (get_or step i (0, 0)) (moved_to k c))
     → in_ranges more c ≡ (in_ranges lead c && in_ranges window c)
     → in_ranges new c ≡ (in_ranges on c || in_ranges more c)
     → in_ranges new c ≡ (in_ranges lead c && in_ranges (take (i + 1) step) (moved_to k c))
@@ -56,10 +57,10 @@ pub moved-all : (lead step items on : List (ℕ × ℕ)) (i : ℕ) (k : ℤ) (c 
     → in_ranges on c ≡ (in_ranges lead c && in_ranges (take i items) (moved_to k c)) → in_ranges on c ≡ (in_ranges lead c && in_ranges step (moved_to k c))
 moved-all lead step items on i k c all h = h ∙ ap (λ (l : List (ℕ × ℕ)). in_ranges lead c && in_ranges l (moved_to k c)) all
 
-moved-none : (c : ℕ) → c ≤ 0x2FFFF → moved_to (pos 0) c ≡ c
+moved-none : (c : ℕ) → c ≤ greatest_character → moved_to (pos 0) c ≡ c
 moved-none c h =
     let same : c + 0 ≡ c = omega arith in
-    ap (λ d. unwrap_or (character (pos d)) no_character) same ∙ ap (λ b. unwrap_or (if b then Some c else None) no_character) (le-leb c 0x2FFFF h)
+    ap (λ d. unwrap_or (character (pos d)) no_character) same ∙ ap (λ b. unwrap_or (if b then Some c else None) no_character) (le-leb c greatest_character h)
 
 -- moved by nothing
 pub still-met : (lead step both : List (ℕ × ℕ)) (c : ℕ) → IsApartFrom 0 lead → in_ranges both c ≡ (in_ranges lead c && in_ranges step c) → in_ranges both c ≡ (in_ranges lead c && in_ranges step (moved_to (pos 0) c))

@@ -5,6 +5,8 @@ pub mod FormedProps
 pub mod PreImages
 pub mod PreLaws
 pub mod Lifts
+pub mod Indexed
 pub mod Leading
 pub mod Liftings
 pub mod Parts
+pub mod FreeLaws

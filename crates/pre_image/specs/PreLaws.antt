@@ -1,7 +1,7 @@
 -- What a pre-image keeps.
 use Rattle.std.specs.Prelude.{◌≡◌, ℕ, ◌+◌, ◌*◌, ◌<◌, ◌≤◌, max, List, [], ◌∷◌, length, Contains, Some}
 use Rattle.std.proofs.Common.{arith, subst, mul-le-mul_left}
-use Rattle.sv_word.specs.Words.{IsWord}
+use Rattle.sv_word.specs.Words.{IsWord, greatest_character}
 use Rattle.machine_core.specs.declared.graph.Graph.{Graph}
 use Rattle.machine_core.specs.Costs.{IsCost}
 use Rattle.machine_core.specs.Counts.{AreAtMost, at_most-below, at_most-pairs}
@@ -46,7 +46,7 @@ module _ (t : Transducer) (m : Graph) where
   pre_step_is_state formed s u c cost h st =
       (subst (λ n. n < t.states) st.2 ((formed.edge st.0 st.1.0).to), path_target m.states m.registers m.edges m.ends m.formed (spelling c st.0.items) s.1 u.1 cost h.1 st.3)
 
-  pub pre_step_character : IsFormed t → (s u : ℕ × ℕ) (c : ℕ) (cost : List ℕ) → PreSteps t m s c cost u → c ≤ 0x2FFFF
+  pub pre_step_character : IsFormed t → (s u : ℕ × ℕ) (c : ℕ) (cost : List ℕ) → PreSteps t m s c cost u → c ≤ greatest_character
   pre_step_character formed s u c cost st = let high = (formed.edge st.0 st.1.0).high in let below = st.1.3 in omega arith
 
   -- a product of two numbers that aren't above these

@@ -6,6 +6,7 @@ ghost use Rattle.machine_core.specs.Moves.{Moves};
 ghost use Rattle.machine_core.specs.Edges.{edges_top};
 ghost use Rattle.pre_image.specs.Spelling.{moved_to, spelling};
 ghost use Rattle.pre_image.specs.Leading.{CanAdd, next_of, spelled, GoesOn, Led, IsLead, IsLike, AreLeads};
+ghost use Rattle.sv_word.specs.Words.{greatest_character};
 
 use crate::letter::Letter;
 use machine_core::{Cost, Explicit, Machine, Move};
@@ -62,8 +63,8 @@ pub fn spell(alloc: Global, items: &[Item]) -> Result<Items<Letter>, AllocError>
 
 // The characters that are in the pair once they are moved by this number.
 fn before(alloc: Global, pair: (u32, u32), by: i32) -> Result<Ranges, AllocError>
-    requires { pair.1 ≤ 0x2FFFF }
-    ensures { IfOk result (λ r. (c : ℕ) → c ≤ 0x2FFFF → in_ranges r c ≡ in_pair pair (moved_to by c)) }
+    requires { pair.1 ≤ greatest_character }
+    ensures { IfOk result (λ r. (c : ℕ) → c ≤ greatest_character → in_ranges r c ≡ in_pair pair (moved_to by c)) }
 {
     let steps = by.unsigned_abs();
     if by < 0 {
@@ -271,7 +272,7 @@ pub fn along(
 ) -> Result<Items<Move<u32>>, AllocError>
     requires from { from < target.now.states }
     requires order { low ≤ high }
-    requires high { high ≤ 0x2FFFF }
+    requires high { high ≤ greatest_character }
     requires fits { edges_top target.now.edges * length nexts.now < 2 ^ 64 }
     ensures { IfOk result (AreLeads target.now from low high (spelled nexts.now)) }
 {

@@ -13,7 +13,7 @@
 //!
 //! ```
 //! // The words for which `through` may write a word of `target`.
-//! let pre = Pre::of(&through, &target);
+//! let pre = Pre::of(alloc, &through, &target)?;
 //! let built = materialise(alloc, &pre, 1000)?;
 //! ```
 #![tactic(auto)]

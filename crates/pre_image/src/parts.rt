@@ -6,6 +6,7 @@ ghost use Rattle.pre_image.specs.Leading.{Closes, Passes};
 ghost use Rattle.sv_terms.specs.TransducerSizes.{items_size};
 ghost use Rattle.pre_image.specs.PreImages.{PreEnds, PreSteps};
 ghost use Rattle.pre_image.specs.Parts.{EndsBy, IsEdgePart, IsFinalPart, IsEndPart, IsClosingPart, IsStepPart, IsLastPart};
+ghost use Rattle.sv_word.specs.Words.{greatest_character};
 
 use crate::pre::Pre;
 use crate::ways::{Way, goes, minus, way_on};
@@ -43,7 +44,7 @@ fn edge_part(
 ) -> Result<Option<Part>, AllocError>
     requires from { from.now.1 < target.now.states }
     requires width { length cost.now ≡ target.now.registers }
-    requires character { c ≤ 0x2FFFF }
+    requires character { c ≤ greatest_character }
     requires fits { edges_top target.now.edges * items_size edge.now.items < 2 ^ 64 }
     ensures { IfOk result (λ o. MatchOption o (Passes target.now from.now c cost.now to.now edge.now → ⊥) (IsEdgePart target.now edge.now from.now c cost.now to.now)) }
 {
@@ -82,7 +83,7 @@ pub fn step_part(
 ) -> Result<Part, AllocError>
     requires from { from.now.1 < pre.now.target.now.states }
     requires width { length cost.now ≡ pre.now.target.now.registers }
-    requires character { c ≤ 0x2FFFF }
+    requires character { c ≤ greatest_character }
     requires step { PreSteps pre.now.through.now pre.now.target.now from.now c cost.now to.now }
     ensures { IfOk result (IsStepPart pre.now.through.now pre.now.target.now from.now c cost.now to.now) }
 {

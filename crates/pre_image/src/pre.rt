@@ -1,20 +1,24 @@
-ghost use Rattle.std.specs.Prelude.{◌≡◌, ℕ, ◌+◌, ◌*◌, ◌<◌, ◌≤◌, ◌^◌, ◌↔◌, ◌⊎◌, length, OnOk, All, Any, Contains, List};
+ghost use Rattle.std.specs.Prelude.{◌≡◌, ℕ, ◌+◌, ◌*◌, ◌<◌, ◌≤◌, ◌^◌, ◌↔◌, ◌⊎◌, length, slice_get, Some, IfOk, OnOk, All, Any, Contains, List};
 ghost use Rattle.sv_word.specs.Ranges.{IsInhabited};
 ghost use Rattle.machine_core.specs.Costs.{add_costs};
 ghost use Rattle.machine_core.specs.Moves.{Moves};
+ghost use Rattle.machine_core.specs.Places.{IsIndex, pick};
 ghost use Rattle.machine_core.specs.Language.{RunsFrom};
 ghost use Rattle.machine_core.specs.Edges.{EndsAt, StepsBy, edges_top, ends_top};
 ghost use Rattle.pre_image.specs.Leading.{CanAdd, Passes, Closes, Goes};
 ghost use Rattle.sv_terms.specs.Transduction.{IsFormed};
 ghost use Rattle.sv_terms.specs.TransducerSizes.{items_size};
+ghost use Rattle.sv_terms.specs.declared.transducer.TransEdge.{TransEdge};
 ghost use Rattle.pre_image.specs.Spelling.{spelling};
 ghost use Rattle.std.specs.Coded.{le_prop};
 ghost use Rattle.pre_image.specs.FormedProps.{items_prop, word_prop};
 ghost use Rattle.pre_image.specs.PreImages.{IsPair, PreEnds, PreSteps, pre_top};
+ghost use Rattle.pre_image.specs.Indexed.{IsIndexed, edge_source, end_state};
 ghost use Rattle.pre_image.specs.PreLaws.{pre_first, pre_step_is_state, pre_step_character, pre_step_cost, pre_end_cost, pairs_at_most};
+ghost use Rattle.sv_word.specs.Words.{greatest_character};
 
 use crate::leading::{along, spell, spell_word};
-use machine_core::{Cost, Explicit, Machine, Move};
+use machine_core::{Cost, Explicit, Index, Machine, Move};
 use std::alloc::{AllocError, Global};
 use sv_list::{Copied, Items};
 use sv_terms::{TransEdge, Transducer};
@@ -24,26 +28,41 @@ use sv_word::Word;
 /// there, by a machine that is explored state by state.
 ///
 /// A state is a pair of one of the transducer and one of the target, so at most so many are reached as
-/// the product of both numbers.
+/// the product of both numbers. What leaves a pair is found without a look at the transducer's other
+/// edges and ends.
 #[derive(Drop)]
 pub struct Pre<'a> {
     pub through: &'a Transducer,
     pub target: &'a Explicit,
+    edge_places: Index,
+    end_places: Index,
     ghost formed: { IsFormed through.now } by { Prim.hlevel (le_prop, word_prop, items_prop) },
     ghost fits: { pre_top through.now target.now < 2 ^ 64 },
+    ghost indexed: { IsIndexed through.now edge_places end_places },
 }
 
 impl<'a> Pre<'a> {
     /// The pre-image of `target` under `through`. The costs fit where the target's greatest edge cost,
     /// times the most characters that an edge or an end of the transducer writes, and the target's
-    /// greatest end cost add up below 2^64. Constant time.
-    pub fn of(through: &'a Transducer, target: &'a Explicit) -> Self
+    /// greatest end cost add up below 2^64. Time and memory are linear in the transducer.
+    pub fn of(
+        alloc: Global,
+        through: &'a Transducer,
+        target: &'a Explicit,
+    ) -> Result<Self, AllocError>
         requires formed { IsFormed through.now }
         requires fits { pre_top through.now target.now < 2 ^ 64 }
-        ensures through { result.through.now ≡ through.now }
-        ensures target { result.target.now ≡ target.now }
+        ensures through { IfOk result (λ pre. pre.through.now ≡ through.now) }
+        ensures target { IfOk result (λ pre. pre.target.now ≡ target.now) }
     {
-        Pre { through, target }
+        let edge_places = edges_by_state(alloc, through)?;
+        let end_places = ends_by_state(alloc, through)?;
+        Ok(Pre {
+            through,
+            target,
+            edge_places,
+            end_places,
+        })
     }
 }
 
@@ -85,20 +104,87 @@ impl<'a> Machine for Pre<'a> {
     }
 
     fn ends(&self, alloc: Global, at: &(u32, u32)) -> Result<Items<Cost>, AllocError> {
-        let mut all = Items::new(alloc);
-        for end in self.through.ends.as_slice() {
-            add_end(alloc, &mut all, self.target, at, end)?;
-        }
-        Ok(all)
+        let ends = self.through.ends.as_slice();
+        let costs = costs_of(alloc, self.target, at, ends, self.end_places.row(at.0))?;
+        Ok(costs)
     }
 
     fn moves(&self, alloc: Global, at: &(u32, u32)) -> Result<Items<Move<(u32, u32)>>, AllocError> {
-        let mut all = Items::new(alloc);
-        for edge in self.through.edges.as_slice() {
-            add_edge(alloc, &mut all, self.target, at, edge)?;
-        }
-        Ok(all)
+        let edges = self.through.edges.as_slice();
+        let moves = moves_of(alloc, self.target, at, edges, self.edge_places.row(at.0))?;
+        Ok(moves)
     }
+}
+
+// The places of the transducer's edges, by the state that they leave.
+fn edges_by_state(alloc: Global, through: &Transducer) -> Result<Index, AllocError>
+    requires { IsFormed through.now }
+    ensures rows { IfOk result (λ rows. length rows ≡ through.now.states) }
+    ensures found { IfOk result (IsIndex edge_source through.now.edges) }
+{
+    let mut rows = Index::new(alloc, through.states)?;
+    for (place, edge) in through.edges.as_slice().iter().enumerate() {
+        rows.add(edge.from, place)?;
+    }
+    Ok(rows)
+}
+
+// The places of the transducer's ends, by their states.
+fn ends_by_state(alloc: Global, through: &Transducer) -> Result<Index, AllocError>
+    requires { IsFormed through.now }
+    ensures rows { IfOk result (λ rows. length rows ≡ through.now.states) }
+    ensures found { IfOk result (IsIndex end_state through.now.ends) }
+{
+    let mut rows = Index::new(alloc, through.states)?;
+    for (place, end) in through.ends.as_slice().iter().enumerate() {
+        rows.add(end.0, place)?;
+    }
+    Ok(rows)
+}
+
+// The costs at which a word may end in this pair of states by the ends at these places.
+fn costs_of(
+    alloc: Global,
+    target: &Explicit,
+    at: &(u32, u32),
+    ends: &[(u32, Word)],
+    places: &[usize],
+) -> Result<Items<Cost>, AllocError>
+    requires within { (i p : ℕ) → slice_get places.now i ≡ Some p → p < length ends.now }
+    requires at { at.now.1 < target.now.states }
+    requires fits { (e : ℕ × List ℕ) → Contains ends.now e → edges_top target.now.edges * length e.1 + ends_top target.now.ends < 2 ^ 64 }
+    ensures { IfOk result (λ all. (cost : List ℕ) → Any (λ e. e ≡ cost) all ↔ Any (Closes target.now at.now cost) (pick ends.now places.now)) }
+{
+    let mut all = Items::new(alloc);
+    for place in places {
+        let end = &ends[*place];
+        add_end(alloc, &mut all, target, at, end)?;
+    }
+    Ok(all)
+}
+
+// The moves from this pair of states by the edges at these places.
+fn moves_of(
+    alloc: Global,
+    target: &Explicit,
+    at: &(u32, u32),
+    edges: &[TransEdge],
+    places: &[usize],
+) -> Result<Items<Move<(u32, u32)>>, AllocError>
+    requires within { (i p : ℕ) → slice_get places.now i ≡ Some p → p < length edges.now }
+    requires at { at.now.1 < target.now.states }
+    requires high { (e : TransEdge) → Contains edges.now e → e.hi ≤ greatest_character }
+    requires fits { (e : TransEdge) → Contains edges.now e → edges_top target.now.edges * items_size e.items < 2 ^ 64 }
+    ensures exact { IfOk result (λ all. (c : ℕ) (cost : List ℕ) (to : ℕ × ℕ) →
+        Any (Moves c cost to) all ↔ Any (Passes target.now at.now c cost to) (pick edges.now places.now)) }
+    ensures inhabited { IfOk result (All (λ m. IsInhabited m.on)) }
+{
+    let mut all = Items::new(alloc);
+    for place in places {
+        let edge = &edges[*place];
+        add_edge(alloc, &mut all, target, at, edge)?;
+    }
+    Ok(all)
 }
 
 // Adds the costs at which a word may end in this pair of states by this end.
@@ -129,7 +215,7 @@ fn add_edge(
     edge: &TransEdge,
 ) -> Result<(), AllocError>
     requires at { at.now.1 < target.now.states }
-    requires high { edge.now.hi ≤ 0x2FFFF }
+    requires high { edge.now.hi ≤ greatest_character }
     requires fits { edges_top target.now.edges * items_size edge.now.items < 2 ^ 64 }
     requires old { All (λ m. IsInhabited m.on) all.old }
     ensures exact { OnOk result ((c : ℕ) (cost : List ℕ) (to : ℕ × ℕ) → Any (Moves c cost to) all.new ↔
@@ -195,7 +281,7 @@ fn add_moves(
 ) -> Result<(), AllocError>
     requires at { at < target.now.states }
     requires order { edge.now.lo ≤ edge.now.hi }
-    requires high { edge.now.hi ≤ 0x2FFFF }
+    requires high { edge.now.hi ≤ greatest_character }
     requires fits { edges_top target.now.edges * items_size edge.now.items < 2 ^ 64 }
     requires old { All (λ m. IsInhabited m.on) all.old }
     ensures exact { OnOk result ((c : ℕ) (cost : List ℕ) (to : ℕ × ℕ) → Any (Moves c cost to) all.new ↔

@@ -68,7 +68,7 @@ fn words_are_found_before_a_replacement(rt: HostRuntime) -> Result<(), BuildFaul
     let alloc = rt.alloc();
     let escape = replace_all(alloc, &word(alloc, b"<")?, &word(alloc, b"&lt;")?)?;
     let target = escaped(alloc)?;
-    let pre = Pre::of(&escape, &target);
+    let pre = Pre::of(alloc, &escape, &target)?;
     assert!(rt; is_pair(alloc, &pre, &[0x78, 0x3c], &[0x78, 0x26, 0x6c, 0x74, 0x3b])?);
     Ok(())
 }

@@ -7,7 +7,7 @@ use Rattle.sv_terms.specs.Language.{Word, In}
 use Rattle.sv_terms.specs.declared.regex.Regex.{Regex}
 use Rattle.trim_search.specs.declared.build_fault.BuildFault.{BuildFault}
 use Rattle.trim_search.specs.declared.build_fault.BuildFault.TheVariants as fault
-use Rattle.regex_machine.specs.Bounds.{size}
+use Rattle.sv_terms.specs.Bounds.{size}
 use Rattle.regex_machine.specs.Built.{Builds, Fits}
 use Rattle.regex_machine.specs.Joined.{Reads}
 use Rattle.regex_machine.proofs.WordLemmas.{reads-same}

@@ -7,7 +7,7 @@ use Rattle.machine_core.specs.Edges.{EndsAt}
 use Rattle.sv_terms.specs.Language.{Word, Power, Then, Repeated}
 use Rattle.regex_machine.specs.Joined.{WordsOf}
 use Rattle.regex_machine.specs.Copied.{InCopies, AreEnough, CopyEnds, CopySteps, CopiesRead}
-use Rattle.regex_machine.proofs.Cut.{split-at}
+use Rattle.sv_terms.specs.CutOff.{split-at}
 use Rattle.regex_machine.proofs.WordLemmas.{From, from-step, step-from}
 use Rattle.regex_machine.proofs.CopyLemmas.{Pieces, last, piece, runs-out, runs-in}
 use Rattle.regex_machine.proofs.PieceLemmas.{pieces-power, power-pieces, power-all, power-more, pieces-repeated, repeated-pieces}

@@ -3,7 +3,7 @@ use Rattle.std.proofs.Common.{◌≡◌, ℕ, zero, suc, ◌+◌, ◌<◌, ◌�
 use Rattle.machine_core.specs.declared.graph.Graph.{Graph}
 use Rattle.machine_core.specs.Language.{RunsFrom}
 use Rattle.sv_terms.specs.Language.{Word}
-use Rattle.regex_machine.proofs.Cut.{split-at}
+use Rattle.sv_terms.specs.CutOff.{split-at}
 use Rattle.regex_machine.proofs.WordLemmas.{From, from-step, step-from}
 use Rattle.regex_machine.specs.Copied.{NextCopy, AreEnough, CopyEnds, CopySteps}
 

@@ -8,7 +8,7 @@ use Rattle.sv_terms.specs.Opened.{In-Star, In-Plus, In-Opt, In-Comp, In-Diff, In
 use Rattle.sv_terms.specs.declared.regex.Regex.{Regex}
 use Rattle.sv_terms.specs.declared.regex.Regex.TheVariants as v
 use Rattle.trim_search.specs.declared.build_fault.BuildFault.{BuildFault}
-use Rattle.regex_machine.specs.Bounds.{size, from_left, without_size}
+use Rattle.sv_terms.specs.Bounds.{size, from_left, without_size}
 use Rattle.regex_machine.specs.Built.{Builds}
 use Rattle.regex_machine.specs.Copied.{InCopies, copies_size}
 use Rattle.regex_machine.specs.Joined.{WordsOf, Reads, AreMade}
@@ -20,7 +20,7 @@ use Rattle.regex_machine.proofs.BuiltLemmas.{builds-as, builds-form}
 use Rattle.regex_machine.proofs.CopyLanguage.{star-copied, plus-copied, opt-copied, loop-copied, copied-same}
 use Rattle.regex_machine.proofs.KindLemmas.{formed, formed-words, formed-size, first-fewer, power-more}
 use Rattle.regex_machine.proofs.LanguageLemmas.{first-made}
-use Rattle.regex_machine.proofs.Sizes.{size-Star, size-Plus, size-Opt, size-Comp, size-Diff, size-Loop}
+use Rattle.sv_terms.specs.BoundLaws.{size-Star, size-Plus, size-Opt, size-Comp, size-Diff, size-Loop}
 
 module _ (regex : Regex) (limit : ℕ) (x : Result Graph BuildFault) where
   pub builds-list : (k : Kind) (rs slice : List Regex) → slice ≡ rs → regex ≡ formed k rs

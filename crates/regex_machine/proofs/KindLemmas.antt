@@ -11,13 +11,13 @@ use Rattle.sv_terms.specs.declared.regex.Regex.{Regex}
 use Rattle.sv_terms.specs.declared.regex.Regex.TheVariants as v
 use Rattle.sv_terms.specs.Language.{Word, Language, In, InOneOf, InEachInTurn, InAllOf}
 use Rattle.sv_terms.specs.Opened.{In-Concat, In-Union, In-Inter}
-use Rattle.regex_machine.specs.Bounds.{size, from_left, fold_left, in_turn_size, choice_size, both_size, without_size}
+use Rattle.sv_terms.specs.Bounds.{size, from_left, fold_left, in_turn_size, choice_size, both_size, without_size}
 use Rattle.regex_machine.specs.Joined.{WordsOf, Reads, ArePlain, AreMade}
 use Rattle.regex_machine.specs.Kinds.{Together, weight, most_states, states_of}
 use Rattle.regex_machine.specs.Parts.{AddsParts}
 use Rattle.regex_machine.specs.declared.kind.Kind.{Kind}
 use Rattle.regex_machine.specs.declared.kind.Kind.TheVariants as kind
-use Rattle.regex_machine.proofs.Sizes.{size-Concat, size-Union, size-Inter, size-some}
+use Rattle.sv_terms.specs.BoundLaws.{size-Concat, size-Union, size-Inter, size-some}
 
 -- two lists, one after the other
 module _ {X : Type 0} (P : X → Language) where

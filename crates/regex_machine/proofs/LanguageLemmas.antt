@@ -6,10 +6,11 @@ use Rattle.machine_core.specs.declared.graph.Graph.{Graph}
 use Rattle.sv_terms.specs.Language.{Word, In, Then, Repeated, Power, InOneOf, InEachInTurn, InAllOf, InFirstOnly}
 use Rattle.sv_terms.specs.declared.regex.Regex.{Regex}
 use Rattle.sv_word.specs.Ranges.{in_ranges}
-use Rattle.regex_machine.specs.Bounds.{size}
+use Rattle.sv_terms.specs.Bounds.{size}
 use Rattle.regex_machine.specs.Kinds.{weight, most_states, states_of}
 use Rattle.regex_machine.specs.declared.kind.Kind.TheVariants.{One}
 use Rattle.regex_machine.specs.Joined.{WordsOf, Reads, ArePlain, AreMade, IsOther}
+use Rattle.sv_word.specs.Words.{greatest_character}
 
 pub made-push : (rs : List Regex) (ms : List Graph) (r : Regex) (m : Graph) → AreMade rs ms → Reads (In r) m → m.states ≤ size r → AreMade (rs ++ r ∷ []) (ms ++ m ∷ [])
 made-push [] [] r m h g few = (g, few, tt)
@@ -68,14 +69,14 @@ pub made-all : (rs : List Regex) (i : ℕ) (ms : List Graph) → length rs ≤ i
 made-all rs i ms past h = subst (λ l. AreMade l ms) (take_all i rs past) h
 
 -- the words of characters, of no copy, of copies out of order
-pub range-all : (on : List (ℕ × ℕ)) → ((c : ℕ) → in_ranges on c ≡ nat_le c 0x2FFFF) → (w : Word)
-    → ((c : ℕ) × IsTrue (in_ranges on c) × (w ≡ c ∷ [])) ↔ ((c : ℕ) × (c ≤ 0x2FFFF) × (w ≡ c ∷ []))
+pub range-all : (on : List (ℕ × ℕ)) → ((c : ℕ) → in_ranges on c ≡ nat_le c greatest_character) → (w : Word)
+    → ((c : ℕ) × IsTrue (in_ranges on c) × (w ≡ c ∷ [])) ↔ ((c : ℕ) × (c ≤ greatest_character) × (w ≡ c ∷ []))
 range-all on all w = (λ x. (x.0, below x.0 x.1, x.2), λ x. (x.0, inside x.0 x.1, x.2))
   where
-    below : (c : ℕ) → IsTrue (in_ranges on c) → c ≤ 0x2FFFF
+    below : (c : ℕ) → IsTrue (in_ranges on c) → c ≤ greatest_character
     below c h = let e = all c in grind (arith, nat_tests)
 
-    inside : (c : ℕ) → c ≤ 0x2FFFF → IsTrue (in_ranges on c)
+    inside : (c : ℕ) → c ≤ greatest_character → IsTrue (in_ranges on c)
     inside c h = let e = all c in grind (arith, nat_tests)
 
 pub no-order : (P : Word → Type 0) (i j : ℕ) → j < i → (w : Word) → ⊥ ↔ ((n : ℕ) × (i ≤ n) × (n ≤ j) × Power P n w)

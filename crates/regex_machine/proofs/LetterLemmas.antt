@@ -2,7 +2,7 @@
 use Rattle.std.proofs.Common.{◌≡◌, ℕ, zero, suc, ◌+◌, ◌<◌, ◌≤◌, ◌↔◌, ◌⊎◌, inl, inr, ◌&&◌, IsTrue, nat_le, List, [], ◌∷◌, ◌++◌, length, drop, slice_get, Some, Any, refl, ap, sym, ◌∙◌, subst, arith, min}
 use Rattle.std.proofs.lemmas.Bool.Decides.{nat_tests}
 use Rattle.sv_word.specs.Ranges.{in_ranges}
-use Rattle.sv_word.specs.Words.{IsWord}
+use Rattle.sv_word.specs.Words.{IsWord, greatest_character}
 use Rattle.machine_core.specs.declared.graph.Graph.{Graph}
 use Rattle.machine_core.specs.declared.edge.Edge.{Edge}
 use Rattle.machine_core.specs.declared.end.End.{End}
@@ -49,14 +49,14 @@ nothing-reads m plain none = record {
   words = λ w. (λ h. no-ends (StepsBy m.edges) w 0 [] (subst (λ l. RunsFrom (EndsAt l) (StepsBy m.edges) 0 w []) none h), λ h. absurd h);
 }
 
-module _ (on : List (ℕ × ℕ)) (all : (c : ℕ) → in_ranges on c ≡ nat_le c 0x2FFFF) where
+module _ (on : List (ℕ × ℕ)) (all : (c : ℕ) → in_ranges on c ≡ nat_le c greatest_character) where
   abbrev Every : ℕ → Word → List ℕ → Type 0
   Every s w cost = RunsFrom (EndsAt (ending 0 [] ∷ [])) (StepsBy (edge 0 on [] 0 ∷ [])) s w cost
 
-  character : (c : ℕ) → IsTrue (in_ranges on c) → c ≤ 0x2FFFF
+  character : (c : ℕ) → IsTrue (in_ranges on c) → c ≤ greatest_character
   character c h = let e = all c in grind (arith, nat_tests)
 
-  in-all : (c : ℕ) → c ≤ 0x2FFFF → IsTrue (in_ranges on c)
+  in-all : (c : ℕ) → c ≤ greatest_character → IsTrue (in_ranges on c)
   in-all c h = let e = all c in grind (arith, nat_tests)
 
   every-out : (w : Word) (s : ℕ) (cost : List ℕ) → Every s w cost → IsWord w
@@ -204,27 +204,27 @@ module _ (word : Word) (edges : List Edge) (spells : Spells word (length word) e
     );
   }
 
-pub character-at : (word : Word) (k c : ℕ) → IsWord word → slice_get word k ≡ Some c → c ≤ 0x2FFFF
+pub character-at : (word : Word) (k c : ℕ) → IsWord word → slice_get word k ≡ Some c → c ≤ greatest_character
 character-at [] k c h e = cc
-character-at (x ∷ xs) zero c h e = (let f : x ≡ c = cc in subst (λ n. n ≤ 0x2FFFF) f h.0)
+character-at (x ∷ xs) zero c h e = (let f : x ≡ c = cc in subst (λ n. n ≤ greatest_character) f h.0)
 character-at (x ∷ xs) (suc k) c h e = character-at xs k c h.1 e
 
 -- the characters from `lo` to `hi`, cut off at the last character
-pub range-words : (lo hi top : ℕ) (on : List (ℕ × ℕ)) → top ≡ min hi 0x2FFFF → ((c : ℕ) → in_ranges on c ≡ (nat_le lo c && nat_le c top))
-    → (w : Word) → ((c : ℕ) × IsTrue (in_ranges on c) × (w ≡ c ∷ [])) ↔ ((c : ℕ) × (lo ≤ c) × (c ≤ hi) × (c ≤ 0x2FFFF) × (w ≡ c ∷ []))
+pub range-words : (lo hi top : ℕ) (on : List (ℕ × ℕ)) → top ≡ min hi greatest_character → ((c : ℕ) → in_ranges on c ≡ (nat_le lo c && nat_le c top))
+    → (w : Word) → ((c : ℕ) × IsTrue (in_ranges on c) × (w ≡ c ∷ [])) ↔ ((c : ℕ) × (lo ≤ c) × (c ≤ hi) × (c ≤ greatest_character) × (w ≡ c ∷ []))
 range-words lo hi top on cut set w = (
   λ h. let b = bounds h.0 h.1 in (h.0, b.0, b.1, b.2, h.2),
   λ h. (h.0, inside h.0 h.1 h.2 h.3, h.4),
 )
   where
-    bounds : (c : ℕ) → IsTrue (in_ranges on c) → (lo ≤ c) × (c ≤ hi) × (c ≤ 0x2FFFF)
+    bounds : (c : ℕ) → IsTrue (in_ranges on c) → (lo ≤ c) × (c ≤ hi) × (c ≤ greatest_character)
     bounds c h =
         let e = set c in
         let low : lo ≤ c = grind (arith, nat_tests) in
         let high : c ≤ top = grind (arith, nat_tests) in
         (low, omega arith, omega arith)
 
-    inside : (c : ℕ) → lo ≤ c → c ≤ hi → c ≤ 0x2FFFF → IsTrue (in_ranges on c)
+    inside : (c : ℕ) → lo ≤ c → c ≤ hi → c ≤ greatest_character → IsTrue (in_ranges on c)
     inside c a b d =
         let e = set c in
         let high : c ≤ top = omega arith in

@@ -11,7 +11,7 @@ use Rattle.machine_core.specs.Lists.{Contains-here}
 use Rattle.machine_meet.specs.Products.{summed}
 use Rattle.sv_terms.specs.Language.{Word, In, InOneOf}
 use Rattle.sv_terms.specs.declared.regex.Regex.{Regex}
-use Rattle.regex_machine.specs.Bounds.{size}
+use Rattle.sv_terms.specs.Bounds.{size}
 use Rattle.regex_machine.specs.Parts.{AddsParts}
 use Rattle.regex_machine.specs.Joined.{WordsOf, Reads, ArePlain}
 use Rattle.regex_machine.specs.Kinds.{weight, states_of}

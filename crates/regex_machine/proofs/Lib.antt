@@ -1,5 +1,3 @@
-pub mod Cut
-pub mod Sizes
 pub mod BuiltLemmas
 pub mod KindLemmas
 pub mod WordLemmas

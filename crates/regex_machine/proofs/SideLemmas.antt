@@ -17,7 +17,7 @@ use Rattle.subset_machine.specs.Subsets.{IsStateSet, SubsetEnds, SubsetSteps, Su
 use Rattle.machine_meet.specs.Products.{meet_width, summed, multiplied, MeetEnds, MeetSteps, AllRead, MeetsAll}
 use Rattle.sv_terms.specs.Language.{Word, InOneOf, InFirstOnly}
 use Rattle.regex_machine.specs.Joined.{WordsOf}
-use Rattle.regex_machine.specs.Bounds.{from_left, without_size}
+use Rattle.sv_terms.specs.Bounds.{from_left, without_size}
 use Rattle.regex_machine.specs.Kinds.{states_of}
 use Rattle.regex_machine.specs.Stepped.{AreEndsIf}
 use Rattle.regex_machine.specs.Sided.{IsSideState, SideEnds, SideSteps, SideWords, SideReads, listed, IsSide}

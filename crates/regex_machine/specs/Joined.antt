@@ -5,7 +5,7 @@ use Rattle.machine_core.specs.Graphs.{Accepts}
 use Rattle.sv_word.specs.Words.{IsWord}
 use Rattle.sv_terms.specs.Language.{Word, Language, In}
 use Rattle.sv_terms.specs.declared.regex.Regex.{Regex}
-use Rattle.regex_machine.specs.Bounds.{size}
+use Rattle.sv_terms.specs.Bounds.{size}
 
 -- the words of a machine without registers
 abbrev pub WordsOf : Graph → Language

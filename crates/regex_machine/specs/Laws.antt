@@ -13,6 +13,7 @@ use Rattle.regex_machine.specs.Kinds.{states_of}
 use Rattle.regex_machine.specs.Chosen.{choice_start, IsPartState, IsChoiceState, ChoiceSteps}
 use Rattle.regex_machine.specs.Chained.{FirstSteps, ChainSteps}
 use Rattle.regex_machine.specs.Copied.{NextCopy, IsCopyState, CopySteps, copy_start, copies_size}
+use Rattle.sv_word.specs.Words.{greatest_character}
 
 pub no-cost : (cost : List ℕ) → cost ≡ [] → IsCost 0 0 cost
 no-cost cost e = subst (IsCost 0 0) (sym e) (IsCost-zeros 0 0)
@@ -20,7 +21,7 @@ no-cost cost e = subst (IsCost 0 0) (sym e) (IsCost-zeros 0 0)
 to-state : (m : Graph) (s c t : ℕ) → StepsBy m.edges s c [] t → t < m.states
 to-state m s c t st = step_target m.states m.registers m.edges m.ends m.formed s t c [] st
 
-on-character : (m : Graph) (s c t : ℕ) → StepsBy m.edges s c [] t → c ≤ 0x2FFFF
+on-character : (m : Graph) (s c t : ℕ) → StepsBy m.edges s c [] t → c ≤ greatest_character
 on-character m s c t st = step_character m.states m.registers m.edges m.ends m.formed s t c [] st
 
 pub choice-first : (ms : List Graph) → IsChoiceState ms (choice_start ms)
@@ -30,7 +31,7 @@ pub choice-state : (ms : List Graph) (at : ℕ × ℕ) (c : ℕ) (cost : List �
 choice-state ms at c cost to (inl h) = inl (h.0, subst (λ k. slice_get ms k ≡ Some h.0) (sym h.2.1) h.1, to-state h.0 at.1 c to.1 h.2.2)
 choice-state ms at c cost to (inr h) = inl (h.1.0, h.1.1, to-state h.1.0 0 c to.1 h.1.2.2)
 
-pub choice-character : (ms : List Graph) (at : ℕ × ℕ) (c : ℕ) (cost : List ℕ) (to : ℕ × ℕ) → ChoiceSteps ms at c cost to → c ≤ 0x2FFFF
+pub choice-character : (ms : List Graph) (at : ℕ × ℕ) (c : ℕ) (cost : List ℕ) (to : ℕ × ℕ) → ChoiceSteps ms at c cost to → c ≤ greatest_character
 choice-character ms at c cost to (inl h) = on-character h.0 at.1 c to.1 h.2.2
 choice-character ms at c cost to (inr h) = on-character h.1.0 0 c to.1 h.1.2.2
 
@@ -54,7 +55,7 @@ first-state ms [] k c cost to e h = absurd h
 first-state ms (m ∷ rest) k c cost to e (inl h) = (m, subst (λ n. slice_get ms n ≡ Some m) (sym h.1) (drop-get ms k m rest e).0, to-state m 0 c to.1 h.2)
 first-state ms (m ∷ rest) k c cost to e (inr h) = first-state ms rest (suc k) c cost to (drop-get ms k m rest e).1 h.1
 
-first-character : (rest : List Graph) (k : ℕ) (c : ℕ) (cost : List ℕ) (to : ℕ × ℕ) → FirstSteps rest k c cost to → c ≤ 0x2FFFF
+first-character : (rest : List Graph) (k : ℕ) (c : ℕ) (cost : List ℕ) (to : ℕ × ℕ) → FirstSteps rest k c cost to → c ≤ greatest_character
 first-character [] k c cost to h = absurd h
 first-character (m ∷ rest) k c cost to (inl h) = on-character m 0 c to.1 h.2
 first-character (m ∷ rest) k c cost to (inr h) = first-character rest (suc k) c cost to h.1
@@ -70,7 +71,7 @@ chain-state ms at c cost to h = elim h.2 [
   | inr st ↦ first-state ms (drop (suc at.0) ms) (suc at.0) c cost to refl st.1
 ]
 
-pub chain-character : (ms : List Graph) (at : ℕ × ℕ) (c : ℕ) (cost : List ℕ) (to : ℕ × ℕ) → ChainSteps ms at c cost to → c ≤ 0x2FFFF
+pub chain-character : (ms : List Graph) (at : ℕ × ℕ) (c : ℕ) (cost : List ℕ) (to : ℕ × ℕ) → ChainSteps ms at c cost to → c ≤ greatest_character
 chain-character ms at c cost to h = elim h.2 [
   | inl st ↦ on-character h.0 at.1 c to.1 st.2
   | inr st ↦ first-character (drop (suc at.0) ms) (suc at.0) c cost to st.1
@@ -103,7 +104,7 @@ copy-state m least most again some at c cost to h = elim h.1 [
     next-below k l (inl g) = omega arith
     next-below k l (inr g) = omega arith
 
-pub copy-character : (m : Graph) (most : ℕ) (again : Bool) (at : ℕ × ℕ) (c : ℕ) (cost : List ℕ) (to : ℕ × ℕ) → CopySteps m most again at c cost to → c ≤ 0x2FFFF
+pub copy-character : (m : Graph) (most : ℕ) (again : Bool) (at : ℕ × ℕ) (c : ℕ) (cost : List ℕ) (to : ℕ × ℕ) → CopySteps m most again at c cost to → c ≤ greatest_character
 copy-character m most again at c cost to h = elim h.1 [
   | inl st ↦ on-character m at.1 c to.1 st.2
   | inr other ↦ elim other [

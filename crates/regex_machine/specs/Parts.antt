@@ -3,7 +3,7 @@ use Rattle.std.specs.Prelude.{◌≡◌, ℕ, ◌≤◌, ◌↔◌, List, ◌++�
 use Rattle.machine_core.specs.declared.graph.Graph.{Graph}
 use Rattle.sv_terms.specs.Language.{Word, In}
 use Rattle.sv_terms.specs.declared.regex.Regex.{Regex}
-use Rattle.regex_machine.specs.Bounds.{size}
+use Rattle.sv_terms.specs.Bounds.{size}
 use Rattle.regex_machine.specs.Joined.{WordsOf, ArePlain}
 use Rattle.regex_machine.specs.Kinds.{Together, weight, states_of}
 use Rattle.regex_machine.specs.declared.kind.Kind.{Kind}

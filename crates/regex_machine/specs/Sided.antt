@@ -1,7 +1,7 @@
 -- A machine without registers, or all words that aren't its, by lists of its states: a list of one for the machine, and the lists of the subset construction for the others.
 use Rattle.std.specs.Prelude.{◌≡◌, ℕ, ◌^◌, ◌<◌, ◌≤◌, ◌↔◌, Bool, true, false, List, [], ◌∷◌}
 use Rattle.std.proofs.Common.{refl, sym}
-use Rattle.sv_word.specs.Words.{IsWord}
+use Rattle.sv_word.specs.Words.{IsWord, greatest_character}
 use Rattle.machine_core.specs.declared.graph.Graph.{Graph}
 use Rattle.machine_core.specs.declared.machine.Move.{Move}
 use Rattle.machine_core.specs.Costs.{IsCost}
@@ -58,7 +58,7 @@ pub side-state : (others : Bool) (m : Graph) (at : List ℕ) (c : ℕ) (cost to 
 side-state false m at c cost to h = (h.2, h.4, step_target m.states m.registers m.edges m.ends m.formed h.1 h.2 c [] h.5)
 side-state true m at c cost to h = next-states m true at c cost to h
 
-pub side-character : (others : Bool) (m : Graph) (at : List ℕ) (c : ℕ) (cost to : List ℕ) → SideSteps others m at c cost to → c ≤ 0x2FFFF
+pub side-character : (others : Bool) (m : Graph) (at : List ℕ) (c : ℕ) (cost to : List ℕ) → SideSteps others m at c cost to → c ≤ greatest_character
 side-character false m at c cost to h = step_character m.states m.registers m.edges m.ends m.formed h.1 h.2 c [] h.5
 side-character true m at c cost to h = h.0
 

@@ -2,7 +2,7 @@ ghost use Rattle.std.specs.Prelude.{◌≡◌, ℕ, ◌+◌, ◌*◌, ◌≤◌,
 ghost use Rattle.machine_core.specs.Graphs.{Accepts};
 ghost use Rattle.sv_word.specs.Words.{IsWord};
 ghost use Rattle.sv_terms.specs.Language.{In, InFirstOnly, Power};
-ghost use Rattle.regex_machine.specs.Bounds.{size, bound_of, from_left, without_size};
+ghost use Rattle.sv_terms.specs.Bounds.{size, bound_of, from_left, without_size};
 ghost use Rattle.regex_machine.specs.Built.{Builds};
 ghost use Rattle.regex_machine.specs.Copied.{InCopies, copies_size};
 ghost use Rattle.regex_machine.specs.Joined.{Reads, AreMade};
@@ -10,7 +10,6 @@ ghost use Rattle.regex_machine.specs.Kinds.{Together, weight, most_states};
 ghost use Rattle.regex_machine.specs.Parts.{AddsParts};
 ghost use Rattle.trim_search.specs.declared.build_fault.BuildFault.TheVariants.{States};
 
-use crate::bounds::bound;
 use crate::joining::{complement, copied, difference, put_together};
 use crate::kind::Kind;
 use crate::letter_parts::join_alike;
@@ -18,7 +17,7 @@ use crate::letters::{any_character, empty_word, everything, fit, nothing, range,
 use machine_core::Explicit;
 use std::alloc::{AllocError, Global};
 use sv_list::Items;
-use sv_terms::Regex;
+use sv_terms::{Regex, bound};
 use trim_search::BuildFault;
 
 /// A machine without registers whose words are those of the expression, with at most

@@ -2,7 +2,7 @@
 ghost use Rattle.std.specs.Prelude.{◌≡◌, ℕ, ◌≤◌, ◌<◌, ◌^◌, IsTrue, IfOk, drop, map};
 ghost use Rattle.sv_word.specs.Words.{IsWord};
 ghost use Rattle.sv_terms.specs.Language.{InFirstOnly};
-ghost use Rattle.regex_machine.specs.Bounds.{from_left, without_size};
+ghost use Rattle.sv_terms.specs.Bounds.{from_left, without_size};
 ghost use Rattle.regex_machine.specs.Built.{Builds};
 ghost use Rattle.regex_machine.specs.Copied.{InCopies, copies_size};
 ghost use Rattle.regex_machine.specs.Joined.{WordsOf, ArePlain};

@@ -1,13 +1,13 @@
 //! Machines of single words and characters, without registers.
 ghost use Rattle.std.specs.Prelude.{◌≡◌, ℕ, ◌≤◌, ◌+◌, [], ◌∷◌, length, min, IsTrue, IfOk};
 ghost use Rattle.sv_word.specs.Ranges.{in_ranges};
-ghost use Rattle.sv_word.specs.Words.{IsWord};
+ghost use Rattle.sv_word.specs.Words.{IsWord, greatest_character};
 ghost use Rattle.regex_machine.specs.Built.{Fits};
 ghost use Rattle.regex_machine.specs.Joined.{Reads};
 
 use machine_core::{Cost, Explicit};
 use std::alloc::{AllocError, Global};
-use sv_word::{Ranges, Word};
+use sv_word::{GREATEST_CHARACTER, Ranges, Word};
 use trim_search::BuildFault;
 
 /// What was made, and `States` where it has more than `limit` states.
@@ -67,7 +67,7 @@ pub fn one_of(alloc: Global, on: Ranges) -> Result<Explicit, AllocError>
 
 /// The words of one character.
 pub fn any_character(alloc: Global) -> Result<Explicit, AllocError>
-    ensures reads { IfOk result (Reads (λ w. (c : ℕ) × (c ≤ 0x2FFFF) × (w ≡ c ∷ []))) }
+    ensures reads { IfOk result (Reads (λ w. (c : ℕ) × (c ≤ greatest_character) × (w ≡ c ∷ []))) }
     ensures states { IfOk result (λ m. m.states ≤ 2) }
 {
     let on = Ranges::all(alloc)?;
@@ -77,14 +77,14 @@ pub fn any_character(alloc: Global) -> Result<Explicit, AllocError>
 
 // The number, or the last character where it is above that.
 fn cut_off_at_last(n: u32) -> u32
-    ensures { result ≡ min n 0x2FFFF }
+    ensures { result ≡ min n greatest_character }
 {
-    if n < 0x2FFFF { n } else { 0x2FFFF }
+    n.min(GREATEST_CHARACTER)
 }
 
 /// The words of one character between two.
 pub fn range(alloc: Global, lo: u32, hi: u32) -> Result<Explicit, AllocError>
-    ensures reads { IfOk result (Reads (λ w. (c : ℕ) × (lo ≤ c) × (c ≤ hi) × (c ≤ 0x2FFFF) × (w ≡ c ∷ []))) }
+    ensures reads { IfOk result (Reads (λ w. (c : ℕ) × (lo ≤ c) × (c ≤ hi) × (c ≤ greatest_character) × (w ≡ c ∷ []))) }
     ensures states { IfOk result (λ m. m.states ≤ 2) }
 {
     let top = cut_off_at_last(hi);

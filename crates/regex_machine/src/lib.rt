@@ -16,7 +16,6 @@
 //! ```
 #![tactic(auto)]
 
-mod bounds;
 mod building;
 mod chain;
 mod choice;
@@ -31,5 +30,4 @@ mod stepping;
 #[cfg(test)]
 mod tests;
 
-pub use bounds::bound;
 pub use building::build;

@@ -15,6 +15,7 @@ pub type Place = (u32, u32);
 fn lead(all: &mut Items<Move<Place>>, moves: Items<Move<u32>>, part: u32) -> Result<(), AllocError>
     ensures { OnOk result (all.new ≡ all.old ++ map (led part) moves) }
 {
+    all.reserve(moves.len())?;
     for step in moves.into_vec() {
         all.push(Move {
             on: step.on,

@@ -3,7 +3,7 @@ use Rattle.std.proofs.Common.{◌≡◌, refl, sym, ap, ◌∙◌, subst, ℕ, z
 use Rattle.std.proofs.lemmas.Grind.{common_steps}
 use Rattle.sv_terms.specs.declared.regex.Regex.{Regex}
 use Rattle.sv_terms.specs.declared.regex.Regex.TheVariants as v
-use Rattle.sv_word.specs.Words.{IsWord}
+use Rattle.sv_word.specs.Words.{IsWord, greatest_character}
 use Rattle.sv_terms.specs.Language.{Word, Language, Then, In, InAllOf, InOneOf, InFirstOnly, InEachInTurn}
 use Rattle.regex_match.specs.Derivative.{SameWords, IsDerivative}
 use Rattle.sv_terms.specs.Opened.{In-Empty, In-Concat, In-Union, In-Inter, In-Diff}
@@ -46,7 +46,7 @@ pub one-end : (rs parts : List Regex) (i : ℕ) (d : Regex) (c : ℕ) → length
 one-end rs parts i d c l h s = d-same (v.Union rs) d (v.Union parts) c (subst (λ z. IsDerivative (v.Union z) c (v.Union parts)) (whole rs i l) h) s
 
 -- an intersection
-pub all-start : (c : ℕ) → c ≤ 0x2FFFF → IsDerivative (v.Inter []) c (v.Inter [])
+pub all-start : (c : ℕ) → c ≤ greatest_character → IsDerivative (v.Inter []) c (v.Inter [])
 all-start c l = record {
   only = λ w h. in_inter [] (c ∷ w) (l, of_inter [] w h);
   all = λ w h. let k = of_inter [] (c ∷ w) h in in_inter [] w k.1;

@@ -3,7 +3,7 @@ use Rattle.std.proofs.Common.{◌≡◌, refl, sym, ap, ◌∙◌, subst, ℕ, z
 use Rattle.std.proofs.lemmas.Grind.{common_steps}
 use Rattle.sv_terms.specs.declared.regex.Regex.{Regex}
 use Rattle.sv_terms.specs.declared.regex.Regex.TheVariants as v
-use Rattle.sv_word.specs.Words.{IsWord}
+use Rattle.sv_word.specs.Words.{IsWord, greatest_character}
 use Rattle.sv_terms.specs.Language.{Word, Language, Then, Power, In, InAllOf, InOneOf, InFirstOnly, InEachInTurn, Repeated, done, more}
 use Rattle.regex_match.specs.Derivative.{SameWords, IsDerivative}
 use Rattle.sv_terms.specs.Opened.{In-Empty, In-All, In-AnyChar, In-Text, In-Range, In-Concat, In-Union, In-Inter, In-Diff, In-Star, In-Plus, In-Opt, In-Comp, In-Loop}
@@ -77,10 +77,10 @@ in-pair a b w t = rw In-Concat (t.0, t.1, t.2, t.3, (t.1, [], sym (append_nil t.
 pub d-Empty : (c : ℕ) → IsDerivative v.Empty c v.Empty
 d-Empty c = record { only = λ w h. absurd (rw In-Empty at h); all = λ w h. absurd (rw In-Empty at h) }
 
-pub d-none : (r : Regex) (c : ℕ) → 0x2FFFF < c → IsDerivative r c v.Empty
+pub d-none : (r : Regex) (c : ℕ) → greatest_character < c → IsDerivative r c v.Empty
 d-none r c h = record { only = λ w k. absurd (rw In-Empty at k); all = λ w k. absurd (let q = In-word r (c ∷ w) k in omega (arith, q.0)) }
 
-pub d-All : (c : ℕ) → c ≤ 0x2FFFF → IsDerivative v.All c v.All
+pub d-All : (c : ℕ) → c ≤ greatest_character → IsDerivative v.All c v.All
 d-All c h = record {
   only = λ w k. rw In-All (h, (let q : IsWord w = rw In-All at k in q));
   all = λ w k. let q : IsWord (c ∷ w) = rw In-All at k in rw In-All q.1;
@@ -92,23 +92,23 @@ in_nil w e = rw In-Text (e, subst IsWord (sym e) tt)
 of_nil : (w : Word) → In (v.Text []) w → w ≡ []
 of_nil w h = let q : (w ≡ []) × IsWord w = rw In-Text at h in q.0
 
-pub d-AnyChar : (c : ℕ) → c ≤ 0x2FFFF → IsDerivative v.AnyChar c (v.Text [])
+pub d-AnyChar : (c : ℕ) → c ≤ greatest_character → IsDerivative v.AnyChar c (v.Text [])
 d-AnyChar c h = record {
   only = λ w k. rw In-AnyChar (c, h, ap (λ z. c ∷ z) (of_nil w k));
-  all = λ w k. let q : (d : ℕ) × (d ≤ 0x2FFFF) × (c ∷ w ≡ d ∷ []) = rw In-AnyChar at k in in_nil w (let e = q.2 in cc);
+  all = λ w k. let q : (d : ℕ) × (d ≤ greatest_character) × (c ∷ w ≡ d ∷ []) = rw In-AnyChar at k in in_nil w (let e = q.2 in cc);
 }
 
-pub d-Range : (lo hi c : ℕ) → lo ≤ c → c ≤ hi → c ≤ 0x2FFFF → IsDerivative (v.Range lo hi) c (v.Text [])
+pub d-Range : (lo hi c : ℕ) → lo ≤ c → c ≤ hi → c ≤ greatest_character → IsDerivative (v.Range lo hi) c (v.Text [])
 d-Range lo hi c h g f = record {
   only = λ w k. rw In-Range (c, h, g, f, ap (λ z. c ∷ z) (of_nil w k));
-  all = λ w k. let q : (d : ℕ) × (lo ≤ d) × (d ≤ hi) × (d ≤ 0x2FFFF) × (c ∷ w ≡ d ∷ []) = rw In-Range at k in in_nil w (let e = q.4 in cc);
+  all = λ w k. let q : (d : ℕ) × (lo ≤ d) × (d ≤ hi) × (d ≤ greatest_character) × (c ∷ w ≡ d ∷ []) = rw In-Range at k in in_nil w (let e = q.4 in cc);
 }
 
-pub d-Range-none : (lo hi c : ℕ) → (lo ≤ c → c ≤ hi → c ≤ 0x2FFFF → ⊥) → IsDerivative (v.Range lo hi) c v.Empty
+pub d-Range-none : (lo hi c : ℕ) → (lo ≤ c → c ≤ hi → c ≤ greatest_character → ⊥) → IsDerivative (v.Range lo hi) c v.Empty
 d-Range-none lo hi c never = record {
   only = λ w k. absurd (rw In-Empty at k);
   all = λ w k.
-      let q : (d : ℕ) × (lo ≤ d) × (d ≤ hi) × (d ≤ 0x2FFFF) × (c ∷ w ≡ d ∷ []) = rw In-Range at k in
+      let q : (d : ℕ) × (lo ≤ d) × (d ≤ hi) × (d ≤ greatest_character) × (c ∷ w ≡ d ∷ []) = rw In-Range at k in
       let f = q.4 in
       let e : c ≡ q.0 = cc in absurd (never (omega (arith, q.1, e)) (omega (arith, q.2, e)) (omega (arith, q.3, e)));
 }
@@ -155,7 +155,7 @@ d-Opt r d c h = record {
   all = λ w k. h.all w (opt_after r c w (rw In-Opt at k));
 }
 
-pub d-Comp : (r e d : Regex) (c : ℕ) → c ≤ 0x2FFFF → IsDerivative r c e → SameWords d (v.Comp e) → IsDerivative (v.Comp r) c d
+pub d-Comp : (r e d : Regex) (c : ℕ) → c ≤ greatest_character → IsDerivative r c e → SameWords d (v.Comp e) → IsDerivative (v.Comp r) c d
 d-Comp r e d c l h g = record {
   only = λ w k. let q : IsWord w × (In e w → ⊥) = rw In-Comp at (g.only w k) in rw In-Comp ((l, q.0), λ z. q.1 (h.all w z));
   all = λ w k. let q : IsWord (c ∷ w) × (In r (c ∷ w) → ⊥) = rw In-Comp at k in g.all w (rw In-Comp (q.0.1, λ z. q.1 (h.only w z)));

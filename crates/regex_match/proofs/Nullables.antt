@@ -3,7 +3,7 @@ use Rattle.std.proofs.Common.{Bool, true, false, not, IsTrue, ◌↔◌, drop, t
 use Rattle.std.proofs.lemmas.Grind.{common_steps}
 use Rattle.sv_terms.specs.declared.regex.Regex.{Regex}
 use Rattle.sv_terms.specs.declared.regex.Regex.TheVariants as v
-use Rattle.sv_word.specs.Words.{IsWord}
+use Rattle.sv_word.specs.Words.{IsWord, greatest_character}
 use Rattle.sv_terms.specs.Language.{Word, Language, Then, Power, In, InAllOf, InOneOf, InFirstOnly, InEachInTurn, Repeated, done}
 use Rattle.sv_terms.specs.Opened.{In-Empty, In-All, In-AnyChar, In-Text, In-Range, In-Concat, In-Union, In-Inter, In-Diff, In-Star, In-Plus, In-Opt, In-Comp, In-Loop}
 
@@ -33,10 +33,10 @@ pub nil-All : In v.All []
 nil-All = rw In-All tt
 
 pub never-AnyChar : In v.AnyChar [] → ⊥
-never-AnyChar h = let q : (c : ℕ) × (c ≤ 0x2FFFF) × ([] ≡ c ∷ []) = rw In-AnyChar at h in let e = q.2 in cc
+never-AnyChar h = let q : (c : ℕ) × (c ≤ greatest_character) × ([] ≡ c ∷ []) = rw In-AnyChar at h in let e = q.2 in cc
 
 pub never-Range : (lo hi : ℕ) → In (v.Range lo hi) [] → ⊥
-never-Range lo hi h = let q : (c : ℕ) × (lo ≤ c) × (c ≤ hi) × (c ≤ 0x2FFFF) × ([] ≡ c ∷ []) = rw In-Range at h in let e = q.4 in cc
+never-Range lo hi h = let q : (c : ℕ) × (lo ≤ c) × (c ≤ hi) × (c ≤ greatest_character) × ([] ≡ c ∷ []) = rw In-Range at h in let e = q.4 in cc
 
 pub nil-Text : (t : Word) → length t ≡ 0 → In (v.Text t) []
 nil-Text [] h = rw In-Text (refl, tt)

@@ -8,7 +8,7 @@ use crate::nullable::is_nullable;
 use std::alloc::{AllocError, Global};
 use sv_list::{Boxed, Items};
 use sv_terms::Regex;
-use sv_word::Word;
+use sv_word::{GREATEST_CHARACTER, Word};
 
 /// What is left of it once the character is read, by cases on its form.
 #[cycle(derive)]
@@ -16,7 +16,7 @@ use sv_word::Word;
 pub fn derive(alloc: Global, regex: &Regex, c: u32) -> Result<Regex, AllocError>
     ensures { IfOk result (IsDerivative regex.now c) }
 {
-    if c > 0x2FFFF {
+    if c > GREATEST_CHARACTER {
         return Ok(Regex::Empty);
     }
     match regex {
@@ -175,7 +175,7 @@ fn derive_one(alloc: Global, rs: &[Regex], c: u32) -> Result<Regex, AllocError>
 fn derive_all(alloc: Global, rs: &[Regex], c: u32) -> Result<Regex, AllocError>
     ensures { IfOk result (IsDerivative (Inter rs.now) c) }
 {
-    if c > 0x2FFFF {
+    if c > GREATEST_CHARACTER {
         return Ok(Regex::Empty);
     }
     let mut parts = Items::new(alloc);

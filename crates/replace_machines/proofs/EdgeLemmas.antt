@@ -7,6 +7,7 @@ use Rattle.replace_machines.specs.Borders.{IsNext}
 use Rattle.replace_machines.specs.Rows.{at, target, Ascends, IsRow}
 use Rattle.replace_machines.specs.Edges.{edge_for, edges_of, AreEdges, AreEnds}
 use Rattle.replace_machines.proofs.RowLemmas.{less_or_not, target-here, target-later, target-below}
+use Rattle.sv_word.specs.Words.{greatest_character}
 
 pub contains_cons : {X : Type 0} (x y : X) (xs : List X) → Contains (y ∷ xs) x → (y ≡ x) ⊎ Contains xs x
 contains_cons x y xs (zero, lt, e) = inl e
@@ -46,7 +47,7 @@ pub record IsPart (edge : ℕ → ℕ → ℕ → TransEdge) (low : ℕ) (row : 
   pub is : e ≡ edge lo hi j
   pub after : low ≤ lo
   pub order : lo ≤ hi
-  pub top : hi ≤ 0x2FFFF
+  pub top : hi ≤ greatest_character
   pub leads : (c : ℕ) → lo ≤ c → c ≤ hi → target row c ≡ j
 
 part-weaker : (edge : ℕ → ℕ → ℕ → TransEdge) (low : ℕ) (p : ℕ × ℕ) (row : List (ℕ × ℕ)) (e : TransEdge) → low ≤ p.0 → IsPart edge (suc p.0) row e → IsPart edge low (p ∷ row) e
@@ -63,8 +64,8 @@ part-weaker edge low p row e h k = record {
 
 pub edges_of-sound : (edge : ℕ → ℕ → ℕ → TransEdge) (low : ℕ) (row : List (ℕ × ℕ)) → Ascends low row → (e : TransEdge) → Contains (edges_of edge low row) e → IsPart edge low row e
 edges_of-sound edge low [] h e c =
-    let k = maybe_one (nat_le low 0x2FFFF) (edge low 0x2FFFF 0) e c in
-    record { lo = low; hi = 0x2FFFF; j = 0; is = sym k.1; after = omega arith; order = le_of low 0x2FFFF k.0; top = omega arith; leads = λ c g l. refl }
+    let k = maybe_one (nat_le low greatest_character) (edge low greatest_character 0) e c in
+    record { lo = low; hi = greatest_character; j = 0; is = sym k.1; after = omega arith; order = le_of low greatest_character k.0; top = omega arith; leads = λ c g l. refl }
 edges_of-sound edge low (p ∷ row) h e c = ⊎_elim gap (λ d. ⊎_elim single (λ more. part-weaker edge low p row e h.0 (edges_of-sound edge (suc p.0) row h.2 e more)) (contains_cons e (edge p.0 p.0 p.1) (edges_of edge (suc p.0) row) d))
     (Contains-append_cases (if nat_lt low p.0 then edge low (p.0 - 1) 0 ∷ [] else []) (edge p.0 p.0 p.1 ∷ edges_of edge (suc p.0) row) e c)
   where
@@ -92,8 +93,8 @@ covered-more edge xs ys c k = record { lo = k.lo; hi = k.hi; j = k.j; has = Cont
 covered-later : (edge : ℕ → ℕ → ℕ → TransEdge) (x : TransEdge) (ys : List TransEdge) (c : ℕ) → IsCovered edge ys c → IsCovered edge (x ∷ ys) c
 covered-later edge x ys c k = record { lo = k.lo; hi = k.hi; j = k.j; has = contains_later (edge k.lo k.hi k.j) x ys k.has; after = k.after; before = k.before }
 
-pub edges_of-total : (edge : ℕ → ℕ → ℕ → TransEdge) (low : ℕ) (row : List (ℕ × ℕ)) → Ascends low row → (c : ℕ) → low ≤ c → c ≤ 0x2FFFF → IsCovered edge (edges_of edge low row) c
-edges_of-total edge low [] h c l t = record { lo = low; hi = 0x2FFFF; j = 0; has = one_if (nat_le low 0x2FFFF) (edge low 0x2FFFF 0) (of_le low 0x2FFFF (omega (arith, l, t))); after = l; before = t }
+pub edges_of-total : (edge : ℕ → ℕ → ℕ → TransEdge) (low : ℕ) (row : List (ℕ × ℕ)) → Ascends low row → (c : ℕ) → low ≤ c → c ≤ greatest_character → IsCovered edge (edges_of edge low row) c
+edges_of-total edge low [] h c l t = record { lo = low; hi = greatest_character; j = 0; has = one_if (nat_le low greatest_character) (edge low greatest_character 0) (of_le low greatest_character (omega (arith, l, t))); after = l; before = t }
 edges_of-total edge low (p ∷ row) h c l t = ⊎_elim below (λ m. covered-more edge front (edge p.0 p.0 p.1 ∷ edges_of edge (suc p.0) row) c (⊎_elim (λ g. covered-later edge (edge p.0 p.0 p.1) (edges_of edge (suc p.0) row) c (edges_of-total edge (suc p.0) row h.2 c g.0 t)) (λ g. here m.0 g.0) (less_or_not p.0 c))) (less_or_not c p.0)
   where
     front : List TransEdge
@@ -113,7 +114,7 @@ edges_none pattern by after = record {
 
 -- what is said of each edge of the states below `count`
 abbrev IsHeld : List ℕ → List ℕ → ℕ → ℕ → TransEdge → Type 0
-IsHeld pattern by after count e = (e.from < count) × (e.lo ≤ e.hi) × (e.hi ≤ 0x2FFFF)
+IsHeld pattern by after count e = (e.from < count) × (e.lo ≤ e.hi) × (e.hi ≤ greatest_character)
     × ((c : ℕ) → e.lo ≤ c → c ≤ e.hi → (j : ℕ) × IsNext (at pattern) e.from c j × (e ≡ edge_for pattern by after e.from e.lo e.hi j))
 
 below_or_last : (q n : ℕ) → q < suc n → (q < n) ⊎ (q ≡ n)
@@ -136,7 +137,7 @@ edges_more pattern by after n row edges new r h e = subst (AreEdges pattern by a
     each : (e : TransEdge) → Contains (edges ++ edges_of made 0 row) e → IsHeld pattern by after (suc n) e
     each e c = ⊎_elim (λ d. old e (h.edge e d)) (λ d. part e (edges_of-sound made 0 row r.ascends e d)) (Contains-append_cases edges (edges_of made 0 row) e c)
 
-    covers : (q c : ℕ) → q < suc n → c ≤ 0x2FFFF → (e : TransEdge) × Contains (edges ++ edges_of made 0 row) e × (e.from ≡ q) × (e.lo ≤ c) × (c ≤ e.hi)
+    covers : (q c : ℕ) → q < suc n → c ≤ greatest_character → (e : TransEdge) × Contains (edges ++ edges_of made 0 row) e × (e.from ≡ q) × (e.lo ≤ c) × (c ≤ e.hi)
     covers q c l t = ⊎_elim
         (λ less. let k = h.some q c less t in (k.0, Contains-append_left edges (edges_of made 0 row) k.0 k.1, k.2, k.3, k.4))
         (λ same. let k = edges_of-total made 0 row r.ascends c (omega arith) t in

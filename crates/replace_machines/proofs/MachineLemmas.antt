@@ -4,7 +4,7 @@ use Rattle.std.specs.Prelude.{nat_lt, pos}
 use Rattle.std.specs.Option.{option_map}
 use Rattle.std.proofs.lemmas.List.{append-nil, append_assoc, length-append, length-take-le}
 use Rattle.std.proofs.lemmas.List.Elements.{Contains-append_left, Contains-append_right, Contains-append_cases}
-use Rattle.sv_word.specs.Words.{IsWord}
+use Rattle.sv_word.specs.Words.{IsWord, greatest_character}
 use Rattle.sv_terms.specs.Replacement.{replace_first, replace_all}
 use Rattle.sv_terms.specs.ReplacementLaws.{first-here, first-skips, all-here, all-skips}
 use Rattle.sv_terms.specs.Transduction.{then_word, written_at, Transduces, AreItems, IsFormed, IsFormedEdge, IsFormedEnd}
@@ -176,7 +176,7 @@ module _ (a : ℕ) (p u : List ℕ) (edges : List TransEdge) (ends : List (ℕ �
           let y = one_times e.0 (max 1 (length u)) (omega arith) in
           omega (arith, n, t, y)
 
-copy-move : (k c : ℕ) → c ≤ 0x2FFFF → written_at c (Shift (pos 0) ∷ []) ≡ Some (c ∷ [])
+copy-move : (k c : ℕ) → c ≤ greatest_character → written_at c (Shift (pos 0) ∷ []) ≡ Some (c ∷ [])
 copy-move k c h = ap (λ o. then_word (option_map (λ d. d ∷ []) o) (Some [])) (shift-none c h)
 
 copy-formed : (states k : ℕ) → k < states → IsFormedEdge states (copy_edge k)
@@ -353,7 +353,7 @@ below_two zero h = inl refl
 below_two (suc zero) h = inr refl
 below_two (suc (suc s)) h = absurd (omega (arith, h))
 
-front-move : (u : List ℕ) (c : ℕ) → c ≤ 0x2FFFF → written_at c (Text u ∷ (Shift (pos 0) ∷ [])) ≡ Some (u ++ (c ∷ []))
+front-move : (u : List ℕ) (c : ℕ) → c ≤ greatest_character → written_at c (Text u ∷ (Shift (pos 0) ∷ [])) ≡ Some (u ++ (c ∷ []))
 front-move u c h = ap (then_word (Some u)) (copy-move 0 c h)
 
 pub front-relates : (u : List ℕ) → IsWord u → Relates (machine 2 (front_edge u ∷ copy_edge 1 ∷ []) ((0, u) ∷ (1, []) ∷ [])) (replace_first [] u) (λ n. n + 0 + length u)

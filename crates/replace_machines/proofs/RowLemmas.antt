@@ -3,7 +3,7 @@ use Rattle.std.proofs.Common.{◌≡◌, refl, sym, ap, ◌∙◌, subst, ℕ, z
 use Rattle.std.specs.Prelude.{nat_lt}
 use Rattle.std.proofs.lemmas.Bool.{eqb-true, eq-eqb}
 use Rattle.std.proofs.lemmas.List.{drop_more}
-use Rattle.sv_word.specs.Words.{IsWord}
+use Rattle.sv_word.specs.Words.{IsWord, greatest_character}
 use Rattle.replace_machines.specs.Borders.{IsNext, IsFailure}
 use Rattle.replace_machines.specs.Rows.{at, target, put, Ascends, IsRow, AreRows, IsBorderOf}
 use Rattle.replace_machines.proofs.BorderLemmas.{next-match, next-none, next-back, failure-first, failure-more}
@@ -84,7 +84,7 @@ target-put-other (p ∷ row) c to d n = by (put_cases c to p row) (target-put-ot
     by (instead l s) rest = ap (λ r. target r d) s ∙ target-later (c, to) row d n ∙ sym (target-later p row d (λ f. n (sym l ∙ f)))
     by (before l s) rest = ap (λ r. target r d) s ∙ target-later (c, to) (p ∷ row) d n
 
-pub ascends-put : (row : List (ℕ × ℕ)) (low c to : ℕ) → Ascends low row → low ≤ c → c ≤ 0x2FFFF → Ascends low (put c to row)
+pub ascends-put : (row : List (ℕ × ℕ)) (low c to : ℕ) → Ascends low row → low ≤ c → c ≤ greatest_character → Ascends low (put c to row)
 ascends-put [] low c to h l t = (l, t, tt)
 ascends-put (p ∷ row) low c to h l t = by (put_cases c to p row) (λ l. ascends-put row (suc p.0) c to h.2 l t)
   where
@@ -94,7 +94,7 @@ ascends-put (p ∷ row) low c to h l t = by (put_cases c to p row) (λ l. ascend
     by (before g s) rest = subst (Ascends low) (sym s) (l, t, ((let x = g in omega (arith, x)), h.1, h.2))
 
 -- the row of a state from that of its longest shorter border
-pub row-first : (pattern : List ℕ) (new : List (ℕ × ℕ)) → at pattern 0 ≤ 0x2FFFF → new ≡ put (at pattern 0) 1 [] → IsRow pattern 0 new
+pub row-first : (pattern : List ℕ) (new : List (ℕ × ℕ)) → at pattern 0 ≤ greatest_character → new ≡ put (at pattern 0) 1 [] → IsRow pattern 0 new
 row-first pattern new top e = record {
   ascends = subst (Ascends 0) (sym e) (ascends-put [] 0 (at pattern 0) 1 tt (omega arith) top);
   next = λ c. ⊎_elim
@@ -103,7 +103,7 @@ row-first pattern new top e = record {
       (same_or_not (at pattern 0) c);
 }
 
-pub row-back : (pattern : List ℕ) (q m : ℕ) (row new : List (ℕ × ℕ)) → IsFailure (at pattern) q m → IsRow pattern m row → at pattern q ≤ 0x2FFFF → new ≡ put (at pattern q) (suc q) row → IsRow pattern q new
+pub row-back : (pattern : List ℕ) (q m : ℕ) (row new : List (ℕ × ℕ)) → IsFailure (at pattern) q m → IsRow pattern m row → at pattern q ≤ greatest_character → new ≡ put (at pattern q) (suc q) row → IsRow pattern q new
 row-back pattern q m row new f r top e = record {
   ascends = subst (Ascends 0) (sym e) (ascends-put row 0 (at pattern q) (suc q) r.ascends (omega arith) top);
   next = λ c. ⊎_elim
@@ -138,8 +138,8 @@ rows_more pattern rows new r h is e = subst (AreRows pattern) (sym e) (record {
   row = λ q s g. ⊎_elim (λ a. h.row q s a) (λ k. subst (IsRow pattern q) k.1 (subst (λ n. IsRow pattern n r) (sym k.0) is)) (slice_get_pushed rows r s q g);
 })
 
-pub word_at : (w : List ℕ) (i : ℕ) → IsWord w → at w i ≤ 0x2FFFF
-word_at [] i h = subst (λ n. n ≤ 0x2FFFF) (sym (none i)) (omega arith)
+pub word_at : (w : List ℕ) (i : ℕ) → IsWord w → at w i ≤ greatest_character
+word_at [] i h = subst (λ n. n ≤ greatest_character) (sym (none i)) (omega arith)
   where
     none : (i : ℕ) → at [] i ≡ 0
     none zero = refl

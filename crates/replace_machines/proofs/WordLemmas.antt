@@ -15,6 +15,7 @@ use Rattle.replace_machines.specs.Edges.{items_for, to_for}
 use Rattle.replace_machines.proofs.BorderLemmas.{last_or_before}
 use Rattle.replace_machines.proofs.RowLemmas.{same_or_not, less_or_not}
 use Rattle.replace_machines.proofs.EdgeLemmas.{of_le}
+use Rattle.sv_word.specs.Words.{greatest_character}
 
 -- the first q characters of the pattern, and then a character and a word
 abbrev held : List ℕ → ℕ → ℕ → List ℕ → List ℕ
@@ -68,10 +69,10 @@ split-held p q c i h b e =
 drop-append : (i : ℕ) (v w rest : List ℕ) → v ≡ w → drop i (v ++ rest) ≡ drop i (w ++ rest)
 drop-append i v w rest e = ap (λ (x : List ℕ). drop i (x ++ rest)) e
 
-pub shift-none : (c : ℕ) → c ≤ 0x2FFFF → character (pos c +ℤ pos 0) ≡ Some c
+pub shift-none : (c : ℕ) → c ≤ greatest_character → character (pos c +ℤ pos 0) ≡ Some c
 shift-none c h =
     let same : c + 0 ≡ c = omega arith in
-    ap (λ d. character (pos d)) same ∙ ap (λ b. if b then Some c else None) (of_le c 0x2FFFF h)
+    ap (λ d. character (pos d)) same ∙ ap (λ b. if b then Some c else None) (of_le c greatest_character h)
 
 -- a text is replaced: where the pattern doesn't stand, and where it does
 pub record Replaces (p u : List ℕ) (whole next : List ℕ → List ℕ) : Type 0 where
@@ -110,7 +111,7 @@ module _ (p u : List ℕ) (whole next : List ℕ → List ℕ) (r : Replaces p u
       omega (arith, n, m, k, t, h)))
       ∙ ap (λ (w : List ℕ). take q p ++ w) r.none ∙ append-nil (take q p)
 
-  module _ (after : ℕ) (goes : (w : List ℕ) → answer p whole after w ≡ next w) (q c j : ℕ) (h : q < length p) (top : c ≤ 0x2FFFF) (is : IsNext (at p) q c j) where
+  module _ (after : ℕ) (goes : (w : List ℕ) → answer p whole after w ≡ next w) (q c j : ℕ) (h : q < length p) (top : c ≤ greatest_character) (is : IsNext (at p) q c j) where
     items-whole : nat_eq j (length p) ≡ true → items_for p u q j ≡ Text u ∷ []
     items-whole e = ap (λ b. if b then Text u ∷ [] else (if nat_eq j 0 then Text (take q p) ∷ (Shift (pos 0) ∷ []) else (Text (take (q + 1 - j) p) ∷ []))) e
 

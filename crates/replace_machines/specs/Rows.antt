@@ -1,6 +1,7 @@
 -- What each state does: its row lists the characters that lead to a state other than 0.
 use Rattle.std.specs.Prelude.{◌≡◌, ℕ, suc, ◌≤◌, ◌⊎◌, nat_eq, nat_lt, if◌then◌else◌, List, [], ◌∷◌, get_or, slice_get, Some}
 use Rattle.replace_machines.specs.Borders.{IsNext, IsFailure}
+use Rattle.sv_word.specs.Words.{greatest_character}
 
 -- the character of the pattern at a place
 abbrev pub at : List ℕ → ℕ → ℕ
@@ -19,7 +20,7 @@ put c to (p ∷ row) = if nat_lt p.0 c then (p ∷ put c to row) else (if nat_eq
 -- its characters ascend, from `low` on
 abbrev pub Ascends : ℕ → List (ℕ × ℕ) → Type 0
 Ascends low [] = Unit {0}
-Ascends low (p ∷ row) = (low ≤ p.0) × (p.0 ≤ 0x2FFFF) × Ascends (suc p.0) row
+Ascends low (p ∷ row) = (low ≤ p.0) × (p.0 ≤ greatest_character) × Ascends (suc p.0) row
 
 -- the row of the state that holds the first q characters of the pattern
 pub record IsRow (pattern : List ℕ) (q : ℕ) (row : List (ℕ × ℕ)) : Type 0 where

@@ -7,7 +7,7 @@ use Rattle.sexpr_reader.specs.declared.syntax_fault.SyntaxFault.TheVariants as f
 use Rattle.sexpr_reader.specs.Bytes.{is_border}
 use Rattle.sexpr_reader.specs.Tokens.{Token, Open, Close, text, doubled, is_barred, is_readable, IsRun, IsPlain}
 use Rattle.sexpr_reader.specs.Lexes.{IsBlank, IsBlankEnd, Lexes}
-use Rattle.sexpr_reader.specs.Items.{levels}
+use Rattle.sexpr_reader.specs.Items.{levels, most_open_lists}
 use Rattle.sexpr_reader.specs.Parts.{IsPart, IsGap}
 use Rattle.sexpr_reader.specs.Reads.{IsOddRun, IsBarredBackslash, IsOddLiteral, IsOpenEnd, FaultAt, SyntaxAt}
 use Rattle.sexpr_reader.proofs.Determined.{skip, skip-blank, skip-stays, View, opens, closes, bars, quotes, plain, run_first, same_front, border_parts}
@@ -32,7 +32,7 @@ pub data Bad (ended : Bool) (n : ℕ) (bytes : List ℕ) : Cause → Type 0 wher
   odd : IsOddRun ended bytes → Bad ended n bytes token
   slash : IsBarredBackslash bytes → Bad ended n bytes token
   shut : (after : List ℕ) → n ≡ 0 → bytes ≡ 41 ∷ after → Bad ended n bytes close
-  deep : (after : List ℕ) → n ≡ 1000 → bytes ≡ 40 ∷ after → Bad ended n bytes depth
+  deep : (after : List ℕ) → n ≡ most_open_lists → bytes ≡ 40 ∷ after → Bad ended n bytes depth
   unread : IsOddLiteral ended bytes → Bad ended n bytes literal
 
 pub data Sight (ended : Bool) (n here : ℕ) (bytes : List ℕ) : SyntaxFault → Type 0 where
@@ -108,7 +108,7 @@ module _ (ended : Bool) (n : ℕ) (bytes : List ℕ) where
   bad_token c (shut y d r) t ts k a (bars b x h) l e = differ 41 124 _ _ refl (sym r ∙ e)
   bad_token c (shut y d r) t ts k a (quotes b x lit h) l e = differ 41 34 _ _ refl (sym r ∙ e)
   bad_token c (shut y d r) t ts k a (plain kind bs x run is ends) l e = run_not bs a _ 41 run refl (sym e ∙ r)
-  bad_token c (deep y d r) t ts k a (opens x) l e = let g : levels 1000 (Open ∷ ts) ≡ Some k = subst (λ (i : ℕ). levels i (Open ∷ ts) ≡ Some k) d l in let z : None ≡ Some k = g in cc
+  bad_token c (deep y d r) t ts k a (opens x) l e = let g : levels most_open_lists (Open ∷ ts) ≡ Some k = subst (λ (i : ℕ). levels i (Open ∷ ts) ≡ Some k) d l in let z : None ≡ Some k = g in cc
   bad_token c (deep y d r) t ts k a (closes x) l e = differ 40 41 _ _ refl (sym r ∙ e)
   bad_token c (deep y d r) t ts k a (bars b x h) l e = differ 40 124 _ _ refl (sym r ∙ e)
   bad_token c (deep y d r) t ts k a (quotes b x lit h) l e = differ 40 34 _ _ refl (sym r ∙ e)

@@ -7,7 +7,7 @@ use Rattle.sexpr_reader.specs.declared.sexpr.Sexpr.{Sexpr, roll-Sexpr}
 use Rattle.sexpr_reader.specs.declared.sexpr.Sexpr.TheFolds.{ind-Sexpr, map-Sexpr}
 use Rattle.sexpr_reader.specs.declared.sexpr.Sexpr.TheOpen.{Sexpr-F}
 use Rattle.sexpr_reader.specs.Tokens.{Token, Open, Close, Atomic}
-use Rattle.sexpr_reader.specs.Items.{tokens_of, tokens_of_all, tokens_layer, levels}
+use Rattle.sexpr_reader.specs.Items.{tokens_of, tokens_of_all, tokens_layer, levels, most_open_lists}
 use Rattle.sexpr_reader.proofs.Lasts.{tokens_roll, some_tokens}
 use Rattle.sexpr_reader.proofs.Levels.{levels-append}
 
@@ -105,7 +105,7 @@ open_level false x y k n e f = cc
 layer_level : (y : Sexpr-F Even) (n k : ℕ) (us : List Token) → levels n (layer (map-Sexpr Even Sexpr (λ e. e.0) y) ++ us) ≡ Some k → levels n (layer (map-Sexpr Even Sexpr (λ e. e.0) y)) ≡ Some n
 layer_level (Sexpr-F.Atom kind bs) n k us e = refl
 layer_level (Sexpr-F.List ys) n k us e =
-    open_level (nat_lt n 1000) (levels (suc n) ((inner (plain ys) ++ Close ∷ []) ++ us)) (levels (suc n) (inner (plain ys) ++ Close ∷ [])) k n e
+    open_level (nat_lt n most_open_lists) (levels (suc n) ((inner (plain ys) ++ Close ∷ []) ++ us)) (levels (suc n) (inner (plain ys) ++ Close ∷ [])) k n e
     (λ f. levels-append (suc n) (suc n) (inner (plain ys)) (Close ∷ []) (inner_level ys (suc n) k (Close ∷ us) (sym (ap (levels (suc n)) (append_assoc (inner (plain ys)) (Close ∷ []) us)) ∙ f)))
 
 level_layer : (x : Sexpr-F Sexpr) (y : Sexpr-F Even) → map-Sexpr Even Sexpr (λ e. e.0) y ≡ x → Level (roll-Sexpr x)

@@ -32,10 +32,14 @@ abbrev pub AreFormed : List Sexpr → Type 0
 AreFormed [] = Unit {0}
 AreFormed (item ∷ items) = IsFormed item × AreFormed items
 
+-- the most lists that may be open inside one another
+abbrev pub most_open_lists : ℕ
+most_open_lists = 1000
+
 -- how many lists are open behind the tokens, with n open before them; nothing where a `)` closes none, or a `(` opens list number 1,001 inside one another
 abbrev pub levels : ℕ → List Token → Option ℕ
 levels n [] = Some n
-levels n (Open ∷ ts) = if nat_lt n 1000 then levels (suc n) ts else None
+levels n (Open ∷ ts) = if nat_lt n most_open_lists then levels (suc n) ts else None
 levels zero (Close ∷ ts) = None
 levels (suc n) (Close ∷ ts) = levels n ts
 levels n (Atomic kind bs ∷ ts) = levels n ts

@@ -7,7 +7,7 @@ use Rattle.sexpr_reader.specs.declared.syntax_fault.SyntaxFault.TheVariants as f
 use Rattle.sexpr_reader.specs.Bytes.{is_border}
 use Rattle.sexpr_reader.specs.Tokens.{Token, doubled, is_barred, is_readable, IsRun, IsPlain}
 use Rattle.sexpr_reader.specs.Lexes.{IsBlank, IsBlankEnd, EndsAt, Lexes}
-use Rattle.sexpr_reader.specs.Items.{tokens_of_all, levels}
+use Rattle.sexpr_reader.specs.Items.{tokens_of_all, levels, most_open_lists}
 
 -- the bytes are the tokens of these items, of which none has more than 1,000 lists inside one another, and then the rest
 pub record Begins (ended : Bool) (bytes : List ℕ) (items : List Sexpr) (rest : List ℕ) : Type 0 where
@@ -41,7 +41,7 @@ IsOpenEnd n bytes = ((content : List ℕ) × (bytes ≡ 34 ∷ doubled content))
 abbrev pub FaultAt : Bool → ℕ → ℕ → List ℕ → SyntaxFault → Type 0
 FaultAt ended n here bytes (f.Token place) = (place ≡ here) × (IsOddRun ended bytes ⊎ IsBarredBackslash bytes)
 FaultAt ended n here bytes (f.Close place) = (place ≡ here) × (n ≡ 0) × ((after : List ℕ) × (bytes ≡ 41 ∷ after))
-FaultAt ended n here bytes (f.Depth place) = (place ≡ here) × (n ≡ 1000) × ((after : List ℕ) × (bytes ≡ 40 ∷ after))
+FaultAt ended n here bytes (f.Depth place) = (place ≡ here) × (n ≡ most_open_lists) × ((after : List ℕ) × (bytes ≡ 40 ∷ after))
 FaultAt ended n here bytes (f.Literal place) = (place ≡ here) × IsOddLiteral ended bytes
 FaultAt ended n here bytes f.Incomplete = IsTrue ended × IsOpenEnd n bytes
 FaultAt ended n here bytes (f.Memory _) = ⊥

@@ -22,6 +22,7 @@ use Rattle.subset_machine.specs.Groups.{lists_cmp, FollowsOn, AreGroups, AddsMar
 use Rattle.subset_machine.proofs.AscendingLemmas.{nothing, contains-cases, contains-join, lists-same}
 use Rattle.subset_machine.proofs.LeavingLemmas.{ranges-in, ranges-out}
 use Rattle.subset_machine.proofs.HitLemmas.{one-more}
+use Rattle.sv_word.specs.Words.{greatest_character}
 
 is_eq-same : (o : Ordering) → is_eq o ≡ true → o ≡ Equal
 is_eq-same Less e = cc
@@ -187,7 +188,7 @@ popped-more all left rest moves new e on m front same apart made pushed p =
 
 -- the intervals of the entry in front are characters
 pub popped-inside : (all left rest : List Entry) (moves : List (Move (List ℕ))) (e : Entry) (slice : List (ℕ × ℕ)) → Popped all left moves → left ≡ e ∷ rest → slice ≡ e.1
-    → All (λ m. m.1 ≤ 0x2FFFF) slice
+    → All (λ m. m.1 ≤ greatest_character) slice
 popped-inside all left rest moves e slice p front same k d lt =
     let intervals = p.intervals e (subst (λ l. Contains l e) (sym front) (Contains-here e rest)) in
     (intervals.inside (get_or slice k d) (subst (λ l. Contains l (get_or slice k d)) same (Contains-get_or slice k d lt))).1

@@ -14,11 +14,12 @@ use Rattle.subset_machine.specs.Legs.{AreMarks}
 use Rattle.subset_machine.proofs.AscendingLemmas.{nothing, contains-cases}
 use Rattle.subset_machine.proofs.PlaceLemmas.{flat_map-in, flat_map-out}
 use Rattle.subset_machine.proofs.LeavingLemmas.{ranges-in, ranges-out}
+use Rattle.sv_word.specs.Words.{greatest_character}
 
-pub apart-inside : (low : ℕ) (ps : List (ℕ × ℕ)) (p : ℕ × ℕ) → IsApartFrom low ps → Contains ps p → (p.0 ≤ p.1) × (p.1 ≤ 0x2FFFF)
+pub apart-inside : (low : ℕ) (ps : List (ℕ × ℕ)) (p : ℕ × ℕ) → IsApartFrom low ps → Contains ps p → (p.0 ≤ p.1) × (p.1 ≤ greatest_character)
 apart-inside low [] p h i = absurd (nothing p i)
 apart-inside low (q ∷ qs) p h i = elim (contains-cases q qs p i) [
-  | inl e ↦ subst (λ (r : ℕ × ℕ). (r.0 ≤ r.1) × (r.1 ≤ 0x2FFFF)) e (h.1, h.2)
+  | inl e ↦ subst (λ (r : ℕ × ℕ). (r.0 ≤ r.1) × (r.1 ≤ greatest_character)) e (h.1, h.2)
   | inr j ↦ apart-inside (q.1 + 2) qs p h.3 j
 ]
 
@@ -36,7 +37,7 @@ pub sorted-first : (ps : List (ℕ × ℕ)) → IsSorted pairs_cmp ps → IsSort
 sorted-first ps h k d l lt = first-first (nat_cmp (get_or ps (k + 1) d).0 (get_or ps k d).0) (nat_cmp (get_or ps (k + 1) d).1 (get_or ps k d).1) (h k d l lt)
 
 pub marks-made : (sets pieces : List (List (ℕ × ℕ))) (marks : List (ℕ × ℕ))
-    → All (IsApartFrom 0) pieces → ((c : ℕ) → c ≤ 0x2FFFF → IsHeld pieces c) → All (λ piece. All (IsUniformOn piece) sets) pieces
+    → All (IsApartFrom 0) pieces → ((c : ℕ) → c ≤ greatest_character → IsHeld pieces c) → All (λ piece. All (IsUniformOn piece) sets) pieces
     → IsPermutation (flat_map (λ p. p) pieces) marks → IsSorted pairs_cmp marks → AreMarks sets marks
 marks-made sets pieces marks apart held uniform perm sorted = record {
   order = IsNonDecreasingBy-from_sort (λ (p : ℕ × ℕ). p.0) marks (sorted-first marks sorted);
@@ -55,5 +56,5 @@ marks-made sets pieces marks apart held uniform perm sorted = record {
     back : (m : ℕ × ℕ) → Contains marks m → (s : List (ℕ × ℕ)) × Contains pieces s × Contains s m
     back m i = flat_map-in (λ (p : List (ℕ × ℕ)). p) pieces m (Contains-permutation marks (flat_map (λ p. p) pieces) m (IsPermutation-sym (flat_map (λ p. p) pieces) marks perm) i)
 
-    inside : (m : ℕ × ℕ) → Contains marks m → (m.0 ≤ m.1) × (m.1 ≤ 0x2FFFF)
+    inside : (m : ℕ × ℕ) → Contains marks m → (m.0 ≤ m.1) × (m.1 ≤ greatest_character)
     inside m i = let s = back m i in apart-inside 0 s.0 m (All-contains (IsApartFrom 0) pieces s.0 apart s.1) s.2

@@ -121,19 +121,3 @@ module _ {X Y : Type 0} (f : X → Y) where
     | inl e ↦ contains-join (f z) (map f zs) (f x) (inl (ap f e))
     | inr i ↦ Contains-there (f z) (map f zs) (f x) (map-out zs x i)
   ]
-
--- one more of the picked elements
-pick-end : {X : Type 0} (xs : List X) (ps : List ℕ) (p : ℕ) (x : X) → slice_get xs p ≡ Some x → pick xs (ps ++ p ∷ []) ≡ pick xs ps ++ x ∷ []
-pick-end xs [] p x e = rw e refl
-pick-end {X = X} xs (q ∷ ps) p x e = by_get (slice_get xs q) (pick-end xs ps p x e)
-  where
-    by_get : (o : Option X) → pick xs (ps ++ p ∷ []) ≡ pick xs ps ++ x ∷ [] → cons_option o (pick xs (ps ++ p ∷ [])) ≡ cons_option o (pick xs ps) ++ x ∷ []
-    by_get None h = h
-    by_get (Some y) h = ap (λ l. y ∷ l) h
-
-pub pick-more : {X : Type 0} (xs : List X) (ps : List ℕ) (i : ℕ) (x : X) → ((j p : ℕ) → slice_get ps j ≡ Some p → p < length xs) → i < length ps
-    → x ≡ get_or xs (get_or ps i 0) x → pick xs (take (i + 1) ps) ≡ pick xs (take i ps) ++ x ∷ []
-pick-more xs ps i x within lt read =
-    let p = get_or ps i 0 in
-    let inside = within i p (slice_get-get_or ps i 0 lt) in
-    ap (pick xs) (take_more ps i 0 lt) ∙ pick-end xs (take i ps) p x (slice_get_read xs (length xs) p x refl inside read)

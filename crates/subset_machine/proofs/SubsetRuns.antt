@@ -4,7 +4,7 @@ use Rattle.std.specs.List.{flat_map}
 use Rattle.std.proofs.lemmas.Bool.Decides.{nat_tests}
 use Rattle.std.proofs.lemmas.List.{nil_from_length}
 use Rattle.sv_word.specs.Ranges.{in_ranges}
-use Rattle.sv_word.specs.Words.{IsWord}
+use Rattle.sv_word.specs.Words.{IsWord, greatest_character}
 use Rattle.machine_core.specs.Costs.{add_costs}
 use Rattle.machine_core.specs.Lists.{Any-here, Any-there, Any-cases, Any-none, Any-contains, Contains-here, contained}
 use Rattle.machine_core.specs.Language.{RunsFrom}
@@ -95,7 +95,7 @@ module _ (edges : List Edge) (ends : List End) (free : (e : Edge) → Contains e
       let i = (l.exact r.1).1 (Any-contains (λ s. StepsBy edges s c [] r.1) list s.0 s.1 step) in
       Any-contains (λ s. RunsFrom (EndsAt ends) (StepsBy edges) s word []) next r.1 i rest
 
-  step-character-of : (formed : (s t c : ℕ) (k : List ℕ) → StepsBy edges s c k t → c ≤ 0x2FFFF) → (list : List ℕ) (c : ℕ) (word : List ℕ) → SomeReads edges ends list (c ∷ word) → c ≤ 0x2FFFF
+  step-character-of : (formed : (s t c : ℕ) (k : List ℕ) → StepsBy edges s c k t → c ≤ greatest_character) → (list : List ℕ) (c : ℕ) (word : List ℕ) → SomeReads edges ends list (c ∷ word) → c ≤ greatest_character
   step-character-of formed list c word a =
       let s = contained (λ s. RunsFrom (EndsAt ends) (StepsBy edges) s (c ∷ word) []) list a in
       formed s.0 s.2.1 c s.2.0 s.2.3
@@ -103,7 +103,7 @@ module _ (edges : List Edge) (ends : List End) (free : (e : Edge) → Contains e
   some-next : (list : List ℕ) (word : List ℕ) → SomeReads edges ends list word → list ≡ [] → ⊥
   some-next list word a e = Any-none (λ s. RunsFrom (EndsAt ends) (StepsBy edges) s word []) (subst (λ l. SomeReads edges ends l word) e a)
 
-  module _ (characters : (s t c : ℕ) (k : List ℕ) → StepsBy edges s c k t → c ≤ 0x2FFFF) where
+  module _ (characters : (s t c : ℕ) (k : List ℕ) → StepsBy edges s c k t → c ≤ greatest_character) where
     plain-in : (word list cost : List ℕ) → RunsFrom (SubsetEnds false ends) (SubsetSteps false edges) list word cost → SomeReads edges ends list word × (cost ≡ [])
     plain-in [] list cost r = (r.1, r.0)
     plain-in (c ∷ word) list cost r =
@@ -151,7 +151,7 @@ subset-language m plain negated = by_case negated
     free_end : (e : End) → Contains m.ends e → e.cost ≡ []
     free_end = ends-free m.states m.edges m.ends formed
 
-    characters : (s t c : ℕ) (k : List ℕ) → StepsBy m.edges s c k t → c ≤ 0x2FFFF
+    characters : (s t c : ℕ) (k : List ℕ) → StepsBy m.edges s c k t → c ≤ greatest_character
     characters s t c k a = step_character m.states 0 m.edges m.ends formed s t c k a
 
     by_case : (negated : Bool) (word cost : List ℕ) → SubsetAccepts negated m word cost ↔ (HasWord negated m word × (cost ≡ []))
@@ -168,7 +168,7 @@ pub subset-deterministic : (negated : Bool) (edges : List Edge) (list next other
     → SubsetSteps negated edges list c cost next → SubsetSteps negated edges list c more other → next ≡ other
 subset-deterministic negated edges list next other cost more c p q = lists-same (StepsFromSome edges list c) next other p.2 q.2
 
-pub subset-complete : (m : Graph) → m.registers ≡ 0 → (negated : Bool) → IsTrue negated → (list : List ℕ) (c : ℕ) → c ≤ 0x2FFFF
+pub subset-complete : (m : Graph) → m.registers ≡ 0 → (negated : Bool) → IsTrue negated → (list : List ℕ) (c : ℕ) → c ≤ greatest_character
     → (next : List ℕ) × SubsetSteps negated m.edges list c [] next
 subset-complete m plain negated holds list c le =
     let formed = subst (λ n. IsFormed m.states n m.edges m.ends) plain m.formed in
@@ -207,7 +207,7 @@ module _ (edges : List Edge) (list : List ℕ) (sets : List (List (ℕ × ℕ)))
         let m = ranges-in u.0 c u.2 in
         let g = grouped.sound to u.0 u.1 m.0 m.1 in
         let inside = cut.inside m.0 g.0 in
-        let le : c ≤ 0x2FFFF = (let a = m.2.1 in let b = inside.1 in omega arith) in
+        let le : c ≤ greatest_character = (let a = m.2.1 in let b = inside.1 in omega arith) in
         let f = lists-weaker (λ t. Contains hits (m.0.0, t)) (StepsFromSome edges list c) to (hit-step m.0 g.0 c m.2.0 m.2.1) g.1.0 in
         (le, u.3, f, g.1.1),
   )

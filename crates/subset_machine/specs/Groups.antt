@@ -8,6 +8,7 @@ use Rattle.sv_word.specs.Ranges.{in_ranges}
 use Rattle.machine_core.specs.declared.machine.Move.{Move}
 use Rattle.machine_core.specs.Moves.{Moves}
 use Rattle.subset_machine.specs.Subsets.{ListsAll}
+use Rattle.sv_word.specs.Words.{greatest_character}
 
 -- the order of lists of states
 abbrev pub lists_cmp : List ℕ → List ℕ → Ordering
@@ -30,7 +31,7 @@ AddsMark old new next mark = Updates lists_cmp old new next (Some (unwrap_or (ge
 -- some interval, and all are intervals of characters
 pub record AreIntervals (ms : List (ℕ × ℕ)) : Type 0 where
   pub some : (m : ℕ × ℕ) × Contains ms m
-  pub inside : (m : ℕ × ℕ) → Contains ms m → (m.0 ≤ m.1) × (m.1 ≤ 0x2FFFF)
+  pub inside : (m : ℕ × ℕ) → Contains ms m → (m.0 ≤ m.1) × (m.1 ≤ greatest_character)
 
 -- the move reads the characters under this list, at no cost, and leads to it
 abbrev pub MovesUnder : BTreeMap (List ℕ) (List (ℕ × ℕ)) → ℕ → List ℕ → List ℕ → Type 0

@@ -7,6 +7,7 @@ use Rattle.machine_core.specs.Edges.{from_of}
 use Rattle.machine_core.specs.Places.{places}
 use Rattle.subset_machine.specs.declared.leaving.Leg.{Leg}
 use Rattle.subset_machine.specs.Subsets.{StepsFromSome}
+use Rattle.sv_word.specs.Words.{greatest_character}
 
 -- the places of the edges that leave one of these states
 abbrev pub places_from_some : List Edge → List ℕ → List ℕ
@@ -34,8 +35,8 @@ pub record AreLeaving (edges : List Edge) (list : List ℕ) (sets : List (List (
 -- intervals of characters, in order, in which all characters lie; each of these sets has all characters of an interval or none
 pub record AreMarks (sets : List (List (ℕ × ℕ))) (marks : List (ℕ × ℕ)) : Type 0 where
   pub order : IsNonDecreasingBy (λ m. m.0) marks
-  pub inside : (m : ℕ × ℕ) → Contains marks m → (m.0 ≤ m.1) × (m.1 ≤ 0x2FFFF)
-  pub covering : (c : ℕ) → c ≤ 0x2FFFF → IsTrue (in_ranges marks c)
+  pub inside : (m : ℕ × ℕ) → Contains marks m → (m.0 ≤ m.1) × (m.1 ≤ greatest_character)
+  pub covering : (c : ℕ) → c ≤ greatest_character → IsTrue (in_ranges marks c)
   pub uniform : (m : ℕ × ℕ) → Contains marks m → (s : List (ℕ × ℕ)) → Contains sets s → (c : ℕ) → m.0 ≤ c → c ≤ m.1 → in_ranges s c ≡ in_ranges s m.0
 
 -- pairs of the first character of an interval and a state to which some range leads on it, in the order of the characters

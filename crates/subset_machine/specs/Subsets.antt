@@ -2,7 +2,7 @@
 -- The machine has no registers, so that each of its steps and ends costs the empty list.
 use Rattle.std.specs.Prelude.{◌≡◌, ℕ, ◌≤◌, ◌<◌, ◌↔◌, Bool, true, false, IsTrue, List, [], ◌∷◌, Any, Contains}
 use Rattle.std.specs.List.Sorted.{IsStrictlyIncreasing}
-use Rattle.sv_word.specs.Words.{IsWord}
+use Rattle.sv_word.specs.Words.{IsWord, greatest_character}
 use Rattle.machine_core.specs.declared.edge.Edge.{Edge}
 use Rattle.machine_core.specs.declared.end.End.{End}
 use Rattle.machine_core.specs.declared.graph.Graph.{Graph}
@@ -39,7 +39,7 @@ SubsetEnds negated ends list cost = (cost ≡ []) × MayEnd negated ends list
 -- on a character the list leads to all states that its states step to; to none of them, which is the dead list, only where negated
 abbrev pub SubsetSteps : Bool → List Edge → List ℕ → ℕ → List ℕ → List ℕ → Type 0
 SubsetSteps negated edges list c cost next =
-    (c ≤ 0x2FFFF) × (cost ≡ []) × ListsAll (StepsFromSome edges list c) next × (next ≡ [] → IsTrue negated)
+    (c ≤ greatest_character) × (cost ≡ []) × ListsAll (StepsFromSome edges list c) next × (next ≡ [] → IsTrue negated)
 
 -- the lists read the word from the one that has the start alone, at this cost
 abbrev pub SubsetAccepts : Bool → Graph → List ℕ → List ℕ → Type 0

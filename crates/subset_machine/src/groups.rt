@@ -5,6 +5,7 @@ ghost use Rattle.std.specs.BTreeMap.{get};
 ghost use Rattle.sv_word.specs.Ranges.{in_ranges, IsInhabited};
 ghost use Rattle.machine_core.specs.Moves.{Moves};
 ghost use Rattle.subset_machine.specs.Groups.{lists_cmp, AreGroups, AddsMark, AreIntervals, MovesUnder};
+ghost use Rattle.sv_word.specs.Words.{greatest_character};
 
 use crate::targets::target;
 use machine_core::{Cost, Move};
@@ -85,7 +86,7 @@ pub fn moves_of(
 
 // The characters of some intervals, joined in halves, so that n of them take time n log n.
 fn union(alloc: Global, marks: &[(u32, u32)]) -> Result<Ranges, AllocError>
-    requires { All (λ m. m.1 ≤ 0x2FFFF) marks.now }
+    requires { All (λ m. m.1 ≤ greatest_character) marks.now }
     ensures { IfOk result (λ r. (c : ℕ) → in_ranges r c ≡ in_ranges marks.now c) }
 {
     match marks {

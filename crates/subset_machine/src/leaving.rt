@@ -41,8 +41,8 @@ pub fn take_apart(alloc: Global, edges: &[Edge], places: &[usize]) -> Result<Lea
     ensures sets { IfOk result (λ l. l.sets.items ≡ map on_of (pick edges.now places.now)) }
     ensures legs { IfOk result (λ l. l.legs.items ≡ flat_map legs_of (pick edges.now places.now)) }
 {
-    let mut sets = Vec::new(alloc);
-    let mut legs = Vec::new(alloc);
+    let mut sets = Vec::with_capacity(alloc, places.len())?;
+    let mut legs = Vec::with_capacity(alloc, places.len())?;
     for place in places {
         let edge = &edges[*place];
         sets.push(edge.on.copy(alloc)?)?;

@@ -4,6 +4,7 @@ ghost use Rattle.machine_core.specs.Moves.{Moves};
 ghost use Rattle.subset_machine.specs.Subsets.{IsStateSet, EndsInSome, SubsetEnds, SubsetSteps, SubsetAccepts, HasWord};
 ghost use Rattle.subset_machine.specs.StateSets.{sets_at_most};
 ghost use Rattle.subset_machine.specs.SubsetLaws.{first-states, next-states, step-cost, end-cost};
+ghost use Rattle.sv_word.specs.Words.{greatest_character};
 
 use crate::groups::{group, moves_of};
 use crate::leaving::{places_of, take_apart};
@@ -43,7 +44,7 @@ impl<'a> Subset<'a> {
         ensures deterministic { (list next other cost more : List ℕ) (c : ℕ)
             → SubsetSteps negated machine.now.edges list c cost next
             → SubsetSteps negated machine.now.edges list c more other → next ≡ other }
-        ensures complete { IsTrue negated → (list : List ℕ) (c : ℕ) → c ≤ 0x2FFFF
+        ensures complete { IsTrue negated → (list : List ℕ) (c : ℕ) → c ≤ greatest_character
             → (next : List ℕ) × SubsetSteps negated machine.now.edges list c [] next }
     {
         Subset { machine, negated }

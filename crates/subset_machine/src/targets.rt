@@ -19,7 +19,7 @@ pub fn hits_of(
     requires { IsNonDecreasingBy (λ m. m.0) marks.now }
     ensures { IfOk result (λ v. AreHits legs.now marks.now v.items) }
 {
-    let mut hits = Vec::new(alloc);
+    let mut hits = Vec::with_capacity(alloc, legs.len())?;
     for leg in legs {
         push_hits(&mut hits, *leg, between(marks, leg.low, leg.high))?;
     }
@@ -42,8 +42,9 @@ pub fn target(alloc: Global, hits: &[(u32, u32)], first: u32) -> Result<Items<u3
     requires { IsNonDecreasingBy (λ h. h.0) hits.now }
     ensures { IfOk result (ListsAll (λ t. Contains hits.now (first, t))) }
 {
-    let mut states = Vec::new(alloc);
-    for hit in between(hits, first, first) {
+    let found = between(hits, first, first);
+    let mut states = Vec::with_capacity(alloc, found.len())?;
+    for hit in found {
         states.push(hit.1)?;
     }
     states.sort_unstable();

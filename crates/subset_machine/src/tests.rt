@@ -1,4 +1,5 @@
 ghost use Rattle.std.specs.Prelude.{◌≡◌, ◌<◌, ◌≤◌, IfOk};
+ghost use Rattle.sv_word.specs.Words.{greatest_character};
 ghost use Rattle.std.specs.Option.{IfSome};
 ghost use Rattle.subset_machine.specs.Subsets.{IsStateSet};
 
@@ -6,13 +7,13 @@ use crate::Subset;
 use machine_core::{Cost, Explicit, Machine};
 use std::alloc::{AllocError, Global};
 use sv_list::{Copied, Items};
-use sv_word::Ranges;
+use sv_word::{GREATEST_CHARACTER, Ranges};
 
 const A: u32 = 0x61;
 
 const B: u32 = 0x62;
 
-const LAST: u32 = 0x2FFFF;
+const LAST: u32 = GREATEST_CHARACTER;
 
 fn add_edge(
     alloc: Global,
@@ -24,7 +25,7 @@ fn add_edge(
     requires from { from < machine.old.states }
     requires to { to < machine.old.states }
     requires order { on.0 ≤ on.1 }
-    requires characters { on.1 ≤ 0x2FFFF }
+    requires characters { on.1 ≤ greatest_character }
     requires plain { machine.old.registers ≡ 0 }
     ensures states { machine.new.states ≡ machine.old.states }
     ensures plain { machine.new.registers ≡ 0 }

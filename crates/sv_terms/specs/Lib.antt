@@ -1,3 +1,6 @@
+pub mod BoundLaws
+pub mod Bounds
+pub mod CutOff
 pub mod Language
 pub mod Matches
 pub mod Meaning

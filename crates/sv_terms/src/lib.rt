@@ -19,6 +19,7 @@
 //! ```
 #![tactic(auto)]
 
+mod bounds;
 mod entry;
 mod laws;
 mod limits;
@@ -36,6 +37,7 @@ mod transducer;
 mod value;
 mod witnesses;
 
+pub use bounds::{bound, power_of_two};
 pub use entry::{Body, Entry};
 pub use laws::{
     decided, equal_are_one, opaque_is_neither, pairs_are_runs, pairs_decided, replacements,

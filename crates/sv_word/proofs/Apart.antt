@@ -5,11 +5,12 @@ use Rattle.std.proofs.lemmas.Bool.{false≢true, cases_lt}
 use Rattle.std.proofs.lemmas.List.Folds.{list_any-append}
 use Rattle.std.specs.Prelude.{Some, slice_get}
 use Rattle.sv_word.specs.Ranges.{in_ranges, in_pair, IsLeast, IsApartFrom, EndsBy}
+use Rattle.sv_word.specs.Words.{greatest_character}
 
 -- as `IsApartFrom`, and all pairs stay below `high` and apart from it
 abbrev pub IsApartBetween : ℕ → List (ℕ × ℕ) → ℕ → Type 0
 IsApartBetween low [] high = low ≤ high
-IsApartBetween low (p ∷ ps) high = (low ≤ p.0) × (p.0 ≤ p.1) × (p.1 ≤ 0x2FFFF) × IsApartBetween (p.1 + 2) ps high
+IsApartBetween low (p ∷ ps) high = (low ≤ p.0) × (p.0 ≤ p.1) × (p.1 ≤ greatest_character) × IsApartBetween (p.1 + 2) ps high
 
 pub below_apart : (low : ℕ) (ps : List (ℕ × ℕ)) (c : ℕ) → IsApartFrom low ps → c < low → in_ranges ps c ≡ false
 below_apart low [] c h lt = refl
@@ -22,7 +23,7 @@ pub apart-less : (low less : ℕ) (ps : List (ℕ × ℕ)) → less ≤ low → 
 apart-less low less [] le h = tt
 apart-less low less (p ∷ ps) le h = (let a = h.0 in omega arith, h.1, h.2, h.3)
 
-pub apart-ends : (low : ℕ) (ps : List (ℕ × ℕ)) → IsApartFrom low ps → EndsBy 0x2FFFF ps
+pub apart-ends : (low : ℕ) (ps : List (ℕ × ℕ)) → IsApartFrom low ps → EndsBy greatest_character ps
 apart-ends low [] h = tt
 apart-ends low (p ∷ ps) h = (h.2, apart-ends (p.1 + 2) ps h.3)
 
@@ -37,7 +38,7 @@ pub between-more : (low : ℕ) (ps : List (ℕ × ℕ)) (h k : ℕ) → h ≤ k 
 between-more low [] h k le a = omega arith
 between-more low (p ∷ ps) h k le a = (a.0, a.1, a.2, between-more (p.1 + 2) ps h k le a.3)
 
-pub between-push : (low : ℕ) (ps : List (ℕ × ℕ)) (h x y : ℕ) → h ≤ x → x ≤ y → y ≤ 0x2FFFF → IsApartBetween low ps h → IsApartBetween low (ps ++ (x, y) ∷ []) (y + 2)
+pub between-push : (low : ℕ) (ps : List (ℕ × ℕ)) (h x y : ℕ) → h ≤ x → x ≤ y → y ≤ greatest_character → IsApartBetween low ps h → IsApartBetween low (ps ++ (x, y) ∷ []) (y + 2)
 between-push low [] h x y le xy top a = (omega arith, xy, top, omega arith)
 between-push low (p ∷ ps) h x y le xy top a = (a.0, a.1, a.2, between-push (p.1 + 2) ps h x y le xy top a.3)
 

@@ -6,10 +6,11 @@ use Rattle.std.proofs.lemmas.Bool.Decides.{nat_tests}
 use Rattle.std.specs.Prelude.{nat_lt}
 use Rattle.sv_word.proofs.Apart.{IsApartBetween, below_apart, between-more, between-push, apart-less, ranges-push}
 use Rattle.sv_word.specs.Ranges.{in_ranges, with_gap, IsApartFrom}
+use Rattle.sv_word.specs.Words.{greatest_character}
 
 -- the pairs `rest` of `all` are still to come, and the characters before `from` are done
 pub record IsComplementing (all out rest : List (ℕ × ℕ)) (from : ℕ) : Type 0 where
-  pub exact : (c : ℕ) → (in_ranges out c || (nat_le from c && (nat_le c 0x2FFFF && not (in_ranges rest c)))) ≡ (nat_le c 0x2FFFF && not (in_ranges all c))
+  pub exact : (c : ℕ) → (in_ranges out c || (nat_le from c && (nat_le c greatest_character && not (in_ranges rest c)))) ≡ (nat_le c greatest_character && not (in_ranges all c))
   pub rest_apart : IsApartFrom from rest
   pub out_apart : IsApartBetween 0 out from
   pub top : from ≤ 0x30000
@@ -46,7 +47,7 @@ complementing-step all out p rest from m =
     record {
       exact = λ c. (
           rw (gap-exact from p.0 out c)
-          (gap-step (in_ranges out c) (in_ranges rest c) from p.0 p.1 c 0x2FFFF a.0 a.1 a.2 (λ lt. below_apart (p.1 + 2) rest c a.3 (omega arith)) ∙ m.exact c));
+          (gap-step (in_ranges out c) (in_ranges rest c) from p.0 p.1 c greatest_character a.0 a.1 a.2 (λ lt. below_apart (p.1 + 2) rest c a.3 (omega arith)) ∙ m.exact c));
       rest_apart = apart-less (p.1 + 2) (p.1 + 1) rest (omega arith) a.3;
       out_apart = let h = a.1 in let k = a.2 in between-more 0 _ (p.0 + 1) (p.1 + 1) (omega arith) (gap-apart from p.0 out a.0 (omega arith) m.out_apart);
       top = let k = a.2 in omega arith;
@@ -56,7 +57,7 @@ from-zero : (c : ℕ) (b : Bool) → (nat_le 0 c && b) ≡ b
 from-zero c b = grind (arith, nat_tests)
 
 pub complementing-start : (all : List (ℕ × ℕ)) → IsApartFrom 0 all → IsComplementing all [] all 0
-complementing-start all a = record { exact = λ c. from-zero c (nat_le c 0x2FFFF && not (in_ranges all c)); rest_apart = a; out_apart = omega arith; top = omega arith }
+complementing-start all a = record { exact = λ c. from-zero c (nat_le c greatest_character && not (in_ranges all c)); rest_apart = a; out_apart = omega arith; top = omega arith }
 
 pub complementing-at : (all out : List (ℕ × ℕ)) (i from : ℕ) → IsComplementing all out (drop i all) from → i < length all
     → IsComplementing all (with_gap from (get_or all i (0, 0)).0 out) (drop (i + 1) all) ((get_or all i (0, 0)).1 + 1)
@@ -64,17 +65,17 @@ complementing-at all out i from m lt =
     rw add-one (complementing-step all out _ _ from (subst (λ l. IsComplementing all out l from) (drop-cons all i (0, 0) lt) m))
 
 -- the end of the pair at `i`
-pub complementing-high : (all out : List (ℕ × ℕ)) (i from : ℕ) → IsComplementing all out (drop i all) from → i < length all → (get_or all i (0, 0)).1 ≤ 0x2FFFF
+pub complementing-high : (all out : List (ℕ × ℕ)) (i from : ℕ) → IsComplementing all out (drop i all) from → i < length all → (get_or all i (0, 0)).1 ≤ greatest_character
 complementing-high all out i from m lt = (subst (λ l. IsComplementing all out l from) (drop-cons all i (0, 0) lt) m).rest_apart.2
 
 module _ (all out : List (ℕ × ℕ)) (i from : ℕ) (m : IsComplementing all out (drop i all) from) (past : length all ≤ i) where
   done : IsComplementing all out [] from
   done = subst (λ l. IsComplementing all out l from) (drop_of_length-le all past) m
 
-  pub complement-exact : (c : ℕ) → in_ranges (with_gap from 0x30000 out) c ≡ (nat_le c 0x2FFFF && not (in_ranges all c))
+  pub complement-exact : (c : ℕ) → in_ranges (with_gap from 0x30000 out) c ≡ (nat_le c greatest_character && not (in_ranges all c))
   complement-exact c = gap-exact from 0x30000 out c ∙ ap (λ b. in_ranges out c || b) (last from c) ∙ done.exact c
     where
-      last : (from c : ℕ) → (nat_le from c && nat_lt c 0x30000) ≡ (nat_le from c && (nat_le c 0x2FFFF && true))
+      last : (from c : ℕ) → (nat_le from c && nat_lt c 0x30000) ≡ (nat_le from c && (nat_le c greatest_character && true))
       last from c = grind (arith, nat_tests)
 
   pub complement-apart : IsApartBetween 0 (with_gap from 0x30000 out) 0x30001

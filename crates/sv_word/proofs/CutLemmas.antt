@@ -11,6 +11,7 @@ use Rattle.std.specs.Prelude.{IsTrue}
 use Rattle.sv_word.proofs.Apart.{below_apart, first-in, first-past}
 use Rattle.sv_word.specs.Cuts.{IsHeld, AreDisjoint, IsUniformOn, IsParted, IsPaired, borders_of}
 use Rattle.sv_word.specs.Ranges.{in_ranges, IsApartFrom, IsInhabited}
+use Rattle.sv_word.specs.Words.{greatest_character}
 
 contains-cases : {X : Type 0} (x y : X) (xs : List X) → Contains (x ∷ xs) y → (x ≡ y) ⊎ Contains xs y
 contains-cases x y xs (zero, lt, e) = inl e
@@ -174,7 +175,7 @@ tiles-paired borders low (p ∷ ps) high (next, k, t) c l h =
     ]
 
 pub tiles-coarse : (sets : List (List (ℕ × ℕ))) (borders : List ℕ) (ps : List (List (ℕ × ℕ))) → AreBorders sets borders → Tiles borders 0 ps 0x30000
-    → (c : ℕ) → c < 0x2FFFF → IsPaired ps c ⊎ IsParted sets c
+    → (c : ℕ) → c < greatest_character → IsPaired ps c ⊎ IsParted sets c
 tiles-coarse sets borders ps a t c lt =
     elim (tiles-paired borders 0 ps 0x30000 t c (omega arith) (omega arith)) [
       | inl found ↦ inl found

@@ -10,6 +10,7 @@ use Rattle.std.specs.Str.Parse.{digits_value, AllDigits}
 use Rattle.std.specs.Prelude.{Some, None, ◌==◌, ◌&&◌}
 use Rattle.sv_word.specs.Literals.{hex_len, braced_digits, close_brace}
 use Rattle.sv_word.specs.Utf8.{is_within}
+use Rattle.sv_word.specs.Words.{greatest_character}
 
 pub digit-at : (ds : List ℕ) → AllDigits 16 ds → (i d : ℕ) → i < length ds → digit_value (get_or ds i d) < 16
 digit-at [] all i d lt = absurd (omega arith)
@@ -42,13 +43,13 @@ value-below ds all le =
     omega arith
 
 -- what the test of `braced_digits` tells
-closed-true : (n b v : ℕ) → 1 ≤ n → n ≤ 5 → b ≡ close_brace → v ≤ 0x2FFFF → (is_within 1 5 n && (b == close_brace && nat_le v 0x2FFFF)) ≡ true
+closed-true : (n b v : ℕ) → 1 ≤ n → n ≤ 5 → b ≡ close_brace → v ≤ greatest_character → (is_within 1 5 n && (b == close_brace && nat_le v greatest_character)) ≡ true
 closed-true n b v low high close top = grind (arith, nat_tests)
 
-closed-false : (n b v : ℕ) → (b ≡ close_brace → ⊥) → (is_within 1 5 n && (b == close_brace && nat_le v 0x2FFFF)) ≡ false
+closed-false : (n b v : ℕ) → (b ≡ close_brace → ⊥) → (is_within 1 5 n && (b == close_brace && nat_le v greatest_character)) ≡ false
 closed-false n b v open' = grind (arith, nat_tests)
 
-pub braced-some : (bs : List ℕ) (n v : ℕ) → n ≡ hex_len bs → 1 ≤ n → n ≤ 5 → get_or bs n 0 ≡ close_brace → v ≡ digits_value 16 (take n bs) → v ≤ 0x2FFFF → Some (v, n + 4) ≡ braced_digits bs
+pub braced-some : (bs : List ℕ) (n v : ℕ) → n ≡ hex_len bs → 1 ≤ n → n ≤ 5 → get_or bs n 0 ≡ close_brace → v ≡ digits_value 16 (take n bs) → v ≤ greatest_character → Some (v, n + 4) ≡ braced_digits bs
 braced-some bs n v is low high close e top =
     let P : ℕ → Type 0 = λ m. get_or bs m 0 ≡ close_brace in
     let close' : get_or bs (hex_len bs) 0 ≡ close_brace = subst P is close in
@@ -68,7 +69,7 @@ long-false n b (inr h) = grind (arith, nat_tests)
 pub braced-long : (bs : List ℕ) (n : ℕ) → n ≡ hex_len bs → (n < 1) ⊎ (5 < n) → None ≡ braced_digits bs
 braced-long bs n is h =
     let P : ℕ → Type 0 = λ m. (m < 1) ⊎ (5 < m) in
-    let t = long-false (hex_len bs) (get_or bs (hex_len bs) 0 == close_brace && nat_le (digits_value 16 (take (hex_len bs) bs)) 0x2FFFF) (subst P is h) in
+    let t = long-false (hex_len bs) (get_or bs (hex_len bs) 0 == close_brace && nat_le (digits_value 16 (take (hex_len bs) bs)) greatest_character) (subst P is h) in
     sym (ap (λ t. cond t (Some (digits_value 16 (take (hex_len bs) bs), hex_len bs + 4)) None) t)
 
 -- a byte that isn't 0 stands within the bytes

@@ -6,6 +6,7 @@ use Rattle.std.proofs.lemmas.Bool.Decides.{nat_tests}
 use Rattle.std.specs.Prelude.{fold}
 use Rattle.sv_word.proofs.Apart.{apart-less, or-false}
 use Rattle.sv_word.specs.Ranges.{in_ranges, in_pair, with_joined, IsApartFrom, EndsBy}
+use Rattle.sv_word.specs.Words.{greatest_character}
 
 -- each pair begins at `low` or before
 abbrev pub StartsBy : ℕ → List (ℕ × ℕ) → Type 0
@@ -34,7 +35,7 @@ module _ (q p : ℕ × ℕ) where
       touching a b x y c e le h k = grind (arith, nat_tests)
   last-exact c false e le a b = rw (or-false (in_pair p c), or-false (in_pair q c)) refl
 
-  last-apart : (low : ℕ) (t : Bool) → nat_le p.0 (q.1 + 1) ≡ t → low ≤ q.0 → q.0 ≤ q.1 → q.1 ≤ 0x2FFFF → p.0 ≤ p.1 → p.1 ≤ 0x2FFFF → IsApartFrom low (last t)
+  last-apart : (low : ℕ) (t : Bool) → nat_le p.0 (q.1 + 1) ≡ t → low ≤ q.0 → q.0 ≤ q.1 → q.1 ≤ greatest_character → p.0 ≤ p.1 → p.1 ≤ greatest_character → IsApartFrom low (last t)
   unfolding last
   last-apart low true e l a m b n = (l, omega arith, omega arith, tt)
   last-apart low false e l a m b n = (l, a, m, (let gap : q.1 + 1 < p.0 = grind (arith, nat_tests) in omega arith, b, n, tt))
@@ -56,7 +57,7 @@ joined-exact low (q ∷ []) p c a s le = last-exact q p c (nat_le p.0 (q.1 + 1))
 joined-exact low (q ∷ r ∷ qs) p c a s le =
     ap (λ b. in_pair q c || b) (joined-exact (q.1 + 2) (r ∷ qs) p c a.3 s.1 le) ∙ or-assoc (in_pair q c) (in_ranges (r ∷ qs) c) (in_pair p c)
 
-joined-apart : (low : ℕ) (ps : List (ℕ × ℕ)) (p : ℕ × ℕ) → IsApartFrom low ps → StartsBy p.0 ps → low ≤ p.0 → p.0 ≤ p.1 → p.1 ≤ 0x2FFFF → IsApartFrom low (with_joined ps p)
+joined-apart : (low : ℕ) (ps : List (ℕ × ℕ)) (p : ℕ × ℕ) → IsApartFrom low ps → StartsBy p.0 ps → low ≤ p.0 → p.0 ≤ p.1 → p.1 ≤ greatest_character → IsApartFrom low (with_joined ps p)
 unfolding last
 joined-apart low [] p a s l le top = (l, le, top, tt)
 joined-apart low (q ∷ []) p a s l le top = last-apart q p low (nat_le p.0 (q.1 + 1)) refl a.0 a.1 a.2 le top
@@ -79,6 +80,13 @@ pub end-at : (top : ℕ) (ps : List (ℕ × ℕ)) → EndsBy top ps → (i : ℕ
 end-at top [] e i d lt = absurd (omega arith)
 end-at top (p ∷ ps) e zero d lt = e.0
 end-at top (p ∷ ps) e (suc i) d lt = end-at top ps e.1 i d (omega arith)
+
+pub ends-last : (top : ℕ) (all ps : List (ℕ × ℕ)) (q : ℕ × ℕ) → EndsBy top all → all ≡ ps ++ q ∷ [] → q.1 ≤ top
+ends-last top all ps q e is = by ps (subst (EndsBy top) is e)
+  where
+    by : (ps : List (ℕ × ℕ)) → EndsBy top (ps ++ q ∷ []) → q.1 ≤ top
+    by [] e = e.0
+    by (p ∷ ps) e = by ps e.1
 
 -- two lists, of which the last parts `xs` and `ys` are still to be joined
 pub record IsJoining (all more out xs ys : List (ℕ × ℕ)) : Type 0 where
@@ -156,36 +164,27 @@ module _ (xs ys out : List (ℕ × ℕ)) (i j : ℕ) (m : IsJoining xs ys out (d
 pub joining-exact : (xs ys out : List (ℕ × ℕ)) → IsJoining xs ys out [] [] → (c : ℕ) → in_ranges out c ≡ (in_ranges xs c || in_ranges ys c)
 joining-exact xs ys out m c = sym (or-false (in_ranges out c)) ∙ m.exact c
 
--- what `with_joined` makes of a list that isn't empty, by its last pair
-joined-last : (ps : List (ℕ × ℕ)) (p q : ℕ × ℕ) (n : ℕ) → length ps ≡ suc n → q ≡ get_or ps n q
-    → with_joined ps p ≡ cond (nat_le p.0 (q.1 + 1)) (set ps n (q.0, max q.1 p.1)) (ps ++ p ∷ [])
-joined-last [] p q n e is = absurd (omega arith)
-joined-last (r ∷ []) p q zero e is = subst (λ x. with_joined (r ∷ []) p ≡ cond (nat_le p.0 (x.1 + 1)) ((x.0, max x.1 p.1) ∷ []) (r ∷ p ∷ [])) (sym is) refl
-joined-last (r ∷ []) p q (suc n) e is = absurd (omega arith)
-joined-last (r ∷ x ∷ qs) p q zero e is = absurd (omega arith)
-joined-last (r ∷ x ∷ qs) p q (suc n) e is =
-    ap (λ l. r ∷ l) (joined-last (x ∷ qs) p q n (omega arith) is) ∙ under (nat_le p.0 (q.1 + 1)) (set (x ∷ qs) n (q.0, max q.1 p.1)) ((x ∷ qs) ++ p ∷ [])
-  where
-    under : (t : Bool) (a b : List (ℕ × ℕ)) → (r ∷ cond t a b) ≡ cond t (r ∷ a) (r ∷ b)
-    under true a b = refl
-    under false a b = refl
+under : (r : ℕ × ℕ) (t : Bool) (a b : List (ℕ × ℕ)) → (r ∷ cond t a b) ≡ cond t (r ∷ a) (r ∷ b)
+under r true a b = refl
+under r false a b = refl
 
-module _ (ps : List (ℕ × ℕ)) (p q : ℕ × ℕ) (n : ℕ) (len : n ≡ length ps) (some : 0 < n) (is : q ≡ get_or ps (n - 1) q) where
-  pub joined-touching : p.0 ≤ q.1 + 1 → set ps (n - 1) (q.0, max q.1 p.1) ≡ with_joined ps p
-  joined-touching le =
-      let t : nat_le p.0 (q.1 + 1) ≡ true = grind (arith, nat_tests) in
-      let e : length ps ≡ suc (n - 1) = omega arith in
-      sym (joined-last ps p q (n - 1) e is ∙ ap (λ b. cond b (set ps (n - 1) (q.0, max q.1 p.1)) (ps ++ p ∷ [])) t)
+-- what `with_joined` makes of a list whose last pair is `q`
+joined-last : (ps : List (ℕ × ℕ)) (q p : ℕ × ℕ) (t : Bool) → nat_le p.0 (q.1 + 1) ≡ t
+    → with_joined (ps ++ q ∷ []) p ≡ cond t (ps ++ (q.0, max q.1 p.1) ∷ []) ((ps ++ q ∷ []) ++ p ∷ [])
+joined-last [] q p t e = ap (λ b. cond b ((q.0, max q.1 p.1) ∷ []) (q ∷ p ∷ [])) e
+joined-last (r ∷ []) q p t e = ap (λ l. r ∷ l) (joined-last [] q p t e) ∙ under r t ((q.0, max q.1 p.1) ∷ []) (q ∷ p ∷ [])
+joined-last (r ∷ s ∷ ps) q p t e =
+    ap (λ l. r ∷ l) (joined-last (s ∷ ps) q p t e) ∙ under r t ((s ∷ ps) ++ (q.0, max q.1 p.1) ∷ []) (((s ∷ ps) ++ q ∷ []) ++ p ∷ [])
 
-  pub joined-behind : q.1 + 1 < p.0 → ps ++ p ∷ [] ≡ with_joined ps p
-  joined-behind lt =
-      let t : nat_le p.0 (q.1 + 1) ≡ false = grind (arith, nat_tests) in
-      let e : length ps ≡ suc (n - 1) = omega arith in
-      sym (joined-last ps p q (n - 1) e is ∙ ap (λ b. cond b (set ps (n - 1) (q.0, max q.1 p.1)) (ps ++ p ∷ [])) t)
+module _ (all ps : List (ℕ × ℕ)) (q p : ℕ × ℕ) (is : all ≡ ps ++ q ∷ []) where
+  pub joined-touching : p.0 ≤ q.1 + 1 → ps ++ (q.0, max q.1 p.1) ∷ [] ≡ with_joined all p
+  joined-touching le = let t : nat_le p.0 (q.1 + 1) ≡ true = grind (arith, nat_tests) in sym (joined-last ps q p true t) ∙ ap (λ l. with_joined l p) (sym is)
 
-pub joined-first : (ps : List (ℕ × ℕ)) (p : ℕ × ℕ) → length ps ≡ 0 → ps ++ p ∷ [] ≡ with_joined ps p
-joined-first [] p e = refl
-joined-first (q ∷ ps) p e = absurd (omega arith)
+  pub joined-behind : q.1 + 1 < p.0 → (ps ++ q ∷ []) ++ p ∷ [] ≡ with_joined all p
+  joined-behind lt = let t : nat_le p.0 (q.1 + 1) ≡ false = grind (arith, nat_tests) in sym (joined-last ps q p false t) ∙ ap (λ l. with_joined l p) (sym is)
+
+pub joined-first : (ps : List (ℕ × ℕ)) (p : ℕ × ℕ) → ps ≡ [] → p ∷ [] ≡ with_joined ps p
+joined-first ps p e = ap (λ l. with_joined l p) (sym e)
 
 pub ends-drop : (top i : ℕ) (ps : List (ℕ × ℕ)) → EndsBy top ps → EndsBy top (drop i ps)
 ends-drop top zero ps e = e

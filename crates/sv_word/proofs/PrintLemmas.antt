@@ -12,7 +12,7 @@ use Rattle.sv_word.proofs.HexLemmas.{braced-some}
 use Rattle.sv_word.proofs.ReadLemmas.{lit-skip}
 use Rattle.sv_word.specs.Literals.{lit, lit_from, front_of, followed_by, prepended, shown, spelled, hex_len, quote, backslash, letter_u, open_brace, close_brace}
 use Rattle.sv_word.specs.Utf8.{is_within}
-use Rattle.sv_word.specs.Words.{IsWord}
+use Rattle.sv_word.specs.Words.{IsWord, greatest_character}
 
 -- how many hexadecimal digits write a number below a power of 16
 onto-length : (j k n : ℕ) (acc : List ℕ) → n < 16 ^ suc j → length (digits_onto (suc k) 16 false n acc) ≤ length acc + suc j
@@ -42,7 +42,7 @@ record AreDigitsOf (ds : List ℕ) (c : ℕ) : Type 0 where
   hex : AllDigits 16 ds
   value : c ≡ digits_value 16 ds
 
-character-digits : (c : ℕ) → c ≤ 0x2FFFF → AreDigitsOf (digits 16 false c) c
+character-digits : (c : ℕ) → c ≤ greatest_character → AreDigitsOf (digits 16 false c) c
 unfolding digits
 character-digits c le =
     let below : c < 16 ^ 64 = omega arith in
@@ -64,7 +64,7 @@ past-seam : (ds rest : List ℕ) (b : ℕ) → drop (suc (length ds)) (ds ++ b �
 past-seam [] rest b = refl
 past-seam (d ∷ ds) rest b = past-seam ds rest b
 
-module _ (c place : ℕ) (ds rest : List ℕ) (top : c ≤ 0x2FFFF) (are : AreDigitsOf ds c) where
+module _ (c place : ℕ) (ds rest : List ℕ) (top : c ≤ greatest_character) (are : AreDigitsOf ds c) where
   escape-front : front_of place backslash (letter_u ∷ open_brace ∷ (ds ++ close_brace ∷ rest)) ≡ Ok (c, length ds + 4)
   escape-front =
       let some = braced-some (ds ++ close_brace ∷ rest) (length ds) c (sym (digits-len ds rest are.hex)) are.some are.few (at-seam ds rest close_brace)
@@ -83,7 +83,7 @@ module _ (c place : ℕ) (ds rest : List ℕ) (top : c ≤ 0x2FFFF) (are : AreDi
 plain-front : (place c : ℕ) (rest : List ℕ) → (c == quote) ≡ false → (c == backslash) ≡ false → nat_lt c 0x80 ≡ true → front_of place c rest ≡ Ok (c, 1)
 plain-front place c rest e f g = rw (e, f, g) refl
 
-lit-shown : (c place : ℕ) (rest w : List ℕ) → c ≤ 0x2FFFF → ((p : ℕ) → lit_from p 0 rest ≡ Ok w) → lit_from place 0 (shown c ++ rest) ≡ Ok (c ∷ w)
+lit-shown : (c place : ℕ) (rest w : List ℕ) → c ≤ greatest_character → ((p : ℕ) → lit_from p 0 rest ≡ Ok w) → lit_from place 0 (shown c ++ rest) ≡ Ok (c ∷ w)
 lit-shown c place rest w top h = by (c == quote) (is_within 0x20 0x7E c && not (c == backslash)) refl refl
   where
     same : (c : ℕ) → (c == quote) ≡ true → quote ≡ c

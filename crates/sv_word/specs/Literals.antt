@@ -7,6 +7,7 @@ use Rattle.std.specs.Str.Parse.{digits_value}
 use Rattle.sv_word.specs.declared.literal_fault.LiteralFault.{LiteralFault}
 use Rattle.sv_word.specs.declared.literal_fault.LiteralFault.TheVariants.{Quote, Utf8, Above}
 use Rattle.sv_word.specs.Utf8.{is_within, code_point}
+use Rattle.sv_word.specs.Words.{greatest_character}
 
 abbrev pub quote : ℕ
 quote = 0x22
@@ -34,7 +35,7 @@ four_digits bs = if nat_le 4 (hex_len bs) then Some (digits_value 16 (take 4 bs)
 -- `\u{`, one to five digits that write a character, and `}`: the character, and the number of bytes of the whole escape
 abbrev pub braced_digits : List ℕ → Option (ℕ × ℕ)
 braced_digits bs =
-    if is_within 1 5 (hex_len bs) && (slice_index bs (hex_len bs) == close_brace && nat_le (digits_value 16 (take (hex_len bs) bs)) 0x2FFFF)
+    if is_within 1 5 (hex_len bs) && (slice_index bs (hex_len bs) == close_brace && nat_le (digits_value 16 (take (hex_len bs) bs)) greatest_character)
     then Some (digits_value 16 (take (hex_len bs) bs), hex_len bs + 4) else None
 
 -- what stands behind `\u`
@@ -55,7 +56,7 @@ quote_of place (b ∷ bs) = if b == quote then Ok (quote, 2) else Err (Quote pla
 -- a code point, if there is one, is a character up to 0x2FFFF
 abbrev pub character_of : ℕ → Option (ℕ × ℕ) → Result (ℕ × ℕ) LiteralFault
 character_of place None = Err (Utf8 place)
-character_of place (Some f) = if nat_le f.0 0x2FFFF then Ok f else Err (Above place)
+character_of place (Some f) = if nat_le f.0 greatest_character then Ok f else Err (Above place)
 
 -- the first character of the bytes `b` and `bs`, and how many of them it takes; or the fault that begins with `b`, which stands at `place`
 abbrev pub front_of : ℕ → ℕ → List ℕ → Result (ℕ × ℕ) LiteralFault

@@ -2,6 +2,7 @@ ghost use Rattle.std.specs.Prelude.{◌≡◌, ℕ, ◌<◌, ◌≤◌, ◌⊎�
 ghost use Rattle.std.specs.List.Sorted.{IsNonDecreasingBy};
 ghost use Rattle.sv_word.specs.Ranges.{IsInhabited, IsApartFrom};
 ghost use Rattle.sv_word.specs.Cuts.{IsHeld, AreDisjoint, IsUniformOn, IsParted, IsPaired, borders_of};
+ghost use Rattle.sv_word.specs.Words.{greatest_character};
 
 use crate::ranges::Ranges;
 use std::alloc::{AllocError, Global};
@@ -13,7 +14,7 @@ use std::alloc::{AllocError, Global};
 /// in the list there are at most 2n + 1 pieces, found by one sort of the borders in time n log n.
 pub fn cuts(alloc: Global, list: &[Ranges]) -> Result<Vec<Ranges>, AllocError>
     ensures inhabited { IfOk result (λ pieces. All IsInhabited pieces.items) }
-    ensures covering { IfOk result (λ pieces. (c : ℕ) → c ≤ 0x2FFFF → IsHeld pieces.items c) }
+    ensures covering { IfOk result (λ pieces. (c : ℕ) → c ≤ greatest_character → IsHeld pieces.items c) }
     ensures disjoint { IfOk result (λ pieces. AllPairs AreDisjoint pieces.items) }
 
     // With `covering`, each set of the list is the union of the pieces of which it holds a
@@ -21,7 +22,7 @@ pub fn cuts(alloc: Global, list: &[Ranges]) -> Result<Vec<Ranges>, AllocError>
     ensures uniform { IfOk result (λ pieces. All (λ piece. All (IsUniformOn piece) list.now) pieces.items) }
 
     // No cut is needless: neighbours that no set tells apart lie in one piece.
-    ensures coarse { IfOk result (λ pieces. (c : ℕ) → c < 0x2FFFF → IsPaired pieces.items c ⊎ IsParted list.now c) }
+    ensures coarse { IfOk result (λ pieces. (c : ℕ) → c < greatest_character → IsPaired pieces.items c ⊎ IsParted list.now c) }
 {
     let borders = sorted_borders(alloc, list)?;
     let mut pieces = Vec::new(alloc);

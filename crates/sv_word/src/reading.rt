@@ -1,6 +1,7 @@
 ghost use Rattle.std.specs.Prelude.{◌≡◌, ◌≢◌, ◌≤◌, ◌+◌, All, alloc_error, length, slice_index, IfOk, IfErr, IfSome};
 ghost use Rattle.std.specs.Str.Parse.{digits_value, AllDigits};
 ghost use Rattle.sv_word.specs.Literals.{lit, front_of, escape_of, number_of, braced_digits, four_digits, hex_len, quote_of};
+ghost use Rattle.sv_word.specs.Words.{greatest_character};
 
 use crate::literal_fault::LiteralFault;
 use crate::utf8;
@@ -41,7 +42,7 @@ pub fn read_literal(alloc: Global, raw: &[u8]) -> Result<Word, LiteralFault>
 // that of `first` in the literal.
 fn first_character(first: u8, more: &[u8], place: usize) -> Result<(u32, usize), LiteralFault>
     ensures exact { result ≡ front_of place first more.now }
-    ensures character { IfOk result (λ f. f.0 ≤ 0x2FFFF) }
+    ensures character { IfOk result (λ f. f.0 ≤ greatest_character) }
     ensures bytes { IfOk result (λ f. (1 ≤ f.1) × (f.1 ≤ length more.now + 1)) }
 {
     match first {
@@ -61,7 +62,7 @@ fn first_character(first: u8, more: &[u8], place: usize) -> Result<(u32, usize),
 // many bytes it takes with the backslash.
 fn escape(more: &[u8]) -> Option<(u32, usize)>
     ensures exact { result ≡ escape_of more.now }
-    ensures character { IfSome result (λ f. f.0 ≤ 0x2FFFF) }
+    ensures character { IfSome result (λ f. f.0 ≤ greatest_character) }
     ensures bytes { IfSome result (λ f. (1 ≤ f.1) × (f.1 ≤ length more.now + 1)) }
 {
     match more {
@@ -74,7 +75,7 @@ fn escape(more: &[u8]) -> Option<(u32, usize)>
 // What stands behind `\u{`.
 fn braced(digits: &[u8]) -> Option<(u32, usize)>
     ensures exact { result ≡ braced_digits digits.now }
-    ensures character { IfSome result (λ f. f.0 ≤ 0x2FFFF) }
+    ensures character { IfSome result (λ f. f.0 ≤ greatest_character) }
     ensures bytes { IfSome result (λ f. (1 ≤ f.1) × (f.1 ≤ length digits.now + 3)) }
 {
     let len = digit_count(digits);
@@ -92,7 +93,7 @@ fn braced(digits: &[u8]) -> Option<(u32, usize)>
 // What stands behind `\u`.
 fn four(digits: &[u8]) -> Option<(u32, usize)>
     ensures exact { result ≡ four_digits digits.now }
-    ensures character { IfSome result (λ f. f.0 ≤ 0x2FFFF) }
+    ensures character { IfSome result (λ f. f.0 ≤ greatest_character) }
     ensures bytes { IfSome result (λ f. (1 ≤ f.1) × (f.1 ≤ length digits.now + 2)) }
 {
     if FIXED_DIGITS <= digit_count(digits) {

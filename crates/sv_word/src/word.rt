@@ -1,5 +1,5 @@
 ghost use Rattle.std.specs.Prelude.{◌≡◌, ◌↔◌, [], ◌∷◌, ◌++◌, ◌≤◌, length, slice_get, take, IsTrue, IfOk, OnOk, OnErr, IfSome};
-ghost use Rattle.sv_word.specs.Words.{IsWord};
+ghost use Rattle.sv_word.specs.Words.{IsWord, greatest_character};
 
 use std::alloc::{AllocError, Global};
 use std::cmp::Ordering;
@@ -21,12 +21,13 @@ pub struct Word {
 
 impl Model for Word {
     ghost use Rattle.std.specs.Prelude.{List, ℕ, All, ◌≤◌};
+    ghost use Rattle.sv_word.specs.Words.{greatest_character};
 
     ghost Value = { List ℕ };
 
     ghost view = { λ w. w.characters.items };
 
-    ghost invariant = { λ w. All (λ c. c ≤ 0x2FFFF) w.characters.items };
+    ghost invariant = { λ w. All (λ c. c ≤ greatest_character) w.characters.items };
 }
 
 impl Word {
@@ -56,7 +57,7 @@ impl Word {
     /// The character at place `at`, counted from 0; `None` exactly where the word ends before it.
     pub fn get(&self, at: usize) -> Option<u32>
         ensures value { result ≡ slice_get self.now at }
-        ensures bound { IfSome result (λ c. c ≤ 0x2FFFF) }
+        ensures bound { IfSome result (λ c. c ≤ greatest_character) }
     {
         match self.characters.get(at) {
             Some(c) => Some(*c),
@@ -73,7 +74,7 @@ impl Word {
 
     /// Adds a character at the end, in constant time but for the moves of a growing list.
     pub fn push(&mut self, c: u32) -> Result<(), AllocError>
-        requires { c ≤ 0x2FFFF }
+        requires { c ≤ greatest_character }
         ensures ok { OnOk result (self.new ≡ self.old ++ c ∷ []) }
         ensures err { OnErr result (self.new ≡ self.old) }
     {

@@ -1,1 +1,4 @@
 pub mod LayerLemmas
+pub mod NodeLemmas
+pub mod OutputLemmas
+pub mod BuiltLemmas

@@ -1,1 +1,4 @@
 pub mod Layers
+pub mod Nodes
+pub mod Outputs
+pub mod Built

@@ -1,4 +1,4 @@
-use Rattle.pre_image.proofs.FreeLemmas.{free-fits}
+use Rattle.pre_image.specs.FreeLaws.{free-fits}
 use Rattle.pre_image.proofs.tests.words_are_found_before_a_replacement.Goals as goal
 
 pub of-pre-requires-clause-fits : goal.of-pre-requires-clause-fits

@@ -3,7 +3,7 @@ use Rattle.sv_word.specs.Words.{IsWord}
 use Rattle.sv_terms.specs.declared.regex.Regex.TheVariants as v
 use Rattle.sv_terms.specs.Opened.{In-Empty, In-All, In-AnyChar, In-Text, In-Range}
 use Rattle.sv_terms.specs.Language.{In}
-use Rattle.regex_machine.specs.Bounds.{size}
+use Rattle.sv_terms.specs.Bounds.{size}
 use Rattle.regex_machine.specs.Joined.{ArePlain, AreMade}
 use Rattle.regex_machine.specs.Parts.{AddsParts}
 use Rattle.regex_machine.specs.declared.kind.Kind.TheVariants as kind
@@ -11,7 +11,7 @@ use Rattle.regex_machine.proofs.BuiltLemmas.{builds-as, builds-form, builds-err,
 use Rattle.regex_machine.proofs.FormLemmas.{builds-list, builds-Diff, builds-Star, builds-Plus, builds-Opt, builds-Comp, builds-Loop, complement-made, copies-made, difference-made, loop-made, list-made, copies-least}
 use Rattle.regex_machine.proofs.KindLemmas.{formed, power-above, first-size, part-size, inner-size, adds-none, adds-next, adds-all, adds-inner, adds-one, adds-plain}
 use Rattle.regex_machine.proofs.LanguageLemmas.{made-plain, made-more, made-all, no-order, no-copy}
-use Rattle.regex_machine.proofs.Sizes.{size-Empty, size-All, size-AnyChar, size-Text, size-Range}
+use Rattle.sv_terms.specs.BoundLaws.{size-Empty, size-All, size-AnyChar, size-Text, size-Range}
 use Rattle.regex_machine.proofs.building.+make.Goals as goal
 
 pub make-returns-in-Empty : goal.make-returns-in-Empty

@@ -3,7 +3,7 @@ use Rattle.machine_core.specs.declared.graph.Graph.{Graph}
 use Rattle.sv_terms.specs.Language.{Word, InFirstOnly}
 use Rattle.regex_machine.specs.Built.{Builds}
 use Rattle.regex_machine.specs.Joined.{WordsOf}
-use Rattle.regex_machine.specs.Bounds.{from_left, without_size}
+use Rattle.sv_terms.specs.Bounds.{from_left, without_size}
 use Rattle.regex_machine.specs.Kinds.{states_of}
 use Rattle.regex_machine.proofs.BuiltLemmas.{builds-as, fits-builds}
 use Rattle.regex_machine.proofs.WordLemmas.{none-left, some-left, split-first}

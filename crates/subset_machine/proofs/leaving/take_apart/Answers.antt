@@ -3,7 +3,7 @@ use Rattle.std.specs.List.{flat_map}
 use Rattle.std.proofs.lemmas.List.{map_push, flat_map_more}
 use Rattle.machine_core.specs.Places.{pick}
 use Rattle.subset_machine.specs.Legs.{on_of, legs_of}
-use Rattle.subset_machine.proofs.PlaceLemmas.{pick-more}
+use Rattle.machine_core.specs.PlaceLaws.{pick-more}
 use Rattle.subset_machine.proofs.leaving.take_apart.Goals as goal
 
 pub loop-place-preserved : goal.loop-place-preserved

@@ -7,6 +7,7 @@ use Rattle.sv_word.specs.Ranges.{IsApartFrom}
 use Rattle.sv_word.specs.Cuts.{IsHeld, IsUniformOn}
 use Rattle.subset_machine.proofs.MarkLemmas.{marks-made}
 use Rattle.subset_machine.proofs.marks.cut.Goals as goal
+use Rattle.sv_word.specs.Words.{greatest_character}
 
 pub loop-piece-preserved : goal.loop-piece-preserved
 loop-piece-preserved c =
@@ -30,7 +31,7 @@ returns c =
     let made : c.loop-piece.marks.items ≡ flat_map (λ p. p) list = c.loop-piece.invariant.marks ∙ ap (flat_map (λ p. p)) all in
     marks-made c.args.sets.now list marks
     (subst (All (IsApartFrom 0)) all c.loop-piece.invariant.apart)
-    (subst (λ l. (d : ℕ) → d ≤ 0x2FFFF → IsHeld l d) (sym value) told.covering)
+    (subst (λ l. (d : ℕ) → d ≤ greatest_character → IsHeld l d) (sym value) told.covering)
     (subst (All (λ piece. All (IsUniformOn piece) c.args.sets.now)) (sym value) told.uniform)
     (subst (λ l. IsPermutation l marks) made c.sort_unstable.ensures.permutation)
     c.sort_unstable.ensures.sorted

@@ -54,5 +54,5 @@ invariant_of-result c = (joined c).out_apart
 pub returns : goal.returns
 returns c d =
     joining-exact c.as_slice-left.result.now c.as_slice-right.result.now c.push_each-2.new.pairs.items (joined c) d
-    ∙ ap (λ l. in_ranges l d || in_ranges c.as_slice-right.result.now d) (c.as_slice-left.ensures.value ∙ c.self.view_is)
-    ∙ ap (λ l. in_ranges c.args.self.now d || in_ranges l d) (c.as_slice-right.ensures.value ∙ c.other.view_is)
+    ∙ ap (λ l. in_ranges l d || in_ranges c.as_slice-right.result.now d) (c.as_slice-left.ensures ∙ c.self.view_is)
+    ∙ ap (λ l. in_ranges c.args.self.now d || in_ranges l d) (c.as_slice-right.ensures ∙ c.other.view_is)

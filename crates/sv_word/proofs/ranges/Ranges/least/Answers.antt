@@ -8,4 +8,4 @@ pub returns-in-Some-clause-least : goal.returns-in-Some-clause-least
 returns-in-Some-clause-least c =
     least-at c.args.self.now c.in-Some.pair.now
     (subst (IsApartFrom 0) c.self.view_is c.self.invariant)
-    (c.in-Some.ensures.value ∙ ap (λ l. slice_get l 0) (c.deref.ensures.value ∙ c.self.view_is))
+    (c.in-Some.ensures.value ∙ ap (λ l. slice_get l 0) (c.as_slice.ensures ∙ c.self.view_is))

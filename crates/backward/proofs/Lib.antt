@@ -1,0 +1,14 @@
+pub mod CostSums
+pub mod ConfLemmas
+pub mod CutLemmas
+pub mod CarryLemmas
+pub mod TotalLemmas
+pub mod GrowthLemmas
+pub mod PairLemmas
+pub mod ThroughLemmas
+pub mod MeetingLemmas
+pub mod KeptLemmas
+pub mod LoopLemmas
+pub mod RunsBack
+pub mod MadeLemmas
+pub mod TestLemmas

@@ -1,0 +1,10 @@
+pub mod Families
+pub mod Pieces
+pub mod Meetings
+pub mod Kept
+pub mod PreBuilt
+pub mod Bounds
+pub mod Carried
+pub mod Runs
+pub mod Made
+pub mod Back

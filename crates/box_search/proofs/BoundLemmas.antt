@@ -1,0 +1,113 @@
+-- Bounds of rows in a box.
+use Rattle.std.proofs.Common.{◌≡◌, ℕ, zero, suc, ◌+◌, ◌*◌, ◌^◌, ◌<◌, ◌≤◌, max, ℤ, pos, neg_ℤ, ◌+ℤ◌, ◌*ℤ◌, ◌≤ℤ◌, ◌<ℤ◌, int_le, FitsSigned, Bool, true, false, cond, List, [], ◌∷◌, length, drop, get_or, slice_get, Some, All, unsigned_abs, refl, ap, sym, ◌∙◌, subst, arith}
+use Rattle.std.proofs.lemmas.Int.{ints, unsigned_abs-mul, fits_signed_mul, fits_signed_from_abs}
+use Rattle.std.proofs.Math.Nat.{mul-le-mul_left}
+use Rattle.std.specs.Int.{w128}
+use Rattle.std.proofs.lemmas.List.Elements.{All-head, All-tail}
+use Rattle.sv_linear.specs.Integers.{mul_le, neg-mul}
+use Rattle.sv_linear.specs.Terms.{terms_value}
+use Rattle.sv_linear.specs.Rows.{terms_weight}
+use Rattle.box_search.specs.Regions.{IsWithin, greatest_amount, amounts}
+use Rattle.box_search.specs.Boxes.{IsSide, IsPoint, AreAt}
+
+-- the ends of a side are at most its greatest amount
+pub side-amounts : (s : ℤ × ℤ) → IsSide s → (unsigned_abs s.0 ≤ greatest_amount s) × (unsigned_abs s.1 ≤ greatest_amount s)
+side-amounts s h = by_test (int_le s.0 s.1) refl
+  where
+    by_test : (b : Bool) → int_le s.0 s.1 ≡ b → (unsigned_abs s.0 ≤ cond (int_le s.0 s.1) (max (unsigned_abs s.0) (unsigned_abs s.1)) 0) × (unsigned_abs s.1 ≤ cond (int_le s.0 s.1) (max (unsigned_abs s.0) (unsigned_abs s.1)) 0)
+    by_test true e = rw e (omega arith, omega arith)
+    by_test false e = absurd (grind (arith, ints))
+
+-- the products with the ends of a side
+pub product-fits : (c v : ℤ) (s : ℤ × ℤ) → unsigned_abs v ≤ greatest_amount s → unsigned_abs c * greatest_amount s < 2 ^ 127
+    → FitsSigned w128 (c *ℤ v) × (unsigned_abs (c *ℤ v) ≤ unsigned_abs c * greatest_amount s)
+product-fits c v s le lt = (
+  fits_signed_mul w128 c v (unsigned_abs c) (greatest_amount s) (omega arith) le lt,
+  (let e = unsigned_abs-mul c v in let m : unsigned_abs c * unsigned_abs v ≤ unsigned_abs c * greatest_amount s = mul-le-mul_left (unsigned_abs c) le in omega arith),
+)
+
+pub product-below : (c v : ℤ) (s : ℤ × ℤ) → unsigned_abs v ≤ greatest_amount s → unsigned_abs c * unsigned_abs v ≤ unsigned_abs c * greatest_amount s
+product-below c v s le = mul-le-mul_left (unsigned_abs c) le
+
+pub product-amount : (c v r : ℤ) (s : ℤ × ℤ) → unsigned_abs v ≤ greatest_amount s → r ≡ c *ℤ v → unsigned_abs r ≤ unsigned_abs c * greatest_amount s
+product-amount c v r s le e = let a = ap unsigned_abs e ∙ unsigned_abs-mul c v in let b = product-below c v s le in omega arith
+
+pub products-rising : (c v : ℤ) (s : ℤ × ℤ) → pos 0 ≤ℤ c → IsWithin s v → ((c *ℤ s.0) ≤ℤ (c *ℤ v)) × ((c *ℤ v) ≤ℤ (c *ℤ s.1))
+products-rising c v s h w = (mul_le c s.0 v h w.0, mul_le c v s.1 h w.1)
+
+pub products-falling : (c v : ℤ) (s : ℤ × ℤ) → c <ℤ pos 0 → IsWithin s v → ((c *ℤ s.1) ≤ℤ (c *ℤ v)) × ((c *ℤ v) ≤ℤ (c *ℤ s.0))
+products-falling c v s h w =
+    let n : pos 0 ≤ℤ neg_ℤ c = omega (arith, ints) in
+    let low = mul_le (neg_ℤ c) v s.1 n w.1 in
+    let high = mul_le (neg_ℤ c) s.0 v n w.0 in
+    (omega (arith, ints, neg-mul c v, neg-mul c s.1), omega (arith, ints, neg-mul c v, neg-mul c s.0))
+
+-- one term less
+drop-step : {X : Type 0} (xs : List X) (i : ℕ) (d : X) → i < length xs → drop i xs ≡ get_or xs i d ∷ drop (suc i) xs
+drop-step [] i d h = absurd (omega arith)
+drop-step (x ∷ []) zero d h = refl
+drop-step (x ∷ y ∷ xs) zero d h = refl
+drop-step (x ∷ xs) (suc i) d h = drop-step xs i d (omega arith)
+
+module _ (sides : List (ℤ × ℤ)) (terms : List (ℕ × ℤ)) (i : ℕ) (t : ℕ × ℤ) (s : ℤ × ℤ) (d : ℕ × ℤ) (lt : i < length terms) (at : t ≡ get_or terms i d) (is : slice_get sides t.0 ≡ Some s) where
+  here : drop i terms ≡ t ∷ drop (i + 1) terms
+  here = drop-step terms i d lt ∙ ap (λ (x : ℕ × ℤ). x ∷ drop (suc i) terms) (sym at) ∙ ap (λ n. t ∷ drop n terms) (let e : suc i ≡ i + 1 = omega arith in e)
+
+  side : get_or sides t.0 (pos 0, pos 0) ≡ s
+  side = get-side sides t.0 is
+    where
+      get-side : (ss : List (ℤ × ℤ)) (n : ℕ) → slice_get ss n ≡ Some s → get_or ss n (pos 0, pos 0) ≡ s
+      get-side [] n e = cc
+      get-side (x ∷ ss) zero e = cc
+      get-side (x ∷ ss) (suc n) e = get-side ss n e
+
+  amount-step : terms_weight (amounts sides) (drop i terms) ≡ unsigned_abs t.1 * greatest_amount s + terms_weight (amounts sides) (drop (i + 1) terms)
+  amount-step = ap (terms_weight (amounts sides)) here ∙ ap (λ (x : ℤ × ℤ). unsigned_abs t.1 * greatest_amount x + terms_weight (amounts sides) (drop (i + 1) terms)) side
+
+  pub term-fits : (least : ℤ) → unsigned_abs least + terms_weight (amounts sides) (drop i terms) < 2 ^ 127 → unsigned_abs t.1 * greatest_amount s < 2 ^ 127
+  term-fits least h = let e = amount-step in omega arith
+
+  pub sum-requires : (least low : ℤ) → unsigned_abs least + terms_weight (amounts sides) (drop i terms) < 2 ^ 127 → unsigned_abs low ≤ unsigned_abs t.1 * greatest_amount s → unsigned_abs least + unsigned_abs low < 2 ^ 127
+  sum-requires least low h le = let e = amount-step in omega arith
+
+  pub sum-fits : (least low : ℤ) → unsigned_abs least + terms_weight (amounts sides) (drop i terms) < 2 ^ 127 → unsigned_abs low ≤ unsigned_abs t.1 * greatest_amount s
+      → FitsSigned w128 (least +ℤ low) × (unsigned_abs (least +ℤ low) + terms_weight (amounts sides) (drop (i + 1) terms) < 2 ^ 127)
+  sum-fits least low h le =
+      let e = amount-step in
+      let a : unsigned_abs (least +ℤ low) ≤ unsigned_abs least + unsigned_abs low = omega (arith, ints) in
+      (fits_signed_from_abs w128 (least +ℤ low) (omega arith), omega arith)
+
+  value-step : (x : ℕ → ℤ) → terms_value x (drop i terms) ≡ t.1 *ℤ x t.0 +ℤ terms_value x (drop (i + 1) terms)
+  value-step x = ap (terms_value x) here
+
+  pub between-step : (total : (ℕ → ℤ) → ℤ) (least greatest low high least' greatest' : ℤ) → least' ≡ least +ℤ low → greatest' ≡ greatest +ℤ high
+      → ((v : ℤ) → IsWithin s v → (low ≤ℤ (t.1 *ℤ v)) × ((t.1 *ℤ v) ≤ℤ high))
+      → ((x : ℕ → ℤ) → AreAt sides x → ((least +ℤ terms_value x (drop i terms)) ≤ℤ total x) × (total x ≤ℤ (greatest +ℤ terms_value x (drop i terms))))
+      → (x : ℕ → ℤ) → AreAt sides x → ((least' +ℤ terms_value x (drop (i + 1) terms)) ≤ℤ total x) × (total x ≤ℤ (greatest' +ℤ terms_value x (drop (i + 1) terms)))
+  between-step total least greatest low high least' greatest' e f between h x w =
+      let b = between (x t.0) (w t.0 s is) in
+      let old = h x w in
+      let v = value-step x in
+      let b0 = b.0 in
+      let b1 = b.1 in
+      let o0 = old.0 in
+      let o1 = old.1 in
+      (omega (arith, ints), omega (arith, ints))
+
+-- all terms are added
+pub between-end : (terms : List (ℕ × ℤ)) (i : ℕ) (x : ℕ → ℤ) (least : ℤ) → length terms ≤ i → least +ℤ terms_value x (drop i terms) ≡ least
+between-end terms i x least le = rw (drop-all terms i le) (omega (arith, ints))
+  where
+    drop-all : (xs : List (ℕ × ℤ)) (i : ℕ) → length xs ≤ i → drop i xs ≡ []
+    drop-all [] zero h = refl
+    drop-all [] (suc i) h = refl
+    drop-all (x ∷ xs) zero h = absurd (omega arith)
+    drop-all (x ∷ xs) (suc i) h = drop-all xs i (omega arith)
+
+pub point-at : (sides : List (ℤ × ℤ)) (u : ℕ) (s : ℤ × ℤ) → All IsPoint sides → slice_get sides u ≡ Some s → s.0 ≡ s.1
+point-at [] u s h e = cc
+point-at (x ∷ ss) zero s h e = let same : x ≡ s = cc in subst IsPoint same (All-head IsPoint x ss h)
+point-at (x ∷ ss) (suc u) s h e = point-at ss u s (All-tail IsPoint x ss h) e
+
+pub point-step : (a b c d l g : ℤ) → a ≡ b → c ≡ d → l ≡ a +ℤ c → g ≡ b +ℤ d → l ≡ g
+point-step a b c d l g e f p q = p ∙ ap (λ x. x +ℤ c) e ∙ ap (λ x. b +ℤ x) f ∙ sym q

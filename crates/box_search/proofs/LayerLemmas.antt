@@ -1,0 +1,99 @@
+-- All machines in turn as one machine: each choice of runs of all machines is one of its words.
+use Rattle.std.proofs.Common.{◌≡◌, ℕ, zero, suc, ◌+◌, ◌<◌, inl, inr, List, [], ◌∷◌, length, drop, slice_get, Some, refl, ap, sym, ◌∙◌, subst, arith}
+use Rattle.std.proofs.lemmas.List.Elements.{All-head, All-tail}
+use Rattle.machine_core.specs.declared.graph.Graph.{Graph}
+use Rattle.machine_core.specs.declared.run.Run.{Run}
+use Rattle.machine_core.specs.Costs.{add_costs, zeros}
+use Rattle.machine_core.specs.CostLaws.{add_costs-assoc, add_costs-length, add_costs-zeros, zeros-add_costs, zeros-length}
+use Rattle.machine_core.specs.Edges.{EndsAt, StepsBy}
+use Rattle.machine_core.specs.EdgeLaws.{step_target, step_cost, run_width}
+use Rattle.machine_core.specs.Language.{RunsFrom}
+use Rattle.machine_core.specs.Runs.{run_total}
+use Rattle.machine_core.specs.RunLaws.{run_accepted}
+use Rattle.box_search.specs.declared.layer.Layer.{Layer}
+use Rattle.box_search.specs.Hits.{HaveRegisters, AreRunsOf, runs_total, characters}
+use Rattle.box_search.specs.Layers as Layers
+use Rattle.box_search.specs.Layers.{layer, AreBelow, uppers_of, IsGood}
+use Rattle.box_search.proofs.ShortLemmas.{below-parts}
+
+module _ (machines : List Graph) (uppers : List ℕ) (good : List ℕ → Type 0) where
+  abbrev LayerStep : Layer → ℕ → List ℕ → Layer → Type 0
+  LayerStep = Layers.LayerStep machines uppers good
+
+  abbrev LayerEnd : Layer → List ℕ → Type 0
+  LayerEnd = Layers.LayerEnd machines uppers good
+
+  -- a word that is read from a layer, of so many characters
+  abbrev HasWord : Layer → ℕ → Type 0
+  HasWord p size = (word cost : List ℕ) × RunsFrom LayerEnd LayerStep p word cost × (length word ≡ size)
+
+  -- a run of the machine at work, and what is read from the start of the next one
+  layer-path : (w : List ℕ) (m : Graph) (i s : ℕ) (v k : List ℕ) (more : ℕ) → slice_get machines i ≡ Some m → s < m.states → length v ≡ m.registers → RunsFrom (EndsAt m.ends) (StepsBy m.edges) s w k
+      → AreBelow (add_costs v k) uppers → HasWord (layer (suc i) 0 (add_costs v k)) more → HasWord (layer i s v) (length w + 1 + more)
+  layer-path [] m i s v k more at inside wide r low rest =
+      let n = rest.3 in
+      (0 ∷ rest.0, add_costs k rest.1, (k, layer (suc i) 0 (add_costs v k), rest.1, record { graph = m; at_work = at; paid = refl; below = low; turn = inr (refl, refl, refl, r) }, rest.2, refl), omega arith)
+  layer-path (c ∷ w) m i s v k more at inside wide r low rest =
+      let next = step_target m.states m.registers m.edges m.ends m.formed s r.1 c r.0 r.3 in
+      let own = (step_cost m.states m.registers m.edges m.ends m.formed s r.1 c r.0 r.3).entries in
+      let same : add_costs v k ≡ add_costs (add_costs v r.0) r.2 = ap (add_costs v) r.5 ∙ sym (add_costs-assoc v r.0 r.2) in
+      let wide' = add_costs-length v r.0 m.registers wide own in
+      let low' = subst (λ l. AreBelow l uppers) same low in
+      let parts = below-parts (add_costs v r.0) r.2 uppers (wide' ∙ sym (run_width m.states m.registers m.edges m.ends m.formed w r.1 r.2 r.4)) low' in
+      let found = layer-path w m i r.1 (add_costs v r.0) r.2 more at next wide' r.4 low' (subst (λ l. HasWord (layer (suc i) 0 l) more) same rest) in
+      let n = found.3 in
+      (c ∷ found.0, add_costs r.0 found.1, (r.0, layer i r.1 (add_costs v r.0), found.1, record { graph = m; at_work = at; paid = refl; below = parts.0; turn = inl (refl, r.3) }, found.2, refl), omega arith)
+
+  get-drop : (ms : List Graph) (i : ℕ) (m : Graph) (rest : List Graph) → drop i ms ≡ m ∷ rest → (slice_get ms i ≡ Some m) × (drop (suc i) ms ≡ rest)
+  get-drop [] zero m rest e = cc
+  get-drop [] (suc i) m rest e = cc
+  get-drop (x ∷ []) zero m rest e = (cc, cc)
+  get-drop (x ∷ y ∷ ys) zero m rest e = (cc, cc)
+  get-drop (x ∷ xs) (suc i) m rest e = get-drop xs i m rest e
+
+  -- runs of the machines from the one at work on are a word that is read from its start
+  layer-word : (registers : ℕ) (ms : List Graph) (rs : List (Run ℕ)) (i : ℕ) (v : List ℕ) → HaveRegisters registers ms → drop i machines ≡ ms → i + length ms ≡ length machines → AreRunsOf ms rs
+      → length v ≡ registers → AreBelow (add_costs v (runs_total registers rs)) uppers → good (add_costs v (runs_total registers rs))
+      → HasWord (layer i 0 v) (characters rs + length ms)
+  layer-word registers [] [] i v same e n zips wide low ok =
+      let z : i ≡ length machines = omega arith in
+      ([], zeros (length uppers), (refl, z, subst good (add_costs-zeros v registers wide) ok), omega arith)
+  layer-word registers [] (p ∷ ps) i v same e n zips wide low ok = absurd zips
+  layer-word registers (m ∷ ms) [] i v same e n zips wide low ok = absurd zips
+  layer-word registers (m ∷ ms) (p ∷ ps) i v same e n zips wide low ok =
+      let at = get-drop machines i m ms e in
+      let reg = All-head (λ (g : Graph). g.registers ≡ registers) m ms same in
+      let rest = All-tail (λ (g : Graph). g.registers ≡ registers) m ms same in
+      let read = run_accepted (StepsBy m.edges) (EndsAt m.ends) 0 p zips.0 in
+      let own = run_width m.states m.registers m.edges m.ends m.formed p.word 0 (run_total p) read ∙ reg in
+      let wide' = add_costs-length v (run_total p) registers wide own in
+      let join = sym (add_costs-assoc v (run_total p) (runs_total registers ps)) in
+      let low' = subst (λ l. AreBelow l uppers) join low in
+      let others = runs-width registers ms ps rest zips.1 in
+      let here = below-parts (add_costs v (run_total p)) (runs_total registers ps) uppers (wide' ∙ sym others) low' in
+      let later = layer-word registers ms ps (suc i) (add_costs v (run_total p)) rest at.1 (omega arith) zips.1 wide' low' (subst good join ok) in
+      let found = layer-path p.word m i 0 v (run_total p) (characters ps + length ms) at.0 m.started (wide ∙ sym reg) read here.0 later in
+      let size = found.3 in
+      (found.0, found.1, found.2, omega arith)
+    where
+      runs-width : (registers : ℕ) (ms : List Graph) (rs : List (Run ℕ)) → HaveRegisters registers ms → AreRunsOf ms rs → length (runs_total registers rs) ≡ registers
+      runs-width registers [] [] same runs = zeros-length registers
+      runs-width registers [] (r ∷ rs) same runs = absurd runs
+      runs-width registers (m ∷ ms) [] same runs = absurd runs
+      runs-width registers (m ∷ ms) (r ∷ rs) same runs =
+          add_costs-length (run_total r) (runs_total registers rs) registers
+          (run_width m.states m.registers m.edges m.ends m.formed r.word 0 (run_total r) (run_accepted (StepsBy m.edges) (EndsAt m.ends) 0 r runs.0) ∙ All-head (λ (g : Graph). g.registers ≡ registers) m ms same)
+          (runs-width registers ms rs (All-tail (λ (g : Graph). g.registers ≡ registers) m ms same) runs.1)
+
+  -- runs of all machines are a word from the first layer
+  pub runs-word : (registers : ℕ) (rs : List (Run ℕ)) → HaveRegisters registers machines → AreRunsOf machines rs
+      → AreBelow (runs_total registers rs) uppers → length (runs_total registers rs) ≡ registers → good (runs_total registers rs)
+      → HasWord (layer 0 0 (zeros registers)) (characters rs + length machines)
+  runs-word registers rs same runs low wide ok =
+      let e = sym (zeros-add_costs (runs_total registers rs) registers wide) in
+      layer-word registers machines rs 0 (zeros registers) same (drop-none machines) (omega arith) runs (zeros-length registers)
+      (subst (λ l. AreBelow l uppers) e low) (subst good e ok)
+    where
+      drop-none : (ms : List Graph) → drop 0 ms ≡ ms
+      drop-none [] = refl
+      drop-none (m ∷ ms) = refl

@@ -1,0 +1,11 @@
+mod DigitLemmas
+pub mod ShortLemmas
+mod LayerLemmas
+mod BoundLemmas
+mod FindLemmas
+mod HalfLemmas
+mod SideLemmas
+mod MoveLemmas
+mod ExactLemmas
+mod CutLemmas
+mod SearchLemmas

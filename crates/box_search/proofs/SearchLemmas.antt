@@ -1,0 +1,90 @@
+-- Hits and the words of all machines in turn.
+use Rattle.std.proofs.Common.{◌≡◌, ℕ, ℤ, pos, ◌+◌, ◌≤◌, List, [], ◌∷◌, length, map, Option, Some, None, false, refl, ap, ◌∙◌, arith}
+use Rattle.std.specs.Option.{IsSome}
+use Rattle.std.specs.Prelude.{MatchOption}
+use Rattle.machine_core.specs.declared.graph.Graph.{Graph}
+use Rattle.machine_core.specs.declared.run.Run.{Run}
+use Rattle.machine_core.specs.Costs.{zeros}
+use Rattle.machine_core.specs.Edges.{EndsAt, StepsBy}
+use Rattle.machine_core.specs.Language.{RunsFrom, SameRuns}
+use Rattle.machine_core.specs.Graphs.{Accepts}
+use Rattle.trim_search.specs.Shortest.{IsShortestRun}
+use Rattle.sv_linear.specs.declared.row.Row.{Row}
+use Rattle.box_search.specs.declared.layer.Layer.{Layer}
+use Rattle.box_search.specs.declared.region.Region.{Region}
+use Rattle.box_search.specs.Hits.{HaveRegisters, runs_total, characters}
+use Rattle.box_search.specs.Regions.{AreWithin, whole_side, IsHitWithin, IsShortHit}
+use Rattle.box_search.specs.Layers.{layer, uppers_of, AreGood, IsGood, LayerStep, LayerEnd}
+use Rattle.box_search.specs.Cuts.{IsCutInto}
+use Rattle.box_search.proofs.ShortLemmas.{hit-short, totals-below}
+use Rattle.box_search.proofs.LayerLemmas.{runs-word}
+
+pub within-length : (ss : List (ℤ × ℤ)) (xs : List ℤ) → AreWithin ss xs → length xs ≡ length ss
+within-length [] [] h = refl
+within-length [] (x ∷ xs) h = absurd h
+within-length (s ∷ ss) [] h = absurd h
+within-length (s ∷ ss) (x ∷ xs) h = let e = within-length ss xs h.1 in omega arith
+
+totals-length : (sides : List (ℕ × ℕ)) (totals : List ℕ) → AreWithin (map whole_side sides) (map pos totals) → length totals ≡ length sides
+totals-length [] [] h = refl
+totals-length [] (n ∷ ns) h = absurd h
+totals-length (s ∷ ss) [] h = absurd h
+totals-length (s ∷ ss) (n ∷ ns) h = let e = totals-length ss ns h.1 in omega arith
+
+module _ (rows : List Row) (region : Region) (totals : List ℕ) where
+  pub good-length : IsGood rows region totals → length totals ≡ length region.registers
+  good-length good = totals-length region.registers totals good.0
+
+  pub good-some : (o : Option (List ℤ)) → MatchOption o (IsGood rows region totals → ⊥) (λ numbers. AreWithin (map whole_side region.registers) (map pos totals) × AreGood rows region totals numbers) → IsGood rows region totals → IsSome o
+  good-some None h good = absurd (h good)
+  good-some (Some numbers) h good = refl
+
+module _ (machines : List Graph) (integers : ℕ) (rows : List Row) (region : Region) where
+  abbrev IsHitOf : List (Run ℕ) → List ℤ → Type 0
+  IsHitOf = IsHitWithin machines integers rows region
+
+  pub hit-good : (runs : List (Run ℕ)) (numbers : List ℤ) → IsHitOf runs numbers → IsGood rows region (runs_total (length region.registers) runs)
+  hit-good runs numbers h = (h.within.registers, numbers, record { within = h.within.numbers; meets = h.hit.meets.each })
+
+  -- runs that cost what is spent in all, and numbers that meet the rows with it
+  pub good-hit : (run : Run Layer) (runs : List (Run ℕ)) (stop : Layer) (numbers : List ℤ) → region.empty ≡ false → length region.integers ≡ integers → IsCutInto machines (length region.registers) run runs
+      → runs_total (length region.registers) runs ≡ stop.spent → AreWithin (map whole_side region.registers) (map pos stop.spent) → AreGood rows region stop.spent numbers → IsHitOf runs numbers
+  good-hit run runs stop numbers some count cut total within good = record {
+    hit = record {
+      each = cut.each;
+      meets = record { count = within-length region.integers numbers good.within ∙ count; each = rw total good.meets };
+    };
+    within = record { not_empty = some; numbers = good.within; registers = rw total within };
+  }
+
+  module _ (same : HaveRegisters (length region.registers) machines) where
+    abbrev Ends : Layer → List ℕ → Type 0
+    Ends = LayerEnd machines (uppers_of region) (IsGood rows region)
+
+    abbrev Steps : Layer → ℕ → List ℕ → Layer → Type 0
+    Steps = LayerStep machines (uppers_of region) (IsGood rows region)
+
+    abbrev first : Layer
+    first = layer 0 0 (zeros (length region.registers))
+
+    hit-word : (runs : List (Run ℕ)) (numbers : List ℤ) → IsHitOf runs numbers → (word cost : List ℕ) × RunsFrom Ends Steps first word cost × (length word ≡ characters runs + length machines)
+    hit-word runs numbers h =
+        let good = hit-good runs numbers h in
+        runs-word machines (uppers_of region) (IsGood rows region) (length region.registers) runs same h.hit.each
+        (totals-below region.registers (runs_total (length region.registers) runs) h.within.registers) (good-length rows region (runs_total (length region.registers) runs) good) good
+
+    module _ (built : Graph) (runs_alike : SameRuns Ends Steps first (EndsAt built.ends) (StepsBy built.edges) 0) where
+      pub no-word : ((word cost : List ℕ) → Accepts built word cost → ⊥) → (runs : List (Run ℕ)) (numbers : List ℤ) → IsHitOf runs numbers → ⊥
+      no-word none runs numbers h = let w = hit-word runs numbers h in none w.0 w.1 ((runs_alike w.0 w.1).0 w.2)
+
+      pub short-hit : (numbered : Run ℕ) (run : Run Layer) (runs : List (Run ℕ)) (numbers : List ℤ) → IsShortestRun built numbered → run.word ≡ numbered.word
+          → characters runs + length machines ≡ length run.word → IsHitOf runs numbers → IsShortHit machines integers rows region runs numbers
+      short-hit numbered run runs numbers shortest lifted size h =
+          let s = hit-short machines region same integers rows runs numbers h in
+          let w = hit-word s.0 numbers s.1.hit in
+          let least = shortest.least w.0 w.1 ((runs_alike w.0 w.1).0 w.2) in
+          let bound = s.1.short in
+          let long = w.3 in
+          let e = ap length lifted in
+          let less : characters runs ≤ characters s.0 = omega arith in
+          record { hit = h; short = omega arith }

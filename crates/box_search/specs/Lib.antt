@@ -1,0 +1,9 @@
+pub mod Hits
+pub mod Regions
+pub mod LayerOrder
+pub mod Layers
+pub mod Boxes
+pub mod Moving
+pub mod Cuts
+pub mod LayerLaws
+pub mod UnknownLaws

@@ -1,0 +1,17 @@
+//! A law of hits, stated by a function that does nothing.
+ghost use Rattle.std.specs.Prelude.{ℕ, ℤ, List, length};
+ghost use Rattle.sv_linear.specs.declared.row.Row.{Row};
+ghost use Rattle.machine_core.specs.declared.run.Run.{Run};
+ghost use Rattle.box_search.specs.Hits.{HaveRegisters};
+ghost use Rattle.box_search.specs.Regions.{IsHitWithin, IsShortHit};
+
+use crate::region::Region;
+use machine_core::Explicit;
+
+/// A region that holds a hit holds one with the same whole numbers whose words are short together.
+pub fn hits_are_short(machines: &[Explicit], region: &Region)
+    requires { HaveRegisters (length region.now.registers) machines.now }
+    ensures { (integers : ℕ) (rows : List Row) (runs : List (Run ℕ)) (numbers : List ℤ)
+        → IsHitWithin machines.now integers rows region.now runs numbers
+        → (short : List (Run ℕ)) × IsShortHit machines.now integers rows region.now short numbers }
+{}

@@ -1,0 +1,37 @@
+//! An exact search for runs and whole numbers that meet rows, in a region of bounded totals.
+//!
+//! A hit is one run of each machine, and whole numbers. The rows speak of the numbers and of what the runs
+//! cost together at each register. **`search` answers a hit in the region, or `None` exactly where there
+//! is none**, and the words of its hit are short: where a region holds a hit, it holds one whose words have
+//! together at most as many characters as states of the largest machine, points of the region and machines
+//! multiplied, since a run that comes twice to a state with the same cost still to pay can leave out what
+//! lies between.
+//!
+//! The machines are explored in turn as one machine, by breadth, over their states and what is spent so far
+//! at each register. That the totals meet the rows with some numbers is asked behind the last machine, by
+//! halving a box as long as the bounds of the rows allow it.
+//!
+//! ```
+//! // A word of at most 20 characters, as long as twice a number from 0 to 8.
+//! let region = Region { empty: false, registers, integers };    // [(0, 20)], [(0, 8)]
+//! let hit = search(alloc, &[machine], 1, &[row], &region)?;
+//! ```
+#![tactic(auto)]
+
+mod cutting;
+mod finding;
+mod hit;
+mod laws;
+mod layer;
+mod layers;
+mod moving;
+mod paying;
+mod region;
+mod searching;
+#[cfg(test)]
+mod tests;
+
+pub use hit::Hit;
+pub use laws::hits_are_short;
+pub use region::Region;
+pub use searching::search;

@@ -1,0 +1,97 @@
+ghost use Rattle.std.specs.Prelude.{◌≡◌, ℤ, ℕ, ◌+◌, false, List, length, IfOk, MatchOption};
+ghost use Rattle.machine_core.specs.Costs.{zeros};
+ghost use Rattle.machine_core.specs.Edges.{EndsAt, StepsBy};
+ghost use Rattle.machine_core.specs.Graphs.{IsRunOf};
+ghost use Rattle.machine_core.specs.Language.{SameRuns};
+ghost use Rattle.machine_core.specs.declared.run.Run.{Run};
+ghost use Rattle.trim_search.specs.Lifted.{IsLift};
+ghost use Rattle.box_search.specs.Hits.{characters};
+ghost use Rattle.box_search.specs.Regions.{IsQuestion, IsHitWithin, IsShortHit};
+ghost use Rattle.box_search.specs.Layers.{layer, uppers_of, IsGood, LayerStep, LayerEnd};
+ghost use Rattle.box_search.specs.Cuts.{IsRunOfAll};
+ghost use Rattle.box_search.specs.declared.layer.Layer.{Layer};
+
+use crate::cutting::{cut, layer_at};
+use crate::hit::Hit;
+use crate::layer::Layer;
+use crate::layers::Layers;
+use crate::region::Region;
+use machine_core::{Explicit, Run};
+use std::alloc::{AllocError, Global};
+use sv_linear::Row;
+use trim_search::{BuildFault, Built, lifted_runs_are_runs, materialise, shortest};
+
+/// Runs of all machines and whole numbers, as many as `integers` says, that lie in the region and meet the
+/// rows; `None` exactly where there are none.
+///
+/// The unknowns of the rows are the numbers and then the registers. A region that isn't marked empty has
+/// a side for each of them, and each row can be added up in it within 128 bits. The words of a hit have
+/// together at most as many characters as states of the largest machine, points of the region and machines
+/// multiplied. Where no numbers and totals of the region meet the rows it looks at no machine. Else it
+/// explores the machines in turn, with what is spent at the registers: each state with each totals once,
+/// whatever the numbers, and looks for numbers once for the totals that the runs end with.
+pub fn search(
+    alloc: Global,
+    machines: &[Explicit],
+    integers: u32,
+    rows: &[Row],
+    region: &Region,
+) -> Result<Option<Hit>, AllocError>
+    requires { region.now.empty ≡ false → IsQuestion machines.now integers rows.now region.now }
+    ensures { IfOk result (λ o. MatchOption o
+        ((runs : List (Run ℕ)) (numbers : List ℤ) → IsHitWithin machines.now integers rows.now region.now runs numbers → ⊥)
+        (λ hit. IsShortHit machines.now integers rows.now region.now hit.runs hit.integers)) }
+{
+    if region.empty {
+        return Ok(None);
+    }
+    let layers = Layers {
+        machines,
+        integers,
+        rows,
+        region,
+    };
+    if !layers.has_point(alloc)? {
+        return Ok(None);
+    }
+    let built = explored(alloc, &layers)?;
+    let Some(numbered) = shortest(alloc, &built.machine)? else {
+        return Ok(None);
+    };
+    let run = built.lift(alloc, &numbered)?;
+    Ok(Some(hit_of(alloc, &layers, &run)?))
+}
+
+// All layers that are reached.
+fn explored(alloc: Global, layers: &Layers) -> Result<Built<Layer>, AllocError>
+    ensures runs { IfOk result (λ b. SameRuns
+        (LayerEnd layers.now.machines.now (uppers_of layers.now.region.now) (IsGood layers.now.rows.now layers.now.region.now))
+        (LayerStep layers.now.machines.now (uppers_of layers.now.region.now) (IsGood layers.now.rows.now layers.now.region.now))
+        (layer 0 0 (zeros (length layers.now.region.now.registers)))
+        (EndsAt b.machine.ends) (StepsBy b.machine.edges) 0) }
+    ensures lifts { IfOk result (λ b. (run : Run ℕ) (lifted : Run Layer) → IsRunOf b.machine run → IsLift b.names run lifted
+        → IsRunOfAll layers.now.machines.now layers.now.rows.now layers.now.region.now lifted) }
+{
+    match materialise(alloc, layers, u64::MAX) {
+        Ok(built) => {
+            lifted_runs_are_runs(layers, &built);
+            Ok(built)
+        }
+        // Only a limit below 2^32 refuses a number of states.
+        Err(BuildFault::States(_)) => unreachable!(),
+        Err(BuildFault::Memory(e)) => Err(e),
+    }
+}
+
+// The run of each machine, and the numbers that meet the rows with what they cost.
+fn hit_of(alloc: Global, layers: &Layers, run: &Run<Layer>) -> Result<Hit, AllocError>
+    requires { IsRunOfAll layers.now.machines.now layers.now.rows.now layers.now.region.now run.now }
+    ensures hit { IfOk result (λ hit. layers.now.region.now.empty ≡ false
+        → IsHitWithin layers.now.machines.now layers.now.integers layers.now.rows.now layers.now.region.now hit.runs hit.integers) }
+    ensures size { IfOk result (λ hit. characters hit.runs + length layers.now.machines.now ≡ length run.now.word) }
+{
+    let stop = layer_at(run.states.as_slice(), run.word.len());
+    let integers = layers.numbers(alloc, stop.spent.as_slice())?.unwrap();
+    let runs = cut(alloc, layers, run)?;
+    Ok(Hit { runs, integers })
+}

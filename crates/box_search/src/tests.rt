@@ -1,0 +1,108 @@
+ghost use Rattle.std.specs.Prelude.{◌≡◌, ℕ, ℤ, pos, negsuc, neg_ℤ, ◌≤ℤ◌, [], ◌∷◌, length, IfOk};
+ghost use Rattle.box_search.specs.Regions.{IsQuestion};
+
+use crate::{Hit, Region, search};
+use machine_core::{Cost, Explicit};
+use std::alloc::{AllocError, Global};
+use sv_linear::{Form, Row, RowKind};
+use sv_list::Items;
+use sv_word::Ranges;
+
+#[derive(Drop)]
+struct Question {
+    machines: Items<Explicit>,
+    rows: Items<Row>,
+    region: Region,
+}
+
+// All words, each with its length at one of two registers.
+fn words(alloc: Global, first: u64, second: u64) -> Result<Explicit, AllocError>
+    ensures { IfOk result (λ m. m.registers ≡ 2) }
+{
+    let mut machine = Explicit::new(alloc, 1, 2)?;
+    let step = Cost::from_slice(alloc, &[first, second])?;
+    machine.add_edge(0, Ranges::all(alloc)?, step, 0)?;
+    machine.add_end(0, Cost::zeros(alloc, 2)?)?;
+    Ok(machine)
+}
+
+// That two lengths add up to `sum` and a number.
+fn sum_row(alloc: Global, sum: i128) -> Result<Row, AllocError>
+    requires low { pos 0 ≤ℤ sum }
+    requires high { sum ≤ℤ pos 100 }
+    ensures terms { IfOk result (λ r. r.form.coefficients ≡ (0, negsuc 0) ∷ (1, pos 1) ∷ (2, pos 1) ∷ []) }
+    ensures constant { IfOk result (λ r. r.form.constant ≡ neg_ℤ sum) }
+{
+    let mut form = Form::of_constant(alloc, -sum);
+    form.push(0, -1)?;
+    form.push(1, 1)?;
+    form.push(2, 1)?;
+    Ok(Row {
+        form,
+        kind: RowKind::Eq,
+    })
+}
+
+// Two words of at most 20 characters and a number from 0 to 8 whose lengths add up to `sum` and the number.
+fn sums(alloc: Global, sum: i128) -> Result<Question, AllocError>
+    requires low { pos 0 ≤ℤ sum }
+    requires high { sum ≤ℤ pos 100 }
+    ensures { IfOk result (λ q. IsQuestion q.machines 1 q.rows q.region) }
+{
+    let mut machines = Items::new(alloc);
+    machines.push(words(alloc, 1, 0)?)?;
+    machines.push(words(alloc, 0, 1)?)?;
+    let mut rows = Items::new(alloc);
+    rows.push(sum_row(alloc, sum)?)?;
+    let region = Region {
+        empty: false,
+        registers: Items::from_slice(alloc, &[(0, 20), (0, 20)])?,
+        integers: Items::from_slice(alloc, &[(0, 8)])?,
+    };
+    Ok(Question {
+        machines,
+        rows,
+        region,
+    })
+}
+
+fn hit(alloc: Global, question: &Question) -> Result<Option<Hit>, AllocError>
+    requires { IsQuestion question.now.machines 1 question.now.rows question.now.region }
+{
+    let machines = question.machines.as_slice();
+    search(
+        alloc,
+        machines,
+        1,
+        question.rows.as_slice(),
+        &question.region,
+    )
+}
+
+// How many characters the words have, and the number.
+fn sizes(hit: &Hit) -> (usize, i128) {
+    let mut characters = 0usize;
+    for run in hit.runs.as_slice() {
+        characters = characters.saturating_add(run.word.len());
+    }
+    (
+        characters,
+        hit.integers.as_slice().first().copied().unwrap_or(-1),
+    )
+}
+
+#[test]
+fn no_words_are_long_enough(rt: HostRuntime) -> Result<(), AllocError> {
+    let found = hit(rt.alloc(), &sums(rt.alloc(), 41)?)?;
+    assert!(rt; found.is_none());
+    Ok(())
+}
+
+#[test]
+fn words_are_long_enough(rt: HostRuntime) -> Result<(), AllocError> {
+    match hit(rt.alloc(), &sums(rt.alloc(), 32)?)? {
+        Some(found) => assert_eq!(rt; sizes(&found), (32, 0)),
+        None => assert!(rt; false),
+    }
+    Ok(())
+}

@@ -1,0 +1,22 @@
+pub mod Gets
+pub mod PlaceLemmas
+pub mod CountLemmas
+pub mod TourLemmas
+pub mod RunLemmas
+pub mod FlowLemmas
+pub mod ValueLemmas
+pub mod WeightLemmas
+pub mod SolutionLemmas
+pub mod MarkLemmas
+pub mod WholeLemmas
+pub mod HitLemmas
+pub mod PointLemmas
+pub mod PickLemmas
+pub mod CountingLemmas
+pub mod ReadyLemmas
+mod EulerLemmas
+mod FormLemmas
+mod BalanceLemmas
+mod RowLemmas
+pub mod ReachLemmas
+pub mod TestCounts

@@ -1,0 +1,12 @@
+use Rattle.std.proofs.Common.{◌≡◌, ◌+◌, take}
+use Rattle.sv_linear.specs.Terms.{AscendsWithin}
+use Rattle.parikh_flow.specs.Building.{IsAdded}
+use Rattle.parikh_flow.specs.Rows.{unknowns_after, family_terms, edge_cost, end_cost}
+use Rattle.parikh_flow.proofs.rows.register_row.Given as goal
+
+abbrev pub invariant-loop-machine : goal.invariant-loop-machine
+invariant-loop-machine l = record {
+  next : l.base ≡ unknowns_after (l.integers + l.registers) (take l.machine-index l.machines);
+  added : IsAdded (family_terms (edge_cost l.register) (end_cost l.register) (l.integers + l.registers) (take l.machine-index l.machines)) l.initial.form l.form;
+  ascends : AscendsWithin 0 l.base l.form.coefficients;
+}

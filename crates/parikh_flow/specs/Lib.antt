@@ -1,0 +1,9 @@
+pub mod Counts
+pub mod Flows
+pub mod Nets
+pub mod Balance
+pub mod Rows
+pub mod Solutions
+pub mod Tours
+pub mod Reaching
+pub mod Building

@@ -1,0 +1,61 @@
+ghost use Rattle.std.specs.Prelude.{◌≡◌, IfOk};
+ghost use Rattle.box_search.specs.Hits.{HaveRegisters};
+ghost use Rattle.parikh_flow.specs.Rows.{IsSystemOf};
+
+use crate::nets::nets_of;
+use crate::rows::{family_rows, not_negative_rows, reach_rows, register_rows};
+use crate::sizes::unknowns_from;
+use farkas_check::System;
+use machine_core::Explicit;
+use std::alloc::{AllocError, Global};
+use sv_linear::Row;
+use sv_list::{Copied, Items};
+
+/// The system of machines with so many registers and of rows: its joined solutions are the hits, with the
+/// counts of their runs.
+///
+/// The unknowns are the whole numbers, as many as `integers` says, the registers, and for each machine
+/// its edges and its ends. The given rows come first; then for each register that it is what the edges and
+/// ends cost there; that each register and each count is at least 0; for each machine that one end is used,
+/// and the balance of each state; and, where `reach` is given, that the words have together at most so
+/// many characters. Linear in the rows and in the machines times the registers. More unknowns than a `u32`
+/// counts are want of memory.
+pub fn system_of(
+    alloc: Global,
+    machines: &[Explicit],
+    integers: u32,
+    registers: u32,
+    rows: &[Row],
+    reach: Option<u64>,
+) -> Result<System, AllocError>
+    requires { HaveRegisters registers machines.now }
+    ensures { IfOk result (IsSystemOf machines.now integers registers rows.now reach) }
+{
+    let Some(base) = integers.checked_add(registers) else {
+        return Err(AllocError);
+    };
+    let Some(unknowns) = unknowns_from(machines, base) else {
+        return Err(AllocError);
+    };
+    let mut all = copied(alloc, rows)?;
+    all.append(register_rows(alloc, machines, integers, registers)?)?;
+    all.append(not_negative_rows(alloc, integers, unknowns)?)?;
+    all.append(family_rows(alloc, machines, base)?)?;
+    all.append(reach_rows(alloc, machines, base, reach)?)?;
+    let nets = nets_of(alloc, machines, base)?;
+    Ok(System {
+        unknowns,
+        rows: all,
+        nets,
+    })
+}
+
+fn copied(alloc: Global, rows: &[Row]) -> Result<Items<Row>, AllocError>
+    ensures { IfOk result (λ copies. copies ≡ rows.now) }
+{
+    let mut copies = Items::new(alloc);
+    for row in rows {
+        copies.push(row.copy(alloc)?)?;
+    }
+    Ok(copies)
+}

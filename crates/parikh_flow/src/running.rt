@@ -1,0 +1,164 @@
+ghost use Rattle.std.specs.Prelude.{◌≡◌, ℕ, ◌+◌, ◌<◌, ◌≤◌, ◌↔◌, true, false, List, ◌∷◌, length, reverse, slice_get, slice_index, Some, IfOk, Err, Contains};
+ghost use Rattle.std.specs.List.Sorted.{IsStrictlyIncreasing};
+ghost use Rattle.machine_core.specs.declared.edge.Edge.{Edge};
+ghost use Rattle.machine_core.specs.declared.end.End.{End};
+ghost use Rattle.machine_core.specs.declared.run.Run.{Run};
+ghost use Rattle.sv_word.specs.Ranges.{least_of};
+ghost use Rattle.machine_core.specs.Graphs.{IsRunOf};
+ghost use Rattle.parikh_flow.specs.declared.flow_fault.FlowFault.TheVariants.{Apart};
+ghost use Rattle.parikh_flow.specs.Counts.{total_count};
+ghost use Rattle.parikh_flow.specs.Balance.{AreBalanced, one_at};
+ghost use Rattle.parikh_flow.specs.Flows.{IsFlow, LeadsAlong};
+ghost use Rattle.parikh_flow.specs.Nets.{AreApart};
+ghost use Rattle.parikh_flow.specs.Tours.{IsWalk, IsMet};
+
+use crate::flow_fault::FlowFault;
+use crate::tour::tour_of;
+use machine_core::{Cost, Edge, End, Explicit, Run};
+use std::alloc::{AllocError, Global};
+use sv_list::{Copied, Items};
+use sv_word::{Ranges, Word};
+
+/// A run of the machine that uses each edge and each end as often as the counts say: those of the edges
+/// come first, in the order of `edges`, and then those of the ends, in the order of `finals`.
+///
+/// `Apart` comes exactly where the used edges aren't all reached from the start over used edges. By
+/// Hierholzer's algorithm, linear in the sum of the counts and in the machine.
+pub fn run_of(alloc: Global, machine: &Explicit, counts: &[u64]) -> Result<Run<u32>, FlowFault>
+    requires balanced { AreBalanced machine.now counts.now }
+    requires few { total_count counts.now ≤ 4194304 }
+    ensures run { IfOk result (IsRunOf machine.now) }
+    ensures flow { IfOk result (λ run. IsFlow machine.now run counts.now) }
+    ensures apart { (set : List ℕ) → result ≡ Err (Apart set) → AreApart machine.now counts.now set }
+{
+    let edges = machine.edges();
+    let (of_edges, of_ends) = counts.split_at(edges.len());
+    let last = used(of_ends);
+    let end = &machine.finals()[last];
+    let walked = tour_of(alloc, machine, of_edges, end.at)?;
+    if is_spent(walked.left.as_slice()) {
+        let cost = end.cost.copy(alloc)?;
+        Ok(follow(alloc, machine, walked.back.as_slice(), cost)?)
+    } else {
+        let set = unmet(alloc, machine, walked.back.as_slice())?;
+        Err(FlowFault::Apart(set))
+    }
+}
+
+// The place of the count that is 1, where the others are 0.
+fn used(counts: &[u64]) -> usize
+    requires { total_count counts.now ≡ 1 }
+    ensures within { result < length counts.now }
+    ensures used { (k : ℕ) → slice_index counts.now k ≡ one_at k result }
+{
+    let mut i = 0;
+    while counts[i] == 0 {
+        i += 1;
+    }
+    i
+}
+
+// Whether all counts are 0.
+fn is_spent(left: &[u64]) -> bool
+    ensures spent { result ≡ true → (p : ℕ) → slice_index left.now p ≡ 0 }
+    ensures more { result ≡ false → (p : ℕ) × (p < length left.now) × (0 < slice_index left.now p) }
+{
+    for count in left {
+        if *count > 0 {
+            return false;
+        }
+    }
+    true
+}
+
+// The states, ascending, that aren't the start and that none of the edges at these places leads to.
+fn unmet(alloc: Global, machine: &Explicit, back: &[usize]) -> Result<Items<u32>, AllocError>
+    requires { (i p : ℕ) → slice_get back.now i ≡ Some p → p < length machine.now.edges }
+    ensures ascending { IfOk result IsStrictlyIncreasing }
+    ensures members { IfOk result (λ set. (s : ℕ) → Contains set s ↔ ((s < machine.now.states) × (IsMet machine.now.edges back.now s → ⊥))) }
+{
+    let met = marks(alloc, machine, back)?;
+    unmarked(alloc, met.as_slice(), machine.states())
+}
+
+// A mark for each state, set at the start and where one of the edges at these places leads.
+fn marks(alloc: Global, machine: &Explicit, back: &[usize]) -> Result<Items<bool>, AllocError>
+    requires { (i p : ℕ) → slice_get back.now i ≡ Some p → p < length machine.now.edges }
+    ensures size { IfOk result (λ met. length met ≡ machine.now.states) }
+    ensures met { IfOk result (λ met. (s : ℕ) → s < machine.now.states → (slice_get met s ≡ Some true) ↔ IsMet machine.now.edges back.now s) }
+{
+    let mut met = Items::new(alloc);
+    for _state in 0..machine.states() {
+        met.push(false)?;
+    }
+    met.set(0, true);
+    let edges = machine.edges();
+    for place in back {
+        met.set(edges[*place].to as usize, true);
+    }
+    Ok(met)
+}
+
+// The places of the marks that aren't set, ascending.
+pub fn unmarked(alloc: Global, marks: &[bool], states: u32) -> Result<Items<u32>, AllocError>
+    requires { length marks.now ≡ states }
+    ensures ascending { IfOk result IsStrictlyIncreasing }
+    ensures members { IfOk result (λ set. (s : ℕ) → Contains set s ↔ ((s < states) × (slice_get marks.now s ≡ Some true → ⊥))) }
+{
+    let mut set = Items::new(alloc);
+    for state in 0..states {
+        if !marks[state as usize] {
+            set.push(state)?;
+        }
+    }
+    Ok(set)
+}
+
+// The least character; 0 where there is none.
+fn least(on: &Ranges) -> u32
+    ensures { result ≡ least_of on.now }
+{
+    match on.least() {
+        Some(c) => c,
+        None => 0,
+    }
+}
+
+fn edge_at(edges: &[Edge], place: usize) -> &Edge
+    requires { place < length edges.now }
+    ensures { slice_get edges.now place ≡ Some result.now }
+{
+    &edges[place]
+}
+
+// The run over these edges, of which the last comes first, with this last cost.
+fn follow(
+    alloc: Global,
+    machine: &Explicit,
+    back: &[usize],
+    cost: Cost,
+) -> Result<Run<u32>, AllocError>
+    requires { (t : ℕ) × IsWalk machine.now.edges 0 (reverse back.now) t }
+    ensures leads { IfOk result (λ run. (t : ℕ) × IsWalk machine.now.edges 0 (reverse back.now) t
+        × (after : List ℕ) × (run.states ≡ 0 ∷ after) × LeadsAlong machine.now.edges 0 (reverse back.now) after run.word run.costs t) }
+    ensures last { IfOk result (λ run. run.last ≡ cost) }
+{
+    let mut word = Word::new(alloc);
+    let mut states = Items::new(alloc);
+    let mut costs = Items::new(alloc);
+    states.push(0)?;
+    let mut k = back.len();
+    while k > 0 {
+        k -= 1;
+        let edge = edge_at(machine.edges(), back[k]);
+        word.push(least(&edge.on))?;
+        costs.push(edge.cost.copy(alloc)?)?;
+        states.push(edge.to)?;
+    }
+    Ok(Run {
+        word,
+        states,
+        costs,
+        last: cost,
+    })
+}

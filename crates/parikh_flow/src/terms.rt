@@ -1,0 +1,73 @@
+//! Terms for the edges and ends of machines.
+ghost use Rattle.std.specs.Prelude.{◌≡◌, ℕ, ◌+◌, ◌<◌, ◌^◌, pos, [], ◌∷◌, length, map, All, replicate, IfOk, OnOk};
+ghost use Rattle.sv_linear.specs.Terms.{AscendsWithin};
+ghost use Rattle.parikh_flow.specs.Rows.{edge_cost, end_cost};
+ghost use Rattle.parikh_flow.specs.Building.{numbered, IsAdded};
+
+use machine_core::{Edge, End};
+use std::alloc::{AllocError, Global};
+use sv_linear::Form;
+use sv_list::Items;
+
+// Adds the term of an unknown above all that the form has, unless its coefficient is 0.
+fn push_term(form: &mut Form, unknown: u32, coefficient: i128) -> Result<(), AllocError>
+    requires { AscendsWithin 0 unknown form.old.coefficients }
+    ensures added { OnOk result (IsAdded ((unknown, coefficient) ∷ []) form.old form.new) }
+    ensures ascends { OnOk result (AscendsWithin 0 (unknown + 1) form.new.coefficients) }
+{
+    if coefficient == 0 {
+        return Ok(());
+    }
+    form.push(unknown, coefficient)?;
+    Ok(())
+}
+
+/// Adds terms with these coefficients, for the unknowns from `base` on. Linear in them.
+pub fn push_terms(form: &mut Form, base: u32, coefficients: &[i128]) -> Result<(), AllocError>
+    requires room { base + length coefficients.now < 2 ^ 32 }
+    requires ascends { AscendsWithin 0 base form.old.coefficients }
+    ensures added { OnOk result (IsAdded (numbered base coefficients.now) form.old form.new) }
+    ensures ascends { OnOk result (AscendsWithin 0 (base + length coefficients.now) form.new.coefficients) }
+{
+    let mut unknown = base;
+    for coefficient in coefficients {
+        push_term(form, unknown, *coefficient)?;
+        unknown += 1;
+    }
+    Ok(())
+}
+
+/// What each edge costs at the register.
+pub fn edge_costs(alloc: Global, edges: &[Edge], register: usize) -> Result<Items<i128>, AllocError>
+    requires { All (λ e. register < length e.cost) edges.now }
+    ensures { IfOk result (λ costs. costs ≡ map (edge_cost register) edges.now) }
+{
+    let mut costs = Items::new(alloc);
+    for edge in edges {
+        costs.push(i128::from(edge.cost.as_slice()[register]))?;
+    }
+    Ok(costs)
+}
+
+/// What each end costs at the register.
+pub fn end_costs(alloc: Global, ends: &[End], register: usize) -> Result<Items<i128>, AllocError>
+    requires { All (λ e. register < length e.cost) ends.now }
+    ensures { IfOk result (λ costs. costs ≡ map (end_cost register) ends.now) }
+{
+    let mut costs = Items::new(alloc);
+    for end in ends {
+        costs.push(i128::from(end.cost.as_slice()[register]))?;
+    }
+    Ok(costs)
+}
+
+/// So many ones.
+pub fn ones(alloc: Global, count: usize) -> Result<Items<i128>, AllocError>
+    ensures { IfOk result (λ list. list ≡ replicate count (pos 1)) }
+{
+    let mut list = Items::new(alloc);
+    for _one in 0..count {
+        list.push(1)?;
+    }
+    Ok(list)
+}

@@ -1,0 +1,100 @@
+//! Machines of regular expressions: how many states they have.
+use crate::stopwatch::Stopwatch;
+use crate::texts::letters;
+use regex_machine::build;
+use std::alloc::{AllocError, Global};
+use sv_list::{Boxed, Items};
+use sv_terms::Regex;
+
+const LIMIT: u64 = 10_000_000;
+
+// So many words of ten letters.
+fn words(alloc: Global, count: u64) -> Result<Items<Regex>, AllocError> {
+    let mut parts = Items::new(alloc);
+    for seed in 0..count {
+        parts.push(Regex::Text(letters(alloc, seed)?))?;
+    }
+    Ok(parts)
+}
+
+fn union_of_words(alloc: Global, count: u64) -> Result<Regex, AllocError> {
+    Ok(Regex::Union(words(alloc, count)?))
+}
+
+fn concatenation_of_words(alloc: Global, count: u64) -> Result<Regex, AllocError> {
+    Ok(Regex::Concat(words(alloc, count)?))
+}
+
+fn pair(alloc: Global, first: Regex, second: Regex) -> Result<Items<Regex>, AllocError> {
+    let mut parts = Items::new(alloc);
+    parts.push(first)?;
+    parts.push(second)?;
+    Ok(parts)
+}
+
+// Concatenations of two, nested to the left.
+fn nested_to_the_left(alloc: Global, depth: u64) -> Result<Regex, AllocError> {
+    let mut whole = Regex::Text(letters(alloc, 0)?);
+    for seed in 1..depth {
+        whole = Regex::Concat(pair(alloc, whole, Regex::Text(letters(alloc, seed)?))?);
+    }
+    Ok(whole)
+}
+
+// Unions and concatenations of two, nested in turn.
+fn nested_in_turn(alloc: Global, depth: u64) -> Result<Regex, AllocError> {
+    let mut whole = Regex::Text(letters(alloc, 0)?);
+    for seed in 1..depth {
+        let parts = pair(alloc, whole, Regex::Text(letters(alloc, seed)?))?;
+        whole = if seed % 2 == 0 {
+            Regex::Union(parts)
+        } else {
+            Regex::Concat(parts)
+        };
+    }
+    Ok(whole)
+}
+
+fn copies(alloc: Global, count: u32) -> Result<Regex, AllocError> {
+    Ok(Regex::Loop(Boxed::new(alloc, Regex::AnyChar)?, count, count))
+}
+
+// All words but those in which `a` stands so many letters before the last one.
+fn not_so_many_before_the_last(alloc: Global, count: u32) -> Result<Regex, AllocError> {
+    let letter = Regex::Range(0x61, 0x62);
+    let mut parts = pair(
+        alloc,
+        Regex::Star(Boxed::new(alloc, letter)?),
+        Regex::Range(0x61, 0x61),
+    )?;
+    parts.push(Regex::Loop(Boxed::new(alloc, Regex::Range(0x61, 0x62))?, count, count))?;
+    Ok(Regex::Comp(Boxed::new(alloc, Regex::Concat(parts))?))
+}
+
+fn states(alloc: Global, regex: Result<Regex, AllocError>) -> Option<u64> {
+    let machine = build(alloc, &regex.ok()?, LIMIT).ok()?;
+    Some(u64::from(machine.states()))
+}
+
+fn time(rt: HostRuntime, work: &str, regex: Result<Regex, AllocError>) {
+    let stopwatch = Stopwatch::start(rt);
+    stopwatch.stop(rt, work, states(rt.alloc(), regex));
+}
+
+/// Prints the states of each machine, and the time that it takes.
+pub fn measure(rt: HostRuntime) {
+    let alloc = rt.alloc();
+    time(rt, "1,000 words", union_of_words(alloc, 1_000));
+    time(rt, "10,000 words", union_of_words(alloc, 10_000));
+    time(rt, "256 words in a row", concatenation_of_words(alloc, 256));
+    time(rt, "256 words, nested", nested_to_the_left(alloc, 256));
+    time(rt, "nested in turn, 64 deep", nested_in_turn(alloc, 64));
+    time(rt, "nested in turn, 256 deep", nested_in_turn(alloc, 256));
+    time(rt, "8,192 copies", copies(alloc, 8_192));
+    time(rt, "32,768 copies", copies(alloc, 32_768));
+    time(
+        rt,
+        "complement of 14 before the last",
+        not_so_many_before_the_last(alloc, 14),
+    );
+}

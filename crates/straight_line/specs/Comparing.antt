@@ -1,0 +1,144 @@
+-- The rows of comparisons, by the forms of their sides.
+use Rattle.std.specs.Prelude.{◌≡◌, ℕ, suc, ◌+◌, ◌^◌, ◌<◌, ◌≤◌, drop, ℤ, pos, ◌+ℤ◌, Bool, true, false, List, [], ◌∷◌, get_or, length, take, Option, Some, None, if◌then◌else◌}
+use Rattle.std.specs.Prelude.{nat_eq}
+use Rattle.sv_linear.specs.Terms.{AscendsWithin, coefficient}
+use Rattle.sv_linear.specs.declared.form.Form.{Form}
+use Rattle.sv_linear.specs.declared.row.RowKind.{RowKind}
+use Rattle.sv_linear.specs.declared.row.RowKind.TheVariants.{Le, Eq}
+use Rattle.sv_terms.specs.declared.op.Op.{Op}
+use Rattle.sv_terms.specs.declared.op.Op.TheVariants as op
+use Rattle.bool_cubes.specs.Linear.{Linear, Step, addition, added, less, linear, minus_one, of_number, scaled}
+use Rattle.bool_cubes.specs.Marked.{AreDifferences}
+use Rattle.bool_cubes.specs.Numbered.{AreNumbered, IsNumbered}
+use Rattle.bool_cubes.specs.Past.{ArePlain, atom_steps, comparison_steps, equality_steps}
+use Rattle.bool_cubes.specs.Shapes.{Shape}
+use Rattle.bool_cubes.specs.declared.past.Differences.{Differences}
+use Rattle.bool_cubes.specs.declared.term_form.TermForm.{TermForm}
+use Rattle.straight_line.specs.Gathered.{Gathers, Knows, number_at}
+use Rattle.straight_line.specs.Met.{Draft}
+use Rattle.straight_line.specs.declared.meeting.Meeting.{Meeting}
+use Rattle.straight_line.specs.declared.comparison.Bound.{Bound}
+use Rattle.straight_line.specs.declared.comparison.Bound.TheVariants as bound
+
+-- what was met, for some literals
+pub record IsGathered (m : Meeting) : Type 0 where
+  pub draft : Draft
+  pub gathers : Gathers m draft
+
+-- no step of an atom is past 128 bits
+pub record AtomFits (s : Shape) : Type 0 where
+  pub plain : ArePlain (atom_steps s)
+
+abbrev pub bound_by : Op → Bool → Bound
+bound_by op.LessEqual true = bound.AtMost
+bound_by op.LessEqual false = bound.Above
+bound_by op.Less true = bound.Below
+bound_by op.Less false = bound.AtLeast
+bound_by op.GreaterEqual true = bound.AtLeast
+bound_by op.GreaterEqual false = bound.Below
+bound_by op.Greater true = bound.Above
+bound_by op.Greater false = bound.AtMost
+bound_by op.Not b = bound.Zero
+bound_by op.And b = bound.Zero
+bound_by op.Or b = bound.Zero
+bound_by op.Xor b = bound.Zero
+bound_by op.Implies b = bound.Zero
+bound_by op.Equal b = bound.Zero
+bound_by op.Distinct b = bound.Zero
+bound_by op.IfThenElse b = bound.Zero
+bound_by op.Add b = bound.Zero
+bound_by op.Subtract b = bound.Zero
+bound_by op.Multiply b = bound.Zero
+bound_by op.Length b = bound.Zero
+bound_by op.Concat b = bound.Zero
+bound_by op.Replace b = bound.Zero
+bound_by op.ReplaceAll b = bound.Zero
+bound_by op.PrefixOf b = bound.Zero
+bound_by op.SuffixOf b = bound.Zero
+bound_by op.Contains b = bound.Zero
+bound_by op.IsDigit b = bound.Zero
+
+abbrev pub kind_by : Bound → RowKind
+kind_by bound.Zero = Eq
+kind_by bound.AtMost = Le
+kind_by bound.Below = Le
+kind_by bound.AtLeast = Le
+kind_by bound.Above = Le
+
+abbrev pub one : Linear
+one = of_number (pos 1)
+
+-- the form that is to be at most 0, or 0, by the difference of the sides
+abbrev pub form_by : Bound → Linear → Linear
+form_by bound.Zero a = a
+form_by bound.AtMost a = a
+form_by bound.Below a = added a one
+form_by bound.AtLeast a = scaled a minus_one
+form_by bound.Above a = added (scaled a minus_one) one
+
+abbrev pub steps_by : Bound → Shape → Shape → List Step
+steps_by bound.Zero s t = equality_steps s t
+steps_by bound.AtMost s t = comparison_steps s t
+steps_by bound.Below s t = comparison_steps s t
+steps_by bound.AtLeast s t = comparison_steps s t
+steps_by bound.Above s t = comparison_steps s t
+
+-- no step of a comparison is past 128 bits
+pub record RowFits (o : Op) (s t : Shape) (b : Bool) : Type 0 where
+  pub plain : ArePlain (steps_by (bound_by o b) s t)
+
+-- 1 more is within 128 bits
+pub record CanAdd (f : TermForm) : Type 0 where
+  pub codes : List (List ℤ)
+  pub of : Linear
+  pub numbered : AreNumbered codes
+  pub form : IsNumbered codes of f
+  pub plain : ArePlain (addition of one ∷ [])
+
+pub record IsPlus (f g : TermForm) : Type 0 where
+  pub each : (us : List (List ℤ)) (a : Linear) → AreNumbered us → IsNumbered us a f → IsNumbered us (added a one) g
+
+pub record CanBound (d : Differences) (b : Bound) : Type 0 where
+  pub codes : List (List ℤ)
+  pub left : Linear
+  pub right : Linear
+  pub differences : AreDifferences codes left right d
+  pub below : b ≡ bound.Below → ArePlain (addition (less left right) one ∷ [])
+  pub above : b ≡ bound.Above → ArePlain (addition (scaled (less left right) minus_one) one ∷ [])
+
+pub record IsBoundBy (d : Differences) (b : Bound) (f : TermForm) : Type 0 where
+  pub each : (us : List (List ℤ)) (left right : Linear) → AreDifferences us left right d → IsNumbered us (form_by b (less left right)) f
+
+-- what stands at the unknowns that have the number n
+abbrev pub at_number : ℕ → Option ℕ → ℤ → ℤ
+at_number n None z = pos 0
+at_number n (Some m) z = if nat_eq m n then z else pos 0
+
+abbrev pub number_of : List (List ℤ × ℕ) → List (List ℤ) → ℕ × ℤ → Option ℕ
+number_of ns us t = number_at (get_or us t.0 []) ns
+
+abbrev pub sum_at : List (List ℤ × ℕ) → List (List ℤ) → ℕ → List (ℕ × ℤ) → ℤ
+sum_at ns us n [] = pos 0
+sum_at ns us n (t ∷ ts) = at_number n (number_of ns us t) t.1 +ℤ sum_at ns us n ts
+
+-- the unknowns of a form have numbers, of which no two are one
+pub record CanRenumber (ns : List (List ℤ × ℕ)) (us : List (List ℤ)) (f : Form) : Type 0 where
+  pub known : (i : ℕ) (t : ℕ × ℤ) → i < length f.coefficients → t ≡ get_or f.coefficients i t → (t.0 < length us) × ((n : ℕ) × (number_of ns us t ≡ Some n))
+  pub apart : (i : ℕ) (t : ℕ × ℤ) (n : ℕ) → i < length f.coefficients → t ≡ get_or f.coefficients i t → number_of ns us t ≡ Some n → sum_at ns us n (take i f.coefficients) ≡ pos 0
+
+pub record IsRenumbered (ns : List (List ℤ × ℕ)) (us : List (List ℤ)) (f g : Form) : Type 0 where
+  pub constant : g.constant ≡ f.constant
+  pub coefficients : (n : ℕ) → coefficient n g.coefficients ≡ sum_at ns us n f.coefficients
+
+-- the unknowns of both sides have numbers, and no step is past 128 bits
+pub record IsComparable (m : Meeting) (o : Op) (s t : Shape) (b : Bool) : Type 0 where
+  pub gathered : IsGathered m
+  pub left : Knows m.numbers (linear s)
+  pub right : Knows m.numbers (linear t)
+  pub fits : RowFits o s t b
+
+-- the place of an unknown among the terms of a form: what is behind has greater ones
+pub record IsPlaceIn (terms : List (ℕ × ℤ)) (unknown at : ℕ) : Type 0 where
+  pub within : at ≤ length terms
+  pub behind : AscendsWithin (unknown + 1) (2 ^ 32) (drop at terms)
+  pub before : (k : ℕ) → suc k ≡ at → (get_or terms k (0, pos 0)).0 ≤ unknown

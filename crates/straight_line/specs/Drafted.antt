@@ -1,0 +1,44 @@
+-- When a draft holds what was met.
+use Rattle.std.specs.Prelude.{◌≡◌, ℕ, List, [], ◌∷◌, map, get_or}
+use Rattle.std.specs.List.{AllZip, AllByRecursion}
+use Rattle.sv_linear.specs.Rows.{HasSymmetricEntries}
+use Rattle.sv_linear.specs.declared.row.Row.{Row}
+use Rattle.bool_cubes.specs.Linear.{Unknown, integer, length_of}
+use Rattle.bool_cubes.specs.Shapes.{Shape, text}
+use Rattle.straight_line.specs.Flattening.{IsRowFor, bounded_of, name_of}
+use Rattle.straight_line.specs.Met.{Draft}
+use Rattle.straight_line.specs.declared.draft.Draft.{Draft as Held}
+use Rattle.straight_line.specs.declared.draft.Quantity.{Quantity}
+use Rattle.straight_line.specs.declared.draft.Quantity.TheVariants.{Integer, Length}
+
+-- the term at a place
+abbrev pub term_at : List Shape → ℕ → Shape
+term_at ts i = get_or ts i (text [])
+
+-- the unknown of a quantity, where these terms were met
+abbrev pub unknown_at : List Shape → Quantity → Unknown
+unknown_at ts (Integer name) = integer name
+unknown_at ts (Length i) = length_of (term_at ts i)
+
+abbrev pub integers_among : List Quantity → List (List ℕ)
+integers_among [] = []
+integers_among (Integer name ∷ qs) = name ∷ integers_among qs
+integers_among (Length i ∷ qs) = integers_among qs
+
+abbrev pub registers_among : List Shape → List Quantity → List (Shape × ℕ)
+registers_among ts [] = []
+registers_among ts (Integer name ∷ qs) = registers_among ts qs
+registers_among ts (Length i ∷ qs) = (term_at ts i, i) ∷ registers_among ts qs
+
+-- the numbers of all lists are those of what was met; the rows are those of the comparisons over the quantities
+pub record Holds (held : Held) (d : Draft) : Type 0 where
+  pub names : held.names ≡ map name_of d.terms
+  pub parts : held.parts ≡ d.parts
+  pub definitions : held.definitions ≡ d.definitions
+  pub equalities : held.equalities ≡ d.equalities
+  pub integers : integers_among held.quantities ≡ d.integers
+  pub registers : registers_among d.terms held.quantities ≡ d.registers
+  pub rows : AllZip (IsRowFor (map (unknown_at d.terms) held.quantities)) (map bounded_of d.comparisons) held.rows
+  pub symmetric : AllByRecursion (λ (r : Row). HasSymmetricEntries r.form) held.rows
+  pub truths : held.truths ≡ d.truths
+  pub broken : held.broken ≡ d.broken

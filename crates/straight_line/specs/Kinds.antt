@@ -1,0 +1,169 @@
+-- What terms and functions are, as literals of straight cubes are made of them.
+use Rattle.std.specs.Prelude.{ℕ, Bool, true, false, ◌&&◌, List, Option, Some, None}
+use Rattle.sv_terms.specs.declared.op.Op.{Op}
+use Rattle.sv_terms.specs.declared.op.Op.TheVariants as op
+use Rattle.bool_cubes.specs.Linear.{is_constant, is_linear, is_string, linear}
+use Rattle.bool_cubes.specs.Shapes.{Shape, Shapes, truth, number, text, constant, apply, member, related, opaque, end, ◌⨾◌}
+use Rattle.straight_line.specs.declared.literals.Head.{Head}
+use Rattle.straight_line.specs.declared.literals.Head.TheVariants as head
+use Rattle.straight_line.specs.declared.kind.Build.{Build}
+use Rattle.straight_line.specs.declared.kind.Build.TheVariants as build
+use Rattle.straight_line.specs.declared.kind.Joining.{Joining}
+use Rattle.straight_line.specs.declared.kind.Joining.TheVariants as joining
+use Rattle.straight_line.specs.declared.kind.Linearity.{Linearity}
+use Rattle.straight_line.specs.declared.kind.Linearity.TheVariants as linearity
+
+abbrev pub is_text : Shape → Bool
+is_text (truth b) = false
+is_text (number n) = false
+is_text (text w) = true
+is_text (constant name s) = false
+is_text (apply o ss) = false
+is_text (member s r) = false
+is_text (related t s u) = false
+is_text (opaque s) = false
+
+-- what a function builds a string term of
+abbrev pub build_of : Op → Build
+build_of op.Not = build.Nothing
+build_of op.And = build.Nothing
+build_of op.Or = build.Nothing
+build_of op.Xor = build.Nothing
+build_of op.Implies = build.Nothing
+build_of op.Equal = build.Nothing
+build_of op.Distinct = build.Nothing
+build_of op.IfThenElse = build.Nothing
+build_of op.LessEqual = build.Nothing
+build_of op.Less = build.Nothing
+build_of op.GreaterEqual = build.Nothing
+build_of op.Greater = build.Nothing
+build_of op.Add = build.Nothing
+build_of op.Subtract = build.Nothing
+build_of op.Multiply = build.Nothing
+build_of op.Length = build.Nothing
+build_of op.Concat = build.Concat
+build_of op.Replace = build.First
+build_of op.ReplaceAll = build.All
+build_of op.PrefixOf = build.Nothing
+build_of op.SuffixOf = build.Nothing
+build_of op.Contains = build.Nothing
+build_of op.IsDigit = build.Nothing
+
+-- a term of a written form, a literal and a literal
+abbrev pub is_replaced : Shapes → Bool
+is_replaced end = false
+is_replaced (s ⨾ end) = false
+is_replaced (s ⨾ t ⨾ end) = false
+is_replaced (s ⨾ t ⨾ u ⨾ end) = is_text t && is_text u && is_string s
+is_replaced (s ⨾ t ⨾ u ⨾ v ⨾ ss) = false
+
+-- the literals behind the first of three arguments
+abbrev pub literals_of : Shapes → Option (List ℕ × List ℕ)
+literals_of (s ⨾ text p ⨾ text u ⨾ end) = Some (p, u)
+literals_of _ = None
+
+-- by whether the term has a written form, and whether no unknown stands in it
+abbrev pub kind_of : Bool → Bool → Linearity
+kind_of false c = linearity.Other
+kind_of true true = linearity.Constant
+kind_of true false = linearity.Variable
+
+abbrev pub linearity_of : Shape → Linearity
+linearity_of s = kind_of (is_linear s) (is_constant (linear s))
+
+-- how a function of sort Int joins what its arguments are
+abbrev pub joint_of : Op → Joining
+joint_of op.Not = joining.Nothing
+joint_of op.And = joining.Nothing
+joint_of op.Or = joining.Nothing
+joint_of op.Xor = joining.Nothing
+joint_of op.Implies = joining.Nothing
+joint_of op.Equal = joining.Nothing
+joint_of op.Distinct = joining.Nothing
+joint_of op.IfThenElse = joining.Nothing
+joint_of op.LessEqual = joining.Nothing
+joint_of op.Less = joining.Nothing
+joint_of op.GreaterEqual = joining.Nothing
+joint_of op.Greater = joining.Nothing
+joint_of op.Add = joining.Sum
+joint_of op.Subtract = joining.Sum
+joint_of op.Multiply = joining.Product
+joint_of op.Length = joining.Length
+joint_of op.Concat = joining.Nothing
+joint_of op.Replace = joining.Nothing
+joint_of op.ReplaceAll = joining.Nothing
+joint_of op.PrefixOf = joining.Nothing
+joint_of op.SuffixOf = joining.Nothing
+joint_of op.Contains = joining.Nothing
+joint_of op.IsDigit = joining.Nothing
+
+abbrev pub sum_of : Linearity → Linearity → Linearity
+sum_of linearity.Constant k = k
+sum_of linearity.Variable linearity.Constant = linearity.Variable
+sum_of linearity.Variable linearity.Variable = linearity.Variable
+sum_of linearity.Variable linearity.Other = linearity.Other
+sum_of linearity.Other k = linearity.Other
+
+-- one factor at most has an unknown
+abbrev pub product_of : Linearity → Linearity → Linearity
+product_of linearity.Constant k = k
+product_of linearity.Variable linearity.Constant = linearity.Variable
+product_of linearity.Variable linearity.Variable = linearity.Other
+product_of linearity.Variable linearity.Other = linearity.Other
+product_of linearity.Other k = linearity.Other
+
+abbrev pub joined_of : Joining → Linearity → Linearity → Linearity
+joined_of joining.Sum j k = sum_of j k
+joined_of joining.Product j k = product_of j k
+joined_of joining.Length j k = linearity.Other
+joined_of joining.Nothing j k = linearity.Other
+
+abbrev pub joined_on : Joining → Linearity → Shapes → Linearity
+joined_on j k end = k
+joined_on j k (s ⨾ ss) = joined_on j (joined_of j k (linearity_of s)) ss
+
+-- what terms are joined from the left
+abbrev pub joined_from : Joining → Shapes → Linearity
+joined_from j end = linearity.Other
+joined_from j (s ⨾ ss) = joined_on j (linearity_of s) ss
+
+-- of the length of a string term
+abbrev pub one_of : Shape → Linearity
+one_of s = kind_of (is_string s) (is_text s)
+
+abbrev pub length_of : Shapes → Linearity
+length_of end = linearity.Other
+length_of (s ⨾ end) = one_of s
+length_of (s ⨾ t ⨾ ss) = linearity.Other
+
+abbrev pub read_of : Joining → Shapes → Linearity
+read_of joining.Sum ss = joined_from joining.Sum ss
+read_of joining.Product ss = joined_from joining.Product ss
+read_of joining.Length ss = length_of ss
+read_of joining.Nothing ss = linearity.Other
+
+-- how a function stands at the head of an atom of a written kind
+abbrev pub head_of : Op → Head
+head_of op.Not = head.Other
+head_of op.And = head.Other
+head_of op.Or = head.Other
+head_of op.Xor = head.Other
+head_of op.Implies = head.Other
+head_of op.Equal = head.Equality
+head_of op.Distinct = head.Other
+head_of op.IfThenElse = head.Other
+head_of op.LessEqual = head.Order
+head_of op.Less = head.Order
+head_of op.GreaterEqual = head.Order
+head_of op.Greater = head.Order
+head_of op.Add = head.Other
+head_of op.Subtract = head.Other
+head_of op.Multiply = head.Other
+head_of op.Length = head.Other
+head_of op.Concat = head.Other
+head_of op.Replace = head.Other
+head_of op.ReplaceAll = head.Other
+head_of op.PrefixOf = head.Prefix
+head_of op.SuffixOf = head.Suffix
+head_of op.Contains = head.Contains
+head_of op.IsDigit = head.Digit

@@ -1,0 +1,41 @@
+//! The flat cube of what was met.
+ghost use Rattle.straight_line.specs.Drafted.{Holds};
+ghost use Rattle.straight_line.specs.Flattening.{IsFinished};
+ghost use Rattle.straight_line.specs.Met.{Draft as Met};
+ghost use Rattle.straight_line.specs.Readiness.{IsReady};
+
+use crate::draft::Draft;
+use crate::fault::FlatFault;
+use crate::flat::Flat;
+use crate::rowing::settle_rows;
+use crate::wording::settle_words;
+use std::alloc::Global;
+
+/// The flat cube of what was met; or the first thing in this order for which that isn't as of a straight cube: a
+/// variable with two definitions, a cycle, too many registers or integer constants. Linear up to a logarithm.
+pub fn finish(alloc: Global, draft: Draft) -> Result<Flat, FlatFault>
+    requires { IsReady draft }
+    ensures { (d : Met) → Holds draft d → IsFinished d result }
+{
+    let Draft {
+        names,
+        parts,
+        definitions,
+        equalities,
+        quantities,
+        rows,
+        truths,
+        broken,
+    } = draft;
+    let words = settle_words(alloc, names, parts, definitions, equalities.as_slice())?;
+    let settled = settle_rows(alloc, words.of.as_slice(), quantities, rows.as_slice())?;
+    Ok(Flat {
+        variables: words.variables,
+        definitions: words.definitions,
+        rows: settled.rows,
+        registers: settled.registers,
+        integers: settled.integers,
+        truths,
+        broken,
+    })
+}

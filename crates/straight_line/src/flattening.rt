@@ -1,0 +1,24 @@
+//! The flat cube of a cube.
+ghost use Rattle.std.specs.List.{AllByRecursion};
+ghost use Rattle.bool_cubes.specs.Past.{IsFitting};
+ghost use Rattle.straight_line.specs.Flattening.{IsFlattened};
+
+use crate::fault::FlatFault;
+use crate::finishing::finish;
+use crate::flat::Flat;
+use crate::scanning::scan;
+use bool_cubes::Cube;
+use std::alloc::Global;
+
+/// The flat cube of a cube, or the first thing in this order for which it isn't straight: a literal of no written kind, a
+/// variable with two definitions, a cycle of definitions, too many registers or integer constants. Time is linear in the
+/// cube up to a logarithm, times the depth to which replacements nest in it, but for the forms of comparisons, which are
+/// added up from the left.
+#[tactic(auto, using(crate::proofs::Flattened::ready, crate::proofs::Flattened::scan_refused))]
+pub fn flatten(alloc: Global, cube: &Cube) -> Result<Flat, FlatFault>
+    requires { AllByRecursion IsFitting cube.now.literals }
+    ensures { IsFlattened cube.now.literals result }
+{
+    let draft = scan(alloc, cube)?;
+    finish(alloc, draft)
+}

@@ -1,0 +1,394 @@
+//! What a literal adds to a draft.
+ghost use Rattle.std.specs.Prelude.{◌≡◌, map, IfOk};
+ghost use Rattle.sv_terms.specs.declared.op.Op.TheVariants as any_op;
+ghost use Rattle.bool_cubes.specs.Past.{IsFitting};
+ghost use Rattle.bool_cubes.specs.Shapes.{apply, end, seen, shapes, text, ◌⨾◌};
+ghost use Rattle.straight_line.specs.Comparing.{AtomFits, IsGathered, RowFits};
+ghost use Rattle.straight_line.specs.Gathered.{IsAdded};
+ghost use Rattle.straight_line.specs.Kinds.{head_of};
+ghost use Rattle.straight_line.specs.Said.{atom_said, constant_said, equality_said, one_said, pair_said, part_said, row_said, said, string_said};
+ghost use Rattle.straight_line.specs.declared.variable.Own.TheVariants as any_own;
+
+use crate::definition::By;
+use crate::kind::{is_linear, is_string};
+use crate::meeting::Meeting;
+use crate::variable::Own;
+use bool_cubes::{Literal, head_sort};
+use std::alloc::{AllocError, Global};
+use sv_list::Copied;
+use sv_terms::{Name, Op, Regex, Sort, Term, Transducer};
+use sv_word::Word;
+
+/// Whether a literal is of a written kind.
+#[derive(Clone, Copy, Debug, PartialEq, Eq)]
+pub enum Kind {
+    /// It is, and what it says was added.
+    Written,
+    /// It isn't, and nothing was added.
+    Outside,
+}
+
+/// A function as it stands at the head of an atom of a written kind.
+#[derive(Clone, Copy, Debug, PartialEq, Eq)]
+enum Head {
+    Equality,
+    Order,
+    Prefix,
+    Suffix,
+    Contains,
+    Digit,
+    Other,
+}
+
+fn head_of(op: Op) -> Head
+    ensures { result ≡ head_of op }
+{
+    match op {
+        Op::Equal => Head::Equality,
+        Op::LessEqual | Op::Less | Op::GreaterEqual | Op::Greater => Head::Order,
+        Op::PrefixOf => Head::Prefix,
+        Op::SuffixOf => Head::Suffix,
+        Op::Contains => Head::Contains,
+        Op::IsDigit => Head::Digit,
+        Op::Not
+        | Op::And
+        | Op::Or
+        | Op::Xor
+        | Op::Implies
+        | Op::Distinct
+        | Op::IfThenElse
+        | Op::Add
+        | Op::Subtract
+        | Op::Multiply
+        | Op::Length
+        | Op::Concat
+        | Op::Replace
+        | Op::ReplaceAll => Head::Other,
+    }
+}
+
+impl Meeting {
+    /// Adds what a literal says.
+    #[tactic(auto, using(crate::proofs::Stated::said_constant, crate::proofs::Stated::said_member, crate::proofs::Stated::said_pair, crate::proofs::Stated::said_applied, crate::proofs::Stated::applied_fits, crate::proofs::Stated::said_nothing))]
+    pub fn add(&mut self, alloc: Global, literal: &Literal) -> Result<Kind, AllocError>
+        requires gathered { IsGathered self.old }
+        requires fitting { IsFitting literal.now }
+        ensures { IfOk result (λ k. IsAdded self.old self.new (said literal.now) k) }
+    {
+        let positive = literal.positive;
+        match &literal.atom {
+            Term::Constant(name, sort) => Ok(self.add_constant(alloc, name, *sort, positive)?),
+            Term::InRe(tested, regex) => Ok(self.add_member(alloc, tested.get(), regex, positive)?),
+            Term::Related(transducer, read, written) => {
+                Ok(self.add_pair(alloc, transducer, read.get(), written.get(), positive)?)
+            }
+            Term::Apply(op, terms) => Ok(self.add_applied(alloc, *op, terms.as_slice(), positive)?),
+            _ => Ok(Kind::Outside),
+        }
+    }
+
+    fn add_constant(
+        &mut self,
+        alloc: Global,
+        name: &Name,
+        sort: Sort,
+        value: bool,
+    ) -> Result<Kind, AllocError>
+        ensures { IfOk result (λ k. IsAdded self.old self.new (constant_said name.now sort value) k) }
+    {
+        if sort != Sort::Bool {
+            return Ok(Kind::Outside);
+        }
+        self.value(alloc, name, value)?;
+        Ok(Kind::Written)
+    }
+
+    #[tactic(auto, using(crate::proofs::Stated::member_added))]
+    fn add_member(
+        &mut self,
+        alloc: Global,
+        tested: &Term,
+        regex: &Regex,
+        positive: bool,
+    ) -> Result<Kind, AllocError>
+        ensures { IfOk result (λ k. IsAdded self.old self.new (part_said (seen tested.now) (any_own.InRe regex.now) positive) k) }
+    {
+        Ok(self.add_part(alloc, tested, Own::InRe(regex.copy(alloc)?), positive)?)
+    }
+
+    // The transducer reads the first term and may write the second.
+    #[tactic(auto, using(crate::proofs::Stated::pair_not, crate::proofs::Stated::pair_left_not, crate::proofs::Stated::pair_right_not, crate::proofs::Stated::pair_added))]
+    fn add_pair(
+        &mut self,
+        alloc: Global,
+        transducer: &Transducer,
+        read: &Term,
+        written: &Term,
+        positive: bool,
+    ) -> Result<Kind, AllocError>
+        ensures { IfOk result (λ k. IsAdded self.old self.new (pair_said transducer.now (seen read.now) (seen written.now) positive) k) }
+    {
+        if !positive {
+            return Ok(Kind::Outside);
+        }
+        if !is_string(read) {
+            return Ok(Kind::Outside);
+        }
+        if !is_string(written) {
+            return Ok(Kind::Outside);
+        }
+        let read = self.place(alloc, read)?;
+        let written = self.place(alloc, written)?;
+        self.define(written, By::Through(transducer.copy(alloc)?, read))?;
+        Ok(Kind::Written)
+    }
+
+    #[tactic(auto, using(crate::proofs::Stated::applied_one, crate::proofs::Stated::applied_two, crate::proofs::Stated::applied_two_fits, crate::proofs::Stated::applied_not))]
+    fn add_applied(
+        &mut self,
+        alloc: Global,
+        op: Op,
+        terms: &[Term],
+        positive: bool,
+    ) -> Result<Kind, AllocError>
+        requires gathered { IsGathered self.old }
+        requires fitting { AtomFits (apply op (shapes (map seen terms.now))) }
+        ensures { IfOk result (λ k. IsAdded self.old self.new (atom_said (apply op (shapes (map seen terms.now))) positive) k) }
+    {
+        if terms.len() == 1 {
+            return Ok(self.add_single(alloc, op, &terms[0], positive)?);
+        }
+        if terms.len() == 2 {
+            return Ok(self.add_double(alloc, op, &terms[0], &terms[1], positive)?);
+        }
+        Ok(Kind::Outside)
+    }
+
+    #[tactic(auto, using(crate::proofs::Stated::digit_added, crate::proofs::Stated::single_not))]
+    fn add_single(
+        &mut self,
+        alloc: Global,
+        op: Op,
+        term: &Term,
+        positive: bool,
+    ) -> Result<Kind, AllocError>
+        ensures { IfOk result (λ k. IsAdded self.old self.new (atom_said (apply op (seen term.now ⨾ end)) positive) k) }
+    {
+        match head_of(op) {
+            Head::Digit => Ok(self.add_part(alloc, term, Own::Digit, positive)?),
+            _ => Ok(Kind::Outside),
+        }
+    }
+
+    #[tactic(auto, using(crate::proofs::Stated::double_equality, crate::proofs::Stated::double_order, crate::proofs::Stated::order_row_fits, crate::proofs::Stated::equality_fits, crate::proofs::Stated::double_prefix, crate::proofs::Stated::double_suffix, crate::proofs::Stated::double_infix, crate::proofs::Stated::double_digit, crate::proofs::Stated::double_not))]
+    fn add_double(
+        &mut self,
+        alloc: Global,
+        op: Op,
+        left: &Term,
+        right: &Term,
+        positive: bool,
+    ) -> Result<Kind, AllocError>
+        requires gathered { IsGathered self.old }
+        requires fitting { AtomFits (apply op (seen left.now ⨾ seen right.now ⨾ end)) }
+        ensures { IfOk result (λ k. IsAdded self.old self.new (atom_said (apply op (seen left.now ⨾ seen right.now ⨾ end)) positive) k) }
+    {
+        match head_of(op) {
+            Head::Equality => Ok(self.add_equality(alloc, left, right, positive)?),
+            Head::Order => Ok(self.add_comparison(alloc, op, left, right, positive)?),
+            Head::Prefix => Ok(self.add_prefix(alloc, left, right, positive)?),
+            Head::Suffix => Ok(self.add_suffix(alloc, left, right, positive)?),
+            Head::Contains => Ok(self.add_infix(alloc, left, right, positive)?),
+            Head::Digit => Ok(Kind::Outside),
+            Head::Other => Ok(Kind::Outside),
+        }
+    }
+
+    #[tactic(auto, using(crate::proofs::Stated::prefix_not, crate::proofs::Stated::prefix_added))]
+    fn add_prefix(
+        &mut self,
+        alloc: Global,
+        pattern: &Term,
+        term: &Term,
+        positive: bool,
+    ) -> Result<Kind, AllocError>
+        ensures { IfOk result (λ k. IsAdded self.old self.new (atom_said (apply any_op.PrefixOf (seen pattern.now ⨾ seen term.now ⨾ end)) positive) k) }
+    {
+        let Term::Text(word) = pattern else {
+            return Ok(Kind::Outside);
+        };
+        Ok(self.add_part(alloc, term, Own::Prefix(word.copy(alloc)?), positive)?)
+    }
+
+    #[tactic(auto, using(crate::proofs::Stated::suffix_not, crate::proofs::Stated::suffix_added))]
+    fn add_suffix(
+        &mut self,
+        alloc: Global,
+        pattern: &Term,
+        term: &Term,
+        positive: bool,
+    ) -> Result<Kind, AllocError>
+        ensures { IfOk result (λ k. IsAdded self.old self.new (atom_said (apply any_op.SuffixOf (seen pattern.now ⨾ seen term.now ⨾ end)) positive) k) }
+    {
+        let Term::Text(word) = pattern else {
+            return Ok(Kind::Outside);
+        };
+        Ok(self.add_part(alloc, term, Own::Suffix(word.copy(alloc)?), positive)?)
+    }
+
+    #[tactic(auto, using(crate::proofs::Stated::infix_not, crate::proofs::Stated::infix_added))]
+    fn add_infix(
+        &mut self,
+        alloc: Global,
+        term: &Term,
+        pattern: &Term,
+        positive: bool,
+    ) -> Result<Kind, AllocError>
+        ensures { IfOk result (λ k. IsAdded self.old self.new (atom_said (apply any_op.Contains (seen term.now ⨾ seen pattern.now ⨾ end)) positive) k) }
+    {
+        let Term::Text(word) = pattern else {
+            return Ok(Kind::Outside);
+        };
+        Ok(self.add_part(alloc, term, Own::Contains(word.copy(alloc)?), positive)?)
+    }
+
+    // What is said of a string term.
+    #[tactic(auto, using(crate::proofs::Stated::part_not, crate::proofs::Stated::part_added))]
+    fn add_part(
+        &mut self,
+        alloc: Global,
+        term: &Term,
+        own: Own,
+        positive: bool,
+    ) -> Result<Kind, AllocError>
+        ensures { IfOk result (λ k. IsAdded self.old self.new (part_said (seen term.now) own positive) k) }
+    {
+        if !is_string(term) {
+            return Ok(Kind::Outside);
+        }
+        let place = self.place(alloc, term)?;
+        self.say(place, own, positive)?;
+        Ok(Kind::Written)
+    }
+
+    #[tactic(auto, using(crate::proofs::Stated::equal_strings, crate::proofs::Stated::equal_numbers, crate::proofs::Stated::equal_numbers_fit, crate::proofs::Stated::unequal_numbers, crate::proofs::Stated::equal_truths, crate::proofs::Stated::equal_languages))]
+    fn add_equality(
+        &mut self,
+        alloc: Global,
+        left: &Term,
+        right: &Term,
+        positive: bool,
+    ) -> Result<Kind, AllocError>
+        requires gathered { IsGathered self.old }
+        requires fitting { AtomFits (apply any_op.Equal (seen left.now ⨾ seen right.now ⨾ end)) }
+        ensures { IfOk result (λ k. IsAdded self.old self.new (atom_said (apply any_op.Equal (seen left.now ⨾ seen right.now ⨾ end)) positive) k) }
+    {
+        match head_sort(left) {
+            Sort::String => Ok(self.add_strings(alloc, left, right, positive)?),
+            Sort::Int => {
+                if positive {
+                    Ok(self.add_comparison(alloc, Op::Equal, left, right, true)?)
+                } else {
+                    Ok(Kind::Outside)
+                }
+            }
+            Sort::Bool => Ok(Kind::Outside),
+            Sort::RegLan => Ok(Kind::Outside),
+        }
+    }
+
+    // The equality of two string terms.
+    #[tactic(auto, using(crate::proofs::Stated::strings_left, crate::proofs::Stated::strings_right, crate::proofs::Stated::strings_neither))]
+    fn add_strings(
+        &mut self,
+        alloc: Global,
+        left: &Term,
+        right: &Term,
+        positive: bool,
+    ) -> Result<Kind, AllocError>
+        ensures { IfOk result (λ k. IsAdded self.old self.new (string_said (seen left.now) (seen right.now) positive) k) }
+    {
+        if let Term::Text(word) = left {
+            return Ok(self.add_literal(alloc, word, right, positive)?);
+        }
+        if let Term::Text(word) = right {
+            return Ok(self.add_part(alloc, left, Own::Word(word.copy(alloc)?), positive)?);
+        }
+        Ok(self.add_identity(alloc, left, right, positive)?)
+    }
+
+    // A term is a literal.
+    #[tactic(auto, using(crate::proofs::Stated::hold_same, crate::proofs::Stated::hold_other, crate::proofs::Stated::literal_added))]
+    fn add_literal(
+        &mut self,
+        alloc: Global,
+        word: &Word,
+        term: &Term,
+        positive: bool,
+    ) -> Result<Kind, AllocError>
+        ensures { IfOk result (λ k. IsAdded self.old self.new (string_said (text word.now) (seen term.now) positive) k) }
+    {
+        if let Term::Text(other) = term {
+            let same = word.same(other);
+            if positive {
+                self.hold(same);
+                return Ok(Kind::Written);
+            }
+            self.hold(!same);
+            return Ok(Kind::Written);
+        }
+        Ok(self.add_part(alloc, term, Own::Word(word.copy(alloc)?), positive)?)
+    }
+
+    // Two terms that aren't literals are equal; there is no written kind for two that differ.
+    #[tactic(auto, using(crate::proofs::Stated::one_not, crate::proofs::Stated::one_left_not, crate::proofs::Stated::one_right_not, crate::proofs::Stated::one_added))]
+    fn add_identity(
+        &mut self,
+        alloc: Global,
+        left: &Term,
+        right: &Term,
+        positive: bool,
+    ) -> Result<Kind, AllocError>
+        ensures { IfOk result (λ k. IsAdded self.old self.new (one_said (seen left.now) (seen right.now) positive) k) }
+    {
+        if !positive {
+            return Ok(Kind::Outside);
+        }
+        if !is_string(left) {
+            return Ok(Kind::Outside);
+        }
+        if !is_string(right) {
+            return Ok(Kind::Outside);
+        }
+        let left = self.place(alloc, left)?;
+        let right = self.place(alloc, right)?;
+        self.equate(left, right)?;
+        Ok(Kind::Written)
+    }
+
+    // The comparison of two terms of sort Int.
+    #[tactic(auto, using(crate::proofs::Stated::row_left_not, crate::proofs::Stated::row_right_not, crate::proofs::Stated::row_added, crate::proofs::Stated::comparable))]
+    fn add_comparison(
+        &mut self,
+        alloc: Global,
+        op: Op,
+        left: &Term,
+        right: &Term,
+        positive: bool,
+    ) -> Result<Kind, AllocError>
+        requires gathered { IsGathered self.old }
+        requires fitting { RowFits op (seen left.now) (seen right.now) positive }
+        ensures { IfOk result (λ k. IsAdded self.old self.new (row_said op (seen left.now) (seen right.now) positive) k) }
+    {
+        if !is_linear(left) {
+            return Ok(Kind::Outside);
+        }
+        if !is_linear(right) {
+            return Ok(Kind::Outside);
+        }
+        self.count(alloc, left)?;
+        self.count(alloc, right)?;
+        self.compare(alloc, op, left, right, positive)?;
+        Ok(Kind::Written)
+    }
+}

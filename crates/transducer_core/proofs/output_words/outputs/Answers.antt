@@ -1,0 +1,17 @@
+use Rattle.std.proofs.Common.{sym, subst}
+use Rattle.transducer_core.specs.Nodes.{AreClosed}
+use Rattle.transducer_core.specs.Outputs.{IsOutput}
+use Rattle.transducer_core.proofs.BuiltLemmas.{machine_words}
+use Rattle.transducer_core.proofs.output_words.outputs.Goals as goal
+
+pub machine_of-requires-clause-closed : goal.machine_of-requires-clause-closed
+machine_of-requires-clause-closed c = subst AreClosed (sym c.as_slice-2.ensures) c.in_ok-first.ensures.closed
+
+pub returns-clause-words : goal.returns-clause-words
+returns-clause-words c w =
+    let t = c.args.transducer.now in
+    let ns = c.as_slice-2.result.now in
+    let o = subst (λ xs. IsOutput t c.as_slice.result.now xs c.in_ok-first.first) (sym c.as_slice-2.ensures) c.in_ok-first.ensures in
+    let p = subst (λ r. IsOutput t r ns c.in_ok-first.first) c.as_slice.ensures o in
+    let a = machine_words c.in_ok-machine_of.field-0 ns c.in_ok-first.first p.within c.in_ok-machine_of.ensures.built w in
+    (λ r. (p.spells w).0 (a.0 r), λ h. a.1 ((p.spells w).1 h))
