@@ -1,9 +1,9 @@
 //! Machines at concrete expressions: a word that each form has and one that it hasn't, bounds and refusals.
-use crate::{bound, build};
+use crate::build;
 use machine_core::Explicit;
 use std::alloc::{AllocError, Global};
 use sv_list::{Boxed, Items};
-use sv_terms::Regex;
+use sv_terms::{Regex, bound};
 use sv_word::Word;
 use trim_search::{BuildFault, shortest};
 
