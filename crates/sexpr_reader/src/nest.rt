@@ -1,5 +1,5 @@
 ghost use Rattle.std.specs.Prelude.{◌≡◌, ◌<◌, ◌≤◌, ◌+◌, ◌∷◌, ◌++◌, [], List, length, true, false, OnOk, OnErr, IfOk, IfSome};
-ghost use Rattle.sexpr_reader.specs.Items.{tokens_of, open_tokens, Feeds};
+ghost use Rattle.sexpr_reader.specs.Items.{tokens_of, open_tokens, most_open_lists, Feeds};
 ghost use Rattle.sexpr_reader.specs.Tokens.{Close};
 
 use crate::sexpr::Sexpr;
@@ -7,7 +7,7 @@ use std::alloc::{AllocError, Global};
 use sv_list::Items;
 
 /// The most lists that may be open inside one another.
-const LIMIT: usize = 1_000;
+const MOST_OPEN_LISTS: usize = 1_000;
 
 /// The lists that are open, the outermost first, each with its items so far.
 #[derive(Debug, Drop)]
@@ -34,10 +34,10 @@ impl Nest {
 
     /// Whether no further list may open inside the innermost one.
     pub fn is_full(&self) -> bool
-        ensures full { result ≡ true → 1000 ≤ length self.now.lists.items }
-        ensures room { result ≡ false → length self.now.lists.items < 1000 }
+        ensures full { result ≡ true → most_open_lists ≤ length self.now.lists.items }
+        ensures room { result ≡ false → length self.now.lists.items < most_open_lists }
     {
-        self.lists.len() >= LIMIT
+        self.lists.len() >= MOST_OPEN_LISTS
     }
 
     /// Opens a list in the innermost one.

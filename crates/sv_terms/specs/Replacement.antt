@@ -1,5 +1,5 @@
 -- Replacement of a word in a word (theory UnicodeStrings: str.replace and str.replace_all).
-use Rattle.std.specs.Prelude.{◌≡◌, ℕ, zero, suc, ◌-◌, ◌≤◌, Bool, true, false, ◌&&◌, [], ◌∷◌, ◌++◌, length, drop, nat_eq, if◌then◌else◌}
+use Rattle.std.specs.Prelude.{◌≡◌, ℕ, zero, suc, ◌-◌, ◌≤◌, ◌<◌, Bool, true, false, ◌&&◌, [], ◌∷◌, ◌++◌, length, drop, nat_eq, if◌then◌else◌}
 use Rattle.sv_terms.specs.Language.{Word}
 
 -- p stands in w behind a, and b follows it
@@ -31,6 +31,13 @@ abbrev pub begins : Word → Word → Bool
 begins [] w = true
 begins (c ∷ p) [] = false
 begins (c ∷ p) (d ∷ w) = nat_eq c d && begins p w
+
+-- p stands in w at this place, and at none before it from a place on
+pub record IsFirst (w p : Word) («from» place : ℕ) : Type 0 where
+  pub after : «from» ≤ place
+  pub within : place ≤ length w
+  pub stands : begins p (drop place w) ≡ true
+  pub before : (i : ℕ) → «from» ≤ i → i < place → begins p (drop i w) ≡ false
 
 -- whether p occurs in w
 abbrev pub occurs : Word → Word → Bool
