@@ -3,7 +3,7 @@ ghost use Rattle.std.specs.Prelude.{◌≡◌, ◌≤◌, ◌+◌, ◌++◌, [],
 ghost use Rattle.std.specs.declared.option.Option.{Option as Optional};
 ghost use Rattle.sv_io.specs.Counts.{Rose};
 ghost use Rattle.strsolve.specs.Runs.{IsCut};
-ghost use Rattle.strsolve.specs.Standing.{IsAnswering, IsFaulty, IsGiven, IsWaiting, Stops};
+ghost use Rattle.strsolve.specs.Standing.{Adds, IsAnswering, IsFaulty, IsGiven, IsWaiting, Stops};
 
 use crate::log::Log;
 use crate::outcome::Ending;
@@ -18,7 +18,7 @@ use sv_io::{Sink, SinkFault};
 pub struct Answering {
     reader: Reader,
     session: Session,
-    replies: Vec<Reply>,
+    replies: Log,
     /// How many bytes were fed.
     fed: u64,
 }
@@ -27,28 +27,29 @@ impl Answering {
     /// Nothing was fed and answered. It takes no memory.
     pub fn new(alloc: Global) -> Answering
         ensures waits { (taken : Optional (List ℕ)) → IsWaiting result [] taken taken }
-        ensures empty { result.replies.items ≡ [] }
+        ensures empty { result.replies ≡ [] }
     {
         Answering {
             reader: Reader::new(alloc),
             session: Session::new(alloc),
-            replies: Vec::new(alloc),
+            replies: Log::new(),
             fed: 0,
         }
     }
 
     /// The replies.
     pub fn into_log(self) -> Log
-        ensures { result ≡ self.replies.items }
+        ensures { result ≡ self.replies }
     {
         let Answering { replies, .. } = self;
-        Log::of(replies)
+        replies
     }
 
     /// Takes the next bytes.
     pub fn feed(&mut self, piece: &[u8]) -> Result<(), AllocError>
         ensures ok { OnOk result ((bytes : List ℕ) (taken_old taken_new : Optional (List ℕ)) → IsAnswering false self.old bytes taken_old taken_new → IsAnswering false self.new (bytes ++ piece.now) taken_old taken_new) }
-        ensures err { OnErr result ((bytes : List ℕ) (taken_old taken_new : Optional (List ℕ)) → IsAnswering false self.old bytes taken_old taken_new → IsCut false (bytes ++ piece.now) taken_old taken_new self.new.replies.items) }
+        ensures err { OnErr result ((bytes : List ℕ) (taken_old taken_new : Optional (List ℕ)) → IsAnswering false self.old bytes taken_old taken_new → IsCut false (bytes ++ piece.now) taken_old taken_new self.new.replies) }
+        ensures replies { self.new.replies ≡ self.old.replies }
     {
         more_bytes();
         let fed = match self.fed.checked_add(piece.len() as u64) {
@@ -68,7 +69,8 @@ impl Answering {
     pub fn answer_whole<K: Sink>(&mut self, alloc: Global, sink: &mut K) -> Option<Ending>
         requires { (bytes : List ℕ) × (taken : Optional (List ℕ)) × IsAnswering false self.old bytes taken (K.taken sink.old) }
         ensures went { (bytes : List ℕ) (taken : Optional (List ℕ)) → IsAnswering false self.old bytes taken (K.taken sink.old)
-            → MatchOption result (IsWaiting self.new bytes taken (K.taken sink.new)) (λ ending. Stops false bytes taken (K.taken sink.new) self.new.replies.items ending) }
+            → MatchOption result (IsWaiting self.new bytes taken (K.taken sink.new)) (λ ending. Stops false bytes taken (K.taken sink.new) self.new.replies ending) }
+        ensures added { Adds self.old.replies self.new.replies (K.taken sink.old) (K.taken sink.new) }
         ensures later { K.faults sink.old ≤ K.faults sink.new }
         ensures failed { IfSome result (λ ending. ending ≡ Ending.WriteFailed → Rose (K.faults sink.old) (K.faults sink.new)) }
     {
@@ -88,7 +90,8 @@ impl Answering {
     /// Answers what is left where the input has ended.
     pub fn answer_rest<K: Sink>(&mut self, alloc: Global, sink: &mut K) -> Ending
         requires { (bytes : List ℕ) × (taken : Optional (List ℕ)) × IsAnswering false self.old bytes taken (K.taken sink.old) }
-        ensures went { (bytes : List ℕ) (taken : Optional (List ℕ)) → IsAnswering false self.old bytes taken (K.taken sink.old) → Stops true bytes taken (K.taken sink.new) self.new.replies.items result }
+        ensures went { (bytes : List ℕ) (taken : Optional (List ℕ)) → IsAnswering false self.old bytes taken (K.taken sink.old) → Stops true bytes taken (K.taken sink.new) self.new.replies result }
+        ensures added { Adds self.old.replies self.new.replies (K.taken sink.old) (K.taken sink.new) }
         ensures later { K.faults sink.old ≤ K.faults sink.new }
         ensures failed { result ≡ Ending.WriteFailed → Rose (K.faults sink.old) (K.faults sink.new) }
     {
@@ -106,26 +109,22 @@ impl Answering {
         }
     }
 
-    // Answers an item. The place of its reply is found first, so that a command that was done has
-    // its reply in the log.
+    // Answers an item.
     fn answer<K: Sink>(&mut self, alloc: Global, sink: &mut K, item: &Sexpr) -> Option<Ending>
         ensures went { (ended : Bool) (bytes : List ℕ) (taken : Optional (List ℕ)) → IsGiven ended self.old item.now bytes taken (K.taken sink.old)
-            → MatchOption result (IsAnswering ended self.new bytes taken (K.taken sink.new)) (λ ending. Stops ended bytes taken (K.taken sink.new) self.new.replies.items ending) }
-        ensures count { IfNone result (length self.new.replies.items ≡ length self.old.replies.items + 1) }
+            → MatchOption result (IsAnswering ended self.new bytes taken (K.taken sink.new)) (λ ending. Stops ended bytes taken (K.taken sink.new) self.new.replies ending) }
+        ensures count { IfNone result (length self.new.replies ≡ length self.old.replies + 1) }
         ensures fed { self.new.fed ≡ self.old.fed }
+        ensures added { Adds self.old.replies self.new.replies (K.taken sink.old) (K.taken sink.new) }
         ensures later { K.faults sink.old ≤ K.faults sink.new }
         ensures failed { IfSome result (λ ending. ending ≡ Ending.WriteFailed → Rose (K.faults sink.old) (K.faults sink.new)) }
     {
-        match self.replies.reserve(1) {
-            Ok(()) => {}
-            Err(_) => return Some(Ending::NoMemory),
-        }
         let reply = match self.session.step(alloc, item) {
             Ok(reply) => reply,
             Err(_) => return Some(Ending::NoMemory),
         };
         let written = write_reply(alloc, sink, &reply);
-        self.replies.push_reserved(reply);
+        self.replies = self.replies.and(&reply);
         match written {
             Ok(()) => {}
             Err(SinkFault::Failed) => return Some(Ending::WriteFailed),
@@ -139,7 +138,8 @@ impl Answering {
 
     // Answers a syntax fault by its error.
     fn refuse<K: Sink>(&mut self, alloc: Global, sink: &mut K, fault: SyntaxFault) -> Ending
-        ensures went { (ended : Bool) (bytes : List ℕ) (taken : Optional (List ℕ)) → IsFaulty ended self.old fault bytes taken (K.taken sink.old) → Stops ended bytes taken (K.taken sink.new) self.new.replies.items result }
+        ensures went { (ended : Bool) (bytes : List ℕ) (taken : Optional (List ℕ)) → IsFaulty ended self.old fault bytes taken (K.taken sink.old) → Stops ended bytes taken (K.taken sink.new) self.new.replies result }
+        ensures added { Adds self.old.replies self.new.replies (K.taken sink.old) (K.taken sink.new) }
         ensures later { K.faults sink.old ≤ K.faults sink.new }
         ensures failed { result ≡ Ending.WriteFailed → Rose (K.faults sink.old) (K.faults sink.new) }
     {
@@ -147,13 +147,9 @@ impl Answering {
             Ok(kind) => kind,
             Err(_) => return Ending::NoMemory,
         };
-        match self.replies.reserve(1) {
-            Ok(()) => {}
-            Err(_) => return Ending::NoMemory,
-        }
         let error = Reply::Error(kind);
         let written = write_reply(alloc, sink, &error);
-        self.replies.push_reserved(error);
+        self.replies = self.replies.and(&error);
         match written {
             Ok(()) => Ending::Answered,
             Err(SinkFault::Failed) => Ending::WriteFailed,

@@ -7,7 +7,7 @@ ghost use Rattle.sv_io.specs.Counts.{Rose};
 ghost use Rattle.sv_io.specs.Names.{IsOwn};
 ghost use Rattle.smt_session.specs.declared.reply.Reply.{Reply as AnyReply};
 ghost use Rattle.strsolve.specs.CommandLine.{named, usage};
-ghost use Rattle.strsolve.specs.Runs.{IsTrueBehind, IsAnswered, IsFront, IsRefused, IsUnfinished};
+ghost use Rattle.strsolve.specs.Runs.{IsTrueBehind, IsAnswered, IsFront, IsPrompt, IsRefused, IsUnfinished};
 ghost use Rattle.strsolve.specs.Scripts.{has_error};
 ghost use Rattle.strsolve.specs.Standing.{Ended};
 
@@ -20,8 +20,8 @@ use std::alloc::Global;
 use std::thread::Threads;
 use sv_io::{Sink, SinkFault, Source, Words};
 
-/// How many bytes are asked for at once.
-const PIECE: usize = 1 << 16;
+/// How many bytes are asked for at once: each item that was whole before them is answered by then.
+const PIECE: usize = 4_096;
 
 const USAGE: &str =
     "(error \"usage: strsolve [--workers N] [FILE] | strsolve [--workers N] --generate SEED --size N\")\n";
@@ -44,6 +44,7 @@ fn refuse_words<K: Sink>(sink: &mut K) -> u8
 fn answer_source<S: Source, K: Sink>(alloc: Global, source: &mut S, sink: &mut K) -> Outcome
     requires { S.is_open source.old ≡ true }
     ensures went { Ended (S.left source.old) (S.left source.new) (K.taken sink.old) (K.taken sink.new) result.log result.ending }
+    ensures prompt { IsPrompt (S.left source.old) (S.left source.new) (K.taken sink.old) (K.taken sink.new) result.log }
     ensures unread { result.ending ≡ Ending.ReadFailed → Rose (S.faults source.old) (S.faults source.new) }
     ensures unwritten { result.ending ≡ Ending.WriteFailed → Rose (K.faults sink.old) (K.faults sink.new) }
     ensures open { S.is_open source.new ≡ true }
@@ -98,6 +99,7 @@ fn answer_script<S: Source, K: Sink>(
 ) -> Outcome
     requires { S.is_open source.old ≡ false }
     ensures went { Ended (S.left source.old) (S.left source.new) (K.taken sink.old) (K.taken sink.new) result.log result.ending }
+    ensures prompt { IsPrompt (S.left source.old) (S.left source.new) (K.taken sink.old) (K.taken sink.new) result.log }
     ensures unread { result.ending ≡ Ending.ReadFailed → Rose (S.faults source.old) (S.faults source.new) }
     ensures unwritten { result.ending ≡ Ending.WriteFailed → Rose (K.faults sink.old) (K.faults sink.new) }
     ensures open { result.ending ≡ Ending.Answered → (S.is_open source.new ≡ true) × IsOwn (S.own_name source.old) (option_map (λ text. text.now) name.entry) }
@@ -139,6 +141,7 @@ pub fn run<R: Threads + Sync, S: Source, K: Sink>(
     ensures read_fault { result.status ≡ 3 → Rose (S.faults source.old) (S.faults source.new) × IsUnfinished (S.left source.old) (S.left source.new) (K.taken sink.old) (K.taken sink.new) result.log }
     ensures write_fault { result.status ≡ 4 → Rose (K.faults sink.old) (K.faults sink.new) }
     ensures front { is_some (named words.now) ≡ true → IsFront (S.left source.old) (S.left source.new) (K.taken sink.old) (K.taken sink.new) result.log }
+    ensures prompt { is_some (named words.now) ≡ true → IsPrompt (S.left source.old) (S.left source.new) (K.taken sink.old) (K.taken sink.new) result.log }
     ensures open { (result.status ≡ 0) ⊎ (result.status ≡ 1) → S.is_open source.new ≡ true }
     ensures name { (result.status ≡ 0) ⊎ (result.status ≡ 1) → (name : Optional (List ℕ)) × (named words.now ≡ Some name) × IsOwn (S.own_name source.old) name }
     ensures astray { (name : Optional (List ℕ)) → named words.now ≡ Some name → IsOwn (S.own_name source.old) name → S.is_astray source.new ≡ S.is_astray source.old }
@@ -147,7 +150,7 @@ pub fn run<R: Threads + Sync, S: Source, K: Sink>(
         let status = refuse_words(sink);
         return Run {
             status,
-            log: Log::new(alloc),
+            log: Log::new(),
         };
     }
     let outcome = answer_script(alloc, words.get(0), source, sink);
