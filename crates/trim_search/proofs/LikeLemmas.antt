@@ -1,0 +1,118 @@
+-- A move whose characters are joined with those of one like it.
+use Rattle.std.proofs.Common.{◌≡◌, ℕ, zero, suc, ◌<◌, ◌≤◌, ◌↔◌, ◌⊎◌, inl, inr, ◌&&◌, ◌||◌, nat_le, Bool, true, false, IsTrue, List, [], ◌∷◌, length, Any, Contains, Option, Some, None, slice_get, slice_set, get_or, refl, sym, ap, ◌∙◌, subst, arith}
+use Rattle.std.proofs.lemmas.Bool.{leb-true, le-leb}
+use Rattle.sv_word.specs.Ranges.{in_ranges, IsInhabited, IsApartFrom, least_of}
+use Rattle.machine_core.specs.declared.machine.Move.{Move}
+use Rattle.machine_core.specs.Moves.{Moves}
+use Rattle.machine_core.specs.Lists.{Any-none, Any-here, Any-there, Any-cases, slice_get-contains}
+
+and-true : (a b : Bool) → IsTrue a → IsTrue b → IsTrue (a && b)
+and-true true b p q = q
+and-true false b p q = cc
+
+or-cases : (a b : Bool) → IsTrue (a || b) → IsTrue a ⊎ IsTrue b
+or-cases true b h = inl refl
+or-cases false b h = inr h
+
+or-left : (a b : Bool) → IsTrue a → IsTrue (a || b)
+or-left true b h = refl
+or-left false b h = cc
+
+or-right : (a b : Bool) → IsTrue b → IsTrue (a || b)
+or-right true b h = refl
+or-right false b h = h
+
+module _ (lead further : Move ℕ) (on : List (ℕ × ℕ)) (to : lead.to ≡ further.to) (cost : lead.cost ≡ further.cost)
+    (both : (c : ℕ) → in_ranges on c ≡ (in_ranges lead.on c || in_ranges further.on c)) where
+  abbrev pub joined : Move ℕ
+  joined = record { on = on; cost = further.cost; to = further.to }
+
+  one : (c : ℕ) (k : List ℕ) (t : ℕ) → Moves c k t joined ↔ (Moves c k t lead ⊎ Moves c k t further)
+  one c k t = (
+    λ h. elim (or-cases (in_ranges lead.on c) (in_ranges further.on c) (subst IsTrue (both c) h.0)) [
+      | inl l ↦ inl (l, cost ∙ h.1, to ∙ h.2)
+      | inr r ↦ inr (r, h.1, h.2)
+    ],
+    λ h. elim h [
+      | inl l ↦ (subst IsTrue (sym (both c)) (or-left (in_ranges lead.on c) (in_ranges further.on c) l.0), sym cost ∙ l.1, sym to ∙ l.2)
+      | inr r ↦ (subst IsTrue (sym (both c)) (or-right (in_ranges lead.on c) (in_ranges further.on c) r.0), r.1, r.2)
+    ],
+  )
+
+  pub joined-moves : (leads : List (Move ℕ)) (at : ℕ) → slice_get leads at ≡ Some lead → (c : ℕ) (k : List ℕ) (t : ℕ)
+      → Any (Moves c k t) (slice_set leads at joined) ↔ (Any (Moves c k t) leads ⊎ Moves c k t further)
+  joined-moves [] at h c k t = cc
+  joined-moves (l ∷ ls) zero h c k t =
+      let same : l ≡ lead = cc in (
+        λ a. elim (Any-cases (Moves c k t) joined ls a) [
+          | inl m ↦ elim ((one c k t).0 m) [ inl x ↦ inl (Any-here (Moves c k t) l ls (subst (Moves c k t) (sym same) x)) | inr y ↦ inr y ]
+          | inr r ↦ inl (Any-there (Moves c k t) l ls r)
+        ],
+        λ o. elim o [
+          | inl a ↦ elim (Any-cases (Moves c k t) l ls a) [
+            | inl m ↦ Any-here (Moves c k t) joined ls ((one c k t).1 (inl (subst (Moves c k t) same m)))
+            | inr r ↦ Any-there (Moves c k t) joined ls r
+          ]
+          | inr f ↦ Any-here (Moves c k t) joined ls ((one c k t).1 (inr f))
+        ],
+      )
+  joined-moves (l ∷ ls) (suc at) h c k t =
+      let rest = joined-moves ls at h c k t in (
+        λ a. elim (Any-cases (Moves c k t) l (slice_set ls at joined) a) [
+          | inl m ↦ inl (Any-here (Moves c k t) l ls m)
+          | inr r ↦ elim (rest.0 r) [ inl x ↦ inl (Any-there (Moves c k t) l ls x) | inr y ↦ inr y ]
+        ],
+        λ o. elim o [
+          | inl a ↦ elim (Any-cases (Moves c k t) l ls a) [
+            | inl m ↦ Any-here (Moves c k t) l (slice_set ls at joined) m
+            | inr r ↦ Any-there (Moves c k t) l (slice_set ls at joined) (rest.1 (inl r))
+          ]
+          | inr f ↦ Any-there (Moves c k t) l (slice_set ls at joined) (rest.1 (inr f))
+        ],
+      )
+
+-- an element of a changed list is the new one, or one of the old list
+pub set-contains : {X : Type 0} (xs : List X) (at : ℕ) (y x : X) → Contains (slice_set xs at y) x → Contains xs x ⊎ (y ≡ x)
+set-contains [] at y x h = inl h
+set-contains (z ∷ zs) zero y x (zero, lt, e) = inr e
+set-contains (z ∷ zs) zero y x (suc k, lt, e) = inl (suc k, lt, e)
+set-contains (z ∷ zs) (suc at) y x (zero, lt, e) = inl (zero, omega arith, e)
+set-contains (z ∷ zs) (suc at) y x (suc k, lt, e) = elim (set-contains zs at y x (k, omega arith, e)) [
+  | inl (k', lt', e') ↦ inl (suc k', omega arith, e')
+  | inr same ↦ inr same
+]
+
+-- the element at a place
+pub stands-at : {X : Type 0} (xs : List X) (at : ℕ) (x : X) → at < length xs → x ≡ get_or xs at x → slice_get xs at ≡ Some x
+stands-at [] at x lt e = absurd (omega (arith, lt))
+stands-at (y ∷ ys) zero x lt e = ap Some (sym e)
+stands-at (y ∷ ys) (suc at) x lt e = stands-at ys at x (omega (arith, lt)) e
+
+-- sets of pairs that are apart have their least character
+pub apart-inhabited : (low : ℕ) (rs : List (ℕ × ℕ)) (c : ℕ) → IsApartFrom low rs → IsTrue (in_ranges rs c) → IsInhabited rs
+apart-inhabited low [] c h i = cc
+apart-inhabited low (p ∷ ps) c h i =
+    let a = le-leb p.0 p.0 (omega arith) in
+    let b = le-leb p.0 p.1 h.1 in
+    or-left (nat_le p.0 p.0 && nat_le p.0 p.1) (in_ranges ps p.0) (and-true (nat_le p.0 p.0) (nat_le p.0 p.1) a b)
+
+-- what was read at the place where an element stands is that element
+at-place : {X : Type 0} (ys : List X) (n : ℕ) (l x : X) → slice_get ys n ≡ Some l → get_or ys n x ≡ l
+at-place [] n l x h = cc
+at-place (y ∷ ys) zero l x h = cc
+at-place (y ∷ ys) (suc n) l x h = at-place ys n l x h
+
+pub read-at : {X : Type 0} (xs items : List X) → items ≡ xs → (at : ℕ) (l x : X) → slice_get xs at ≡ Some l → get_or items at x ≡ l
+read-at {X} xs items e at l x stands = ap (λ (ys : List X). get_or ys at x) e ∙ at-place xs at l x stands
+
+-- all moves still read some character
+pub joined-some : (leads : List (Move ℕ)) (at : ℕ) (l f : Move ℕ) (on : List (ℕ × ℕ)) → slice_get leads at ≡ Some l
+    → ((c : ℕ) → in_ranges on c ≡ (in_ranges l.on c || in_ranges f.on c)) → ((m : Move ℕ) → Contains leads m → IsInhabited m.on) → IsApartFrom 0 on
+    → (x : Move ℕ) → Contains (slice_set leads at (record { on = on; cost = f.cost; to = f.to })) x → IsInhabited x.on
+joined-some leads at l f on stands both old apart x i = elim (set-contains leads at (record { on = on; cost = f.cost; to = f.to }) x i) [
+  | inl o ↦ old x o
+  | inr e ↦
+      let some = old l (slice_get-contains leads at l stands) in
+      let here = subst IsTrue (sym (both (least_of l.on))) (or-left (in_ranges l.on (least_of l.on)) (in_ranges f.on (least_of l.on)) some) in
+      subst (λ (m : Move ℕ). IsInhabited m.on) e (apart-inhabited 0 on (least_of l.on) apart here)
+]

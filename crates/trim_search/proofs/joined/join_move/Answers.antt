@@ -1,0 +1,27 @@
+use Rattle.std.proofs.Common.{◌≡◌, ℕ, List, Some, slice_get, Any, Contains, IsTrue, get_or, slice_set, inl, inr, ◌||◌, ◌⊎◌, ◌↔◌, refl, sym, ap, ◌∙◌, subst}
+use Rattle.sv_word.specs.Ranges.{in_ranges, IsInhabited, IsApartFrom, least_of}
+use Rattle.machine_core.specs.declared.machine.Move.{Move}
+use Rattle.machine_core.specs.Moves.{Moves}
+use Rattle.trim_search.proofs.LikeLemmas.{joined-moves, joined-some, set-contains, apart-inhabited, read-at}
+use Rattle.trim_search.proofs.joined.join_move.Goals as goal
+
+pub returns-clause-exact : goal.returns-clause-exact
+returns-clause-exact c d cost to =
+    let l = c.requires.like.earlier in
+    let f = c.args.further in
+    let on = c.in_ok-on.on in
+    let read : get_or c.as_slice.result.now c.args.at c.index-as_slice-at.result ≡ l = read-at c.args.moves.now c.as_slice.result.now c.as_slice.ensures c.args.at l c.index-as_slice-at.result c.requires.like.stands in
+    let both : (e : ℕ) → in_ranges on e ≡ (in_ranges l.on e || in_ranges f.on e) = λ e. c.in_ok-on.ensures e ∙ ap (λ (m : Move ℕ). in_ranges m.on e || in_ranges f.on e) read in
+    let new : c.set.new.self ≡ slice_set c.args.moves.now c.args.at (record { on = on; cost = f.cost; to = f.to }) = c.set.ensures in
+    subst (λ (ms : List (Move ℕ)). Any (Moves d cost to) ms ↔ (Any (Moves d cost to) c.args.moves.now ⊎ Moves d cost to f)) (sym new)
+    (joined-moves l f on c.requires.like.to c.requires.like.cost both c.args.moves.now c.args.at c.requires.like.stands d cost to)
+
+pub returns-clause-inhabited : goal.returns-clause-inhabited
+returns-clause-inhabited c x i =
+    let l = c.requires.like.earlier in
+    let f = c.args.further in
+    let on = c.in_ok-on.on in
+    let read : get_or c.as_slice.result.now c.args.at c.index-as_slice-at.result ≡ l = read-at c.args.moves.now c.as_slice.result.now c.as_slice.ensures c.args.at l c.index-as_slice-at.result c.requires.like.stands in
+    let both : (e : ℕ) → in_ranges on e ≡ (in_ranges l.on e || in_ranges f.on e) = λ e. c.in_ok-on.ensures e ∙ ap (λ (m : Move ℕ). in_ranges m.on e || in_ranges f.on e) read in
+    let new : c.set.new.self ≡ slice_set c.args.moves.now c.args.at (record { on = on; cost = f.cost; to = f.to }) = c.set.ensures in
+    joined-some c.args.moves.now c.args.at l f on c.requires.like.stands both c.requires.old c.as_slice-2.ensures.apart x (subst (λ (ms : List (Move ℕ)). Contains ms x) new i)

@@ -1,0 +1,94 @@
+//! The moves of one state, those to one target at one cost as one.
+ghost use Rattle.std.specs.Prelude.{◌≡◌, ℕ, ◌↔◌, ◌⊎◌, Any, Contains, List, IfOk, OnOk, IfSome};
+ghost use Rattle.sv_word.specs.Ranges.{IsInhabited};
+ghost use Rattle.machine_core.specs.Moves.{Moves};
+ghost use Rattle.machine_core.specs.declared.machine.Move.{Move};
+ghost use Rattle.trim_search.specs.Joined.{IsLike, AreJoined};
+
+use machine_core::Move;
+use std::alloc::{AllocError, Global};
+use sv_list::Items;
+
+/// The same moves, with the characters of those to one state at one cost in one set, in the order of
+/// the states. One sort of the moves, and one merge of two sets for each move that goes.
+pub fn join_moves(alloc: Global, moves: Items<Move<u32>>) -> Result<Items<Move<u32>>, AllocError>
+    requires { (m : Move ℕ) → Contains moves m → IsInhabited m.on }
+    ensures { IfOk result (AreJoined moves) }
+{
+    if moves.len() < 2 {
+        return Ok(moves);
+    }
+    let mut sorted = moves.into_vec();
+    sorted.sort_unstable_by_key(|step| step.to);
+    join_sorted(alloc, Items::from_vec(sorted))
+}
+
+// The same where the moves to one state stand together.
+fn join_sorted(alloc: Global, moves: Items<Move<u32>>) -> Result<Items<Move<u32>>, AllocError>
+    requires { (m : Move ℕ) → Contains moves m → IsInhabited m.on }
+    ensures { IfOk result (AreJoined moves) }
+{
+    let mut joined = Items::new(alloc);
+    for step in moves.into_vec() {
+        add_move(alloc, &mut joined, step)?;
+    }
+    Ok(joined)
+}
+
+// Adds a move; one to the same state at the same cost becomes one with it, for the characters of both,
+// where it is among the last ones, which lead to that state.
+fn add_move(
+    alloc: Global,
+    moves: &mut Items<Move<u32>>,
+    further: Move<u32>,
+) -> Result<(), AllocError>
+    requires old { (m : Move ℕ) → Contains moves.old m → IsInhabited m.on }
+    requires inhabited { IsInhabited further.on }
+    ensures exact { OnOk result ((c : ℕ) (cost : List ℕ) (to : ℕ) →
+        Any (Moves c cost to) moves.new ↔ (Any (Moves c cost to) moves.old ⊎ Moves c cost to further)) }
+    ensures inhabited { OnOk result ((m : Move ℕ) → Contains moves.new m → IsInhabited m.on) }
+{
+    if let Some(at) = place_of(moves.as_slice(), &further) {
+        return join_move(alloc, moves, at, further);
+    }
+    moves.push(further)?;
+    Ok(())
+}
+
+// The place of a move to the same state at the same cost, among the last ones, which lead to that state.
+fn place_of(moves: &[Move<u32>], further: &Move<u32>) -> Option<usize>
+    ensures { IfSome result (λ at. IsLike moves.now further.now at) }
+{
+    let mut at = moves.len();
+    while at > 0 {
+        at -= 1;
+        let earlier = &moves[at];
+        if earlier.to != further.to {
+            return None;
+        }
+        if earlier.cost.as_slice() == further.cost.as_slice() {
+            return Some(at);
+        }
+    }
+    None
+}
+
+// Joins the characters of the move at this place with those of a move like it.
+fn join_move(
+    alloc: Global,
+    moves: &mut Items<Move<u32>>,
+    at: usize,
+    further: Move<u32>,
+) -> Result<(), AllocError>
+    requires like { IsLike moves.old further at }
+    requires old { (m : Move ℕ) → Contains moves.old m → IsInhabited m.on }
+    ensures exact { OnOk result ((c : ℕ) (cost : List ℕ) (to : ℕ) →
+        Any (Moves c cost to) moves.new ↔ (Any (Moves c cost to) moves.old ⊎ Moves c cost to further)) }
+    ensures inhabited { OnOk result ((m : Move ℕ) → Contains moves.new m → IsInhabited m.on) }
+{
+    let on = moves.as_slice()[at].on.join(alloc, &further.on)?;
+    let _ = on.as_slice();
+    let Move { on: _, cost, to } = further;
+    moves.set(at, Move { on, cost, to });
+    Ok(())
+}
