@@ -1,12 +1,16 @@
 -- The product's moves, one machine after another, from the last.
-use Rattle.std.proofs.Common.{◌≡◌, ℕ, zero, suc, ◌+◌, ◌<◌, ◌≤◌, ◌^◌, ◌↔◌, List, [], ◌∷◌, length, drop, get_or, Any, Contains, refl, ap, sym, ◌∙◌, subst, arith}
+use Rattle.std.proofs.Common.{◌≡◌, ℕ, zero, suc, ◌+◌, ◌<◌, ◌≤◌, ◌^◌, ◌↔◌, List, [], ◌∷◌, length, drop, map, nat_eq, true, false, get_or, All, Any, Contains, refl, ap, sym, ◌∙◌, subst, arith}
 use Rattle.sv_word.specs.Ranges.{IsInhabited, least_of}
-use Rattle.machine_core.specs.Costs.{add_costs, IsCost}
-use Rattle.machine_core.specs.Lists.{Any-none}
+use Rattle.machine_core.specs.Costs.{add_costs, zeros, IsCost}
+use Rattle.machine_core.specs.Lists.{Any-none, Any-map, Any-from_map}
+use Rattle.machine_core.specs.CostLaws.{add_costs-zeros}
 use Rattle.machine_core.specs.Moves.{Moves}
 use Rattle.machine_core.specs.declared.machine.Move.{Move}
-use Rattle.machine_meet.specs.Joins.{AreJoins, AreInhabited, CanAdd}
+use Rattle.machine_meet.specs.Joins.{AreJoins, AreInhabited, CanAdd, listed}
 use Rattle.machine_meet.specs.Products.{AreStates, MeetSteps, AreProduct, IsNothing, summed}
+use Rattle.sv_word.specs.Words.{greatest_character}
+use Rattle.std.proofs.lemmas.Bool.Decides.{nat_tests}
+use Rattle.std.proofs.lemmas.List.{nil_from_length}
 use Rattle.machine_meet.specs.ProductLaws.{meet_step-cost}
 
 pub drop-here : {X : Type 0} (xs : List X) (i : ℕ) (d : X) → i < length xs → drop i xs ≡ get_or xs i d ∷ drop (suc i) xs
@@ -84,11 +88,35 @@ module _ {P S : Type 0} (steps : P → S → ℕ → List ℕ → S → Type 0) 
       subst (λ xs. AreProduct steps w xs (drop i ss) all) (sym dp) (subst (λ xs. AreProduct steps w (p ∷ drop (suc i) ps) xs all) (sym ds)
       (product-step p (drop (suc i) ps) s (drop (suc i) ss) heads tails all head tail joins))
 
-  pub product-start : (ps : List P) (ss : List S) (all : List (Move (List S))) → length ss ≡ length ps → IsNothing w all → AreProduct steps w (drop (length ps) ps) (drop (length ps) ss) all
-  product-start ps ss all len h =
-      let dp = drop-end ps in
-      let ds : drop (length ps) ss ≡ [] = subst (λ n. drop n ss ≡ []) len (drop-end ss) in
-      subst (λ xs. AreProduct steps w xs (drop (length ps) ss) all) (sym dp) (subst (λ xs. AreProduct steps w [] xs all) (sym ds) h)
+  -- the moves of the last part, to lists of one state, are those of the product from it on
+  pub product-last : (ps : List P) (ss : List S) (i : ℕ) (p : P) (s : S) (moves : List (Move S)) → suc i ≡ length ps → length ss ≡ length ps → p ≡ get_or ps i p → s ≡ get_or ss i s
+      → ((c : ℕ) (cost : List ℕ) (t : S) → steps p s c cost t ↔ Any (Moves c cost t) moves)
+      → ((c : ℕ) (cost : List ℕ) (t : S) → steps p s c cost t → (c ≤ greatest_character) × (length cost ≡ w))
+      → AreProduct steps w (drop i ps) (drop i ss) (map listed moves)
+  product-last ps ss i p s moves last len e f exact told =
+      let dp : drop i ps ≡ p ∷ [] = drop-here ps i p (omega arith) ∙ ap (λ x. x ∷ drop (suc i) ps) (sym e) ∙ ap (λ l. p ∷ l) (subst (λ n. drop n ps ≡ []) (sym last) (drop-end ps)) in
+      let ds : drop i ss ≡ s ∷ [] = drop-here ss i s (omega arith) ∙ ap (λ x. x ∷ drop (suc i) ss) (sym f) ∙ ap (λ l. s ∷ l) (subst (λ n. drop n ss ≡ []) (len ∙ sym last) (drop-end ss)) in
+      subst (λ xs. AreProduct steps w xs (drop i ss) (map listed moves)) (sym dp) (subst (λ xs. AreProduct steps w (p ∷ []) xs (map listed moves)) (sym ds) one)
+    where
+      one : AreProduct steps w (p ∷ []) (s ∷ []) (map listed moves)
+      one c cost to = (
+        λ h. (
+            let a = (exact c h.0 h.2).0 h.4 in
+            let free : add_costs h.0 h.1 ≡ h.0 = ap (add_costs h.0) h.5.1 ∙ add_costs-zeros h.0 w (told c h.0 h.2 h.4).1 in
+            let cost-is : a.1.cost ≡ cost = a.4.1 ∙ sym free ∙ h.6 in
+            let to-is : (a.1.to ∷ []) ≡ to = ap (λ (x : S). x ∷ []) a.4.2 ∙ ap (λ (x : List S). h.2 ∷ x) (sym h.5.2) ∙ h.7 in
+            Any-map listed (Moves c cost to) moves (a.0, a.1, a.2, a.3, (a.4.0, cost-is, to-is))),
+        λ a. (
+            let b = Any-from_map listed (Moves c cost to) moves a in
+            let step = (exact c b.1.cost b.1.to).1 (b.0, b.1, b.2, b.3, (b.4.0, refl, refl)) in
+            let t = told c b.1.cost b.1.to step in
+            (b.1.cost, zeros w, b.1.to, [], step, (t.0, refl, refl), add_costs-zeros b.1.cost w t.1 ∙ b.4.1, b.4.2)),
+      )
+
+  pub product-none : (ps : List P) (ss : List S) (all : List (Move (List S))) → ps ≡ [] → length ss ≡ length ps → IsNothing w all → AreProduct steps w ps ss all
+  product-none ps ss all none len h =
+      let empty : ss ≡ [] = nil_from_length ss (len ∙ ap length none) in
+      subst (λ xs. AreProduct steps w xs ss all) (sym none) (subst (λ xs. AreProduct steps w [] xs all) (sym empty) h)
 
   -- where no move of the parts from some place on is left, none of the product is
   pub product-stuck : (ps : List P) (ss : List S) (i : ℕ) → AreProduct steps w (drop i ps) (drop i ss) [] → AreProduct steps w ps ss []
@@ -138,3 +166,17 @@ module _ {P S : Type 0} (is_state : P → S → Type 0) (steps : P → S → ℕ
       (states-drop is_state ps ss (suc i) states) (move-step (MeetSteps steps w (drop (suc i) ps) (drop (suc i) ss)) tails tail tail-in t in-t) in
       let low = top-drop top ps i p lt e in
       can-add w (top p) (summed top (drop (suc i) ps)) h.cost t.cost (omega arith) a2 b
+
+pub listed-inhabited : {S : Type 0} (moves : List (Move S)) → AreInhabited moves → AreInhabited (map listed moves)
+listed-inhabited [] h k d lt = absurd (omega arith)
+listed-inhabited (m ∷ ms) h zero d lt = h zero m (omega arith)
+listed-inhabited (m ∷ ms) h (suc k) d lt = listed-inhabited ms (λ j e l. h (suc j) e (omega arith)) k d (omega arith)
+
+-- what a test for no part has told
+pub some-of : {X : Type 0} (xs : List X) → nat_eq (length xs) 0 ≡ false → 0 < length xs
+some-of [] e = cc
+some-of (x ∷ xs) e = omega arith
+
+pub nil-of : {X : Type 0} (xs : List X) → nat_eq (length xs) 0 ≡ true → xs ≡ []
+nil-of [] e = refl
+nil-of (x ∷ xs) e = absurd (grind (arith, nat_tests))

@@ -1,5 +1,5 @@
 -- Moves and end costs of a machine, joined with those of the machines after it.
-use Rattle.std.specs.Prelude.{◌≡◌, ℕ, ◌&&◌, ◌∷◌, List, IsTrue, All, Any, ◌↔◌, ◌⊎◌, length, slice_index, ◌+◌, ◌<◌, ◌^◌}
+use Rattle.std.specs.Prelude.{◌≡◌, ℕ, ◌&&◌, [], ◌∷◌, List, IsTrue, All, Any, ◌↔◌, ◌⊎◌, length, slice_index, ◌+◌, ◌<◌, ◌^◌}
 use Rattle.sv_word.specs.Ranges.{in_ranges, IsInhabited}
 use Rattle.machine_core.specs.Costs.{add_costs}
 use Rattle.machine_core.specs.declared.machine.Move.{Move}
@@ -37,3 +37,7 @@ AddsSums head tails old new = (cost : List ℕ) → Any (λ e. e ≡ cost) new �
 -- these are the sums of one of the heads with one of the tails
 abbrev pub AreSums : List (List ℕ) → List (List ℕ) → List (List ℕ) → Type 0
 AreSums heads tails all = (cost : List ℕ) → Any (λ e. e ≡ cost) all ↔ Any (λ a. Any (λ b. add_costs a b ≡ cost) tails) heads
+
+-- a move as one to the list of its state
+abbrev pub listed : {S : Type 0} → Move S → Move (List S)
+listed m = record { on = m.on; cost = m.cost; to = m.to ∷ [] }

@@ -14,7 +14,8 @@ use sv_list::{Copied, Items};
 fn cons<S: State>(alloc: Global, head: &S, tail: &Items<S>) -> Result<Items<S>, AllocError>
     ensures { IfOk result (λ all. all ≡ head.now ∷ tail.now) }
 {
-    let mut all = Items::new(alloc);
+    let room = Vec::with_capacity(alloc, tail.len().saturating_add(1))?;
+    let mut all = Items::from_vec(room);
     all.push(head.copy(alloc)?)?;
     for s in tail.as_slice() {
         all.push(s.copy(alloc)?)?;
@@ -53,7 +54,8 @@ pub fn join_all<S: State>(
     ensures inhabited { IfOk result AreInhabited }
 {
     let pairs = meeting(alloc, heads, tails)?;
-    let mut all = Items::new(alloc);
+    let room = Vec::with_capacity(alloc, pairs.len())?;
+    let mut all = Items::from_vec(room);
     for (head, tail) in pairs.as_slice() {
         all.push(join(alloc, &heads[*head], &tails[*tail])?)?;
     }

@@ -41,6 +41,7 @@ mod unions;
 pub use concats::concat;
 pub use laws::costs_of_meets_are_bounded;
 pub use meet::Meet;
+pub use product::to_lists;
 pub use split::split_run;
 pub use stars::star;
 pub use unions::union;

@@ -14,8 +14,8 @@ use sv_list::Items;
 /// every word and no registers. There are at most as many states as the numbers of the parts' states
 /// make multiplied.
 ///
-/// The moves are joined from the last part on. Each move of a part is intersected once with each move
-/// of the parts after it that reads a character of it, and no others are tried: the intervals of both
+/// The moves begin as the last part's own. Each move of a part before it is intersected once with each
+/// move of the parts after it that reads a character of it, and no others are tried: the intervals of both
 /// are sorted, and searched for those that begin within one of the other side. For n intervals, of
 /// which k pairs overlap, that is n log n and k log k for each part, and the intersections. Where no
 /// move is left no further part is asked, so a part with few moves is best put last.

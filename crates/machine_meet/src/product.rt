@@ -1,7 +1,7 @@
 //! The meeting of machines: what each of them reads, at the sum of their costs.
-ghost use Rattle.std.specs.Prelude.{◌≡◌, ℕ, ◌+◌, ◌<◌, ◌≤◌, ◌^◌, ◌↔◌, [], ◌∷◌, List, length, IfOk, All, Any, Contains};
+ghost use Rattle.std.specs.Prelude.{◌≡◌, ℕ, ◌+◌, ◌<◌, ◌≤◌, ◌^◌, ◌↔◌, [], ◌∷◌, List, length, map, IfOk, All, Any, Contains};
 ghost use Rattle.machine_core.specs.Moves.{Moves};
-ghost use Rattle.machine_meet.specs.Joins.{AreInhabited};
+ghost use Rattle.machine_meet.specs.Joins.{AreInhabited, listed};
 ghost use Rattle.machine_meet.specs.Products.{AreStates, MeetSteps, summed, IsNothing, AreProduct};
 
 use crate::join::join_all;
@@ -24,7 +24,38 @@ fn nothing<S: State>(alloc: Global, width: usize) -> Result<Items<Move<Items<S>>
     Ok(all)
 }
 
-// The moves of the product, joined from the last part on, until no move is left.
+/// The moves, to lists of one state. Linear in the moves.
+pub fn to_lists<S: State>(
+    alloc: Global,
+    moves: Items<Move<S>>,
+) -> Result<Items<Move<Items<S>>>, AllocError>
+    ensures { IfOk result (λ all. all ≡ map listed moves) }
+{
+    let room = Vec::with_capacity(alloc, moves.len())?;
+    let mut all = Items::from_vec(room);
+    for step in moves.into_vec() {
+        let to = list_of(alloc, step.to)?;
+        all.push(Move {
+            on: step.on,
+            cost: step.cost,
+            to,
+        })?;
+    }
+    Ok(all)
+}
+
+// This state alone.
+fn list_of<S: State>(alloc: Global, state: S) -> Result<Items<S>, AllocError>
+    ensures { IfOk result (λ l. l ≡ state ∷ []) }
+{
+    let room = Vec::with_capacity(alloc, 1)?;
+    let mut list = Items::from_vec(room);
+    list.push(state)?;
+    Ok(list)
+}
+
+// The moves of the product: those of the last part, joined with those of the parts before it one after
+// another, until no move is left.
 pub fn product<P: Machine>(
     alloc: Global,
     width: usize,
@@ -37,15 +68,21 @@ pub fn product<P: Machine>(
     ensures exact { IfOk result (AreProduct P.steps_to width parts.now at.now) }
     ensures inhabited { IfOk result AreInhabited }
 {
-    let mut all = nothing(alloc, width)?;
-    let mut i = parts.len();
+    if parts.is_empty() {
+        let none = nothing(alloc, width)?;
+        return Ok(none);
+    }
+    let last = parts.len() - 1;
+    let own = parts[last].moves(alloc, &at[last])?;
+    let mut all = to_lists(alloc, own)?;
+    let mut i = last;
     while i > 0 {
-        i -= 1;
-        let heads = parts[i].moves(alloc, &at[i])?;
-        all = join_all(alloc, heads.as_slice(), all.as_slice())?;
         if all.is_empty() {
             return Ok(all);
         }
+        i -= 1;
+        let heads = parts[i].moves(alloc, &at[i])?;
+        all = join_all(alloc, heads.as_slice(), all.as_slice())?;
     }
     Ok(all)
 }

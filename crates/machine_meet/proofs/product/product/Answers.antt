@@ -1,20 +1,53 @@
-use Rattle.std.proofs.Common.{◌≡◌, [], ◌<◌, ◌-◌, suc, drop, length, subst, sym, arith}
+use Rattle.std.proofs.Common.{◌≡◌, ℕ, List, [], ◌<◌, ◌≤◌, ◌-◌, ◌+◌, suc, drop, length, map, ap, subst, sym, ◌∙◌, arith}
+use Rattle.machine_meet.specs.Joins.{listed}
 use Rattle.machine_meet.specs.Products.{AreProduct}
-use Rattle.machine_meet.proofs.ProductLemmas.{product-start, product-at, product-stuck, states-length, states-at, can-add-at}
+use Rattle.machine_meet.proofs.ProductLemmas.{product-none, product-last, product-at, product-stuck, states-length, states-at, can-add-at, listed-inhabited, some-of, nil-of}
 use Rattle.machine_meet.proofs.product.product.Goals as goal
 
-pub loop-i-init : goal.loop-i-init
-loop-i-init g c = record {
-  room = omega arith;
-  exact = product-start g.P.Machine.steps_to c.args.width c.args.parts.now c.args.at.now c.in_ok-all.all (states-length g.P.Machine.is_state c.args.parts.now c.args.at.now c.requires.states) c.in_ok-all.ensures.exact;
-  inhabited = c.in_ok-all.ensures.inhabited;
-}
+pub returns-then-is_empty-clause-exact : goal.returns-then-is_empty-clause-exact
+returns-then-is_empty-clause-exact g c =
+    let none = nil-of c.args.parts.now (sym c.is_empty.ensures ∙ c.if-is_empty.true) in
+    product-none g.P.Machine.steps_to c.args.width c.args.parts.now c.args.at.now c.in_ok-none.none none (states-length g.P.Machine.is_state c.args.parts.now c.args.at.now c.requires.states) c.in_ok-none.ensures.exact
 
-pub offset_bounds-at-i : goal.offset_bounds-at-i
-offset_bounds-at-i g c =
+pub bounds-at-last : goal.bounds-at-last
+bounds-at-last g c =
     let same = states-length g.P.Machine.is_state c.args.parts.now c.args.at.now c.requires.states in
-    let room = c.loop-i.invariant.room in
-    let positive = c.loop-i-test.true in
+    let some = some-of c.args.parts.now (sym c.is_empty.ensures ∙ c.if-is_empty.false) in
+    omega arith
+
+pub loop-i-init : goal.loop-i-init
+loop-i-init g c =
+    let ps = c.args.parts.now in
+    let ss = c.args.at.now in
+    let p = c.index-parts-last.result in
+    let s = c.index-at-last.result in
+    let some = some-of ps (sym c.is_empty.ensures ∙ c.if-is_empty.false) in
+    let lt : length ps - 1 < length ps = omega arith in
+    let last : suc (length ps - 1) ≡ length ps = omega arith in
+    let st = states-at g.P.Machine.is_state ps ss (length ps - 1) p s c.requires.states lt c.index-parts-last.is c.index-at-last.is in
+    record {
+      room = omega arith;
+      exact = rw c.in_ok-all.ensures (product-last g.P.Machine.steps_to c.args.width ps ss (length ps - 1) p s c.in_ok-own.own last (states-length g.P.Machine.is_state ps ss c.requires.states)
+          c.index-parts-last.is c.index-at-last.is c.in_ok-own.ensures.exact
+          (λ d cost t h. (g.met.P.Machine.step_character p s t d cost st h, (g.met.P.Machine.step_cost p s t d cost st h).entries ∙ c.requires.width p (length ps - 1, lt, sym c.index-parts-last.is))));
+      inhabited = rw c.in_ok-all.ensures (listed-inhabited c.in_ok-own.own c.in_ok-own.ensures.inhabited);
+    }
+
+pub returns-then-is_empty-2-clause-exact : goal.returns-then-is_empty-2-clause-exact
+returns-then-is_empty-2-clause-exact g c =
+    let none : c.loop-i.all ≡ [] = c.is_empty-in-loop-i.ensures.0 c.if-is_empty-2.true in
+    subst (AreProduct g.P.Machine.steps_to c.args.width c.args.parts.now c.args.at.now) (sym none) (product-stuck g.P.Machine.steps_to c.args.width c.args.parts.now c.args.at.now c.loop-i.i
+    (subst (AreProduct g.P.Machine.steps_to c.args.width (drop c.loop-i.i c.args.parts.now) (drop c.loop-i.i c.args.at.now)) none c.loop-i.invariant.exact))
+
+pub returns-clause-exact : goal.returns-clause-exact
+returns-clause-exact g c =
+    let zero : c.loop-i.i ≡ 0 = omega arith in
+    subst (λ n. AreProduct g.P.Machine.steps_to c.args.width (drop n c.args.parts.now) (drop n c.args.at.now) c.loop-i.all) zero c.loop-i.invariant.exact
+
+pub offset_bounds-at-last : goal.offset_bounds-at-last
+offset_bounds-at-last g c =
+    let same = states-length g.P.Machine.is_state c.args.parts.now c.args.at.now c.requires.states in
+    let some = some-of c.args.parts.now (sym c.is_empty.ensures ∙ c.if-is_empty.false) in
     omega arith
 
 pub bounds-at-i : goal.bounds-at-i
@@ -24,8 +57,20 @@ bounds-at-i g c =
     let positive = c.loop-i-test.true in
     omega arith
 
+pub offset_bounds-at-i : goal.offset_bounds-at-i
+offset_bounds-at-i g c =
+    let same = states-length g.P.Machine.is_state c.args.parts.now c.args.at.now c.requires.states in
+    let room = c.loop-i.invariant.room in
+    let positive = c.loop-i-test.true in
+    omega arith
+
 pub moves-requires : goal.moves-requires
 moves-requires g c =
+    let some = some-of c.args.parts.now (sym c.is_empty.ensures ∙ c.if-is_empty.false) in
+    states-at g.P.Machine.is_state c.args.parts.now c.args.at.now (length c.args.parts.now - 1) c.index-parts-last.result c.index-at-last.result c.requires.states (omega arith) c.index-parts-last.is c.index-at-last.is
+
+pub moves-requires-in-loop-i : goal.moves-requires-in-loop-i
+moves-requires-in-loop-i g c =
     let room = c.loop-i.invariant.room in
     let positive = c.loop-i-test.true in
     states-at g.P.Machine.is_state c.args.parts.now c.args.at.now (c.loop-i.i - 1) c.index-parts-i.result c.index-at-i.result c.requires.states (omega arith) c.index-parts-i.is c.index-at-i.is
@@ -57,17 +102,3 @@ loop-i-preserved g c =
           lt (states-length g.P.Machine.is_state c.args.parts.now c.args.at.now c.requires.states) c.index-parts-i.is c.index-at-i.is c.in_ok-heads.ensures.exact tail joins;
       inhabited = c.in_ok-all-2.ensures.inhabited;
     }
-
-pub returns-then-is_empty-clause-exact : goal.returns-then-is_empty-clause-exact
-returns-then-is_empty-clause-exact g c =
-    let inv = c.loop-i.invariant in
-    let positive = c.loop-i-test.true in
-    let lt : c.loop-i.i - 1 < length c.args.parts.now = omega arith in
-    let next : suc (c.loop-i.i - 1) ≡ c.loop-i.i = omega arith in
-    let tail = subst (λ n. AreProduct g.P.Machine.steps_to c.args.width (drop n c.args.parts.now) (drop n c.args.at.now) c.loop-i.all) (sym next) inv.exact in
-    let joins = rw (c.as_slice.ensures, c.as_slice-in-loop-i.ensures) at c.in_ok-all-2.ensures.exact in
-    let none : c.in_ok-all-2.all ≡ [] = c.is_empty.ensures.0 c.if-is_empty.true in
-    let here = product-at g.P.Machine.steps_to c.args.width c.args.parts.now c.args.at.now (c.loop-i.i - 1) c.index-parts-i.result c.index-at-i.result c.in_ok-heads.heads c.loop-i.all c.in_ok-all-2.all
-    lt (states-length g.P.Machine.is_state c.args.parts.now c.args.at.now c.requires.states) c.index-parts-i.is c.index-at-i.is c.in_ok-heads.ensures.exact tail joins in
-    subst (AreProduct g.P.Machine.steps_to c.args.width c.args.parts.now c.args.at.now) (sym none) (product-stuck g.P.Machine.steps_to c.args.width c.args.parts.now c.args.at.now (c.loop-i.i - 1)
-    (subst (AreProduct g.P.Machine.steps_to c.args.width (drop (c.loop-i.i - 1) c.args.parts.now) (drop (c.loop-i.i - 1) c.args.at.now)) none here))
