@@ -1,5 +1,5 @@
 -- Ascending lists are told apart by their elements, and each finite set of numbers has one.
-use Rattle.std.proofs.Common.{◌≡◌, ℕ, zero, suc, ◌+◌, ◌<◌, ◌≤◌, ◌⊎◌, inl, inr, ◌↔◌, List, [], ◌∷◌, length, get_or, Contains, refl, sym, ap, ◌∙◌, subst, arith}
+use Rattle.std.proofs.Common.{◌≡◌, ℕ, zero, suc, ◌+◌, ◌<◌, ◌≤◌, ◌⊎◌, inl, inr, ◌↔◌, List, [], ◌∷◌, Contains, refl, sym, ◌∙◌, arith}
 use Rattle.std.specs.List.Sorted.{IsStrictlyIncreasing}
 use Rattle.machine_core.specs.Lists.{Contains-here, Contains-there}
 use Rattle.subset_machine.specs.Subsets.{ListsAll}

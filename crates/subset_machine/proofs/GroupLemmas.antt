@@ -1,6 +1,6 @@
 -- The intervals of characters, by the list that follows on them.
-use Rattle.std.proofs.Common.{◌≡◌, ◌≢◌, ℕ, zero, suc, ◌+◌, ◌<◌, ◌≤◌, ◌⊎◌, inl, inr, ◌↔◌, ◌||◌, true, false, Bool, cond, nat_le, ◌&&◌, IsTrue, Option, Some, None, unwrap_or, List, [], ◌∷◌, ◌++◌, length, map, take, get_or, slice_get, Any, All, AllPairs, Contains, refl, sym, ap, ◌∙◌, subst, arith}
-use Rattle.std.specs.List.{AllZip, list_any}
+use Rattle.std.proofs.Common.{◌≡◌, ◌≢◌, ℕ, zero, suc, ◌+◌, ◌<◌, ◌≤◌, ◌⊎◌, inl, inr, ◌↔◌, true, false, Bool, IsTrue, Option, Some, None, unwrap_or, List, [], ◌∷◌, ◌++◌, length, take, get_or, Any, All, AllPairs, Contains, refl, sym, ap, ◌∙◌, subst, arith}
+use Rattle.std.specs.List.{AllZip}
 use Rattle.std.specs.Map.{lookup, keys_of}
 use Rattle.std.specs.BTreeMap.{BTreeMap, get, is_at, IsOrdered}
 use Rattle.std.specs.Ordering.{nat_cmp, is_eq, eq_by_cmp}
@@ -8,19 +8,19 @@ use Rattle.std.specs.declared.cmp.Ordering.{Ordering}
 use Rattle.std.specs.declared.cmp.Ordering.TheVariants.{Less, Equal, Greater}
 use Rattle.std.specs.Cmp.{tied_itself, eq_by_cmp_equiv}
 use Rattle.std.proofs.lemmas.Cmp.{nat_list_cmp_total}
-use Rattle.std.proofs.lemmas.List.{take_more, take_all, append_assoc}
-use Rattle.std.proofs.lemmas.List.Elements.{All-nil, All-cons, All-head, All-tail, All-contains, Contains-append_left, Contains-append_right, Contains-append_cases, Contains-push, Contains-push_cases, Contains-get_or}
+use Rattle.std.proofs.lemmas.List.{take_all, append_assoc}
+use Rattle.std.proofs.lemmas.List.Elements.{All-nil, All-cons, Contains-append_left, Contains-push, Contains-push_cases, Contains-get_or}
 use Rattle.std.proofs.lemmas.Map.Keys.{IsDistinct-from_sorted, Less-from_sorted}
 use Rattle.std.proofs.lemmas.Map.Views.{Contains-from_lookup, lookup-from_Contains}
-use Rattle.sv_word.specs.Ranges.{in_ranges, IsInhabited, IsApartFrom, least_of}
+use Rattle.sv_word.specs.Ranges.{in_ranges, IsInhabited, IsApartFrom}
 use Rattle.machine_core.specs.Lists.{Contains-here, Contains-there, Any-contains, contained}
 use Rattle.machine_core.specs.Orders.{nat_cmp-same, slice_cmp-same}
 use Rattle.machine_core.specs.declared.machine.Move.{Move}
 use Rattle.machine_core.specs.Moves.{Moves}
 use Rattle.subset_machine.specs.Subsets.{ListsAll}
 use Rattle.subset_machine.specs.Groups.{lists_cmp, FollowsOn, AreGroups, AddsMark, AreIntervals, MovesUnder}
-use Rattle.subset_machine.proofs.AscendingLemmas.{nothing, contains-cases, contains-join, lists-same}
-use Rattle.subset_machine.proofs.LeavingLemmas.{ranges-in, ranges-out}
+use Rattle.subset_machine.proofs.AscendingLemmas.{nothing, contains-cases, lists-same}
+use Rattle.subset_machine.proofs.LeavingLemmas.{ranges-out}
 use Rattle.subset_machine.proofs.HitLemmas.{one-more}
 use Rattle.sv_word.specs.Words.{greatest_character}
 

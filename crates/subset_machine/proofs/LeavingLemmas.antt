@@ -1,10 +1,10 @@
 -- The edges that leave some states, taken apart range by range.
-use Rattle.std.proofs.Common.{◌≡◌, ℕ, zero, suc, ◌≤◌, ◌<◌, ◌&&◌, true, nat_le, Bool, IsTrue, ◌↔◌, List, [], ◌∷◌, length, map, slice_get, Some, Any, Contains, refl, sym, ap, ◌∙◌, subst, arith}
+use Rattle.std.proofs.Common.{◌≡◌, ℕ, zero, suc, ◌+◌, ◌≤◌, ◌<◌, inl, inr, ◌&&◌, true, nat_le, IsTrue, List, [], ◌∷◌, length, slice_get, Some, Contains, refl, sym, ap, ◌∙◌, subst, arith}
 use Rattle.std.specs.List.{flat_map}
 use Rattle.std.proofs.lemmas.Bool.Decides.{nat_tests}
 use Rattle.std.proofs.lemmas.List.{nil_from_length}
 use Rattle.std.proofs.lemmas.List.Folds.{Any-from_list_any, list_any-from_Any}
-use Rattle.sv_word.specs.Ranges.{in_ranges}
+use Rattle.sv_word.specs.Ranges.{in_ranges, IsApartFrom}
 use Rattle.machine_core.specs.Lists.{Any-contains, contained, slice_get-contains}
 use Rattle.machine_core.specs.declared.edge.Edge.{Edge}
 use Rattle.machine_core.specs.declared.end.End.{End}
@@ -12,9 +12,9 @@ use Rattle.machine_core.specs.Places.{places, pick}
 use Rattle.machine_core.specs.Edges.{from_of, at_of, move_of, StepsBy, EndsAt, IsFormed}
 use Rattle.machine_core.specs.Moves.{Moves}
 use Rattle.subset_machine.specs.declared.leaving.Leg.{Leg}
-use Rattle.subset_machine.specs.Subsets.{StepsFromSome}
-use Rattle.subset_machine.specs.Legs.{places_from_some, on_of, leg, legs_of, Leads, AreLeaving}
-use Rattle.subset_machine.proofs.AscendingLemmas.{nothing}
+use Rattle.sv_word.specs.Words.{greatest_character}
+use Rattle.subset_machine.specs.Legs.{places_from_some, leg, legs_of, IsRange, Leads, AreLeaving}
+use Rattle.subset_machine.proofs.AscendingLemmas.{nothing, contains-cases}
 use Rattle.subset_machine.proofs.PlaceLemmas.{places-exact, contains-get, pick-in, pick-out, flat_map-in, flat_map-out, map-in, map-out}
 
 -- a character lies between the first and the last one of some pair
@@ -57,9 +57,8 @@ module _ (edges : List Edge) (list : List ℕ) where
       pick-out edges (places_from_some edges list) g.0 e
       (flat_map-out (λ s. places from_of s edges) list e.from g.0 s ((places-exact from_of e.from edges g.0).1 (e, g.1, refl))) g.1
 
-  pub leaving-made : ((e : Edge) → Contains edges e → e.cost ≡ []) → AreLeaving edges list (map on_of edges_from_some) (flat_map legs_of edges_from_some)
+  pub leaving-made : ((e : Edge) → Contains edges e → e.cost ≡ []) → AreLeaving edges list (flat_map legs_of edges_from_some)
   leaving-made free = record {
-    held = λ e i s. map-out on_of edges_from_some e (from-some-out e i s);
     exact = λ c t. (
       λ a.
           let s = contained (Leads c t) (flat_map legs_of edges_from_some) a in
@@ -78,6 +77,17 @@ module _ (edges : List Edge) (list : List ℕ) where
           (flat_map-out legs_of edges_from_some e.0 (leg e.0.to p.0) i (map-out (leg e.0.to) e.0.on p.0 p.1)) (p.2.0, p.2.1, e.2.1.2),
     );
   }
+
+pub apart-inside : (low : ℕ) (ps : List (ℕ × ℕ)) (p : ℕ × ℕ) → IsApartFrom low ps → Contains ps p → (p.0 ≤ p.1) × (p.1 ≤ greatest_character)
+apart-inside low [] p h i = absurd (nothing p i)
+apart-inside low (q ∷ qs) p h i = elim (contains-cases q qs p i) [
+  | inl e ↦ subst (λ (r : ℕ × ℕ). (r.0 ≤ r.1) × (r.1 ≤ greatest_character)) e (h.1, h.2)
+  | inr j ↦ apart-inside (q.1 + 2) qs p h.3 j
+]
+
+-- the ranges of an edge have characters
+pub legs-ranges : (e : Edge) → IsApartFrom 0 e.on → (s : Leg) → Contains (legs_of e) s → IsRange s
+legs-ranges e apart s i = let p = map-in (leg e.to) e.on s i in subst IsRange p.2 (apart-inside 0 e.on p.0 apart p.1)
 
 -- without registers nothing costs anything
 pub edges-free : (states : ℕ) (edges : List Edge) (ends : List End) → IsFormed states 0 edges ends → (e : Edge) → Contains edges e → e.cost ≡ []

@@ -1,11 +1,8 @@
 -- The edges and the ends of states, found by their places.
-use Rattle.std.proofs.Common.{◌≡◌, ℕ, zero, suc, ◌+◌, ◌<◌, ◌⊎◌, inl, inr, ◌↔◌, nat_eq, cond, Bool, true, false, Option, Some, None, List, [], ◌∷◌, ◌++◌, length, slice_get, get_or, Any, Contains, refl, sym, ap, ◌∙◌, subst, arith}
+use Rattle.std.proofs.Common.{◌≡◌, ℕ, zero, suc, ◌+◌, inl, inr, ◌↔◌, nat_eq, cond, Bool, true, false, Option, Some, None, List, [], ◌∷◌, slice_get, Contains, refl, sym, ap, ◌∙◌, subst, arith}
 use Rattle.std.specs.List.{flat_map, cons_option}
 use Rattle.std.proofs.lemmas.Bool.Decides.{nat_tests}
-use Rattle.std.proofs.lemmas.Option.{slice_get_read, slice_get-get_or}
-use Rattle.std.proofs.lemmas.List.{take_more}
-use Rattle.std.proofs.Common.{take, map}
-use Rattle.machine_core.specs.Lists.{Any-here, Any-there, Any-cases, Any-none, Any-append_left, Any-append_right, Any-append_cases, slice_get-contains}
+use Rattle.std.proofs.Common.{map}
 use Rattle.machine_core.specs.Places.{places_from, places, pick}
 use Rattle.subset_machine.proofs.AscendingLemmas.{nothing, contains-cases, contains-join}
 use Rattle.machine_core.specs.Lists.{Contains-here, Contains-there}

@@ -1,9 +1,7 @@
 -- The words of the lists of states are the machine's, or all others.
-use Rattle.std.proofs.Common.{◌≡◌, ℕ, ◌<◌, ◌≤◌, ◌⊎◌, inl, inr, ◌↔◌, ◌&&◌, true, false, Bool, nat_le, IsTrue, List, [], ◌∷◌, length, map, Any, Contains, refl, sym, ap, ◌∙◌, subst, arith}
+use Rattle.std.proofs.Common.{◌≡◌, ℕ, ◌≤◌, inl, inr, ◌↔◌, ◌&&◌, true, false, Bool, nat_le, IsTrue, List, [], ◌∷◌, length, Any, Contains, refl, sym, ap, ◌∙◌, subst, arith}
 use Rattle.std.specs.List.{flat_map}
 use Rattle.std.proofs.lemmas.Bool.Decides.{nat_tests}
-use Rattle.std.proofs.lemmas.List.{nil_from_length}
-use Rattle.sv_word.specs.Ranges.{in_ranges}
 use Rattle.sv_word.specs.Words.{IsWord, greatest_character}
 use Rattle.machine_core.specs.Costs.{add_costs}
 use Rattle.machine_core.specs.Lists.{Any-here, Any-there, Any-cases, Any-none, Any-contains, Contains-here, contained}
@@ -11,9 +9,8 @@ use Rattle.machine_core.specs.Language.{RunsFrom}
 use Rattle.machine_core.specs.declared.edge.Edge.{Edge}
 use Rattle.machine_core.specs.declared.end.End.{End}
 use Rattle.machine_core.specs.declared.graph.Graph.{Graph}
-use Rattle.machine_core.specs.Edges.{EndsAt, StepsBy, IsFormed, move_of}
+use Rattle.machine_core.specs.Edges.{EndsAt, StepsBy, IsFormed}
 use Rattle.machine_core.specs.EdgeLaws.{step_character}
-use Rattle.machine_core.specs.Moves.{Moves}
 use Rattle.std.specs.BTreeMap.{BTreeMap, get}
 use Rattle.std.proofs.Common.{Some, nat_eq}
 use Rattle.std.specs.Prelude.{not}
@@ -21,10 +18,10 @@ use Rattle.std.proofs.Math.Bool.{beq}
 use Rattle.machine_core.specs.Places.{pick}
 use Rattle.machine_core.specs.Graphs.{Accepts}
 use Rattle.subset_machine.specs.declared.leaving.Leg.{Leg}
-use Rattle.subset_machine.specs.Legs.{Leads, AreLeaving, AreMarks, AreHits, places_from_some, on_of, legs_of}
+use Rattle.subset_machine.specs.Legs.{Leads, AreLeaving, AreMarks, AreHits, places_from_some, legs_of}
 use Rattle.subset_machine.specs.Subsets.{ListsAll, StepsFromSome, EndsInSome, MayEnd, SubsetEnds, SubsetSteps, SubsetAccepts, HasWord}
-use Rattle.subset_machine.specs.Groups.{lists_cmp, FollowsOn, AreGroups, AreIntervals, MovesUnder}
-use Rattle.subset_machine.proofs.AscendingLemmas.{nothing, contains-cases, lists-same, lists-weaker, Rises, rises-increasing, inserted}
+use Rattle.subset_machine.specs.Groups.{lists_cmp, AreGroups, AreIntervals, MovesUnder}
+use Rattle.subset_machine.proofs.AscendingLemmas.{nothing, lists-same, lists-weaker, Rises, rises-increasing, inserted}
 use Rattle.subset_machine.proofs.LeavingLemmas.{ranges-in, ranges-out, edges_from_some, leaving-made, edges-free, ends-free}
 
 -- ranges lead to a list of states on each character
@@ -176,16 +173,12 @@ subset-complete m plain negated holds list c le =
     (n.0, (le, refl, n.1, λ e. holds))
 
 -- all characters of an interval lead to the same states
-module _ (edges : List Edge) (list : List ℕ) (sets : List (List (ℕ × ℕ))) (legs : List Leg) (marks hits : List (ℕ × ℕ))
-    (leaving : AreLeaving edges list sets legs) (cut : AreMarks sets marks) (found : AreHits legs marks hits) where
+module _ (edges : List Edge) (list : List ℕ) (legs : List Leg) (marks hits : List (ℕ × ℕ))
+    (leaving : AreLeaving edges list legs) (cut : AreMarks legs marks) (found : AreHits legs marks hits) where
   same-step : (m : ℕ × ℕ) → Contains marks m → (c d : ℕ) → m.0 ≤ c → c ≤ m.1 → m.0 ≤ d → d ≤ m.1 → (t : ℕ) → StepsFromSome edges list c t → StepsFromSome edges list d t
   same-step m i c d lc hc ld hd t a =
-      let s = contained (λ s. StepsBy edges s c [] t) list a in
-      let e = contained (λ e. (e.from ≡ s.0) × Moves c [] t (move_of e)) edges s.2 in
-      let held = leaving.held e.0 e.1 (subst (Contains list) (sym e.2.0) s.1) in
-      let alike = cut.uniform m i e.0.on held c lc hc ∙ sym (cut.uniform m i e.0.on held d ld hd) in
-      Any-contains (λ s. StepsBy edges s d [] t) list s.0 s.1
-      (Any-contains (λ e. (e.from ≡ s.0) × Moves d [] t (move_of e)) edges e.0 e.1 (e.2.0, (sym alike ∙ e.2.1.0, e.2.1.1, e.2.1.2)))
+      let s = contained (Leads c t) legs ((leaving.exact c t).1 a) in
+      (leaving.exact d t).0 (Any-contains (Leads d t) legs s.0 s.1 (cut.uniform m i s.0 s.1 c d t lc hc ld hd s.2))
 
   hit-step : (m : ℕ × ℕ) → Contains marks m → (c : ℕ) → m.0 ≤ c → c ≤ m.1 → (t : ℕ) → Contains hits (m.0, t) ↔ StepsFromSome edges list c t
   hit-step m i c l h t =
@@ -220,26 +213,24 @@ module _ (edges : List Edge) (list : List ℕ) (sets : List (List (ℕ × ℕ)))
   }
 
 -- what is found on the way to the moves of a list, over plain lists
-pub record Parts (edges : List Edge) (list : List ℕ) (sets : List (List (ℕ × ℕ))) (legs : List Leg) (marks hits : List (ℕ × ℕ)) : Type 0 where
-  pub leaving : AreLeaving edges list sets legs
-  pub cut : AreMarks sets marks
+pub record Parts (edges : List Edge) (list : List ℕ) (legs : List Leg) (marks hits : List (ℕ × ℕ)) : Type 0 where
+  pub leaving : AreLeaving edges list legs
+  pub cut : AreMarks legs marks
   pub found : AreHits legs marks hits
 
 pub leaving-from : (m : Graph) → m.registers ≡ 0 → (list given : List ℕ) → given ≡ list → (es : List Edge) → es ≡ m.edges → (ps : List ℕ) → ps ≡ places_from_some m.edges given
-    → (sets : List (List (ℕ × ℕ))) (legs : List Leg) → sets ≡ map on_of (pick es ps) → legs ≡ flat_map legs_of (pick es ps) → AreLeaving m.edges list sets legs
-leaving-from m plain list given at es edges ps places sets legs e f =
+    → (legs : List Leg) → legs ≡ flat_map legs_of (pick es ps) → AreLeaving m.edges list legs
+leaving-from m plain list given at es edges ps places legs f =
     let formed = subst (λ n. IsFormed m.states n m.edges m.ends) plain m.formed in
     let same : pick es ps ≡ edges_from_some m.edges list = ap (λ l. pick l ps) edges ∙ ap (pick m.edges) (places ∙ ap (places_from_some m.edges) at) in
-    subst (AreLeaving m.edges list sets) (sym (f ∙ ap (flat_map legs_of) same))
-    (subst (λ l. AreLeaving m.edges list l (flat_map legs_of (edges_from_some m.edges list))) (sym (e ∙ ap (map on_of) same))
-    (leaving-made m.edges list (edges-free m.states m.edges m.ends formed)))
+    subst (AreLeaving m.edges list) (sym (f ∙ ap (flat_map legs_of) same)) (leaving-made m.edges list (edges-free m.states m.edges m.ends formed))
 
-pub parts-from : (edges : List Edge) (list : List ℕ) (sets sets' : List (List (ℕ × ℕ))) (legs legs' : List Leg) (marks marks' hits : List (ℕ × ℕ))
-    → AreLeaving edges list sets legs → sets' ≡ sets → AreMarks sets' marks → legs' ≡ legs → marks' ≡ marks → AreHits legs' marks' hits → Parts edges list sets legs marks hits
-parts-from edges list sets sets' legs legs' marks marks' hits leaving a cut b d found = record {
+pub parts-from : (edges : List Edge) (list : List ℕ) (legs cut_legs hit_legs : List Leg) (marks marks' hits : List (ℕ × ℕ))
+    → AreLeaving edges list legs → cut_legs ≡ legs → AreMarks cut_legs marks → hit_legs ≡ legs → marks' ≡ marks → AreHits hit_legs marks' hits → Parts edges list legs marks hits
+parts-from edges list legs cut_legs hit_legs marks marks' hits leaving a cut b d found = record {
   leaving = leaving;
   cut = subst (λ l. AreMarks l marks) a cut;
-  found = subst (λ l. AreHits l marks hits) b (subst (λ l. AreHits legs' l hits) d found);
+  found = subst (λ l. AreHits l marks hits) b (subst (λ l. AreHits hit_legs l hits) d found);
 }
 
 pub grouped-from : (marks marks' hits hits' : List (ℕ × ℕ)) (dead : Bool) (groups : BTreeMap (List ℕ) (List (ℕ × ℕ))) → marks' ≡ marks → hits' ≡ hits

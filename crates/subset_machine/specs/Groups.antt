@@ -1,12 +1,10 @@
 -- The intervals of characters, by the list that follows on them.
-use Rattle.std.specs.Prelude.{◌≡◌, ℕ, ◌≤◌, ◌++◌, ◌↔◌, Bool, IsTrue, List, [], ◌∷◌, Some, unwrap_or, Contains, All, Any}
+use Rattle.std.specs.Prelude.{◌≡◌, ℕ, ◌≤◌, ◌++◌, Bool, IsTrue, List, [], ◌∷◌, Some, unwrap_or, Contains}
 use Rattle.std.specs.declared.cmp.Ordering.{Ordering}
 use Rattle.std.specs.BTreeMap.{BTreeMap, get, Updates}
 use Rattle.std.specs.Cmp.Lexicographic.{slice_cmp}
 use Rattle.std.specs.Ordering.{nat_cmp}
 use Rattle.sv_word.specs.Ranges.{in_ranges}
-use Rattle.machine_core.specs.declared.machine.Move.{Move}
-use Rattle.machine_core.specs.Moves.{Moves}
 use Rattle.subset_machine.specs.Subsets.{ListsAll}
 use Rattle.sv_word.specs.Words.{greatest_character}
 

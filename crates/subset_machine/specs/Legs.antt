@@ -1,5 +1,5 @@
 -- Edges range by range, the characters cut into intervals, and what leads from an interval to which state.
-use Rattle.std.specs.Prelude.{◌≡◌, ℕ, ◌≤◌, IsTrue, ◌↔◌, List, map, flat_map, Any, Contains}
+use Rattle.std.specs.Prelude.{◌≡◌, ℕ, ◌+◌, ◌≤◌, IsTrue, ◌↔◌, List, map, flat_map, Any, Contains}
 use Rattle.std.specs.List.Sorted.{IsNonDecreasingBy}
 use Rattle.sv_word.specs.Ranges.{in_ranges}
 use Rattle.machine_core.specs.declared.edge.Edge.{Edge}
@@ -16,9 +16,6 @@ places_from_some edges list = flat_map (λ s. places from_of s edges) list
 abbrev pub leg : ℕ → ℕ × ℕ → Leg
 leg to pair = record { low = pair.0; high = pair.1; to = to }
 
-abbrev pub on_of : Edge → List (ℕ × ℕ)
-on_of e = e.on
-
 -- the ranges of an edge, each with its target
 abbrev pub legs_of : Edge → List Leg
 legs_of e = map (leg e.to) e.on
@@ -27,17 +24,29 @@ legs_of e = map (leg e.to) e.on
 abbrev pub Leads : ℕ → ℕ → Leg → Type 0
 Leads c t s = (s.low ≤ c) × (c ≤ s.high) × (s.to ≡ t)
 
--- the sets of the edges that leave one of these states, and the ranges of these edges
-pub record AreLeaving (edges : List Edge) (list : List ℕ) (sets : List (List (ℕ × ℕ))) (legs : List Leg) : Type 0 where
-  pub held : (e : Edge) → Contains edges e → Contains list e.from → Contains sets e.on
+-- some characters, from the first one to the last one
+abbrev pub IsRange : Leg → Type 0
+IsRange s = (s.low ≤ s.high) × (s.high ≤ greatest_character)
+
+-- the ranges of the edges that leave one of these states
+pub record AreLeaving (edges : List Edge) (list : List ℕ) (legs : List Leg) : Type 0 where
   pub exact : (c t : ℕ) → Any (Leads c t) legs ↔ StepsFromSome edges list c t
 
--- intervals of characters, in order, in which all characters lie; each of these sets has all characters of an interval or none
-pub record AreMarks (sets : List (List (ℕ × ℕ))) (marks : List (ℕ × ℕ)) : Type 0 where
+-- where ranges begin and stop, in order, and the end of the characters
+pub record AreBorders (legs : List Leg) (borders : List ℕ) : Type 0 where
+  pub begins : (s : Leg) → Contains legs s → Contains borders s.low
+  pub stops : (s : Leg) → Contains legs s → Contains borders (s.high + 1)
+  pub last : Contains borders (greatest_character + 1)
+  pub top : (b : ℕ) → Contains borders b → b ≤ greatest_character + 1
+  pub order : IsNonDecreasingBy (λ b. b) borders
+
+-- intervals of characters, in order, in which all characters lie; each of these ranges has all characters of an interval or none
+pub record AreMarks (legs : List Leg) (marks : List (ℕ × ℕ)) : Type 0 where
   pub order : IsNonDecreasingBy (λ m. m.0) marks
   pub inside : (m : ℕ × ℕ) → Contains marks m → (m.0 ≤ m.1) × (m.1 ≤ greatest_character)
   pub covering : (c : ℕ) → c ≤ greatest_character → IsTrue (in_ranges marks c)
-  pub uniform : (m : ℕ × ℕ) → Contains marks m → (s : List (ℕ × ℕ)) → Contains sets s → (c : ℕ) → m.0 ≤ c → c ≤ m.1 → in_ranges s c ≡ in_ranges s m.0
+  pub uniform : (m : ℕ × ℕ) → Contains marks m → (s : Leg) → Contains legs s
+      → (c d t : ℕ) → m.0 ≤ c → c ≤ m.1 → m.0 ≤ d → d ≤ m.1 → Leads c t s → Leads d t s
 
 -- pairs of the first character of an interval and a state to which some range leads on it, in the order of the characters
 pub record AreHits (legs : List Leg) (marks hits : List (ℕ × ℕ)) : Type 0 where

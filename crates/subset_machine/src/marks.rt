@@ -1,20 +1,41 @@
 //! The characters cut into intervals.
-ghost use Rattle.std.specs.Prelude.{◌≡◌, IfOk, flat_map};
-ghost use Rattle.subset_machine.specs.Legs.{AreMarks};
+ghost use Rattle.std.specs.Prelude.{◌≡◌, ℕ, Contains, IfOk};
+ghost use Rattle.subset_machine.specs.declared.leaving.Leg.{Leg};
+ghost use Rattle.subset_machine.specs.Legs.{IsRange, AreBorders, AreMarks};
 
+use crate::leaving::Leg;
 use std::alloc::{AllocError, Global};
-use sv_word::{Ranges, cuts};
+use sv_word::GREATEST_CHARACTER;
 
-/// Intervals of characters in order, each with its first and its last one, on which none of the sets
-/// begins or stops. For n pairs in the sets there are at most 2n + 1, in time n log n.
-pub fn cut(alloc: Global, sets: &[Ranges]) -> Result<Vec<(u32, u32)>, AllocError>
-    ensures { IfOk result (λ v. AreMarks sets.now v.items) }
+/// Intervals of characters in order, each with its first and its last one, on which none of the ranges
+/// begins or stops. For n ranges there are at most 2n + 1, found by one sort in time n log n.
+pub fn cut(alloc: Global, legs: &[Leg]) -> Result<Vec<(u32, u32)>, AllocError>
+    requires { (s : Leg) → Contains legs.now s → IsRange s }
+    ensures { IfOk result (λ v. AreMarks legs.now v.items) }
 {
-    let pieces = cuts(alloc, sets)?;
+    let borders = sorted_borders(alloc, legs)?;
     let mut marks = Vec::new(alloc);
-    for piece in pieces.as_slice() {
-        marks.extend_from_slice(piece.as_slice())?;
+    let mut from = 0;
+    for border in borders.as_slice() {
+        if from < *border {
+            marks.push((from, *border - 1))?;
+            from = *border;
+        }
     }
-    marks.sort_unstable();
     Ok(marks)
+}
+
+// Where ranges begin and stop, in order, and the end of the characters.
+fn sorted_borders(alloc: Global, legs: &[Leg]) -> Result<Vec<u32>, AllocError>
+    requires { (s : Leg) → Contains legs.now s → IsRange s }
+    ensures { IfOk result (λ v. AreBorders legs.now v.items) }
+{
+    let mut borders = Vec::with_capacity(alloc, legs.len())?;
+    for leg in legs {
+        borders.push(leg.low)?;
+        borders.push(leg.high + 1)?;
+    }
+    borders.push(GREATEST_CHARACTER + 1)?;
+    borders.sort_unstable();
+    Ok(borders)
 }

@@ -119,9 +119,9 @@ impl<'a> Machine for Subset<'a> {
         ensures joined { IfOk result (AllPairs (λ m n. m.to ≢ n.to)) }
     {
         let places = places_of(alloc, self.machine, at.as_slice())?;
-        let leaving = take_apart(alloc, self.machine.edges(), places.as_slice())?;
-        let marks = cut(alloc, leaving.sets.as_slice())?;
-        let hits = hits_of(alloc, leaving.legs.as_slice(), marks.as_slice())?;
+        let legs = take_apart(alloc, self.machine.edges(), places.as_slice())?;
+        let marks = cut(alloc, legs.as_slice())?;
+        let hits = hits_of(alloc, legs.as_slice(), marks.as_slice())?;
         let groups = group(alloc, marks.as_slice(), hits.as_slice(), self.negated)?;
         moves_of(alloc, groups)
     }

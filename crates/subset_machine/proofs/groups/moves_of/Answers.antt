@@ -1,6 +1,5 @@
-use Rattle.std.proofs.Common.{◌≡◌, ℕ, List, [], length, refl, sym, ap, ◌∙◌, subst}
+use Rattle.std.proofs.Common.{sym, ap, ◌∙◌, subst}
 use Rattle.sv_word.specs.Ranges.{in_ranges}
-use Rattle.machine_core.specs.declared.machine.Move.{Move}
 use Rattle.subset_machine.proofs.GroupLemmas.{Entry, Popped, none-left, popped-start, popped-more, popped-inside, popped-all, moves-exact, moves-inhabited, moves-joined}
 use Rattle.subset_machine.proofs.groups.moves_of.Goals as goal
 

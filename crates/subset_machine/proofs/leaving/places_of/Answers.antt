@@ -1,4 +1,3 @@
-use Rattle.std.proofs.Common.{length}
 use Rattle.std.proofs.lemmas.List.Elements.{Contains-get_or}
 use Rattle.subset_machine.proofs.leaving.places_of.Goals as goal
 

@@ -1,10 +1,18 @@
-use Rattle.std.proofs.Common.{◌++◌, ◌∷◌, [], map, take, ap, sym, ◌∙◌}
+use Rattle.std.proofs.Common.{[], ◌++◌, Contains, inl, inr, take, ap, sym, ◌∙◌, subst}
 use Rattle.std.specs.List.{flat_map}
-use Rattle.std.proofs.lemmas.List.{map_push, flat_map_more}
+use Rattle.std.proofs.lemmas.List.{flat_map_more}
+use Rattle.std.proofs.lemmas.List.Elements.{Contains-append_cases}
 use Rattle.machine_core.specs.Places.{pick}
-use Rattle.subset_machine.specs.Legs.{on_of, legs_of}
+use Rattle.subset_machine.specs.Legs.{legs_of}
 use Rattle.machine_core.specs.PlaceLaws.{pick-more}
+use Rattle.subset_machine.proofs.AscendingLemmas.{nothing}
 use Rattle.subset_machine.proofs.leaving.take_apart.Goals as goal
+
+pub loop-place-init : goal.loop-place-init
+loop-place-init c = record {
+  legs = c.in_ok-legs.ensures.items;
+  ranges = λ s i. absurd (nothing s (subst (λ l. Contains l s) c.in_ok-legs.ensures.items i));
+}
 
 pub loop-place-preserved : goal.loop-place-preserved
 loop-place-preserved c =
@@ -13,9 +21,11 @@ loop-place-preserved c =
     let e = c.index-edges-place.result in
     let before = pick edges (take i c.args.places.now) in
     let more = pick-more edges c.args.places.now i e c.requires c.loop-place-test.true c.index-edges-place.is in
+    let pushed = c.in_ok-push_legs.ensures.legs in
     record {
-      sets = c.in_ok-push.ensures.items ∙ ap (λ v. c.loop-place.sets.items ++ v ∷ []) c.in_ok-copy.ensures ∙ ap (λ l. l ++ e.on ∷ []) c.loop-place.invariant.sets
-          ∙ sym (map_push on_of before e) ∙ ap (map on_of) (sym more);
-      legs = c.in_ok-push_legs.ensures ∙ ap (λ l. l ++ legs_of e) c.loop-place.invariant.legs
-          ∙ flat_map_more legs_of [] before e ∙ ap (flat_map legs_of) (sym more);
+      legs = pushed ∙ ap (λ l. l ++ legs_of e) c.loop-place.invariant.legs ∙ flat_map_more legs_of [] before e ∙ ap (flat_map legs_of) (sym more);
+      ranges = λ s j. elim (Contains-append_cases c.loop-place.legs.items (legs_of e) s (subst (λ l. Contains l s) pushed j)) [
+        | inl k ↦ c.loop-place.invariant.ranges s k
+        | inr k ↦ c.push_legs.ensures.ranges s k
+      ];
     }

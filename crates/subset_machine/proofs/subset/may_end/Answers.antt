@@ -1,4 +1,4 @@
-use Rattle.std.proofs.Common.{◌≡◌, ℕ, [], ◌∷◌, ◌++◌, ◌+◌, inl, inr, List, take, get_or, Contains, refl, sym, ◌∙◌, subst}
+use Rattle.std.proofs.Common.{[], inl, inr, take, get_or, Contains, refl, sym, ◌∙◌, subst}
 use Rattle.std.proofs.lemmas.List.{take_all}
 use Rattle.std.proofs.lemmas.List.Elements.{Contains-get_or, Contains-push_cases}
 use Rattle.machine_core.specs.Edges.{EndsAt, IsFormed}

@@ -1,5 +1,5 @@
-use Rattle.std.proofs.Common.{◌≡◌, [], ◌∷◌, ◌++◌, List, ℕ, Contains, Any, ◌↔◌, sym, ap, ◌∙◌, subst}
-use Rattle.subset_machine.specs.Subsets.{SubsetEnds, EndsInSome}
+use Rattle.std.proofs.Common.{[], ◌∷◌, ◌++◌, Contains, ◌↔◌, ap, ◌∙◌, subst}
+use Rattle.subset_machine.specs.Subsets.{EndsInSome}
 use Rattle.std.specs.Prelude.{IsTrue}
 use Rattle.subset_machine.proofs.SubsetRuns.{ends-some, ends-none-of}
 use Rattle.subset_machine.proofs.subset.SubsetMachine.ends.Goals as goal
