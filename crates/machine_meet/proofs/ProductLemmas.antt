@@ -1,5 +1,5 @@
 -- The product's moves, one machine after another, from the last.
-use Rattle.std.proofs.Common.{◌≡◌, ℕ, zero, suc, ◌+◌, ◌<◌, ◌≤◌, ◌^◌, ◌↔◌, List, [], ◌∷◌, length, drop, map, nat_eq, true, false, get_or, All, Any, Contains, refl, ap, sym, ◌∙◌, subst, arith}
+use Rattle.std.proofs.Common.{◌≡◌, ℕ, zero, suc, ◌+◌, ◌<◌, ◌≤◌, ◌^◌, ◌↔◌, List, [], ◌∷◌, length, drop, map, nat_eq, true, false, get_or, Any, Contains, refl, ap, sym, ◌∙◌, subst, arith}
 use Rattle.sv_word.specs.Ranges.{IsInhabited, least_of}
 use Rattle.machine_core.specs.Costs.{add_costs, zeros, IsCost}
 use Rattle.machine_core.specs.Lists.{Any-none, Any-map, Any-from_map}

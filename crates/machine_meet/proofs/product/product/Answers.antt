@@ -1,5 +1,4 @@
-use Rattle.std.proofs.Common.{◌≡◌, ℕ, List, [], ◌<◌, ◌≤◌, ◌-◌, ◌+◌, suc, drop, length, map, ap, subst, sym, ◌∙◌, arith}
-use Rattle.machine_meet.specs.Joins.{listed}
+use Rattle.std.proofs.Common.{◌≡◌, [], ◌<◌, ◌-◌, suc, drop, length, subst, sym, ◌∙◌, arith}
 use Rattle.machine_meet.specs.Products.{AreProduct}
 use Rattle.machine_meet.proofs.ProductLemmas.{product-none, product-last, product-at, product-stuck, states-length, states-at, can-add-at, listed-inhabited, some-of, nil-of}
 use Rattle.machine_meet.proofs.product.product.Goals as goal
