@@ -42,8 +42,8 @@ pushed_small f r u a e k s (Unknown v) =
     subst (λ z. unsigned_abs z ≤ suc (unsigned_abs (coefficient v f.coefficients))) (sym (ap (coefficient v) e ∙ pushed_coefficient v f.coefficients u a)) (one_more (coefficient v f.coefficients) a (nat_eq u v) s)
 pushed_small f r u a e k s Constant = subst (λ z. unsigned_abs z ≤ suc (unsigned_abs f.constant)) (sym k) (omega arith)
 
-pub pushed_ascends : (low u : ℕ) (a : ℤ) (ts : List (ℕ × ℤ)) → AscendsWithin low u ts → unsigned_abs a ≡ 1 → AscendsWithin low (suc u) (ts ++ (u, a) ∷ [])
-pushed_ascends low u a [] h e = (h, (omega arith, omega arith))
+pub pushed_ascends : (low u : ℕ) (a : ℤ) (ts : List (ℕ × ℤ)) → AscendsWithin low u ts → 0 < unsigned_abs a → AscendsWithin low (suc u) (ts ++ (u, a) ∷ [])
+pushed_ascends low u a [] h e = (h, (e, omega arith))
 pushed_ascends low u a (t ∷ ts) h e = (h.0, (h.1.0, pushed_ascends (t.0 + 1) u a ts h.1.1 e))
 
 sum_small : (y z : ℤ) → unsigned_abs z ≤ 1 → unsigned_abs (y +ℤ z) ≤ suc (unsigned_abs y)

@@ -7,6 +7,7 @@ pub mod DivisorLeaves
 pub mod DueTreeRules
 pub mod EdgeRows
 pub mod Entering
+pub mod FormValues
 pub mod ForkRows
 pub mod Forking
 pub mod LeafSums

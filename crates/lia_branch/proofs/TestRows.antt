@@ -1,7 +1,9 @@
 -- Rows that are looked at term by term, as the tests look at them.
 use Rattle.std.proofs.Common.{◌≡◌, ℕ, zero, suc, ◌+◌, ◌<◌, ◌≤◌, ◌^◌, ℤ, pos, ◌+ℤ◌, List, [], ◌∷◌, ◌++◌, length, slice_get, get_or, Some, unsigned_abs, Bool, true, false, cond, eqb, ◌⊎◌, ⊎_elim, inl, inr, refl, ap, sym, ◌∙◌, subst, arith}
 use Rattle.std.proofs.lemmas.Int.{ints}
+use Rattle.std.proofs.lemmas.Bool.{cases_lt}
 use Rattle.std.proofs.lemmas.Bool.Decides.{eqb_tells}
+use Rattle.std.proofs.lemmas.Option.{get_or_from_slice_get}
 use Rattle.sv_linear.specs.Combining.{IsSymmetric}
 use Rattle.sv_linear.specs.Rows.{HasSymmetricEntries}
 use Rattle.sv_linear.specs.TermLaws.{below_low}
@@ -44,3 +46,12 @@ get_push_cases (z ∷ zs) y (suc i) x e = get_push_cases zs y i x e
 
 pub each_pushed : (P : Row → Type 0) (rows : List Row) (row : Row) → ((i : ℕ) (r : Row) → slice_get rows i ≡ Some r → P r) → P row → (i : ℕ) (r : Row) → slice_get (rows ++ row ∷ []) i ≡ Some r → P r
 each_pushed P rows row h p i r g = ⊎_elim (λ l. h i r l) (λ e. subst P e p) (get_push_cases rows row i r g)
+
+-- rows that are looked at one by one
+pub each_more : (P : Row → Type 0) (items : List Row) (i : ℕ) (row : Row) → row ≡ get_or items i row → ((j : ℕ) (r : Row) → j < i → slice_get items j ≡ Some r → P r) → P row → (j : ℕ) (r : Row) → j < i + 1 → slice_get items j ≡ Some r → P r
+each_more P items i row is before met j r low g = ⊎_elim (λ l. before j r l g) last (cases_lt j i)
+  where
+    last : i ≤ j → P r
+    last high =
+        let at : i ≡ j = omega arith in
+        subst P (is ∙ ap (λ n. get_or items n row) at ∙ get_or_from_slice_get items j r row g) met

@@ -1,4 +1,4 @@
-ghost use Rattle.std.specs.Prelude.{◌≡◌, ℕ, suc, ◌<◌, ◌-◌, IfOk};
+ghost use Rattle.std.specs.Prelude.{◌≡◌, ℕ, suc, ◌<◌, ◌-◌, All, Some, slice_get, IfOk};
 ghost use Rattle.std.specs.List.{count_by};
 ghost use Rattle.sv_linear.specs.Rows.{IsRowWithin};
 ghost use Rattle.lia_tableau.specs.Crossing.{IsPast};
@@ -9,7 +9,9 @@ ghost use Rattle.lia_branch.specs.Nodes.{Node, BeginsAt, IsFirst};
 ghost use Rattle.lia_branch.specs.EvidenceHolds.{IsPastAt, Holds};
 ghost use Rattle.lia_branch.specs.Founds.{IsReady, IsNodeOf, IsNodeStop};
 ghost use Rattle.lia_branch.specs.Forks.{VisitHolds, IsSearching, IsForkAt, IsResumed, EnteredHolds, NextHolds, IsNextSmaller, EnteredBy, is_first};
-ghost use Rattle.lia_branch.specs.Outcomes.{IfSolution, IfClosed, IfGaveUp, IsSolution, IsAccepted};
+ghost use Rattle.lia_branch.specs.Outcomes.{CountsEdges, IfSolution, IfClosed, IfGaveUp, IsSolution, IsAccepted};
+ghost use Rattle.farkas_check.specs.Cuts.{IsNetWithin};
+ghost use Rattle.sv_linear.specs.declared.row.Row.{Row as AnyRow};
 
 use crate::fork::Fork;
 use crate::leaves::{conflict_leaf, divisor_leaf};
@@ -209,4 +211,26 @@ pub(crate) fn search<C: Cutter>(
             }
         }
     }
+}
+
+/// Searches the tree whose splits are due, from the first basis of the system's rows.
+pub(crate) fn search_tree<C: Cutter>(
+    alloc: Global,
+    system: &System,
+    cutter: &C,
+) -> Result<Outcome, AllocError>
+    requires rows { (i : ℕ) (r : AnyRow) → slice_get system.now.rows i ≡ Some r → IsRowWithin system.now.unknowns r }
+    requires nets { All (IsNetWithin system.now.unknowns) system.now.nets }
+    requires counts { CountsEdges system.now }
+    requires cutter { C.nets cutter.now ≡ system.now.nets }
+    ensures solution { IfOk result (λ o. IfSolution o (IsSolution system.now)) }
+    ensures closed { IfOk result (λ o. IfClosed o (IsAccepted system.now)) }
+    ensures gave_up { IfOk result (λ o. IfGaveUp o (Holds system.now)) }
+{
+    let tableau = match Tableau::new(alloc, system.rows.as_slice(), system.unknowns) {
+        Ok(tableau) => tableau,
+        Err(TableauFault::Memory(error)) => return Err(error),
+        Err(TableauFault::Past { .. }) => unreachable!(),
+    };
+    search(alloc, system, cutter, tableau)
 }

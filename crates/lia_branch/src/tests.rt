@@ -1,7 +1,8 @@
 ghost use Rattle.std.specs.Prelude.{◌≡◌, ℕ, [], Some, slice_get, IfOk, IsTrue};
 ghost use Rattle.sv_linear.specs.Rows.{IsRowWithin};
-ghost use Rattle.sv_linear.specs.declared.row.Row.{Row};
+ghost use Rattle.sv_linear.specs.declared.row.Row.{Row as AnyRow};
 
+use crate::reducing::is_within;
 use crate::{Evidence, NoCut, Outcome, solve};
 use farkas_check::{System, Tree, closes};
 use std::alloc::Global;
@@ -28,61 +29,99 @@ enum Ending {
     PastSum,
 }
 
-/// The row of these entries.
-fn row_of(alloc: Global, entries: Entries) -> Result<Row, Fail> {
-    let (kind, coefficients, constant) = entries;
-    let first = Form::of_unknown(alloc, 0)?.scale(alloc, coefficients[0])?;
-    let second = Form::of_unknown(alloc, 1)?.scale(alloc, coefficients[1])?;
-    let third = Form::of_unknown(alloc, 2)?.scale(alloc, coefficients[2])?;
-    let terms = first.add(alloc, &second)?.add(alloc, &third)?;
-    Ok(Row {
-        form: terms.add(alloc, &Form::of_constant(alloc, constant))?,
-        kind,
-    })
+/// The row of these terms.
+fn row_of(
+    alloc: Global,
+    kind: RowKind,
+    terms: &[(u32, i128)],
+    constant: i128,
+) -> Result<Row, Fail> {
+    let mut form = Form::of_constant(alloc, constant);
+    for (unknown, coefficient) in terms {
+        let term = Form::of_unknown(alloc, *unknown)?.scale(alloc, *coefficient)?;
+        form = form.add(alloc, &term)?;
+    }
+    Ok(Row { form, kind })
 }
 
-/// Whether the row names unknowns below 3 alone, and doesn't hold the least number.
-fn is_within(row: &Row) -> bool
-    ensures { IsTrue result → IsRowWithin 3 row.now }
-{
-    if row.form.constant < LEAST {
-        return false;
-    }
-    for (unknown, coefficient) in row.form.coefficients.as_slice() {
-        if *unknown > 2 || *coefficient < LEAST {
-            return false;
-        }
-    }
-    true
-}
-
-fn system_of(alloc: Global, table: &[Entries]) -> Result<System, Fail>
-    ensures unknowns { IfOk result (λ s. s.unknowns ≡ 3) }
+/// The system of these rows, where they name unknowns of it alone.
+fn system_over(alloc: Global, unknowns: u32, rows: Items<Row>) -> Result<System, Fail>
     ensures nets { IfOk result (λ s. s.nets ≡ []) }
-    ensures rows { IfOk result (λ s. (i : ℕ) (r : Row) → slice_get s.rows i ≡ Some r → IsRowWithin 3 r) }
+    ensures rows { IfOk result (λ s. (i : ℕ) (r : AnyRow) → slice_get s.rows i ≡ Some r → IsRowWithin s.unknowns r) }
 {
-    let mut rows = Items::new(alloc);
-    for entries in table {
-        let row = row_of(alloc, *entries)?;
-        if !is_within(&row) {
+    for row in rows.as_slice() {
+        if !is_within(row, unknowns) {
             return Err(Fail::new("a row past its bounds"));
         }
-        rows.push(row)?;
     }
     Ok(System {
-        unknowns: 3,
+        unknowns,
         rows,
         nets: Items::new(alloc),
     })
 }
 
+fn system_of(alloc: Global, table: &[Entries]) -> Result<System, Fail>
+    ensures nets { IfOk result (λ s. s.nets ≡ []) }
+    ensures rows { IfOk result (λ s. (i : ℕ) (r : AnyRow) → slice_get s.rows i ≡ Some r → IsRowWithin s.unknowns r) }
+{
+    let mut rows = Items::new(alloc);
+    for entries in table {
+        let (kind, [first, second, third], constant) = *entries;
+        rows.push(row_of(
+            alloc,
+            kind,
+            &[(0, first), (1, second), (2, third)],
+            constant,
+        )?)?;
+    }
+    system_over(alloc, 3, rows)
+}
+
+/// A word of so many characters, whose length is twice n, and `odd`: unknown 0 is n, 1 the length, and then come
+/// the counts of the edges of a chain and of its end.
+fn chain(alloc: Global, length: u32, odd: i128) -> Result<System, Fail>
+    ensures nets { IfOk result (λ s. s.nets ≡ []) }
+    ensures rows { IfOk result (λ s. (i : ℕ) (r : AnyRow) → slice_get s.rows i ≡ Some r → IsRowWithin s.unknowns r) }
+{
+    let end = length.saturating_add(2);
+    let mut rows = Items::new(alloc);
+    rows.push(row_of(alloc, RowKind::Eq, &[(0, 2), (1, -1)], odd)?)?;
+    rows.push(length_row(alloc, end)?)?;
+    rows.push(row_of(alloc, RowKind::Eq, &[(end, 1)], -1)?)?;
+    rows.push(row_of(alloc, RowKind::Eq, &[(2, -1)], 1)?)?;
+    for edge in 2..end {
+        rows.push(row_of(alloc, RowKind::Eq, &[(edge, 1), (edge + 1, -1)], 0)?)?;
+        rows.push(row_of(alloc, RowKind::Le, &[(edge, -1)], 0)?)?;
+    }
+    system_over(alloc, end.saturating_add(1), rows)
+}
+
+/// The length is what the edges before the end count.
+fn length_row(alloc: Global, end: u32) -> Result<Row, Fail> {
+    let mut form = Form::of_unknown(alloc, 1)?.scale(alloc, -1)?;
+    for edge in 2..end {
+        form = form.add(alloc, &Form::of_unknown(alloc, edge)?)?;
+    }
+    Ok(Row {
+        form,
+        kind: RowKind::Eq,
+    })
+}
+
 /// How the search of a system without nets ends; a tree that closes it is shown to the checker.
 fn end_of(alloc: Global, table: &[Entries]) -> Result<Ending, Fail> {
-    let system = system_of(alloc, table)?;
-    match solve(alloc, &system, &NoCut)? {
+    end_of_system(alloc, &system_of(alloc, table)?)
+}
+
+fn end_of_system(alloc: Global, system: &System) -> Result<Ending, Fail>
+    requires nets { system.now.nets ≡ [] }
+    requires rows { (i : ℕ) (r : AnyRow) → slice_get system.now.rows i ≡ Some r → IsRowWithin system.now.unknowns r }
+{
+    match solve(alloc, system, &NoCut)? {
         Outcome::Solution(_) => Ok(Ending::Solution),
         Outcome::Closed(tree) => {
-            if closes(&system, &tree) {
+            if closes(system, &tree) {
                 Ok(kind_of(&tree))
             } else {
                 Err(Fail::new("the checker refuses the tree"))
@@ -140,6 +179,15 @@ fn closed_by_splits(rt: HostRuntime) -> Result<(), Fail> {
     Ok(())
 }
 
+/// No splits on single unknowns close a strip between two lines of even numbers that has no end.
+#[test]
+fn an_endless_strip(rt: HostRuntime) -> Result<(), Fail> {
+    let alloc = rt.alloc();
+    let table = [(RowKind::Le, [-2, -2, 0], 1), (RowKind::Le, [2, 2, 0], -1)];
+    assert_eq!(rt; end_of(alloc, table.as_slice())?, Ending::Branches);
+    Ok(())
+}
+
 /// Twice a cycle's count, k, is the length of a word of pairs, and one more than twice n.
 #[test]
 fn closed_by_elimination(rt: HostRuntime) -> Result<(), Fail> {
@@ -150,5 +198,22 @@ fn closed_by_elimination(rt: HostRuntime) -> Result<(), Fail> {
         (RowKind::Le, [0, 0, -1], 0),
     ];
     assert_eq!(rt; end_of(alloc, table.as_slice())?, Ending::Divisor);
+    Ok(())
+}
+
+/// A word of so many characters, twice a number of them or one less than that.
+#[test]
+fn chains_of_edges(rt: HostRuntime) -> Result<(), Fail> {
+    let alloc = rt.alloc();
+    for length in [2, 100, 1_000] {
+        assert_eq!(rt;
+            end_of_system(alloc, &chain(alloc, length, 0)?)?,
+            Ending::Solution
+        );
+        assert_eq!(rt;
+            end_of_system(alloc, &chain(alloc, length, 1)?)?,
+            Ending::Divisor
+        );
+    }
     Ok(())
 }

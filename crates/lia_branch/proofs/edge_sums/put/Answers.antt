@@ -24,7 +24,7 @@ returns-then-next-unknown-clause-small c =
 pub returns-then-next-unknown-clause-ascends : goal.returns-then-next-unknown-clause-ascends
 returns-then-next-unknown-clause-ascends c = λ h.
     let e = rw (to_z-of_z w128 c.args.by c.ranges.by) at c.in_ok-push.ensures.ok in
-    subst (AscendsWithin 0 (suc c.args.unknown)) (sym e) (pushed_ascends 0 c.args.unknown c.args.by c.args.form.coefficients (wider 0 c.args.next c.args.unknown c.args.form.coefficients c.requires.ascends h) c.requires.sign)
+    subst (AscendsWithin 0 (suc c.args.unknown)) (sym e) (pushed_ascends 0 c.args.unknown c.args.by c.args.form.coefficients (wider 0 c.args.next c.args.unknown c.args.form.coefficients c.requires.ascends h) (omega (arith, c.requires.sign)))
 
 pub returns-in-Ok-clause-small : goal.returns-in-Ok-clause-small
 returns-in-Ok-clause-small c = added_small c.args.form c.in_ok-one.one c.in-Ok.sum c.in-Ok.ensures.value c.in_ok-one.ensures.small

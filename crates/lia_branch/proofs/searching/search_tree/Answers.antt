@@ -1,6 +1,6 @@
 use Rattle.std.proofs.Common.{◌∙◌}
 use Rattle.lia_branch.proofs.Roots.{root_ready, root_begins}
-use Rattle.lia_branch.proofs.solving.search_tree.Goals as goal
+use Rattle.lia_branch.proofs.searching.search_tree.Goals as goal
 
 pub search-requires-clause-ready : goal.search-requires-clause-ready
 search-requires-clause-ready g c =

@@ -1,0 +1,84 @@
+ghost use Rattle.std.specs.Prelude.{◌≡◌, ◌+ℤ◌, ◌*ℤ◌, IfSome};
+
+use std::alloc::{AllocError, Global};
+use sv_list::Items;
+
+/// How often rows or sums are taken, one number for each; taken up to multiples of a divisor where there is one.
+#[derive(Drop)]
+pub(crate) struct Weights {
+    numbers: Vec<i128>,
+    divisor: Option<i128>,
+}
+
+impl Weights {
+    /// Nothing is taken, of so many.
+    pub fn new(alloc: Global, count: usize, divisor: Option<i128>) -> Result<Weights, AllocError> {
+        let mut numbers = Vec::new(alloc);
+        for _ in 0..count {
+            numbers.push(0)?;
+        }
+        Ok(Weights { numbers, divisor })
+    }
+
+    /// How often this one is taken.
+    pub fn at(&self, place: usize) -> i128 {
+        match self.numbers.get(place) {
+            Some(number) => *number,
+            None => 0,
+        }
+    }
+
+    /// Takes this one so often more; false where the number leaves 128 bits.
+    pub fn add(&mut self, place: usize, times: i128) -> bool {
+        self.add_product(place, 1, times)
+    }
+
+    /// Takes each of these so often more, `times` over; false where a number leaves 128 bits.
+    pub fn add_each(&mut self, steps: &[(usize, i128)], times: i128) -> bool {
+        for (place, factor) in steps {
+            if !self.add_product(*place, times, *factor) {
+                return false;
+            }
+        }
+        true
+    }
+
+    fn add_product(&mut self, place: usize, times: i128, factor: i128) -> bool {
+        if place >= self.numbers.len() {
+            return false;
+        }
+        let factor = remainder(factor, self.divisor);
+        match add_times(self.numbers[place], times, factor) {
+            None => false,
+            Some(sum) => {
+                self.numbers[place] = remainder(sum, self.divisor);
+                true
+            }
+        }
+    }
+
+    /// The numbers that aren't 0, each behind its place.
+    pub fn listed(&self, alloc: Global) -> Result<Items<(u32, i128)>, AllocError> {
+        let mut list = Items::new(alloc);
+        for (at, number) in self.numbers.iter().enumerate() {
+            if *number != 0 && at <= u32::MAX as usize {
+                list.push((at as u32, *number))?;
+            }
+        }
+        Ok(list)
+    }
+}
+
+fn remainder(number: i128, divisor: Option<i128>) -> i128 {
+    match divisor {
+        Some(divisor) if divisor > 1 => number.rem_euclid(divisor),
+        _ => number,
+    }
+}
+
+/// The sum of a number and a product, where both fit.
+pub(crate) fn add_times(sum: i128, times: i128, factor: i128) -> Option<i128>
+    ensures { IfSome result (λ z. z ≡ sum +ℤ times *ℤ factor) }
+{
+    sum.checked_add(times.checked_mul(factor)?)
+}
