@@ -1,12 +1,12 @@
 -- Moves that are joined.
-use Rattle.std.proofs.Common.{◌≡◌, ℕ, zero, suc, ◌≤◌, ◌<◌, ◌↔◌, ◌⊎◌, inl, inr, ◌||◌, Bool, true, false, IsTrue, List, [], ◌∷◌, ◌++◌, length, Some, slice_get, slice_set, slice_index, Any, Contains, refl, ap, sym, ◌∙◌, subst, arith}
+use Rattle.std.proofs.Common.{◌≡◌, ℕ, ◌≤◌, ◌<◌, ◌↔◌, ◌⊎◌, inl, inr, List, [], ◌∷◌, ◌++◌, length, Any, Contains, refl, sym, subst, arith}
 use Rattle.std.proofs.lemmas.List.Sorted.{Contains-permutation, IsPermutation-sym}
 use Rattle.std.proofs.lemmas.List.Elements.{Contains-push_cases}
 use Rattle.std.specs.List.Sorted.{IsPermutation}
-use Rattle.sv_word.specs.Ranges.{IsInhabited, in_ranges, least_of}
+use Rattle.sv_word.specs.Ranges.{IsInhabited, least_of}
 use Rattle.machine_core.specs.Costs.{cost_top}
 use Rattle.machine_core.specs.CostLaws.{top_by-at, top_by-least}
-use Rattle.machine_core.specs.Lists.{Any-none, Any-here, Any-there, Any-cases, Any-append_left, Any-append_right, Any-push_cases, Any-contains, contained, slice_get-contains}
+use Rattle.machine_core.specs.Lists.{Any-here, Any-append_left, Any-append_right, Any-push_cases, Any-contains, contained}
 use Rattle.machine_core.specs.Moves.{Moves}
 use Rattle.machine_core.specs.declared.machine.Move.{Move}
 use Rattle.trim_search.specs.declared.node.Node.{Node}

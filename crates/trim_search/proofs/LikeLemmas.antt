@@ -1,10 +1,10 @@
 -- A move whose characters are joined with those of one like it.
-use Rattle.std.proofs.Common.{◌≡◌, ℕ, zero, suc, ◌<◌, ◌≤◌, ◌↔◌, ◌⊎◌, inl, inr, ◌&&◌, ◌||◌, nat_le, Bool, true, false, IsTrue, List, [], ◌∷◌, length, Any, Contains, Option, Some, None, slice_get, slice_set, get_or, refl, sym, ap, ◌∙◌, subst, arith}
-use Rattle.std.proofs.lemmas.Bool.{leb-true, le-leb}
+use Rattle.std.proofs.Common.{◌≡◌, ℕ, zero, suc, ◌<◌, ◌↔◌, ◌⊎◌, inl, inr, ◌&&◌, ◌||◌, nat_le, Bool, true, false, IsTrue, List, [], ◌∷◌, length, Any, Contains, Some, slice_get, slice_set, get_or, refl, sym, ap, ◌∙◌, subst, arith}
+use Rattle.std.proofs.lemmas.Bool.{le-leb}
 use Rattle.sv_word.specs.Ranges.{in_ranges, IsInhabited, IsApartFrom, least_of}
 use Rattle.machine_core.specs.declared.machine.Move.{Move}
 use Rattle.machine_core.specs.Moves.{Moves}
-use Rattle.machine_core.specs.Lists.{Any-none, Any-here, Any-there, Any-cases, slice_get-contains}
+use Rattle.machine_core.specs.Lists.{Any-here, Any-there, Any-cases, slice_get-contains}
 
 and-true : (a b : Bool) → IsTrue a → IsTrue b → IsTrue (a && b)
 and-true true b p q = q

@@ -1,8 +1,8 @@
-use Rattle.std.proofs.Common.{◌≡◌, ℕ, List, Some, slice_get, Any, Contains, IsTrue, get_or, slice_set, inl, inr, ◌||◌, ◌⊎◌, ◌↔◌, refl, sym, ap, ◌∙◌, subst}
-use Rattle.sv_word.specs.Ranges.{in_ranges, IsInhabited, IsApartFrom, least_of}
+use Rattle.std.proofs.Common.{◌≡◌, ℕ, List, Any, Contains, get_or, slice_set, ◌||◌, ◌⊎◌, ◌↔◌, sym, ap, ◌∙◌, subst}
+use Rattle.sv_word.specs.Ranges.{in_ranges}
 use Rattle.machine_core.specs.declared.machine.Move.{Move}
 use Rattle.machine_core.specs.Moves.{Moves}
-use Rattle.trim_search.proofs.LikeLemmas.{joined-moves, joined-some, set-contains, apart-inhabited, read-at}
+use Rattle.trim_search.proofs.LikeLemmas.{joined-moves, joined-some, read-at}
 use Rattle.trim_search.proofs.joined.join_move.Goals as goal
 
 pub returns-clause-exact : goal.returns-clause-exact

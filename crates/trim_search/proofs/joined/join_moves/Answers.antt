@@ -1,8 +1,7 @@
-use Rattle.std.proofs.Common.{◌≡◌, Contains, sym, ◌∙◌, subst}
+use Rattle.std.proofs.Common.{sym, subst}
 use Rattle.std.specs.List.Sorted.{IsPermutation}
 use Rattle.std.proofs.lemmas.List.Sorted.{Contains-permutation, IsPermutation-sym}
 use Rattle.std.proofs.lemmas.Result.{IfOk-weaker}
-use Rattle.trim_search.specs.Joined.{AreJoined}
 use Rattle.trim_search.proofs.JoinedLemmas.{joined-same, joined-sorted}
 use Rattle.trim_search.proofs.joined.join_moves.Goals as goal
 
