@@ -8,6 +8,8 @@ use Rattle.sv_word.specs.Words.{IsWord, greatest_character}
 use Rattle.sv_terms.specs.Replacement.{replace_first, replace_all}
 use Rattle.sv_terms.specs.ReplacementLaws.{first-here, first-skips, all-here, all-skips}
 use Rattle.sv_terms.specs.Transduction.{then_word, written_at, Transduces, AreItems, IsFormed, IsFormedEdge, IsFormedEnd}
+use Rattle.sv_terms.specs.TransducerSizes.{items_size, edges_most, ends_most}
+use Rattle.sv_terms.specs.TransducerSizeLaws.{written_size}
 use Rattle.sv_terms.specs.TransductionLaws.{Computes, computes-exact, Owes, owes_within, within_weaker}
 use Rattle.sv_terms.specs.declared.transducer.Item.TheVariants.{Text, Shift}
 use Rattle.sv_terms.specs.declared.transducer.TransEdge.{TransEdge}
@@ -117,6 +119,14 @@ module _ (p u : List ℕ) (after : ℕ) (edges : List TransEdge) (are : AreEdges
         (λ w. let n = ap owed w.0 in let q = (are.edge e has).0 in let y = pays.part e.from k.0 (length st.text) q w.1 w.2 in omega (arith, size, to, from, n, y))
         st.size
 
+edges-least : (es : List TransEdge) (b : ℕ) → ((e : TransEdge) → Contains es e → items_size e.items ≤ b) → edges_most es ≤ b
+edges-least [] b h = omega arith
+edges-least (e ∷ es) b h = let x = h e (contains_first e es) in let y = edges-least es b (λ d c. h d (contains_later d e es c)) in omega (arith, x, y)
+
+ends-least : (es : List (ℕ × List ℕ)) (b : ℕ) → ((e : ℕ × List ℕ) → Contains es e → length e.1 ≤ b) → ends_most es ≤ b
+ends-least [] b h = omega arith
+ends-least (e ∷ es) b h = let x = h e (contains_first e es) in let y = ends-least es b (λ d c. h d (contains_later d e es c)) in omega (arith, x, y)
+
 relates : (t : Transducer) (answer : ℕ → List ℕ → List ℕ) (value : List ℕ → List ℕ) (rate base : ℕ) (owed bound : ℕ → ℕ)
     → IsFormed t → Computes t answer → Owes t rate owed → ((w : List ℕ) → answer t.start w ≡ value w) → ((s : ℕ) → s < t.states → owed s ≤ base) → ((n : ℕ) → n * rate + base ≤ bound n)
     → Relates t value bound
@@ -126,6 +136,20 @@ relates t answer value rate base owed bound formed computes owes first most less
       let k = computes-exact t answer formed computes t.start read written formed.start in
       (λ p. let m = k.0 p in (m.0, m.1 ∙ first read), λ q. k.1 (q.0, q.1 ∙ sym (first read)));
   growth = within_weaker t (λ n. n * rate + base) bound less (owes_within t rate owed owes base most);
+  most =
+      let a = edges-least t.edges (rate + base) (λ e has.
+          let f = formed.edge e has in
+          let m = computes.move e has e.lo (omega arith) f.order in
+          let x = owes.move e e.from e.lo m.0 has (refl, omega arith, f.order, m.1) in
+          let y = written_size e.lo e.items m.0 m.1 in
+          let z = most e.from f.from in
+          omega (arith, x, y, z)) in
+      let b = ends-least t.ends (rate + base) (λ e has.
+          let x = owes.ended e has in
+          let z = most e.0 (formed.ending e has).at in
+          omega (arith, x, z)) in
+      let c = less 1 in
+      omega (arith, a, b, c);
 }
 
 -- every occurrence is replaced

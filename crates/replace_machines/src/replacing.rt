@@ -1,7 +1,8 @@
-ghost use Rattle.std.specs.Prelude.{◌≡◌, ◌↔◌, ◌+◌, ◌*◌, ◌<◌, ◌^◌, ℕ, List, [], length, max, IfOk};
+ghost use Rattle.std.specs.Prelude.{◌≡◌, ◌↔◌, ◌+◌, ◌*◌, ◌<◌, ◌≤◌, ◌^◌, ℕ, List, [], length, max, IfOk};
 ghost use Rattle.sv_word.specs.Words.{IsWord};
 ghost use Rattle.sv_terms.specs.Replacement.{replace_first as first_replaced, replace_all as all_replaced};
 ghost use Rattle.sv_terms.specs.Transduction.{IsFormed, Pairs, WritesWithin};
+ghost use Rattle.sv_terms.specs.TransducerSizes.{edges_most, ends_most};
 ghost use Rattle.replace_machines.specs.Edges.{copy_edge, front_edge};
 ghost use Rattle.replace_machines.specs.Relating.{Relates};
 
@@ -129,6 +130,7 @@ pub fn replace_first(alloc: Global, pattern: &Word, by: &Word) -> Result<Transdu
     ensures states { IfOk result (λ t. t.states ≡ max 1 (length pattern.now) + 1) }
     ensures exact { IfOk result (λ t. (read written : List ℕ) → Pairs t read written ↔ (IsWord read × (written ≡ first_replaced pattern.now by.now read))) }
     ensures growth { IfOk result (λ t. WritesWithin t (λ n. n + length pattern.now + length by.now)) }
+    ensures most { IfOk result (λ t. max (edges_most t.edges) (ends_most t.ends) ≤ 1 + length pattern.now + length by.now) }
 {
     if pattern.is_empty() {
         return Ok(put_in_front(alloc, by)?);
@@ -147,6 +149,7 @@ pub fn replace_all(alloc: Global, pattern: &Word, by: &Word) -> Result<Transduce
     ensures states { IfOk result (λ t. t.states ≡ max 1 (length pattern.now)) }
     ensures exact { IfOk result (λ t. (read written : List ℕ) → Pairs t read written ↔ (IsWord read × (written ≡ all_replaced pattern.now by.now read))) }
     ensures growth { IfOk result (λ t. WritesWithin t (λ n. (n + length pattern.now) * max 1 (length by.now))) }
+    ensures most { IfOk result (λ t. max (edges_most t.edges) (ends_most t.ends) ≤ (1 + length pattern.now) * max 1 (length by.now)) }
 {
     if pattern.is_empty() {
         return Ok(copy_word(alloc, by)?);
