@@ -138,16 +138,16 @@ relates t answer value rate base owed bound formed computes owes first most less
   growth = within_weaker t (λ n. n * rate + base) bound less (owes_within t rate owed owes base most);
   most =
       let a = edges-least t.edges (rate + base) (λ e has.
-          let f = formed.edge e has in
-          let m = computes.move e has e.lo (omega arith) f.order in
-          let x = owes.move e e.from e.lo m.0 has (refl, omega arith, f.order, m.1) in
-          let y = written_size e.lo e.items m.0 m.1 in
-          let z = most e.from f.from in
-          omega (arith, x, y, z)) in
+      let f = formed.edge e has in
+      let m = computes.move e has e.lo (omega arith) f.order in
+      let x = owes.move e e.from e.lo m.0 has (refl, omega arith, f.order, m.1) in
+      let y = written_size e.lo e.items m.0 m.1 in
+      let z = most e.from f.from in
+      omega (arith, x, y, z)) in
       let b = ends-least t.ends (rate + base) (λ e has.
-          let x = owes.ended e has in
-          let z = most e.0 (formed.ending e has).at in
-          omega (arith, x, z)) in
+      let x = owes.ended e has in
+      let z = most e.0 (formed.ending e has).at in
+      omega (arith, x, z)) in
       let c = less 1 in
       omega (arith, a, b, c);
 }
