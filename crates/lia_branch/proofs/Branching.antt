@@ -1,5 +1,5 @@
 -- What is found at a node, from what is found at its two sides.
-use Rattle.std.proofs.Common.{◌≡◌, ℕ, zero, suc, ◌+◌, ◌-◌, ◌<◌, ◌≤◌, ℤ, pos, neg_ℤ, ◌+ℤ◌, List, [], ◌∷◌, ◌++◌, length, length-append, slice_get, Some, FitsSigned, ◌↔◌, ◌⊎◌, inl, inr, refl, ap, sym, ◌∙◌, subst, arith}
+use Rattle.std.proofs.Common.{◌≡◌, ℕ, zero, suc, ◌+◌, ◌<◌, ◌≤◌, ℤ, neg_ℤ, List, [], ◌∷◌, ◌++◌, length, length-append, slice_get, Some, FitsSigned, ◌↔◌, ◌⊎◌, inl, inr, refl, ap, sym, ◌∙◌, subst, arith}
 use Rattle.std.specs.Int.{w128}
 use Rattle.std.proofs.lemmas.Int.{ints}
 use Rattle.std.specs.Prelude.{All, get_or}
@@ -8,34 +8,23 @@ use Rattle.sv_linear.specs.Combining.{IsSymmetric}
 use Rattle.sv_linear.specs.Terms.{AscendsWithin}
 use Rattle.sv_linear.specs.declared.row.Row.{Row}
 use Rattle.farkas_check.specs.Systems.{Constraint, no_constraint, Meets}
-use Rattle.farkas_check.specs.Closings.{at_most, at_least}
 use Rattle.farkas_check.specs.Cuts.{values_of}
 use Rattle.farkas_check.specs.declared.system.System.{System}
-use Rattle.farkas_check.specs.declared.tree.Tree.{Tree}
-use Rattle.farkas_check.specs.declared.tree.Tree.TheVariants as v
 use Rattle.lia_tableau.specs.Adding.{IsRowAdded}
 use Rattle.lia_tableau.specs.Bases.{IsInBasis}
-use Rattle.lia_tableau.specs.Shown.{IsStatus}
-use Rattle.lia_tableau.specs.declared.status.Status.TheVariants.{Point}
 use Rattle.lia_tableau.specs.declared.standing.Standing.{Standing}
 use Rattle.lia_tableau.specs.declared.standing.Standing.TheVariants.{Basic}
 use Rattle.lia_tableau.specs.declared.table.Table.{Table}
 use Rattle.lia_tableau.specs.Adding.{IsPastRow}
 use Rattle.lia_tableau.specs.Crossing.{IsPast}
 use Rattle.lia_tableau.specs.Pivoting.{IsPastPivot}
-use Rattle.lia_tableau.specs.declared.status.Status.TheVariants.{Due}
 use Rattle.lia_tableau.specs.declared.fault.TableauFault.{TableauFault}
 use Rattle.lia_tableau.specs.declared.fault.TableauFault.TheVariants.{Past, Memory}
 use Rattle.lia_branch.specs.EvidenceHolds.{IsPastAt}
 use Rattle.lia_tableau.specs.Trails.{Trail, stay, pivot}
 use Rattle.lia_branch.specs.Nodes.{Node, BeginsAt, ComesTo, GoesOn, IsRowOf, child_of}
-use Rattle.lia_branch.specs.DueSplits.{IsSplitDue}
-use Rattle.lia_branch.specs.Founds.{IsReady, IsNodeOf, IsFraction, IsNodeSolution, IsNodeClosing, IsNodeStop, stop_fact}
+use Rattle.lia_branch.specs.Founds.{IsReady, IsNodeOf, IsNodeSolution}
 use Rattle.lia_branch.specs.LeafMultipliers.{AreRowsOf}
-use Rattle.lia_branch.specs.declared.stop.Stop.{Stop}
-use Rattle.lia_branch.specs.declared.stop.Stop.TheVariants.{Branches}
-use Rattle.lia_branch.proofs.DueTreeRules.{closed_split, stops_split, open_leaf, stops_open, count_split, count_open}
-use Rattle.farkas_check.specs.NodeLaws.{split_met, split_fits}
 use Rattle.sv_linear.specs.Rows.{IsRowWithin}
 
 get_front : {X : Type 0} (xs ys : List X) (i : ℕ) (d : X) → i < length xs → get_or (xs ++ ys) i d ≡ get_or xs i d

@@ -14,7 +14,7 @@ use Rattle.sv_linear.specs.declared.column.Column.{Column}
 use Rattle.sv_linear.specs.declared.column.Column.TheVariants.{Unknown, Constant}
 use Rattle.sv_linear.specs.declared.row.Row.{Row}
 use Rattle.farkas_check.specs.Systems.{Constraint, no_constraint, constraint_of}
-use Rattle.farkas_check.specs.Closings.{Allowed, FarkasRule, never}
+use Rattle.farkas_check.specs.Closings.{FarkasRule, never}
 use Rattle.farkas_check.specs.Columns.{part_at}
 use Rattle.farkas_check.specs.Fitting.{SumFits, LeafFits}
 use Rattle.farkas_check.specs.declared.system.System.{System}

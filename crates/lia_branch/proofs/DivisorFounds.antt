@@ -1,24 +1,23 @@
 -- What is found at a node where a row shows a divisor.
-use Rattle.std.proofs.Common.{◌≡◌, ℕ, zero, suc, ◌+◌, ◌-◌, ◌<◌, ◌≤◌, ◌^◌, ℤ, pos, neg_ℤ, ◌+ℤ◌, ◌-ℤ◌, ◌*ℤ◌, ◌<ℤ◌, ◌≤ℤ◌, List, [], ◌∷◌, length, map, slice_get, Some, Bool, true, false, cond, nat_lt, ⊎_elim, inl, inr, refl, ap, sym, ◌∙◌, subst, arith}
+use Rattle.std.proofs.Common.{◌≡◌, ℕ, ◌+◌, ◌-◌, ◌<◌, ◌^◌, ℤ, pos, ◌+ℤ◌, ◌<ℤ◌, ◌≤ℤ◌, List, [], ◌∷◌, length, map, slice_get, Bool, true, false, cond, nat_lt, inl, refl, ap, sym, ◌∙◌, subst, arith}
 use Rattle.std.specs.Prelude.{nat_eq}
-use Rattle.std.specs.Int.{int_div_euclid, int_rem_euclid, ◌∣◌}
+use Rattle.std.specs.Int.{int_div_euclid, int_rem_euclid}
 use Rattle.std.proofs.lemmas.Int.{ints}
 use Rattle.std.proofs.lemmas.Bool.Decides.{nat_tests}
 use Rattle.std.proofs.lemmas.Nat.Gcd.{dvd_antisymm}
 use Rattle.sv_linear.specs.Terms.{coefficient, AscendsWithin}
-use Rattle.sv_linear.specs.Divisors.{Divides}
 use Rattle.sv_linear.specs.Integers.{mul_comm}
 use Rattle.sv_linear.specs.declared.form.Form.{Form}
 use Rattle.sv_linear.specs.declared.row.Row.{Row}
 use Rattle.farkas_check.specs.Systems.{Constraint, constraint_of}
-use Rattle.farkas_check.specs.Closings.{Allowed, OfEquations, DivisorRule, never}
+use Rattle.farkas_check.specs.Closings.{DivisorRule, never}
 use Rattle.farkas_check.specs.Columns.{part_at}
-use Rattle.farkas_check.specs.Fitting.{SumFits, LeafFits}
+use Rattle.farkas_check.specs.Fitting.{LeafFits}
 use Rattle.farkas_check.specs.declared.system.System.{System}
 use Rattle.farkas_check.specs.declared.tree.Tree.TheVariants as v
 use Rattle.lia_tableau.specs.Bases.{IsRowAt}
 use Rattle.lia_tableau.specs.Crossing.{column_number}
-use Rattle.lia_tableau.specs.Shown.{IsStatus, ShowsDivisor, IsUnknownsDivisor}
+use Rattle.lia_tableau.specs.Shown.{IsStatus, IsUnknownsDivisor}
 use Rattle.lia_tableau.specs.declared.status.Status.TheVariants.{Divisor}
 use Rattle.lia_tableau.specs.declared.table.Table.{Table}
 use Rattle.lia_branch.specs.Nodes.{Node, ComesTo}

@@ -1,17 +1,16 @@
 -- Sums of edges' unknowns, one edge after another, and the rows that they make.
-use Rattle.std.proofs.Common.{◌≡◌, ◌≢◌, ℕ, zero, suc, ◌+◌, ◌<◌, ◌≤◌, ◌^◌, ℤ, pos, neg_ℤ, ◌+ℤ◌, ◌*ℤ◌, List, [], ◌∷◌, ◌++◌, length, take, slice_get, slice_set, get_or, Some, Bool, true, false, cond, eqb, ◌||◌, ◌&&◌, not, unsigned_abs, nat_eq, ⊎_elim, refl, ap, sym, ◌∙◌, subst, arith}
+use Rattle.std.proofs.Common.{◌≡◌, ◌≢◌, ℕ, zero, suc, ◌+◌, ◌<◌, ◌≤◌, ◌^◌, ℤ, pos, neg_ℤ, ◌+ℤ◌, ◌*ℤ◌, List, [], ◌∷◌, ◌++◌, length, take, slice_get, slice_set, get_or, Some, Bool, true, false, cond, ◌||◌, ◌&&◌, not, unsigned_abs, nat_eq, ⊎_elim, refl, ap, sym, ◌∙◌, subst, arith}
 use Rattle.std.specs.Prelude.{All}
 use Rattle.std.proofs.lemmas.Int.{ints}
 use Rattle.std.proofs.lemmas.Bool.{cases_lt}
 use Rattle.std.proofs.lemmas.Bool.Decides.{nat_tests, eqb_tells}
 use Rattle.std.proofs.lemmas.List.{take_more}
-use Rattle.std.proofs.lemmas.List.Elements.{All-head, All-tail, All-get_or}
+use Rattle.std.proofs.lemmas.List.Elements.{All-head, All-tail}
 use Rattle.sv_linear.specs.EntryLaws.{entry_of_sum, coefficient_value, constant_value}
 use Rattle.sv_linear.specs.Forms.{form_value, entry}
 use Rattle.sv_linear.specs.Points.{unit, nowhere, coefficient_is_value, value_nowhere}
 use Rattle.sv_linear.specs.TermLaws.{term_here}
 use Rattle.sv_linear.specs.Terms.{coefficient, terms_value, AscendsWithin}
-use Rattle.sv_linear.specs.Rows.{IsRowWithin}
 use Rattle.sv_linear.specs.declared.column.Column.{Column}
 use Rattle.sv_linear.specs.declared.column.Column.TheVariants.{Unknown, Constant}
 use Rattle.sv_linear.specs.declared.form.Form.{Form}
@@ -22,7 +21,6 @@ use Rattle.farkas_check.specs.declared.net.NetEdge.{NetEdge}
 use Rattle.lia_branch.specs.EdgeSums.{side_terms, side_sign, picks, AreMarks, IsSideSum}
 use Rattle.lia_branch.specs.declared.edge_sums.Side.{Side}
 use Rattle.lia_branch.specs.declared.edge_sums.Side.TheVariants.{Out, In}
-use Rattle.lia_branch.proofs.Branching.{wider}
 
 -- a term at the end
 pub pushed_value : (x : ℕ → ℤ) (ts : List (ℕ × ℤ)) (u : ℕ) (a : ℤ) → terms_value x (ts ++ (u, a) ∷ []) ≡ terms_value x ts +ℤ a *ℤ x u

@@ -1,7 +1,6 @@
 -- What is found at a node, from what is found at the two sides of its split.
-use Rattle.std.proofs.Common.{◌≡◌, ℕ, suc, ◌+◌, ◌<◌, ℤ, pos, neg_ℤ, ◌+ℤ◌, List, [], ◌∷◌, ◌++◌, slice_get, Some, FitsSigned, ◌⊎◌, inl, inr, refl, ap, sym, ◌∙◌, subst, arith}
-use Rattle.std.specs.Int.{w128}
-use Rattle.std.specs.Prelude.{IsTrue, true, false}
+use Rattle.std.proofs.Common.{◌≡◌, ℕ, suc, ◌+◌, ◌<◌, ℤ, pos, ◌+ℤ◌, List, [], ◌∷◌, ◌++◌, slice_get, Some, ◌⊎◌, inl, inr, refl, ap, sym, ◌∙◌, subst, arith}
+use Rattle.std.specs.Prelude.{true}
 use Rattle.farkas_check.specs.Systems.{Constraint}
 use Rattle.farkas_check.specs.Closings.{ClosesRows, at_most, at_least, none_out, some_in, contains_number, never}
 use Rattle.farkas_check.specs.Fitting.{RowsFit}
@@ -13,9 +12,9 @@ use Rattle.farkas_check.specs.declared.tree.Tree.TheVariants as v
 use Rattle.lia_tableau.specs.declared.table.Table.{Table}
 use Rattle.lia_branch.specs.Nodes.{Node, child_of}
 use Rattle.lia_branch.specs.DueSplits.{IsSplitDue, IsSetSplitDue}
-use Rattle.lia_branch.specs.DueTrees.{Claim, SplitHolds, SetSplitHolds, split_count, IsClosed, IsLeaf, StopsAt}
+use Rattle.lia_branch.specs.DueTrees.{SplitHolds, SetSplitHolds, split_count, IsClosed, IsLeaf, StopsAt}
 use Rattle.lia_branch.specs.Founds.{IsNodeClosing, IsNodeStop, stop_fact}
-use Rattle.lia_branch.specs.Forks.{fork_tree, AreSides, IsSetDue, IsForkAt, IsWaiting}
+use Rattle.lia_branch.specs.Forks.{fork_tree, AreSides, IsForkAt}
 use Rattle.lia_branch.specs.declared.fork.Fork.{Fork}
 use Rattle.lia_branch.specs.declared.fork.Fork.TheVariants.{Unknown, Set}
 use Rattle.lia_branch.specs.declared.stop.Stop.{Stop}

@@ -1,5 +1,5 @@
 -- A line of a tableau is the sum of the rows and their slacks, each as often as its slack stands in the line.
-use Rattle.std.proofs.Common.{◌≡◌, ℕ, zero, suc, ◌+◌, ◌-◌, ◌<◌, ◌≤◌, ℤ, pos, neg_ℤ, ◌+ℤ◌, ◌-ℤ◌, ◌*ℤ◌, ◌≤ℤ◌, List, [], ◌∷◌, length, slice_get, get_or, Option, Some, None, Bool, true, false, cond, IsTrue, nat_lt, ◌⊎◌, refl, ap, sym, ◌∙◌, subst, arith}
+use Rattle.std.proofs.Common.{◌≡◌, ℕ, zero, suc, ◌+◌, ◌-◌, ◌<◌, ◌≤◌, ℤ, pos, neg_ℤ, ◌+ℤ◌, ◌-ℤ◌, ◌*ℤ◌, ◌≤ℤ◌, List, [], ◌∷◌, length, slice_get, get_or, Some, Bool, true, false, cond, IsTrue, nat_lt, ◌⊎◌, refl, ap, sym, ◌∙◌, subst, arith}
 use Rattle.std.proofs.lemmas.Int.{ints}
 use Rattle.std.proofs.lemmas.Bool.Decides.{nat_tests}
 use Rattle.sv_linear.specs.Terms.{terms_value, AscendsWithin}
@@ -8,7 +8,6 @@ use Rattle.sv_linear.specs.Integers.{mul-add, mul-neg, mul_assoc}
 use Rattle.sv_linear.specs.declared.row.Row.{Row}
 use Rattle.farkas_check.specs.Systems.{Constraint, no_constraint}
 use Rattle.farkas_check.specs.Closings.{combined, Allowed}
-use Rattle.lia_tableau.specs.Quantities.{RowsHold}
 use Rattle.lia_tableau.specs.Bases.{IsLine, IsTableau}
 use Rattle.lia_tableau.specs.declared.standing.Standing.{Standing}
 use Rattle.lia_branch.specs.Nodes.{IsRowOf}

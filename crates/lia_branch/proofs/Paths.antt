@@ -1,17 +1,13 @@
 -- The way from a node up to the root.
-use Rattle.std.proofs.Common.{◌≡◌, ℕ, ℤ, zero, suc, ◌+◌, ◌-◌, ◌<◌, List, [], ◌∷◌, ◌++◌, length, length-append, ◌⊎◌, inl, inr, refl, ap, sym, ◌∙◌, subst, arith}
-use Rattle.std.specs.List.{count_by}
-use Rattle.std.specs.Prelude.{true, false, Bool}
+use Rattle.std.proofs.Common.{◌≡◌, ℕ, ℤ, suc, ◌+◌, ◌-◌, ◌<◌, List, [], ◌∷◌, ◌++◌, length, length-append, refl, ap, sym, ◌∙◌, subst, arith}
 use Rattle.sv_linear.specs.declared.row.Row.{Row}
 use Rattle.farkas_check.specs.Systems.{Constraint}
-use Rattle.farkas_check.specs.declared.net.Net.{Net}
 use Rattle.farkas_check.specs.declared.system.System.{System}
 use Rattle.farkas_check.specs.declared.tree.Tree.{Tree}
 use Rattle.farkas_check.specs.declared.tree.Tree.TheVariants as v
-use Rattle.lia_tableau.specs.Adding.{IsRowAdded, IsPastRow}
-use Rattle.lia_tableau.specs.Crossing.{IsPast}
+use Rattle.lia_tableau.specs.Adding.{IsRowAdded}
 use Rattle.lia_tableau.specs.declared.table.Table.{Table}
-use Rattle.lia_branch.specs.Nodes.{Node, BeginsAt, IsRowOf, root_of, child_of}
+use Rattle.lia_branch.specs.Nodes.{Node, IsRowOf, root_of, child_of}
 use Rattle.lia_branch.specs.EvidenceHolds.{split_limit}
 use Rattle.lia_branch.specs.Founds.{IsReady, IsNodeOf, IsNodeSolution, IsNodeClosing, IsNodeStop}
 use Rattle.lia_branch.specs.Forks.{fork_tree, AreSides, IsForkAt, IsWaiting, Path, top, in_first, in_second, IsSearching, IsClosing, IsResumed, IsStopping, is_first}
@@ -20,7 +16,7 @@ use Rattle.lia_branch.specs.declared.level.Level.{Level}
 use Rattle.lia_branch.specs.declared.level.Level.TheVariants.{First, Second}
 use Rattle.lia_branch.specs.declared.stop.Stop.{Stop}
 use Rattle.lia_branch.proofs.Branching.{solution_above, side_ready, side_node, goes_on}
-use Rattle.lia_branch.proofs.Forking.{fork_closed, stopped_first, stopped_second, sides_of}
+use Rattle.lia_branch.proofs.Forking.{fork_closed, stopped_first, stopped_second}
 use Rattle.sv_linear.specs.Rows.{IsRowWithin}
 
 ends_same : {X : Type 0} (xs ys : List X) (x y : X) → xs ++ x ∷ [] ≡ ys ++ y ∷ [] → (xs ≡ ys) × (x ≡ y)

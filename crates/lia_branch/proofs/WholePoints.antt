@@ -1,27 +1,20 @@
 -- A whole point that meets every line's bound meets the rows.
-use Rattle.std.proofs.Common.{◌≡◌, ℕ, zero, suc, ◌+◌, ◌<◌, ◌≤◌, ℤ, pos, neg_ℤ, ◌+ℤ◌, ◌-ℤ◌, ◌*ℤ◌, ◌≤ℤ◌, ◌<ℤ◌, List, [], ◌∷◌, length, slice_get, get_or, Some, IsTrue, ⊎_elim, refl, ap, sym, ◌∙◌, subst, arith}
+use Rattle.std.proofs.Common.{◌≡◌, ℕ, zero, suc, ◌<◌, ℤ, pos, ◌≤ℤ◌, List, [], ◌∷◌, length, slice_get, get_or, Some, IsTrue, refl, ap, sym, ◌∙◌, subst, arith}
 use Rattle.std.specs.Prelude.{All}
-use Rattle.std.proofs.lemmas.Int.{ints, by_lt_z}
+use Rattle.std.proofs.lemmas.Int.{ints}
 use Rattle.std.proofs.lemmas.List.Elements.{All-from_get_or}
-use Rattle.sv_linear.specs.Terms.{coefficient, terms_value, AscendsWithin}
-use Rattle.sv_linear.specs.Integers.{mul-add, add-mul, mul-neg, mul_assoc, mul_comm, product_positive, cancel_zero}
+use Rattle.sv_linear.specs.Terms.{AscendsWithin}
 use Rattle.sv_linear.specs.declared.row.Row.{Row}
-use Rattle.sv_linear.specs.declared.row.RowKind.{RowKind}
-use Rattle.sv_linear.specs.declared.row.RowKind.TheVariants.{Le, Eq}
-use Rattle.farkas_check.specs.Systems.{Constraint, no_constraint, constraint_of, constraint_value, is_equation, Meets, Joined}
+use Rattle.farkas_check.specs.Systems.{Constraint, no_constraint, constraint_of, constraint_value, Meets, Joined}
 use Rattle.farkas_check.specs.Cuts.{values_of}
 use Rattle.farkas_check.specs.declared.net.Net.{Net}
 use Rattle.farkas_check.specs.declared.system.System.{System}
-use Rattle.lia_tableau.specs.Bases.{IsTableau}
-use Rattle.lia_tableau.specs.BasicPoints.{IsValueAt, IsPoint}
-use Rattle.lia_tableau.specs.Quantities.{bound_of_kind, Allows}
+use Rattle.lia_tableau.specs.BasicPoints.{IsPoint}
 use Rattle.lia_tableau.specs.Quantities.{SolvesWithSlacks}
-use Rattle.lia_tableau.specs.declared.standing.Standing.{Standing}
 use Rattle.lia_tableau.specs.declared.table.Table.{Table}
 use Rattle.lia_branch.specs.Nodes.{Node, IsRowOf}
 use Rattle.lia_branch.specs.Founds.{IsReady, IsNodeOf, IsWholePoint, IsNodeSolution}
-use Rattle.lia_tableau.specs.PointLaws.{point_exists, whole_meets}
-use Rattle.lia_tableau.specs.LineLaws.{standing_of}
+use Rattle.lia_tableau.specs.PointLaws.{whole_meets}
 use Rattle.farkas_check.specs.RowLaws.{meets_row}
 
 module _ (s : System) (rows : List Row) (t : Table) (ready : IsReady s rows t) (meets : (x : ℕ → ℤ) (d : ℤ) → IsPoint t.lines x d → SolvesWithSlacks t.unknowns t.rows x d)

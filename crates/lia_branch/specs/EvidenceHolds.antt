@@ -3,10 +3,8 @@ use Rattle.std.specs.Prelude.{◌≡◌, ℕ, ◌⊎◌}
 use Rattle.sv_linear.specs.declared.row.Row.{Row}
 use Rattle.farkas_check.specs.Systems.{Constraint}
 use Rattle.farkas_check.specs.declared.system.System.{System}
-use Rattle.lia_tableau.specs.Shown.{IsStatus}
 use Rattle.lia_tableau.specs.Adding.{IsPastRow}
 use Rattle.lia_tableau.specs.Pivoting.{IsPastPivot}
-use Rattle.lia_tableau.specs.declared.status.Status.TheVariants.{Due}
 use Rattle.lia_tableau.specs.declared.table.Table.{Table}
 use Rattle.lia_branch.specs.Nodes.{Node, Origin, root, branch, IsRowOf, ComesTo, root_of}
 use Rattle.lia_branch.specs.DueTrees.{split_count, IsDueTree, StopsAt}

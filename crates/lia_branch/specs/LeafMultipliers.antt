@@ -1,7 +1,6 @@
 -- The multipliers of a leaf, read off a line: the slack of a row stands as often in the line as the row is taken.
 use Rattle.std.specs.Prelude.{◌≡◌, ℕ, ℤ, pos, neg_ℤ, Bool, ◌*ℤ◌, ◌-◌, List, [], ◌∷◌, Some, length, slice_get, nat_lt, if◌then◌else◌}
 use Rattle.std.specs.Int.{int_rem_euclid}
-use Rattle.sv_linear.specs.Terms.{AscendsWithin}
 use Rattle.sv_linear.specs.declared.column.Column.{Column}
 use Rattle.sv_linear.specs.declared.row.Row.{Row}
 use Rattle.farkas_check.specs.Columns.{part_at}

@@ -1,4 +1,4 @@
-use Rattle.std.proofs.Common.{◌≡◌, ◌+◌, ◌<◌, ◌≤◌, length, take, slice_set, true, ⊎_elim, get_or, ap, sym, ◌∙◌, subst, arith}
+use Rattle.std.proofs.Common.{◌+◌, length, take, true, ⊎_elim, get_or, ap, sym, ◌∙◌, subst}
 use Rattle.std.proofs.lemmas.Bool.{cases_lt}
 use Rattle.lia_branch.specs.EdgeSums.{AreMarks}
 use Rattle.lia_branch.proofs.EdgeRows.{marked_more, marked_beyond, length_set}

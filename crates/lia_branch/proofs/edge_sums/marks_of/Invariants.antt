@@ -1,5 +1,4 @@
 use Rattle.std.proofs.Common.{◌≡◌, ℕ, ◌<◌, Some, slice_get, length, take, false}
-use Rattle.farkas_check.specs.Closings.{contains_number}
 use Rattle.lia_branch.specs.EdgeSums.{AreMarks}
 use Rattle.lia_branch.proofs.edge_sums.marks_of.Given as goal
 

@@ -1,4 +1,4 @@
-use Rattle.std.proofs.Common.{◌≡◌, suc, pos, ◌+ℤ◌, ◌*ℤ◌, unsigned_abs, ap, sym, ◌∙◌, subst, arith}
+use Rattle.std.proofs.Common.{suc, ◌*ℤ◌, ap, sym, subst, arith}
 use Rattle.std.specs.Int.{w128}
 use Rattle.std.proofs.lemmas.Int.{ints, to_z-of_z}
 use Rattle.sv_linear.specs.Terms.{AscendsWithin, terms_value}

@@ -1,4 +1,4 @@
-use Rattle.std.proofs.Common.{rules, pos, get_or, length, ap, arith}
+use Rattle.std.proofs.Common.{rules, pos, get_or, arith}
 use Rattle.std.specs.Int.{w128, cast_signed}
 use Rattle.std.proofs.lemmas.Int.{to_z-of_z}
 use mir.Val.{SFits}

@@ -6,8 +6,6 @@ use Rattle.std.specs.Prelude.{ℤ}
 use Rattle.farkas_check.specs.Systems.{constraint_of}
 use Rattle.farkas_check.specs.Closings.{FarkasRule}
 use Rattle.farkas_check.specs.Fitting.{LeafFits}
-use Rattle.farkas_check.specs.LeafTests.{LeafTold}
-use Rattle.farkas_check.specs.declared.leaf_test.LeafTest.{LeafTest}
 use Rattle.farkas_check.specs.declared.tree.Tree.TheVariants as v
 use Rattle.lia_branch.specs.Founds.{IsNodeClosing}
 use Rattle.lia_branch.specs.LeafMultipliers.{IsPastColumn}

@@ -2,13 +2,13 @@ use Rattle.std.proofs.Common.{rules, ℕ, List, map, sym, ◌∙◌, subst}
 use Rattle.std.proofs.lemmas.Int.{to_z-of_z}
 use Rattle.std.specs.Int.{w128}
 use mir.Val.{SFits}
-use Rattle.std.specs.Prelude.{ℤ, MatchOption}
+use Rattle.std.specs.Prelude.{ℤ}
 use Rattle.farkas_check.specs.Systems.{constraint_of}
 use Rattle.farkas_check.specs.Closings.{DivisorRule}
 use Rattle.farkas_check.specs.Fitting.{LeafFits}
 use Rattle.farkas_check.specs.declared.tree.Tree.TheVariants as v
 use Rattle.lia_branch.specs.Founds.{IsNodeClosing}
-use Rattle.lia_branch.specs.LeafMultipliers.{slack_remainders, IsPastColumn}
+use Rattle.lia_branch.specs.LeafMultipliers.{IsPastColumn}
 use Rattle.lia_branch.proofs.DivisorFounds.{divisor_place, divisor_positive, divisor_rule_here, divisor_closed, divisor_stopped}
 use Rattle.lia_branch.proofs.leaves.divisor_leaf.Goals as goal
 

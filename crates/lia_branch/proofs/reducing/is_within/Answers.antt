@@ -1,4 +1,4 @@
-use Rattle.std.proofs.Common.{rules, ◌^◌, pos, length, ap, arith}
+use Rattle.std.proofs.Common.{rules, ◌^◌, length, ap, arith}
 use Rattle.std.specs.Int.{w128}
 use Rattle.std.proofs.lemmas.Int.{ints, to_z-of_z}
 use mir.Val.{SFits}

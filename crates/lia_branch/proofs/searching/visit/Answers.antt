@@ -7,7 +7,6 @@ use Rattle.farkas_check.specs.Cuts.{values_of, IsCut, IsCutAnswer}
 use Rattle.farkas_check.specs.Systems.{Joined}
 use Rattle.farkas_check.specs.declared.net.Net.{Net}
 use Rattle.lia_tableau.specs.Shown.{IsStatus}
-use Rattle.lia_tableau.specs.declared.table.Table.{Table}
 use Rattle.sv_linear.specs.declared.row.Row.{Row}
 use Rattle.lia_branch.specs.DueSplits.{IsWholeAt}
 use Rattle.lia_branch.specs.Founds.{IsReady, IsNodeOf, IsFraction}

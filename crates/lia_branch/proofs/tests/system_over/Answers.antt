@@ -1,4 +1,4 @@
-use Rattle.std.proofs.Common.{List, length, slice_get, refl, ap, ◌∙◌, arith}
+use Rattle.std.proofs.Common.{List, slice_get, refl, ap, ◌∙◌, arith}
 use Rattle.std.proofs.lemmas.Option.{slice_get_within}
 use Rattle.sv_linear.specs.Rows.{IsRowWithin}
 use Rattle.sv_linear.specs.declared.row.Row.{Row}

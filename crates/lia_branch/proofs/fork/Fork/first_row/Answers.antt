@@ -1,5 +1,4 @@
-use Rattle.std.proofs.Common.{ℕ, suc, slice_get, ap, sym, ◌∙◌, subst}
-use Rattle.sv_linear.specs.declared.row.Row.{Row}
+use Rattle.std.proofs.Common.{suc, slice_get, ap, sym, ◌∙◌, subst}
 use Rattle.farkas_check.specs.Systems.{Constraint}
 use Rattle.farkas_check.specs.Closings.{none_out}
 use Rattle.farkas_check.specs.declared.net.Net.{Net}
