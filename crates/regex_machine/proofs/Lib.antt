@@ -16,3 +16,6 @@ pub mod MeetLemmas
 pub mod SideLemmas
 pub mod FormLemmas
 pub mod LetterParts
+pub mod OnwardLemmas
+pub mod WovenLemmas
+pub mod WeaveLemmas

@@ -10,3 +10,5 @@ pub mod Built
 pub mod Kinds
 pub mod Parts
 pub mod Letters
+pub mod Onwards
+pub mod Woven

@@ -1,23 +1,29 @@
-ghost use Rattle.std.specs.Prelude.{◌≡◌, ℕ, ◌+◌, ◌*◌, ◌≤◌, ◌<◌, ◌^◌, ◌↔◌, [], ◌∷◌, List, IfOk, IsTrue, OnOk, Err, map, min};
+ghost use Rattle.std.specs.Prelude.{◌≡◌, ℕ, ◌+◌, ◌*◌, ◌≤◌, ◌<◌, ◌^◌, ◌↔◌, [], ◌∷◌, List, length, IfOk, IsTrue, OnOk, Err, map, min};
 ghost use Rattle.machine_core.specs.Graphs.{Accepts};
 ghost use Rattle.sv_word.specs.Words.{IsWord};
-ghost use Rattle.sv_terms.specs.Language.{In, InFirstOnly, Power};
+ghost use Rattle.sv_terms.specs.Language.{In, InFirstOnly, InEachInTurn, InOneOf, Power};
 ghost use Rattle.sv_terms.specs.Bounds.{size, bound_of, from_left, without_size};
 ghost use Rattle.regex_machine.specs.Built.{Builds};
 ghost use Rattle.regex_machine.specs.Copied.{InCopies, copies_size};
 ghost use Rattle.regex_machine.specs.Joined.{Reads, AreMade};
 ghost use Rattle.regex_machine.specs.Kinds.{Together, weight, most_states};
+ghost use Rattle.regex_machine.specs.Onwards.{AreBegun, Precedes};
 ghost use Rattle.regex_machine.specs.Parts.{AddsParts};
+ghost use Rattle.regex_machine.specs.declared.kind.Kind.TheVariants.{Turn, One};
 ghost use Rattle.trim_search.specs.declared.build_fault.BuildFault.TheVariants.{States};
 
 use crate::joining::{complement, copied, difference, put_together};
 use crate::kind::Kind;
 use crate::letter_parts::join_alike;
-use crate::letters::{any_character, empty_word, everything, fit, nothing, range, text};
+use crate::letters;
+use crate::letters::{any_character, between, empty_word, everything, fit, nothing, range};
+use crate::onward::{Onward, Rest};
+use crate::written::{alone, either, embed, finish, letter, nothing_more, text};
 use machine_core::Explicit;
 use std::alloc::{AllocError, Global};
-use sv_list::Items;
+use sv_list::{Copied, Items};
 use sv_terms::{Regex, bound};
+use sv_word::Ranges;
 use trim_search::BuildFault;
 
 /// A machine without registers whose words are those of the expression, with at most
@@ -52,10 +58,10 @@ fn make(alloc: Global, regex: &Regex, limit: u64) -> Result<Explicit, BuildFault
         Regex::Empty => fit(nothing(alloc), limit),
         Regex::All => fit(everything(alloc), limit),
         Regex::AnyChar => fit(any_character(alloc), limit),
-        Regex::Text(word) => fit(text(alloc, word), limit),
+        Regex::Text(word) => fit(letters::text(alloc, word), limit),
         Regex::Range(lo, hi) => fit(range(alloc, *lo, *hi), limit),
-        Regex::Concat(rs) => make_list(alloc, Kind::Turn, rs.as_slice(), limit),
-        Regex::Union(rs) => make_list(alloc, Kind::One, rs.as_slice(), limit),
+        Regex::Concat(rs) => make_turn(alloc, rs.as_slice(), limit),
+        Regex::Union(rs) => make_one(alloc, rs.as_slice(), limit),
         Regex::Inter(rs) => make_list(alloc, Kind::All, rs.as_slice(), limit),
         Regex::Diff(rs) => make_difference(alloc, rs.as_slice(), limit),
         Regex::Star(r) => make_copies(alloc, r.get(), 0, 1, true, limit),
@@ -64,6 +70,122 @@ fn make(alloc: Global, regex: &Regex, limit: u64) -> Result<Explicit, BuildFault
         Regex::Comp(r) => make_complement(alloc, r.get(), limit),
         Regex::Loop(r, i, j) => make_loop(alloc, r.get(), *i, *j, limit),
     }
+}
+
+// One word of each, in their order.
+#[cycle(make)]
+fn make_turn(alloc: Global, rs: &[Regex], limit: u64) -> Result<Explicit, BuildFault>
+    ensures { Builds (Together Turn In rs.now) (most_states Turn (weight Turn size rs.now)) limit result }
+{
+    let mut states = Items::new(alloc);
+    let mut end = nothing_more(alloc);
+    let front = before_each(alloc, rs, &mut states, &mut end, limit)?;
+    finish(alloc, states, front, limit)
+}
+
+// A word of one at least.
+#[cycle(make)]
+fn make_one(alloc: Global, rs: &[Regex], limit: u64) -> Result<Explicit, BuildFault>
+    ensures { Builds (Together One In rs.now) (most_states One (weight One size rs.now)) limit result }
+{
+    let mut states = Items::new(alloc);
+    let mut end = nothing_more(alloc);
+    let front = before_one(alloc, rs, &mut states, &mut end, limit)?;
+    finish(alloc, states, front, limit)
+}
+
+// A word of the expression, and then what follows.
+#[cycle(make)]
+fn before(
+    alloc: Global,
+    regex: &Regex,
+    states: &mut Items<Onward>,
+    rest: &mut Rest,
+    limit: u64,
+) -> Result<Rest, BuildFault>
+    ensures ok { IfOk result (λ front. AreBegun states.old rest.old
+        → Precedes (In regex.now) (length states.old + size regex.now) states.old rest.old states.new rest.new front) }
+    ensures beyond { (n : ℕ) → result ≡ Err (States n) → (limit < size regex.now) × (limit < 2 ^ 32) }
+{
+    match regex {
+        Regex::AnyChar => {
+            let on = Ranges::all(alloc)?;
+            let front = letter(alloc, states, on, rest)?;
+            Ok(front)
+        }
+        Regex::Range(lo, hi) => {
+            let on = between(alloc, *lo, *hi)?;
+            let front = letter(alloc, states, on, rest)?;
+            Ok(front)
+        }
+        Regex::Text(word) => {
+            let front = text(alloc, states, word, rest)?;
+            Ok(front)
+        }
+        Regex::Concat(rs) => before_each(alloc, rs.as_slice(), states, rest, limit),
+        Regex::Union(rs) => before_one(alloc, rs.as_slice(), states, rest, limit),
+        _ => {
+            let part = make(alloc, regex, limit)?;
+            let front = embed(alloc, states, &part, rest)?;
+            Ok(front)
+        }
+    }
+}
+
+// One word of each, in their order, and then what follows: from the last one on.
+#[cycle(make)]
+fn before_each(
+    alloc: Global,
+    rs: &[Regex],
+    states: &mut Items<Onward>,
+    rest: &mut Rest,
+    limit: u64,
+) -> Result<Rest, BuildFault>
+    ensures ok { IfOk result (λ front. AreBegun states.old rest.old
+        → Precedes (InEachInTurn In rs.now) (length states.old + most_states Turn (weight Turn size rs.now)) states.old rest.old states.new rest.new front) }
+    ensures beyond { (n : ℕ) → result ≡ Err (States n) → (limit < most_states Turn (weight Turn size rs.now)) × (limit < 2 ^ 32) }
+{
+    if rs.is_empty() {
+        return Ok(rest.copy(alloc)?);
+    }
+    let mut at = rs.len() - 1;
+    let mut front = before(alloc, &rs[at], states, rest, limit)?;
+    while at > 0 {
+        at -= 1;
+        let earlier = before(alloc, &rs[at], states, &mut front, limit)?;
+        front = earlier;
+    }
+    Ok(front)
+}
+
+// A word of one at least, and then what follows, which all of them share.
+#[cycle(make)]
+fn before_one(
+    alloc: Global,
+    rs: &[Regex],
+    states: &mut Items<Onward>,
+    rest: &mut Rest,
+    limit: u64,
+) -> Result<Rest, BuildFault>
+    ensures ok { IfOk result (λ front. AreBegun states.old rest.old
+        → Precedes (InOneOf In rs.now) (length states.old + most_states One (weight One size rs.now)) states.old rest.old states.new rest.new front) }
+    ensures beyond { (n : ℕ) → result ≡ Err (States n) → (limit < most_states One (weight One size rs.now)) × (limit < 2 ^ 32) }
+{
+    if rs.len() == 1 {
+        return before(alloc, &rs[0], states, rest, limit);
+    }
+    let mut moves = Items::new(alloc);
+    let mut may_end = false;
+    for r in rs {
+        let front = before(alloc, r, states, rest, limit)?;
+        let Onward {
+            moves: more,
+            may_end: ends,
+        } = front.onward;
+        moves.append(more)?;
+        may_end = either(may_end, ends);
+    }
+    Ok(alone(moves, may_end))
 }
 
 #[cycle(make)]

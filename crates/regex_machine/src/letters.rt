@@ -1,5 +1,5 @@
 //! Machines of single words and characters, without registers.
-ghost use Rattle.std.specs.Prelude.{◌≡◌, ℕ, ◌≤◌, ◌+◌, [], ◌∷◌, length, min, IsTrue, IfOk};
+ghost use Rattle.std.specs.Prelude.{◌≡◌, ℕ, ◌≤◌, ◌+◌, [], ◌∷◌, length, min, nat_le, ◌&&◌, IsTrue, IfOk};
 ghost use Rattle.sv_word.specs.Ranges.{in_ranges};
 ghost use Rattle.sv_word.specs.Words.{IsWord, greatest_character};
 ghost use Rattle.regex_machine.specs.Built.{Fits};
@@ -80,6 +80,15 @@ fn cut_off_at_last(n: u32) -> u32
     ensures { result ≡ min n greatest_character }
 {
     n.min(GREATEST_CHARACTER)
+}
+
+/// The characters between two.
+pub fn between(alloc: Global, lo: u32, hi: u32) -> Result<Ranges, AllocError>
+    ensures { IfOk result (λ on. (c : ℕ) → in_ranges on c ≡ (nat_le lo c && nat_le c (min hi greatest_character))) }
+{
+    let top = cut_off_at_last(hi);
+    let on = Ranges::of(alloc, lo, top)?;
+    Ok(on)
 }
 
 /// The words of one character between two.

@@ -25,9 +25,12 @@ mod joining;
 mod kind;
 mod letter_parts;
 mod letters;
+mod onward;
 mod sides;
 mod stepping;
 #[cfg(test)]
 mod tests;
+mod woven;
+mod written;
 
 pub use building::build;

@@ -1,8 +1,8 @@
-use Rattle.std.proofs.Common.{◌≡◌, ◌+◌, ◌≤◌, ◌∷◌, [], length, Err, ap, refl, sym, ◌∙◌, subst, arith}
-use Rattle.sv_word.specs.Words.{IsWord}
+use Rattle.std.proofs.Common.{◌≡◌, ℕ, suc, false, ◌+◌, ◌-◌, ◌<◌, ◌≤◌, ◌∷◌, [], min, max, length, Err, ap, refl, sym, ◌∙◌, subst, arith}
+use Rattle.sv_word.specs.Words.{IsWord, greatest_character}
 use Rattle.sv_terms.specs.declared.regex.Regex.TheVariants as v
 use Rattle.sv_terms.specs.Opened.{In-Empty, In-All, In-AnyChar, In-Text, In-Range}
-use Rattle.sv_terms.specs.Language.{In}
+use Rattle.sv_terms.specs.Language.{In, InOneOf}
 use Rattle.sv_terms.specs.Bounds.{size}
 use Rattle.regex_machine.specs.Joined.{ArePlain, AreMade}
 use Rattle.regex_machine.specs.Parts.{AddsParts}
@@ -10,8 +10,14 @@ use Rattle.regex_machine.specs.declared.kind.Kind.TheVariants as kind
 use Rattle.regex_machine.proofs.BuiltLemmas.{builds-as, builds-form, builds-err, built-beyond, onok-as, fits-builds}
 use Rattle.regex_machine.proofs.FormLemmas.{builds-list, builds-Diff, builds-Star, builds-Plus, builds-Opt, builds-Comp, builds-Loop, complement-made, copies-made, difference-made, loop-made, list-made, copies-least}
 use Rattle.regex_machine.proofs.KindLemmas.{formed, power-above, first-size, part-size, inner-size, adds-none, adds-next, adds-all, adds-inner, adds-one, adds-plain}
-use Rattle.regex_machine.proofs.LanguageLemmas.{made-plain, made-more, made-all, no-order, no-copy}
+use Rattle.regex_machine.proofs.LanguageLemmas.{range-all, made-plain, made-more, made-all, no-order, no-copy}
 use Rattle.sv_terms.specs.BoundLaws.{size-Empty, size-All, size-AnyChar, size-Text, size-Range}
+use Rattle.regex_machine.proofs.WeaveLemmas.{begun-end, finished, before-form, before-letter, before-inner, some-parts, IsWritten, IsChosen, each-last, each-step, each-all, one-none, one-step, one-all}
+use Rattle.regex_machine.proofs.OnwardLemmas.{unmade-most}
+use Rattle.regex_machine.proofs.LetterLemmas.{range-words}
+use Rattle.regex_machine.specs.Onwards.{Precedes, unmade}
+use Rattle.std.proofs.lemmas.Result.{IfOk-weaker}
+use Rattle.machine_meet.specs.Products.{summed}
 use Rattle.regex_machine.proofs.building.+make.Goals as goal
 
 pub make-returns-in-Empty : goal.make-returns-in-Empty
@@ -42,15 +48,14 @@ make-returns-in-Range t c =
     (fits-builds _ 2 c.args.limit c.range.result c.fit-in-Range.result c.range.ensures.reads c.range.ensures.states c.fit-in-Range.ensures)
 
 pub make-returns-in-Concat : goal.make-returns-in-Concat
-make-returns-in-Concat t c = builds-list c.args.regex.now c.args.limit c.make_list.result kind.Turn c.in-Concat.rs c.as_slice.result.now c.as_slice.ensures c.in-Concat.is c.make_list.ensures
+make-returns-in-Concat t c = builds-list c.args.regex.now c.args.limit c.make_turn.result kind.Turn c.in-Concat.rs c.as_slice.result.now c.as_slice.ensures c.in-Concat.is c.make_turn.ensures
 
 pub make-returns-in-Union : goal.make-returns-in-Union
-make-returns-in-Union t c =
-    builds-list c.args.regex.now c.args.limit c.make_list-in-Union.result kind.One c.in-Union.rs c.as_slice-in-Union.result.now c.as_slice-in-Union.ensures c.in-Union.is c.make_list-in-Union.ensures
+make-returns-in-Union t c = builds-list c.args.regex.now c.args.limit c.make_one.result kind.One c.in-Union.rs c.as_slice-in-Union.result.now c.as_slice-in-Union.ensures c.in-Union.is c.make_one.ensures
 
 pub make-returns-in-Inter : goal.make-returns-in-Inter
 make-returns-in-Inter t c =
-    builds-list c.args.regex.now c.args.limit c.make_list-in-Inter.result kind.All c.in-Inter.rs c.as_slice-in-Inter.result.now c.as_slice-in-Inter.ensures c.in-Inter.is c.make_list-in-Inter.ensures
+    builds-list c.args.regex.now c.args.limit c.make_list.result kind.All c.in-Inter.rs c.as_slice-in-Inter.result.now c.as_slice-in-Inter.ensures c.in-Inter.is c.make_list.ensures
 
 pub make-returns-in-Diff : goal.make-returns-in-Diff
 make-returns-in-Diff t c = builds-Diff c.args.regex.now c.args.limit c.make_difference.result c.in-Diff.rs c.as_slice-in-Diff.result.now c.as_slice-in-Diff.ensures c.in-Diff.is c.make_difference.ensures
@@ -219,3 +224,149 @@ add_part-returns-in-All-Inter-clause-beyond t c = λ n e.
     let more = inner-size c.args.kind c.args.r.now a.rs c.as_slice-in-All-Inter.result.now is c.as_slice-in-All-Inter.ensures in
     let low = b.0 in
     (omega arith, b.1)
+
+pub make_turn-finish-requires : goal.make_turn-finish-requires
+make_turn-finish-requires t c =
+    let p = c.in_ok-front.ensures.ok (begun-end c.new-states.result c.nothing_more-end.result c.new-states.ensures c.nothing_more-end.ensures.moves c.nothing_more-end.ensures.state) in
+    record { closed = p.begun.closed; formed = p.formed }
+
+pub make_turn-returns : goal.make_turn-returns
+make_turn-returns t c =
+    let p = c.in_ok-front.ensures.ok (begun-end c.new-states.result c.nothing_more-end.result c.new-states.ensures c.nothing_more-end.ensures.moves c.nothing_more-end.ensures.state) in
+    finished _ _ c.args.limit c.new-states.result c.before_each.new.states c.nothing_more-end.result c.before_each.new.rest c.in_ok-front.front c.finish.result c.new-states.ensures
+    c.nothing_more-end.ensures.moves c.nothing_more-end.ensures.may_end p c.finish.ensures
+
+pub make_turn-returns-in_err-front : goal.make_turn-returns-in_err-front
+make_turn-returns-in_err-front t c = builds-err _ _ c.args.limit c.from_residual.result c.from_residual.ensures.0 (λ n e.
+    let d = rw e at c.from_residual.ensures.1 in
+    c.in_err-front.ensures.beyond n (ap Err (sym d)))
+
+pub make_one-finish-requires : goal.make_one-finish-requires
+make_one-finish-requires t c =
+    let p = c.in_ok-front.ensures.ok (begun-end c.new-states.result c.nothing_more-end.result c.new-states.ensures c.nothing_more-end.ensures.moves c.nothing_more-end.ensures.state) in
+    record { closed = p.begun.closed; formed = p.formed }
+
+pub make_one-returns : goal.make_one-returns
+make_one-returns t c =
+    let p = c.in_ok-front.ensures.ok (begun-end c.new-states.result c.nothing_more-end.result c.new-states.ensures c.nothing_more-end.ensures.moves c.nothing_more-end.ensures.state) in
+    finished _ _ c.args.limit c.new-states.result c.before_one.new.states c.nothing_more-end.result c.before_one.new.rest c.in_ok-front.front c.finish.result c.new-states.ensures
+    c.nothing_more-end.ensures.moves c.nothing_more-end.ensures.may_end p c.finish.ensures
+
+pub make_one-returns-in_err-front : goal.make_one-returns-in_err-front
+make_one-returns-in_err-front t c = builds-err _ _ c.args.limit c.from_residual.result c.from_residual.ensures.0 (λ n e.
+    let d = rw e at c.from_residual.ensures.1 in
+    c.in_err-front.ensures.beyond n (ap Err (sym d)))
+
+pub before-returns-in_ok-front-in-AnyChar-clause-ok : goal.before-returns-in_ok-front-in-AnyChar-clause-ok
+before-returns-in_ok-front-in-AnyChar-clause-ok t c begun =
+    before-letter c.args.regex.now v.AnyChar _ c.in_ok-on-in-AnyChar.on c.args.states.now c.letter.new.states c.args.rest.now c.letter.new.rest c.in_ok-front-in-AnyChar.front c.in-AnyChar.is In-AnyChar
+    (let e = size-AnyChar in omega arith) (range-all c.in_ok-on-in-AnyChar.on c.in_ok-on-in-AnyChar.ensures.set) (c.in_ok-front-in-AnyChar.ensures begun)
+
+pub before-returns-in_ok-front-in-Range-clause-ok : goal.before-returns-in_ok-front-in-Range-clause-ok
+before-returns-in_ok-front-in-Range-clause-ok t c begun =
+    let lo = c.in-Range.lo in
+    let hi = c.in-Range.hi in
+    before-letter c.args.regex.now (v.Range lo hi) _ c.in_ok-on-in-Range.on c.args.states.now c.letter-in-Range.new.states c.args.rest.now c.letter-in-Range.new.rest c.in_ok-front-in-Range.front c.in-Range.is (In-Range lo hi)
+    (let e = size-Range lo hi in omega arith) (range-words lo hi (min hi greatest_character) c.in_ok-on-in-Range.on refl c.in_ok-on-in-Range.ensures) (c.in_ok-front-in-Range.ensures begun)
+
+pub before-returns-in_ok-front-in-Text-clause-ok : goal.before-returns-in_ok-front-in-Text-clause-ok
+before-returns-in_ok-front-in-Text-clause-ok t c begun =
+    let word = c.in-Text.word in
+    let most = unmade-most c.args.rest.now.state in
+    let long = size-Text word in
+    before-form c.args.regex.now (v.Text word) (λ w. (w ≡ word) × IsWord w) (length c.args.states.now + unmade c.args.rest.now.state + length word) c.args.states.now c.text.new.states c.args.rest.now c.text.new.rest
+    c.in_ok-front-in-Text.front c.in-Text.is (In-Text word) (omega arith) (c.in_ok-front-in-Text.ensures begun)
+
+pub before-returns-in-Concat-clause-ok : goal.before-returns-in-Concat-clause-ok
+before-returns-in-Concat-clause-ok t c = IfOk-weaker c.before_each.result _ _
+    (λ front h begun. before-inner kind.Turn c.args.regex.now c.in-Concat.rs c.as_slice.result.now c.args.states.now c.before_each.new.states c.args.rest.now c.before_each.new.rest front c.in-Concat.is c.as_slice.ensures (h begun))
+    c.before_each.ensures.ok
+
+pub before-returns-in-Concat-clause-beyond : goal.before-returns-in-Concat-clause-beyond
+before-returns-in-Concat-clause-beyond t c = λ n e.
+    let b = c.before_each.ensures.beyond n e in
+    let more = inner-size kind.Turn c.args.regex.now c.in-Concat.rs c.as_slice.result.now c.in-Concat.is c.as_slice.ensures in
+    let low = b.0 in
+    (omega arith, b.1)
+
+pub before-returns-in-Union-clause-ok : goal.before-returns-in-Union-clause-ok
+before-returns-in-Union-clause-ok t c = IfOk-weaker c.before_one.result _ _
+    (λ front h begun. before-inner kind.One c.args.regex.now c.in-Union.rs c.as_slice-in-Union.result.now c.args.states.now c.before_one.new.states c.args.rest.now c.before_one.new.rest front c.in-Union.is c.as_slice-in-Union.ensures (h begun))
+    c.before_one.ensures.ok
+
+pub before-returns-in-Union-clause-beyond : goal.before-returns-in-Union-clause-beyond
+before-returns-in-Union-clause-beyond t c = λ n e.
+    let b = c.before_one.ensures.beyond n e in
+    let more = inner-size kind.One c.args.regex.now c.in-Union.rs c.as_slice-in-Union.result.now c.in-Union.is c.as_slice-in-Union.ensures in
+    let low = b.0 in
+    (omega arith, b.1)
+
+pub before_each-returns-in_err-front-clause-beyond : goal.before_each-returns-in_err-front-clause-beyond
+before_each-returns-in_err-front-clause-beyond t c = λ n e.
+    let d = rw e at c.from_residual-in_err-front.ensures.1 in
+    let b = c.in_err-front.ensures.beyond n (ap Err (sym d)) in
+    let some = some-parts c.args.rs.now (sym c.is_empty.ensures ∙ c.if-is_empty.false) in
+    let below : length c.args.rs.now - 1 < length c.args.rs.now = omega arith in
+    let more = part-size kind.Turn c.args.rs.now c.index-rs-at.result (length c.args.rs.now - 1, below, sym c.index-rs-at.is) in
+    let low = b.0 in
+    (omega arith, b.1)
+
+pub before_each-loop-at-init : goal.before_each-loop-at-init
+before_each-loop-at-init t c =
+    let some = some-parts c.args.rs.now (sym c.is_empty.ensures ∙ c.if-is_empty.false) in
+    let last : suc (length c.args.rs.now - 1) ≡ length c.args.rs.now = omega arith in
+    record {
+      room = omega arith;
+      written = λ begun. each-last c.args.rs.now c.args.states.now c.args.rest.now (length c.args.rs.now - 1) c.index-rs-at.result c.before-2.new.states c.before-2.new.rest c.in_ok-front.front last c.index-rs-at.is (c.in_ok-front.ensures.ok begun);
+    }
+
+pub before_each-returns-in_err-earlier-clause-beyond : goal.before_each-returns-in_err-earlier-clause-beyond
+before_each-returns-in_err-earlier-clause-beyond t c = λ n e.
+    let d = rw e at c.from_residual-in_err-earlier.ensures.1 in
+    let b = c.in_err-earlier.ensures.beyond n (ap Err (sym d)) in
+    let room = c.loop-at.invariant.room in
+    let below : c.loop-at.at - 1 < length c.args.rs.now = omega arith in
+    let more = part-size kind.Turn c.args.rs.now c.index-rs-at-in-loop-at.result (c.loop-at.at - 1, below, sym c.index-rs-at-in-loop-at.is) in
+    let low = b.0 in
+    (omega arith, b.1)
+
+pub before_each-loop-at-preserved : goal.before_each-loop-at-preserved
+before_each-loop-at-preserved t c =
+    let room = c.loop-at.invariant.room in
+    let some = c.loop-at-test.true in
+    let next : c.loop-at.at ≡ suc (c.loop-at.at - 1) = omega arith in
+    let below : c.loop-at.at - 1 < length c.args.rs.now = omega arith in
+    record {
+      room = below;
+      written = λ begun. each-step c.args.rs.now c.args.states.now c.args.rest.now (c.loop-at.at - 1) c.index-rs-at-in-loop-at.result c.loop-at.states c.before-in-loop-at.new.states c.before-2.new.rest c.loop-at.front
+          c.before-in-loop-at.new.rest c.in_ok-earlier.earlier below c.index-rs-at-in-loop-at.is
+          (subst (λ n. IsWritten c.args.rs.now c.args.states.now c.args.rest.now n c.loop-at.states c.before-2.new.rest c.loop-at.front) next (c.loop-at.invariant.written begun)) c.in_ok-earlier.ensures.ok;
+    }
+
+pub before_each-returns-clause-ok : goal.before_each-returns-clause-ok
+before_each-returns-clause-ok t c begun =
+    let zero : c.loop-at.at ≡ 0 = omega arith in
+    each-all c.args.rs.now c.args.states.now c.args.rest.now c.loop-at.states c.before-2.new.rest c.loop-at.front
+    (subst (λ n. IsWritten c.args.rs.now c.args.states.now c.args.rest.now n c.loop-at.states c.before-2.new.rest c.loop-at.front) zero (c.loop-at.invariant.written begun))
+
+pub before_one-loop-r-init : goal.before_one-loop-r-init
+before_one-loop-r-init t c begun =
+    subst (λ m. IsChosen c.args.rs.now c.args.states.now c.args.rest.now 0 c.args.states.now c.args.rest.now m false) (sym c.new-moves.ensures) (one-none c.args.rs.now c.args.states.now c.args.rest.now begun)
+
+pub before_one-returns-in_err-front-clause-beyond : goal.before_one-returns-in_err-front-clause-beyond
+before_one-returns-in_err-front-clause-beyond t c = λ n e.
+    let d = rw e at c.from_residual.ensures.1 in
+    let b = c.in_err-front.ensures.beyond n (ap Err (sym d)) in
+    let more = part-size kind.One c.args.rs.now c.r-item.result (c.loop-r.r-index, c.loop-r-test.true, sym c.r-item.is) in
+    let low = b.0 in
+    (omega arith, b.1)
+
+pub before_one-loop-r-preserved : goal.before_one-loop-r-preserved
+before_one-loop-r-preserved t c begun =
+    one-step c.args.rs.now c.args.states.now c.args.rest.now begun c.loop-r.r-index c.r-item.result c.loop-r.states c.before-in-loop-r.new.states c.loop-r.rest c.before-in-loop-r.new.rest c.in_ok-front.front
+    c.loop-r.moves c.append.new.self c.loop-r.may_end c.either-may_end.result c.loop-r-test.true c.r-item.is (c.loop-r.invariant begun) c.in_ok-front.ensures.ok c.in_ok-append.ensures.ok c.either-may_end.ensures
+
+pub before_one-returns-clause-ok : goal.before_one-returns-clause-ok
+before_one-returns-clause-ok t c begun =
+    subst (Precedes (InOneOf In c.args.rs.now) (length c.args.states.now + max 1 (summed (λ q. size q + 1) c.args.rs.now - 1)) c.args.states.now c.args.rest.now c.loop-r.states c.loop-r.rest) (sym c.alone.ensures.whole)
+    (one-all c.args.rs.now c.args.states.now c.args.rest.now begun c.loop-r.r-index c.loop-r.states c.loop-r.rest c.loop-r.moves c.loop-r.may_end c.loop-r-test.false c.if-rs-eq1.false (c.loop-r.invariant begun))

@@ -1,0 +1,15 @@
+use Rattle.std.proofs.Common.{◌≡◌, IsTrue, ◌++◌, ◌∷◌, [], refl, ap, ◌∙◌}
+use Rattle.machine_core.specs.declared.machine.Move.{Move}
+use Rattle.regex_machine.proofs.OnwardLemmas.{letter-none, letter-made, apart-below}
+use Rattle.regex_machine.proofs.written.letter.Goals as goal
+
+pub returns-then-is_empty : goal.returns-then-is_empty
+returns-then-is_empty c begun =
+    letter-none c.args.states.now c.args.rest.now c.alone.result c.args.on begun c.if-is_empty.ensures.empty (c.alone.ensures.moves ∙ c.new-moves.ensures) c.alone.ensures.may_end c.alone.ensures.state
+
+pub returns : goal.returns
+returns c begun =
+    let has = c.in_ok-to.ensures begun in
+    letter-made c.args.states.now c.state_of.new.states c.args.rest.now c.state_of.new.rest c.alone-2.result c.args.on c.in_ok-to.to (record { on = c.args.on; cost = c.new-cost.result; to = c.in_ok-to.to }) begun has
+    c.if-is_empty.ensures.inhabited (λ d h. apart-below 0 c.args.on d c.as_slice-characters.ensures.apart h) refl c.new-cost.ensures refl
+    (c.alone-2.ensures.moves ∙ c.in_ok-push.ensures.ok ∙ ap (λ l. l ++ (record { on = c.args.on; cost = c.new-cost.result; to = c.in_ok-to.to }) ∷ []) c.new-moves.ensures) c.alone-2.ensures.may_end c.alone-2.ensures.state
