@@ -9,3 +9,4 @@ mod MoveLemmas
 mod ExactLemmas
 mod CutLemmas
 mod SearchLemmas
+mod WordLemmas

@@ -32,6 +32,6 @@ mod searching;
 mod tests;
 
 pub use hit::Hit;
-pub use laws::hits_are_short;
+pub use laws::{hits_are_short, words_are_short};
 pub use region::Region;
 pub use searching::search;
