@@ -1,5 +1,5 @@
 -- Runs for the counts of a solution are a hit.
-use Rattle.std.proofs.Common.{◌≡◌, ℕ, zero, suc, ◌+◌, ◌-◌, ◌<◌, ◌≤◌, ℤ, pos, neg_ℤ, ◌+ℤ◌, ◌*ℤ◌, ◌≤ℤ◌, List, [], ◌∷◌, ◌++◌, length, map, take, All, Option, Some, None, IfSome, get_or, slice_index, slice_set, refl, ap, sym, ◌∙◌, subst, arith}
+use Rattle.std.proofs.Common.{◌≡◌, ℕ, zero, suc, ◌+◌, ◌-◌, ◌<◌, ◌≤◌, ℤ, pos, neg_ℤ, ◌+ℤ◌, ◌*ℤ◌, ◌≤ℤ◌, List, [], ◌∷◌, ◌++◌, length, map, take, drop, All, Option, Some, None, IfSome, get_or, slice_index, slice_set, refl, ap, sym, ◌∙◌, subst, arith}
 use Rattle.std.specs.List.{range_with_len, AllByRecursion}
 use Rattle.std.proofs.lemmas.Int.{ints}
 use Rattle.std.proofs.lemmas.List.Elements.{All-nil, All-cons, All-head, All-tail}
@@ -30,7 +30,7 @@ use Rattle.parikh_flow.proofs.WeightLemmas.{weighted, weighted-fall, weighted-no
 use Rattle.parikh_flow.proofs.SolutionLemmas.{all-first, all-second, all-unmap, all-range, run-rows-met, family-counts}
 
 -- the parts of the rows that speak of runs
-module _ (machines : List Graph) (integers registers : ℕ) (rows : List Row) (reach : Option ℕ) (s : System) (x : ℕ → ℤ) (is : IsSystemOf machines integers registers rows reach s) (solves : Solves x (rows_of s) s.nets) where
+module _ (machines : List Graph) (integers registers : ℕ) (rows : List Row) (reach : Option ℕ) (s : System) (x : ℕ → ℤ) (is : IsSystemOf machines integers registers rows reach s) (met : All (Meets x) (rows_of s)) where
   abbrev registers-part : List Constraint
   registers-part = map (register_row integers (integers + registers) machines) (range_with_len 0 registers)
 
@@ -44,7 +44,7 @@ module _ (machines : List Graph) (integers registers : ℕ) (rows : List Row) (r
   reach-part = reach_rows (integers + registers) machines reach
 
   all-parts : All (Meets x) (registers-part ++ low-part ++ family-part ++ reach-part)
-  all-parts = run-rows-met machines integers registers rows reach s x is solves
+  all-parts = run-rows-met machines integers registers rows reach s x is met
 
   three-parts : All (Meets x) (registers-part ++ low-part ++ family-part)
   three-parts = all-first (Meets x) (registers-part ++ low-part ++ family-part) reach-part all-parts
@@ -71,16 +71,16 @@ module _ (machines : List Graph) (integers registers : ℕ) (rows : List Row) (r
       let h = row.at_most in
       omega (arith, ints)
 
-  pub solution-counts : HaveJoinedCounts x (integers + registers) machines
-  solution-counts = family-counts x machines (integers + registers) (λ u a b. low-met u (omega arith) b)
+  pub solution-counts : All (Joined x) s.nets → HaveJoinedCounts x (integers + registers) machines
+  solution-counts joins = family-counts x machines (integers + registers) (λ u a b. low-met u (omega arith) b)
       (all-second (Meets x) (registers-part ++ low-part) family-part three-parts)
-      (subst (All (Joined x)) is.nets solves.joins)
+      (subst (All (Joined x)) is.nets joins)
 
   pub reach-met : All (Meets x) reach-part
   reach-met = all-second (Meets x) (registers-part ++ low-part ++ family-part) reach-part all-parts
 
   pub given-met : All (λ r. Meets x (constraint_of r)) rows
-  given-met = all-first (λ r. Meets x (constraint_of r)) rows is.more (subst (All (λ r. Meets x (constraint_of r))) is.listed (all-unmap (Meets x) constraint_of s.rows solves.meets))
+  given-met = all-first (λ r. Meets x (constraint_of r)) rows is.more (subst (All (λ r. Meets x (constraint_of r))) is.listed (all-unmap (Meets x) constraint_of s.rows met))
 
 -- what a walk costs at a register, by the counts of its edges
 leads-cost : (k : ℕ) (edges : List Edge) (s : ℕ) (ps us word : List ℕ) (costs : List (List ℕ)) (t n : ℕ) (f : List ℕ) → LeadsAlong edges s ps us word costs t
@@ -125,6 +125,12 @@ leads-widths m s (q ∷ ps) (x ∷ us) (y ∷ word) (z ∷ costs) t l =
     All-cons (λ k. length k ≡ m.registers) z costs (sym (ap length l.3.1) ∙ (m.formed.edge l.0 (slice_get-contains m.edges q l.0 l.1)).cost)
     (leads-widths m x ps us word costs t l.4)
 
+total-parts : (f : List ℕ) (n : ℕ) → total_count f ≡ total_count (take n f) + total_count (drop n f)
+total-parts [] zero = refl
+total-parts [] (suc n) = refl
+total-parts (x ∷ f) zero = omega arith
+total-parts (x ∷ f) (suc n) = let r = total-parts f n in omega arith
+
 module _ (m : Graph) (run : Run ℕ) (f : List ℕ) (flow : IsFlow m run f) where
   last-width : length run.last ≡ m.registers
   last-width = sym (ap length flow.goes.cost) ∙ (m.formed.ending flow.goes.ending (slice_get-contains m.ends flow.last flow.goes.ending flow.goes.is_end)).cost
@@ -147,6 +153,16 @@ module _ (m : Graph) (run : Run ℕ) (f : List ℕ) (flow : IsFlow m run f) wher
 
   pub flow-length : total_count (edge_counts m f) ≡ length run.word
   flow-length = leads-length m.edges 0 flow.places flow.goes.after run.word run.costs flow.goes.stop (edge_counts m f) flow.goes.leads (edge-tally m run f flow)
+
+  -- one for each character, and one for the end
+  pub flow-total : total_count f ≡ suc (length run.word)
+  flow-total =
+      let walk = flow-length in
+      let tally = end-tally m run f flow in
+      let e = total-fall (end_counts m f) flow.last 0 (tally-first (end_counts m f) flow.last [] tally) in
+      let z = total-none (slice_set (end_counts m f) flow.last 0) (tally-rest (end_counts m f) flow.last [] tally) in
+      let parts = total-parts f (length m.edges) in
+      omega arith
 
 -- all machines
 pub runs-width : (x : ℕ → ℤ) (registers : ℕ) (ms : List Graph) (rs : List (Run ℕ)) (base : ℕ) → HaveRegisters registers ms → HaveFlowsAt x base ms rs → length (runs_total registers rs) ≡ registers
@@ -287,15 +303,15 @@ solution-hit machines integers registers rows reach s x runs is names same solve
           count = range-length x 0 integers;
           each = rows-agree x (unknowns_of (map x (range_with_len 0 integers)) (runs_total registers runs)) (integers + registers) rows names
               (hit-agrees x integers registers (runs_total registers runs) total-at)
-              (given-met machines integers registers rows reach s x is solves);
+              (given-met machines integers registers rows reach s x is solves.meets);
         };
       },
-      reach-most x (integers + registers) machines runs reach flows (reach-met machines integers registers rows reach s x is solves),
+      reach-most x (integers + registers) machines runs reach flows (reach-met machines integers registers rows reach s x is solves.meets),
     )
   where
     total-at : (k : ℕ) → k < registers → x (integers + k) ≡ pos (slice_index (runs_total registers runs) k)
     total-at k lt =
-        let row = register-met machines integers registers rows reach s x is solves k lt in
+        let row = register-met machines integers registers rows reach s x is solves.meets k lt in
         let v = runs-cost x registers k machines runs (integers + registers) same flows in
         let e = row.equal refl in
         omega (arith, ints, v, e)

@@ -15,8 +15,10 @@ pub mod PickLemmas
 pub mod CountingLemmas
 pub mod ReadyLemmas
 mod EulerLemmas
-mod FormLemmas
+pub mod FormLemmas
 mod BalanceLemmas
 mod RowLemmas
+mod WithinLemmas
+mod EdgeCountLemmas
 pub mod ReachLemmas
 pub mod TestCounts

@@ -12,7 +12,7 @@ use Rattle.machine_core.specs.Edges.{from_of, at_of}
 use Rattle.machine_core.specs.Lists.{slice_get-contains}
 use Rattle.farkas_check.specs.declared.net.NetEdge.{NetEdge}
 use Rattle.farkas_check.specs.declared.system.System.{System}
-use Rattle.farkas_check.specs.Systems.{Constraint, constraint_of, constraint_value, Meets, Reached, reached_start, reached_edge, Joined, Solves, rows_of}
+use Rattle.farkas_check.specs.Systems.{Constraint, constraint_of, constraint_value, Meets, Reached, reached_start, reached_edge, Joined, rows_of}
 use Rattle.parikh_flow.specs.Counts.{counts_at, total_count, to_of, size_of, edge_counts, end_counts}
 use Rattle.parikh_flow.specs.Balance.{one_at, AreBalanced}
 use Rattle.parikh_flow.specs.Nets.{net_edge, net_edges, net_of, nets_of, counted, AreJoined}
@@ -57,11 +57,11 @@ same-rows x (r ∷ rs) [] z h = absurd z
 same-rows x (r ∷ rs) (c ∷ cs) z h =
     All-cons (Meets x) c cs (same-row x r c z.0 (All-head (λ r. Meets x (constraint_of r)) r rs h)) (same-rows x rs cs z.1 (All-tail (λ r. Meets x (constraint_of r)) r rs h))
 
--- the rows that speak of the runs, at a solution
+-- the rows that speak of the runs, where all rows are met
 pub run-rows-met : (machines : List Graph) (integers registers : ℕ) (rows : List Row) (reach : Option ℕ) (s : System) (x : ℕ → ℤ) → IsSystemOf machines integers registers rows reach s
-    → Solves x (rows_of s) s.nets → All (Meets x) (run_rows machines integers registers reach)
-run-rows-met machines integers registers rows reach s x is solves =
-    let all = all-unmap (Meets x) constraint_of s.rows solves.meets in
+    → All (Meets x) (rows_of s) → All (Meets x) (run_rows machines integers registers reach)
+run-rows-met machines integers registers rows reach s x is met =
+    let all = all-unmap (Meets x) constraint_of s.rows met in
     let both = subst (All (λ r. Meets x (constraint_of r))) is.listed all in
     same-rows x is.more (run_rows machines integers registers reach) is.added (all-second (λ r. Meets x (constraint_of r)) rows is.more both)
 

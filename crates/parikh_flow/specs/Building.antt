@@ -1,5 +1,5 @@
 -- Forms and rows while they are made.
-use Rattle.std.specs.Prelude.{◌≡◌, ℕ, ℤ, ◌+ℤ◌, List, [], ◌∷◌, ◌++◌, length, slice_get, slice_set, Some}
+use Rattle.std.specs.Prelude.{◌≡◌, ℕ, ℤ, ◌+ℤ◌, ◌<◌, ◌^◌, List, [], ◌∷◌, ◌++◌, length, slice_get, slice_index, slice_set, Some, All}
 use Rattle.sv_linear.specs.Points.{unit}
 use Rattle.sv_linear.specs.Terms.{coefficient, AscendsWithin}
 use Rattle.sv_linear.specs.declared.form.Form.{Form}
@@ -46,3 +46,8 @@ pub record AreStateForms (base : ℕ) (m : Graph) (forms : List Form) : Type 0 w
 -- the row that says that the form is 0
 abbrev pub equation_row : Form → Row
 equation_row f = record { form = f; kind = Eq }
+
+-- what edges and ends cost at the register are numbers of 64 bits
+pub record CostsFit (register : ℕ) (m : Graph) : Type 0 where
+  pub edges : All (λ e. slice_index e.cost register < 2 ^ 64) m.edges
+  pub ends : All (λ e. slice_index e.cost register < 2 ^ 64) m.ends

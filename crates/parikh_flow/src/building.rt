@@ -1,4 +1,6 @@
-ghost use Rattle.std.specs.Prelude.{◌≡◌, IfOk};
+ghost use Rattle.std.specs.Prelude.{◌≡◌, ℕ, ◌+◌, Some, slice_get, IfOk};
+ghost use Rattle.sv_linear.specs.Rows.{IsRowWithin};
+ghost use Rattle.sv_linear.specs.declared.row.Row.{Row};
 ghost use Rattle.box_search.specs.Hits.{HaveRegisters};
 ghost use Rattle.parikh_flow.specs.Rows.{IsSystemOf};
 
@@ -18,8 +20,9 @@ use sv_list::{Copied, Items};
 /// its edges and its ends. The given rows come first; then for each register that it is what the edges and
 /// ends cost there; that each register and each count is at least 0; for each machine that one end is used,
 /// and the balance of each state; and, where `reach` is given, that the words have together at most so
-/// many characters. Linear in the rows and in the machines times the registers. More unknowns than a `u32`
-/// counts are want of memory.
+/// many characters. Where the given rows name integers and registers alone and don't hold the number -2^127,
+/// the others don't either. Linear in the rows and in the machines times the registers. More unknowns than
+/// a `u32` counts are want of memory.
 pub fn system_of(
     alloc: Global,
     machines: &[Explicit],
@@ -29,7 +32,9 @@ pub fn system_of(
     reach: Option<u64>,
 ) -> Result<System, AllocError>
     requires { HaveRegisters registers machines.now }
-    ensures { IfOk result (IsSystemOf machines.now integers registers rows.now reach) }
+    ensures system { IfOk result (IsSystemOf machines.now integers registers rows.now reach) }
+    ensures within { ((i : ℕ) (r : Row) → slice_get rows.now i ≡ Some r → IsRowWithin (integers + registers) r)
+        → IfOk result (λ s. (i : ℕ) (r : Row) → slice_get s.rows i ≡ Some r → IsRowWithin s.unknowns r) }
 {
     let Some(base) = integers.checked_add(registers) else {
         return Err(AllocError);

@@ -1,15 +1,16 @@
 //! Laws of counts, each stated by a function that does nothing.
-ghost use Rattle.std.specs.Prelude.{◌≡◌, ℕ, ℤ, ◌+◌, ◌<◌, ◌≤◌, Option, IfSome, List, length, map, All};
+ghost use Rattle.std.specs.Prelude.{◌≡◌, ℕ, suc, ℤ, pos, ◌+◌, ◌<◌, ◌≤◌, ◌≤ℤ◌, Option, IfSome, List, length, map, All};
 ghost use Rattle.std.specs.List.{range_with_len};
 ghost use Rattle.sv_linear.specs.Rows.{NameUnknowns};
 ghost use Rattle.sv_linear.specs.declared.row.Row.{Row};
-ghost use Rattle.farkas_check.specs.Systems.{Solves, rows_of};
+ghost use Rattle.farkas_check.specs.Systems.{Meets, Solves, rows_of};
 ghost use Rattle.farkas_check.specs.Cuts.{IsNetWithin};
 ghost use Rattle.box_search.specs.Hits.{IsHit, HaveRegisters, characters};
 ghost use Rattle.parikh_flow.specs.Rows.{IsSystemOf};
 ghost use Rattle.parikh_flow.specs.Solutions.{HaveFlowsAt, HaveJoinedCounts, AreValuesOf};
 ghost use Rattle.machine_core.specs.Graphs.{IsRunOf};
 ghost use Rattle.machine_core.specs.declared.run.Run.{Run};
+ghost use Rattle.parikh_flow.specs.Counts.{total_count};
 ghost use Rattle.parikh_flow.specs.Balance.{AreBalanced};
 ghost use Rattle.parikh_flow.specs.Flows.{IsFlow};
 ghost use Rattle.parikh_flow.specs.Nets.{AreJoined, AreApart};
@@ -17,13 +18,14 @@ ghost use Rattle.parikh_flow.specs.Nets.{AreJoined, AreApart};
 use farkas_check::System;
 use machine_core::Explicit;
 
-/// Each run has counts, and counts are those of some run exactly where they balance and are joined
-/// (Euler), however large they are.
+/// Each run has counts, one for each character and one for its end, and counts are those of some run
+/// exactly where they balance and are joined (Euler), however large they are.
 pub fn runs_have_flows(machine: &Explicit)
     ensures some { (run : Run ℕ) → IsRunOf machine.now run → (f : List ℕ) × IsFlow machine.now run f }
     ensures run { (run : Run ℕ) (f : List ℕ) → IsFlow machine.now run f → IsRunOf machine.now run }
     ensures balanced { (run : Run ℕ) (f : List ℕ) → IsFlow machine.now run f → AreBalanced machine.now f }
     ensures joined { (run : Run ℕ) (f : List ℕ) → IsFlow machine.now run f → AreJoined machine.now f }
+    ensures total { (run : Run ℕ) (f : List ℕ) → IsFlow machine.now run f → total_count f ≡ suc (length run.word) }
     ensures flow { (f : List ℕ) → AreBalanced machine.now f → AreJoined machine.now f → (run : Run ℕ) × IsFlow machine.now run f }
 {}
 
@@ -60,4 +62,11 @@ pub fn solutions_are_hits(machines: &[Explicit], system: &System)
 pub fn nets_are_within(machines: &[Explicit], system: &System)
     ensures { (integers registers : ℕ) (rows : List Row) (reach : Option ℕ) → IsSystemOf machines.now integers registers rows reach system.now
         → All (IsNetWithin system.now.unknowns) system.now.nets }
+{}
+
+/// Where its rows are met, the system of machines and rows counts no edge below 0.
+pub fn systems_count_edges(machines: &[Explicit], system: &System)
+    ensures { (integers registers : ℕ) (rows : List Row) (reach : Option ℕ) (x : ℕ → ℤ)
+        → IsSystemOf machines.now integers registers rows reach system.now → All (Meets x) (rows_of system.now)
+        → All (λ net. All (λ e. pos 0 ≤ℤ x e.unknown) net.edges) system.now.nets }
 {}

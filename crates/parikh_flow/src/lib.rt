@@ -34,6 +34,8 @@ mod tour;
 pub use building::system_of;
 pub use counting::flow_of;
 pub use flow_fault::FlowFault;
-pub use laws::{apart_is_not_joined, nets_are_within, runs_have_flows, solutions_are_hits};
+pub use laws::{
+    apart_is_not_joined, nets_are_within, runs_have_flows, solutions_are_hits, systems_count_edges,
+};
 pub use net_cutter::NetCutter;
 pub use running::run_of;

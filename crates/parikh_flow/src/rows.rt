@@ -1,11 +1,11 @@
 //! The rows of a system beside those that are given.
-ghost use Rattle.std.specs.Prelude.{◌≡◌, ◌+◌, ◌-◌, ◌<◌, ◌≤◌, ◌^◌, pos, neg_ℤ, length, map, All, IfOk, OnOk};
+ghost use Rattle.std.specs.Prelude.{◌≡◌, ℕ, ◌+◌, ◌-◌, ◌<◌, ◌≤◌, ◌^◌, pos, neg_ℤ, length, map, All, IfOk, IfSome, OnOk};
 ghost use Rattle.std.specs.List.{range_with_len};
 ghost use Rattle.sv_linear.specs.Terms.{AscendsWithin};
 ghost use Rattle.box_search.specs.Hits.{HaveRegisters};
 ghost use Rattle.parikh_flow.specs.Counts.{size_of};
 ghost use Rattle.parikh_flow.specs.Rows.{machine_terms, family_terms, unknowns_after, edge_cost, end_cost, register_row, not_negative_row, end_row, machine_rows, family_rows, reach_rows, inequality, IsSameRow, AreSameRows};
-ghost use Rattle.parikh_flow.specs.Building.{IsAdded};
+ghost use Rattle.parikh_flow.specs.Building.{IsAdded, CostsFit};
 
 use crate::balances::state_rows;
 use crate::sizes::{end_base, next_base};
@@ -28,6 +28,7 @@ fn push_costs(
     requires ascends { AscendsWithin 0 base form.old.coefficients }
     ensures added { OnOk result (IsAdded (machine_terms (edge_cost register) (end_cost register) base machine.now) form.old form.new) }
     ensures ascends { OnOk result (AscendsWithin 0 (base + size_of machine.now) form.new.coefficients) }
+    ensures fit { OnOk result (CostsFit register machine.now) }
 {
     let of_edges = edge_costs(alloc, machine.edges(), register)?;
     push_terms(form, base, of_edges.as_slice())?;
@@ -47,7 +48,8 @@ fn register_row(
     requires register { register < registers }
     requires registers { HaveRegisters registers machines.now }
     requires room { unknowns_after (integers + registers) machines.now < 2 ^ 32 }
-    ensures { IfOk result (λ row. IsSameRow row (register_row integers (integers + registers) machines.now register)) }
+    ensures row { IfOk result (λ row. IsSameRow row (register_row integers (integers + registers) machines.now register)) }
+    ensures fit { IfOk result (λ _. All (CostsFit register) machines.now) }
 {
     let mut form = Form::of_constant(alloc, 0);
     form.push(integers + register, -1)?;
@@ -71,7 +73,8 @@ pub fn register_rows(
 ) -> Result<Items<Row>, AllocError>
     requires registers { HaveRegisters registers machines.now }
     requires room { unknowns_after (integers + registers) machines.now < 2 ^ 32 }
-    ensures { IfOk result (λ rows. AreSameRows rows (map (register_row integers (integers + registers) machines.now) (range_with_len 0 registers))) }
+    ensures rows { IfOk result (λ rows. AreSameRows rows (map (register_row integers (integers + registers) machines.now) (range_with_len 0 registers))) }
+    ensures fit { IfOk result (λ _. (k : ℕ) → k < registers → All (CostsFit k) machines.now) }
 {
     let mut rows = Items::new(alloc);
     for register in 0..registers {
@@ -173,7 +176,8 @@ pub fn reach_rows(
     reach: Option<u64>,
 ) -> Result<Items<Row>, AllocError>
     requires { unknowns_after base machines.now < 2 ^ 32 }
-    ensures { IfOk result (λ rows. AreSameRows rows (reach_rows base machines.now reach)) }
+    ensures rows { IfOk result (λ rows. AreSameRows rows (reach_rows base machines.now reach)) }
+    ensures fits { IfOk result (λ _. IfSome reach (λ most. most < 2 ^ 64)) }
 {
     let mut rows = Items::new(alloc);
     let Some(most) = reach else {

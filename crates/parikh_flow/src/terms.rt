@@ -1,10 +1,10 @@
 //! Terms for the edges and ends of machines.
-ghost use Rattle.std.specs.Prelude.{◌≡◌, ℕ, ◌+◌, ◌<◌, ◌^◌, pos, [], ◌∷◌, length, map, All, replicate, IfOk, OnOk};
+ghost use Rattle.std.specs.Prelude.{◌≡◌, ℕ, ◌+◌, ◌<◌, ◌^◌, pos, [], ◌∷◌, length, map, All, replicate, slice_index, IfOk, OnOk};
 ghost use Rattle.sv_linear.specs.Terms.{AscendsWithin};
 ghost use Rattle.parikh_flow.specs.Rows.{edge_cost, end_cost};
 ghost use Rattle.parikh_flow.specs.Building.{numbered, IsAdded};
 
-use machine_core::{Edge, End};
+use machine_core::{Cost, Edge, End};
 use std::alloc::{AllocError, Global};
 use sv_linear::Form;
 use sv_list::Items;
@@ -37,14 +37,24 @@ pub fn push_terms(form: &mut Form, base: u32, coefficients: &[i128]) -> Result<(
     Ok(())
 }
 
+// What a step or an end costs at the register.
+fn cost_at(cost: &Cost, register: usize) -> u64
+    requires { register < length cost.now }
+    ensures value { result ≡ slice_index cost.now register }
+    ensures fits { result < 2 ^ 64 }
+{
+    cost.as_slice()[register]
+}
+
 /// What each edge costs at the register.
 pub fn edge_costs(alloc: Global, edges: &[Edge], register: usize) -> Result<Items<i128>, AllocError>
     requires { All (λ e. register < length e.cost) edges.now }
-    ensures { IfOk result (λ costs. costs ≡ map (edge_cost register) edges.now) }
+    ensures costs { IfOk result (λ costs. costs ≡ map (edge_cost register) edges.now) }
+    ensures fit { IfOk result (λ _. All (λ e. slice_index e.cost register < 2 ^ 64) edges.now) }
 {
     let mut costs = Items::new(alloc);
     for edge in edges {
-        costs.push(i128::from(edge.cost.as_slice()[register]))?;
+        costs.push(i128::from(cost_at(&edge.cost, register)))?;
     }
     Ok(costs)
 }
@@ -52,11 +62,12 @@ pub fn edge_costs(alloc: Global, edges: &[Edge], register: usize) -> Result<Item
 /// What each end costs at the register.
 pub fn end_costs(alloc: Global, ends: &[End], register: usize) -> Result<Items<i128>, AllocError>
     requires { All (λ e. register < length e.cost) ends.now }
-    ensures { IfOk result (λ costs. costs ≡ map (end_cost register) ends.now) }
+    ensures costs { IfOk result (λ costs. costs ≡ map (end_cost register) ends.now) }
+    ensures fit { IfOk result (λ _. All (λ e. slice_index e.cost register < 2 ^ 64) ends.now) }
 {
     let mut costs = Items::new(alloc);
     for end in ends {
-        costs.push(i128::from(end.cost.as_slice()[register]))?;
+        costs.push(i128::from(cost_at(&end.cost, register)))?;
     }
     Ok(costs)
 }

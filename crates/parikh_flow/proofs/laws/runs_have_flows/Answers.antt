@@ -1,6 +1,7 @@
 use Rattle.parikh_flow.proofs.EulerLemmas.{euler}
 use Rattle.parikh_flow.proofs.RunLemmas.{goes-run}
 use Rattle.parikh_flow.proofs.FlowLemmas.{run-flow, flow-balanced, flow-joined}
+use Rattle.parikh_flow.proofs.HitLemmas.{flow-total}
 use Rattle.parikh_flow.proofs.laws.runs_have_flows.Goals as goal
 
 pub returns-clause-some : goal.returns-clause-some
@@ -17,3 +18,6 @@ returns-clause-joined c = λ run f flow. flow-joined c.args.machine.now run f fl
 
 pub returns-clause-flow : goal.returns-clause-flow
 returns-clause-flow c = λ f balanced joined. euler c.args.machine.now f balanced joined
+
+pub returns-clause-total : goal.returns-clause-total
+returns-clause-total c = λ run f flow. flow-total c.args.machine.now run f flow

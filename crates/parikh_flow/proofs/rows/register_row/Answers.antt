@@ -1,9 +1,10 @@
-use Rattle.std.proofs.Common.{◌∙◌, ◌+◌, take, ap, sym, subst, arith}
+use Rattle.std.proofs.Common.{◌∙◌, ◌+◌, All, take, ap, sym, subst, arith}
+use Rattle.std.proofs.lemmas.List.Elements.{All-more}
 use Rattle.sv_linear.specs.Terms.{AscendsWithin}
 use Rattle.parikh_flow.specs.Counts.{size_of}
 use Rattle.parikh_flow.specs.Rows.{unknowns_after, machine_terms, family_terms, edge_cost, end_cost}
-use Rattle.parikh_flow.specs.Building.{IsAdded}
-use Rattle.parikh_flow.proofs.FormLemmas.{after-most, after-more, after-room, machines-more, added-join}
+use Rattle.parikh_flow.specs.Building.{IsAdded, CostsFit}
+use Rattle.parikh_flow.proofs.FormLemmas.{after-most, after-more, after-room, machines-more, added-join, all-taken}
 use Rattle.parikh_flow.proofs.rows.register_row.Goals as goal
 
 pub overflow_add-integers : goal.overflow_add-integers
@@ -38,4 +39,9 @@ loop-machine-preserved c = record {
       c.push.new.self c.loop-machine.form c.push_costs.new.form c.loop-machine.invariant.added
       (subst (λ b. IsAdded (machine_terms (edge_cost c.args.register) (end_cost c.args.register) b c.machine-item.result) c.loop-machine.form c.push_costs.new.form) c.loop-machine.invariant.next c.in_ok-push_costs.ensures.added));
   ascends = subst (λ n. AscendsWithin 0 n c.push_costs.new.form.coefficients) (sym c.next_base-base.ensures) c.in_ok-push_costs.ensures.ascends;
+  fit = All-more (CostsFit c.args.register) c.args.machines.now c.loop-machine.machine-index c.machine-item.result c.loop-machine-test.true c.loop-machine.invariant.fit
+      (subst (CostsFit c.args.register) c.machine-item.is c.in_ok-push_costs.ensures.fit);
 }
+
+pub returns-clause-fit : goal.returns-clause-fit
+returns-clause-fit c = subst (All (CostsFit c.args.register)) (all-taken c.args.machines.now c.loop-machine.machine-index (omega arith) (omega arith)).0 c.loop-machine.invariant.fit

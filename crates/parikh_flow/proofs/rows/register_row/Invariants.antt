@@ -1,6 +1,6 @@
-use Rattle.std.proofs.Common.{◌≡◌, ◌+◌, take}
+use Rattle.std.proofs.Common.{◌≡◌, ◌+◌, All, take}
 use Rattle.sv_linear.specs.Terms.{AscendsWithin}
-use Rattle.parikh_flow.specs.Building.{IsAdded}
+use Rattle.parikh_flow.specs.Building.{IsAdded, CostsFit}
 use Rattle.parikh_flow.specs.Rows.{unknowns_after, family_terms, edge_cost, end_cost}
 use Rattle.parikh_flow.proofs.rows.register_row.Given as goal
 
@@ -9,4 +9,5 @@ invariant-loop-machine l = record {
   next : l.base ≡ unknowns_after (l.integers + l.registers) (take l.machine-index l.machines);
   added : IsAdded (family_terms (edge_cost l.register) (end_cost l.register) (l.integers + l.registers) (take l.machine-index l.machines)) l.initial.form l.form;
   ascends : AscendsWithin 0 l.base l.form.coefficients;
+  fit : All (CostsFit l.register) (take l.machine-index l.machines);
 }

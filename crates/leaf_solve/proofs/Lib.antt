@@ -1,0 +1,4 @@
+pub mod RunLemmas
+pub mod RegionLemmas
+pub mod SystemLemmas
+pub mod CountLemmas

@@ -1,0 +1,66 @@
+-- Regions whose hits would be short.
+use Rattle.std.proofs.Common.{◌≡◌, ℕ, ℤ, ◌*◌, ◌<◌, ◌≤◌, List, [], length, Bool, true, false, subst, sym, arith}
+use Rattle.std.specs.List.{AllByRecursion, AllZip}
+use Rattle.sv_linear.specs.Rows.{MeetsRow, unknowns_of}
+use Rattle.sv_linear.specs.declared.row.Row.{Row}
+use Rattle.machine_core.specs.declared.graph.Graph.{Graph}
+use Rattle.machine_core.specs.declared.run.Run.{Run}
+use Rattle.trim_search.specs.Shortest.{IsShortestRun}
+use Rattle.box_search.specs.Hits.{IsHit, AreRunsOf, runs_total, characters}
+use Rattle.box_search.specs.Regions.{points, greatest_states, IsHitWithin, IsShortHit}
+use Rattle.box_search.specs.declared.region.Region.{Region}
+use Rattle.leaf_solve.specs.Questions.{IsAsked, EachHit, LieIn}
+use Rattle.leaf_solve.specs.Answers.{HasNoHit, IsPast, IsSatAnswer}
+use Rattle.leaf_solve.proofs.RunLemmas.{least-characters, runs-each}
+
+-- a region that holds a hit holds a short one
+abbrev pub AreShort : List Graph → Region → Type 0
+AreShort machines region = (integers : ℕ) (rows : List Row) (runs : List (Run ℕ)) (numbers : List ℤ)
+    → IsHitWithin machines integers rows region runs numbers → (short : List (Run ℕ)) × IsShortHit machines integers rows region short numbers
+
+too-many : (a b c : ℕ) → a ≤ b → b ≤ c → c < a → ⊥
+too-many a b c h g k = omega arith
+
+pub within-reach : (a b c : ℕ) → a ≤ b → b ≤ c → a ≤ c
+within-reach a b c h g = omega arith
+
+module _ (machines : List Graph) (integers : ℕ) (rows : List Row) (region : Region) (small : Bool) (reach : ℕ) (asked : IsAsked machines integers rows region small reach) where
+  -- where each hit is past the reach, none lies in the region
+  pub past-outside : AreShort machines region → IsPast machines (length region.registers) integers rows reach
+      → EachHit machines (length region.registers) integers rows (λ runs numbers. LieIn region runs numbers → ⊥)
+  past-outside short past = λ runs numbers hit lies.
+      let s = short integers rows runs numbers (record { hit = hit; within = lies }) in
+      too-many (characters s.0) (greatest_states machines * points region * length machines) reach s.1.short (asked.short lies.not_empty) (past s.0 numbers s.1.hit.hit)
+
+  -- and there is none at all where the region holds each hit
+  pub past-none : AreShort machines region → small ≡ true → IsPast machines (length region.registers) integers rows reach → HasNoHit machines (length region.registers) integers rows
+  past-none short is past = λ runs numbers hit. past-outside short past runs numbers hit (asked.holds is runs numbers hit)
+
+  -- what the search finds is a hit within the reach
+  pub found-hit : (runs : List (Run ℕ)) (numbers : List ℤ) → IsShortHit machines integers rows region runs numbers
+      → IsHit machines (length region.registers) integers rows runs numbers × (characters runs ≤ reach)
+  found-hit runs numbers h =
+      (h.hit.hit, within-reach (characters runs) (greatest_states machines * points region * length machines) reach h.short (asked.short h.hit.within.not_empty))
+
+  -- where it finds nothing there is none in the region, and none at all where the region holds each hit
+  pub none-found : ((runs : List (Run ℕ)) (numbers : List ℤ) → IsHitWithin machines integers rows region runs numbers → ⊥)
+      → EachHit machines (length region.registers) integers rows (λ runs numbers. LieIn region runs numbers → ⊥)
+  none-found none = λ runs numbers hit lies. none runs numbers (record { hit = hit; within = lies })
+
+  pub none-held : ((runs : List (Run ℕ)) (numbers : List ℤ) → IsHitWithin machines integers rows region runs numbers → ⊥) → small ≡ true
+      → HasNoHit machines (length region.registers) integers rows
+  none-held none is = λ runs numbers hit. none runs numbers (record { hit = hit; within = asked.holds is runs numbers hit })
+
+-- shortest runs are a hit where there are no rows, and no hit has fewer characters
+pub shortest-hit : (machines : List Graph) (registers integers : ℕ) (rows : List Row) (runs : List (Run ℕ)) (numbers : List ℤ) → rows ≡ [] → length numbers ≡ integers → AllZip IsShortestRun machines runs
+    → IsHit machines registers integers rows runs numbers
+shortest-hit machines registers integers rows runs numbers none size shortest = record {
+  each = runs-each machines runs shortest;
+  meets = record { count = size; each = subst (λ (l : List Row). AllByRecursion (MeetsRow (unknowns_of numbers (runs_total registers runs))) l) (sym none) tt };
+}
+
+pub shortest-past : (machines : List Graph) (registers integers : ℕ) (rows : List Row) (runs : List (Run ℕ)) (reach : ℕ) → AllZip IsShortestRun machines runs → reach < characters runs
+    → IsPast machines registers integers rows reach
+shortest-past machines registers integers rows runs reach shortest long = λ others numbers hit.
+    let least = least-characters machines runs others shortest hit.each in
+    omega arith

@@ -1,0 +1,4 @@
+pub mod Questions
+pub mod Longs
+pub mod Answers
+pub mod Steps

@@ -1,0 +1,53 @@
+-- What stands between the steps of an answer.
+use Rattle.std.specs.Prelude.{◌≡◌, ℕ, ℤ, pos, ◌+◌, ◌≤◌, ◌≤ℤ◌, List, [], ◌∷◌, length, All, Option, Some, slice_get, IfSome}
+use Rattle.std.specs.List.{AllZip}
+use Rattle.sv_linear.specs.Rows.{IsRowWithin}
+use Rattle.sv_linear.specs.declared.row.Row.{Row}
+use Rattle.machine_core.specs.declared.graph.Graph.{Graph}
+use Rattle.machine_core.specs.declared.run.Run.{Run}
+use Rattle.trim_search.specs.Shortest.{IsShortestRun}
+use Rattle.farkas_check.specs.Cuts.{IsNetWithin}
+use Rattle.farkas_check.specs.declared.system.System.{System}
+use Rattle.lia_branch.specs.Outcomes.{CountsEdges}
+use Rattle.box_search.specs.Hits.{characters}
+use Rattle.parikh_flow.specs.Rows.{IsSystemOf}
+use Rattle.parikh_flow.specs.Solutions.{HasFlowAt, HaveFlowsAt}
+use Rattle.leaf_solve.specs.Questions.{IsAsked}
+use Rattle.leaf_solve.specs.Answers.{IsLeafAnswer}
+use Rattle.leaf_solve.specs.Longs.{HasRun}
+use Rattle.leaf_solve.specs.declared.leaf_answer.LeafAnswer.{LeafAnswer}
+use Rattle.leaf_solve.specs.declared.question.Question.{Question}
+use Rattle.leaf_solve.specs.declared.shortest.Shortest.{Shortest}
+use Rattle.leaf_solve.specs.declared.shortest.Shortest.TheVariants.{Empty, Runs}
+
+abbrev pub IsQuestion : Question → Type 0
+IsQuestion q = IsAsked q.machines.now q.integers q.rows.now q.region.now q.small q.reach
+
+abbrev pub Answers : Question → LeafAnswer → Type 0
+Answers q = IsLeafAnswer q.machines.now q.integers q.rows.now q.region.now q.small q.reach
+
+abbrev pub IsSystemFor : Question → Option ℕ → System → Type 0
+IsSystemFor q = IsSystemOf q.machines.now q.integers (length q.region.now.registers) q.rows.now
+
+-- a machine without a run, or a shortest run of each machine
+abbrev pub IsShortest : List Graph → Shortest → Type 0
+IsShortest machines (Empty i) = (m : Graph) × (slice_get machines i ≡ Some m) × (HasRun m → ⊥)
+IsShortest machines (Runs runs) = AllZip IsShortestRun machines runs
+
+-- a system that the solver takes
+pub record IsSolvable (s : System) : Type 0 where
+  pub rows : (i : ℕ) (r : Row) → slice_get s.rows i ≡ Some r → IsRowWithin s.unknowns r
+  pub nets : All (IsNetWithin s.unknowns) s.nets
+  pub counts : CountsEdges s
+
+-- the values of a machine's unknowns count a run that isn't too long
+pub record HasShortFlowAt (x : ℕ → ℤ) (base : ℕ) (m : Graph) : Type 0 where
+  pub run : Run ℕ
+  pub flow : HasFlowAt x base m run
+  pub short : length run.word ≤ 4194303
+
+-- so they do for all machines
+pub record HaveShortFlowsAt (x : ℕ → ℤ) (base : ℕ) (machines : List Graph) : Type 0 where
+  pub runs : List (Run ℕ)
+  pub flows : HaveFlowsAt x base machines runs
+  pub short : characters runs ≤ 4194303
