@@ -2,3 +2,5 @@ pub mod RunLemmas
 pub mod RegionLemmas
 pub mod SystemLemmas
 pub mod CountLemmas
+pub mod AnswerLemmas
+pub mod TestRows

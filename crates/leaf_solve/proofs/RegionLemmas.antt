@@ -1,5 +1,6 @@
 -- Regions whose hits would be short.
-use Rattle.std.proofs.Common.{◌≡◌, ℕ, ℤ, ◌*◌, ◌<◌, ◌≤◌, List, [], length, Bool, true, false, subst, sym, arith}
+use Rattle.std.proofs.Common.{◌≡◌, ℕ, zero, suc, ℤ, pos, ◌*◌, ◌<◌, ◌≤◌, List, [], ◌∷◌, length, map, Bool, true, false, refl, ap, ◌∙◌, subst, sym, arith}
+use Rattle.std.proofs.lemmas.Int.{ints}
 use Rattle.std.specs.List.{AllByRecursion, AllZip}
 use Rattle.sv_linear.specs.Rows.{MeetsRow, unknowns_of}
 use Rattle.sv_linear.specs.declared.row.Row.{Row}
@@ -10,8 +11,10 @@ use Rattle.box_search.specs.Hits.{IsHit, AreRunsOf, runs_total, characters}
 use Rattle.box_search.specs.Regions.{points, greatest_states, IsHitWithin, IsShortHit}
 use Rattle.box_search.specs.declared.region.Region.{Region}
 use Rattle.leaf_solve.specs.Questions.{IsAsked, EachHit, LieIn}
-use Rattle.leaf_solve.specs.Answers.{HasNoHit, IsPast, IsSatAnswer}
-use Rattle.leaf_solve.proofs.RunLemmas.{least-characters, runs-each}
+use Rattle.leaf_solve.specs.Longs.{IsShortestWord, letters}
+use Rattle.leaf_solve.specs.Answers.{HasNoHit, IsPast, IsLongAnswer}
+use Rattle.leaf_solve.specs.declared.too_long.TooLong.TheVariants.{Words}
+use Rattle.leaf_solve.proofs.RunLemmas.{least-characters, runs-each, inhabited, shortest-words, letters-are}
 
 -- a region that holds a hit holds a short one
 abbrev pub AreShort : List Graph → Region → Type 0
@@ -64,3 +67,40 @@ pub shortest-past : (machines : List Graph) (registers integers : ℕ) (rows : L
 shortest-past machines registers integers rows runs reach shortest long = λ others numbers hit.
     let least = least-characters machines runs others shortest hit.each in
     omega arith
+
+-- shortest words that are too long together
+pub long-words : (machines : List Graph) (integers : ℕ) (rows : List Row) (region : Region) (small : Bool) (reach : ℕ) → IsAsked machines integers rows region small reach → AreShort machines region
+    → (runs : List (Run ℕ)) (words : List (List ℕ)) → rows ≡ [] → AllZip IsShortestRun machines runs → reach < characters runs → words ≡ map (λ (run : Run ℕ). run.word) runs
+    → IsLongAnswer machines (length region.registers) integers rows region small reach (Words words)
+long-words machines integers rows region small reach asked short runs words none shortest long same =
+    let past = shortest-past machines (length region.registers) integers rows runs reach shortest long in
+    record {
+      inhabited = inhabited machines runs shortest;
+      past = past;
+      none_in_region = past-outside machines integers rows region small reach asked short past;
+      shown = (
+        none,
+        subst (λ (l : List (List ℕ)). AllZip IsShortestWord machines l) (sym same) (shortest-words machines runs shortest),
+        (let size = ap letters same ∙ letters-are runs in omega (arith, ints)),
+      );
+    }
+
+-- so they aren't where the region holds each hit
+pub words-decided : (machines : List Graph) (integers : ℕ) (rows : List Row) (region : Region) (small : Bool) (reach : ℕ) → IsAsked machines integers rows region small reach → AreShort machines region
+    → (runs : List (Run ℕ)) → rows ≡ [] → AllZip IsShortestRun machines runs → reach < characters runs → small ≡ true → ⊥
+words-decided machines integers rows region small reach asked short runs none shortest long is =
+    let numbers = some-numbers integers in
+    past-none machines integers rows region small reach asked short is (shortest-past machines (length region.registers) integers rows runs reach shortest long)
+    runs numbers.0 (shortest-hit machines (length region.registers) integers rows runs numbers.0 none numbers.1 shortest)
+  where
+    some-numbers : (n : ℕ) → (numbers : List ℤ) × (length numbers ≡ n)
+    some-numbers zero = ([], refl)
+    some-numbers (suc n) = let rest = some-numbers n in (pos zero ∷ rest.0, ap suc rest.1)
+
+pub not-within : (a b : ℕ) (t : Bool) → (a ≤ b → t ≡ true) → t ≡ false → b < a
+not-within a b t h e = by_less b a (λ lt. lt) (λ le. absurd (let y = h le in cc))
+  where
+    by_less : {P : Type 0} (m n : ℕ) → (m < n → P) → (n ≤ m → P) → P
+    by_less m zero f g = g (omega arith)
+    by_less zero (suc n) f g = f (omega arith)
+    by_less (suc m) (suc n) f g = by_less m n (λ lt. f (omega arith)) (λ le. g (omega arith))

@@ -1,5 +1,6 @@
 -- Shortest runs, one of each machine.
-use Rattle.std.proofs.Common.{◌≡◌, ℕ, zero, suc, ◌+◌, ◌<◌, ◌≤◌, List, [], ◌∷◌, ◌++◌, length, map, take, All, slice_get, get_or, Some, refl, ap, sym, ◌∙◌, subst, arith}
+use Rattle.std.proofs.Common.{◌≡◌, ℕ, zero, suc, ◌+◌, ◌<◌, ◌≤◌, List, [], ◌∷◌, ◌++◌, length, map, take, All, slice_get, get_or, Some, Bool, true, false, nat_eq, refl, ap, sym, ◌∙◌, subst, arith}
+use Rattle.std.proofs.lemmas.Bool.Decides.{nat_tests}
 use Rattle.std.specs.List.{AllZip}
 use Rattle.std.proofs.lemmas.List.{take_more}
 use Rattle.std.proofs.lemmas.List.Elements.{All-nil, All-cons}
@@ -91,3 +92,30 @@ few-characters law (m ∷ ms) (r ∷ rs) h =
     let less = s.3 in
     let rest = few-characters law ms rs h.1 in
     omega arith
+
+characters-push : (rs : List (Run ℕ)) (r : Run ℕ) → characters (rs ++ r ∷ []) ≡ characters rs + length r.word
+characters-push [] r = omega arith
+characters-push (q ∷ rs) r = let e = characters-push rs r in omega arith
+
+characters-within : (rs : List (Run ℕ)) (i : ℕ) → characters (take i rs) ≤ characters rs
+characters-within [] zero = omega arith
+characters-within [] (suc i) = omega arith
+characters-within (r ∷ rs) zero = omega arith
+characters-within (r ∷ rs) (suc i) = let e = characters-within rs i in omega arith
+
+-- the first runs, and one more
+pub characters-more : (rs : List (Run ℕ)) (i : ℕ) (r : Run ℕ) → i < length rs → r ≡ get_or rs i r
+    → (characters (take (i + 1) rs) ≡ characters (take i rs) + length r.word) × (characters (take i rs) + length r.word ≤ characters rs)
+characters-more rs i r lt e =
+    let one = ap characters (take_more rs i r lt ∙ ap (λ (z : Run ℕ). take i rs ++ z ∷ []) (sym e)) ∙ characters-push (take i rs) r in
+    let all = characters-within rs (i + 1) in
+    (one, omega arith)
+
+-- what a test for an empty list tells
+pub is-none : {A : Type 0} (xs : List A) (t : Bool) → t ≡ nat_eq (length xs) 0 → t ≡ true → xs ≡ []
+is-none [] t e h = refl
+is-none (x ∷ xs) t e h = absurd (let z : nat_eq (suc (length xs)) 0 ≡ false = grind (arith, nat_tests) in cc)
+
+pub is-some : {A : Type 0} (xs : List A) (t : Bool) → t ≡ nat_eq (length xs) 0 → t ≡ false → xs ≡ [] → ⊥
+is-some [] t e h none = let z : nat_eq 0 0 ≡ true = grind (arith, nat_tests) in cc
+is-some (x ∷ xs) t e h none = cc

@@ -36,7 +36,7 @@ module _ (machines : List Graph) (registers integers : ℕ) (rows : List Row) (n
   no-hit reach is runs numbers hit short =
       let e = sym hit.meets.count in
       let v = law registers rows reach runs numbers (subst (λ n. IsSystemOf machines n registers rows reach system) e is) (subst (λ n. NameUnknowns (n + registers) rows) e named) same
-          (subst (λ n. IsHit machines registers n rows runs numbers) e hit) short in
+      (subst (λ n. IsHit machines registers n rows runs numbers) e hit) short in
       closes_sound tree system.nets (rows_of system) closes v.0 (λ k p. v.2.meets k no_constraint p) v.2.joins
 
   pub closed-none : IsSystemOf machines integers registers rows None system → HasNoHit machines registers integers rows

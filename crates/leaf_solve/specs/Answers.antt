@@ -39,7 +39,7 @@ module _ (machines : List Graph) (registers integers : ℕ) (rows : List Row) wh
   IsClosing small closing.Box = small ≡ true
 
   pub record IsSatAnswer (reach : ℕ) (hit : Hit) : Type 0 where
-    pub hit : IsHit machines registers integers rows hit.runs hit.integers
+    pub is_hit : IsHit machines registers integers rows hit.runs hit.integers
     pub within : characters hit.runs ≤ reach
 
   pub record IsClosedAnswer (small : Bool) (closing : Closing) : Type 0 where

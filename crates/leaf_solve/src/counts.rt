@@ -40,6 +40,14 @@ fn counts_at(
     Ok(counts)
 }
 
+// How many counts a machine has.
+fn size_of(machine: &Explicit) -> usize
+    requires { size_of machine.now < 2 ^ 64 }
+    ensures { result ≡ size_of machine.now }
+{
+    machine.edges().len() + machine.finals().len()
+}
+
 // A run of the machine whose counts are the values from `base` on.
 fn run_at(
     alloc: Global,
@@ -54,8 +62,7 @@ fn run_at(
     runs_have_flows(machine);
     apart_is_not_joined(machine);
     let _values = point.len();
-    let size = machine.edges().len() + machine.finals().len();
-    let counts = counts_at(alloc, point, base, size)?;
+    let counts = counts_at(alloc, point, base, size_of(machine))?;
     match run_of(alloc, machine, counts.as_slice()) {
         Ok(run) => Ok(run),
         // The counts are those of some run, so they are joined.
@@ -81,7 +88,7 @@ pub fn runs_at(
     let mut next = base;
     for machine in machines {
         runs.push(run_at(alloc, machine, next, point)?)?;
-        next += machine.edges().len() + machine.finals().len();
+        next += size_of(machine);
     }
     Ok(runs)
 }

@@ -1,5 +1,5 @@
 //! Answers where there are rows: the system is solved, and the region searched.
-ghost use Rattle.std.specs.Prelude.{◌≡◌, ◌≢◌, [], All, None, true, false, IfOk};
+ghost use Rattle.std.specs.Prelude.{◌≡◌, ◌≢◌, [], All, true, IfOk};
 ghost use Rattle.lia_branch.specs.EvidenceHolds.{Holds};
 ghost use Rattle.lia_branch.specs.Outcomes.{IsAccepted};
 ghost use Rattle.leaf_solve.specs.Longs.{HasRun};
@@ -28,9 +28,7 @@ pub fn by_rows(alloc: Global, question: &Question) -> Result<LeafAnswer, AllocEr
 {
     let bounded = system(alloc, question, row_reach(question))?;
     match solved(alloc, &bounded)? {
-        Outcome::Solution(point) => Ok(LeafAnswer::Sat(hit_of(
-            alloc, question, &bounded, point,
-        )?)),
+        Outcome::Solution(point) => Ok(LeafAnswer::Sat(hit_of(alloc, question, &bounded, point)?)),
         Outcome::Closed(tree) => Ok(past_reach(alloc, question, bounded, tree)?),
         Outcome::GaveUp(evidence) => Ok(in_region(alloc, question, bounded, evidence)?),
     }
@@ -59,21 +57,24 @@ fn past_reach(
     }
     let free = system(alloc, question, None)?;
     solutions_are_hits(question.machines, &free);
-    let beyond = match solved(alloc, &free)? {
-        Outcome::Closed(whole) => return Ok(LeafAnswer::Closed(Closing::Tree(free, whole))),
-        Outcome::Solution(point) => Beyond::Values(point),
+    match solved(alloc, &free)? {
+        Outcome::Closed(whole) => Ok(LeafAnswer::Closed(Closing::Tree(free, whole))),
+        Outcome::Solution(point) => Ok(LeafAnswer::Long(TooLong::Rows {
+            system: bounded,
+            tree,
+            beyond: Beyond::Values(point),
+        })),
         Outcome::GaveUp(evidence) => {
             if question.small {
                 return Ok(LeafAnswer::Closed(Closing::Box));
             }
-            Beyond::GaveUp(free, evidence)
+            Ok(LeafAnswer::Long(TooLong::Rows {
+                system: bounded,
+                tree,
+                beyond: Beyond::GaveUp(free, evidence),
+            }))
         }
-    };
-    Ok(LeafAnswer::Long(TooLong::Rows {
-        system: bounded,
-        tree,
-        beyond,
-    }))
+    }
 }
 
 // The answer where the solver gave up: what the region holds.

@@ -22,11 +22,13 @@ pub fn shortest_runs(alloc: Global, machines: &[Explicit]) -> Result<Shortest, A
     ensures { IfOk result (IsShortest machines.now) }
 {
     let mut runs = Items::new(alloc);
-    for (place, machine) in machines.iter().enumerate() {
+    let mut place = 0usize;
+    for machine in machines {
         let Some(run) = shortest(alloc, machine)? else {
             return Ok(Shortest::Empty(place as u32));
         };
         runs.push(run)?;
+        place += 1;
     }
     Ok(Shortest::Runs(runs))
 }

@@ -1,5 +1,5 @@
 //! The system of a question, and what its solutions are.
-ghost use Rattle.std.specs.Prelude.{◌≡◌, IfOk, IfSome};
+ghost use Rattle.std.specs.Prelude.{◌≡◌, length, IfOk};
 ghost use Rattle.lia_branch.specs.EvidenceHolds.{Holds};
 ghost use Rattle.lia_branch.specs.Outcomes.{IfSolution, IfClosed, IfGaveUp, IsSolution, IsAccepted};
 ghost use Rattle.leaf_solve.specs.Answers.{IsSatAnswer, row_reach};
@@ -34,11 +34,7 @@ pub fn row_reach(question: &Question) -> Option<u64>
 }
 
 /// The system of the machines and the rows, with the row for reach where there is one.
-pub fn system(
-    alloc: Global,
-    question: &Question,
-    reach: Option<u64>,
-) -> Result<System, AllocError>
+pub fn system(alloc: Global, question: &Question, reach: Option<u64>) -> Result<System, AllocError>
     requires { IsQuestion question.now }
     ensures system { IfOk result (IsSystemFor question.now reach) }
     ensures solvable { IfOk result IsSolvable }

@@ -1,8 +1,8 @@
 //! One machine, or none, under rows on the length of its word or on numbers.
-ghost use Rattle.std.specs.Prelude.{◌≡◌, ℕ, pos, ◌≢◌, ◌≤◌, ◌<◌, IfOk, Some, slice_get, true, false};
-ghost use Rattle.sv_linear.specs.Rows.{IsRowWithin};
+ghost use Rattle.std.specs.Prelude.{◌≡◌, ◌≢◌, ℕ, ℤ, pos, ◌≤◌, ◌<◌, List, [], ◌∷◌, All, Some, slice_get, IfOk};
+ghost use Rattle.sv_linear.specs.Rows.{IsRowWithin, MeetsRows, RowFits};
 ghost use Rattle.sv_linear.specs.declared.row.Row.{Row};
-ghost use Rattle.sv_linear.specs.Combining.{IsSymmetric};
+ghost use Rattle.box_search.specs.Regions.{AreWithin, amounts};
 
 use crate::{Beyond, Closing, LeafAnswer, TooLong, leaf};
 use box_search::{Hit, Region};
@@ -42,14 +42,18 @@ fn ending_of(answer: &LeafAnswer) -> Ending {
         LeafAnswer::Closed(Closing::Tree(_, _)) => Ending::Tree,
         LeafAnswer::Closed(Closing::Box) => Ending::Box,
         LeafAnswer::Long(TooLong::Words(_)) => Ending::Words,
-        LeafAnswer::Long(TooLong::Rows {
-            beyond: Beyond::Values(_),
-            ..
-        }) => Ending::Values,
-        LeafAnswer::Long(TooLong::Rows {
-            beyond: Beyond::GaveUp(_, _),
-            ..
-        }) => Ending::GaveUp,
+        LeafAnswer::Long(
+            TooLong::Rows {
+                beyond: Beyond::Values(_),
+                ..
+            },
+        ) => Ending::Values,
+        LeafAnswer::Long(
+            TooLong::Rows {
+                beyond: Beyond::GaveUp(_, _),
+                ..
+            },
+        ) => Ending::GaveUp,
         LeafAnswer::Open(_, _) => Ending::Open,
     }
 }
@@ -101,9 +105,10 @@ fn all_words(alloc: Global) -> Result<Explicit, AllocError>
 
 // That so many times the unknown 0, and a number, are 0 or at most 0.
 fn row(alloc: Global, kind: RowKind, by: i128, constant: i128) -> Result<Row, AllocError>
-    requires by { by ≢ pos 0 }
-    requires symmetric { IsSymmetric by × IsSymmetric constant }
-    ensures { IfOk result (IsRowWithin 1) }
+    requires { by ≢ pos 0 }
+    ensures terms { IfOk result (λ r. r.form.coefficients ≡ (0, by) ∷ []) }
+    ensures constant { IfOk result (λ r. r.form.constant ≡ constant) }
+    ensures kind { IfOk result (λ r. r.kind ≡ kind) }
 {
     let mut form = Form::of_constant(alloc, constant);
     form.push(0, by)?;
@@ -111,7 +116,12 @@ fn row(alloc: Global, kind: RowKind, by: i128, constant: i128) -> Result<Row, Al
 }
 
 // What is answered for one machine, with an empty region.
-fn answered(alloc: Global, machine: Explicit, rows: &[Row], reach: u64) -> Result<Ending, AllocError>
+fn answered(
+    alloc: Global,
+    machine: Explicit,
+    rows: &[Row],
+    reach: u64,
+) -> Result<Ending, AllocError>
     requires registers { machine.registers ≡ 1 }
     requires rows { (i : ℕ) (r : Row) → slice_get rows.now i ≡ Some r → IsRowWithin 1 r }
     requires reach { reach ≤ 4194303 }
@@ -123,15 +133,7 @@ fn answered(alloc: Global, machine: Explicit, rows: &[Row], reach: u64) -> Resul
         registers: Items::from_slice(alloc, &[(0, 0)])?,
         integers: Items::new(alloc),
     };
-    let answer = leaf(
-        alloc,
-        machines.as_slice(),
-        0,
-        rows,
-        &region,
-        false,
-        reach,
-    )?;
+    let answer = leaf(alloc, machines.as_slice(), 0, rows, &region, false, reach)?;
     Ok(ending_of(&answer))
 }
 
@@ -155,8 +157,14 @@ fn a_word_of_a_given_length(rt: HostRuntime) -> Result<(), AllocError> {
 #[test]
 fn words_at_the_reach(rt: HostRuntime) -> Result<(), AllocError> {
     let alloc = rt.alloc();
-    assert_eq!(rt; answered_at(alloc, all_words(alloc)?, 4_194_303)?, Ending::Sat(4_194_303));
-    assert_eq!(rt; answered_at(alloc, all_words(alloc)?, 4_194_304)?, Ending::Values);
+    assert_eq!(rt;
+        answered_at(alloc, all_words(alloc)?, 4_194_303)?,
+        Ending::Sat(4_194_303)
+    );
+    assert_eq!(rt;
+        answered_at(alloc, all_words(alloc)?, 4_194_304)?,
+        Ending::Values
+    );
     Ok(())
 }
 
@@ -170,16 +178,28 @@ fn shortest_words(rt: HostRuntime) -> Result<(), AllocError> {
     Ok(())
 }
 
-// A number between 0 and 1 that lies between two fractions whose rows have too large a cross product.
+// That a number is between 0 and 1, and that it lies between two fractions whose rows have too large a
+// cross product.
 fn numbers(alloc: Global) -> Result<Items<Row>, AllocError>
-    ensures { IfOk result (λ rows. (i : ℕ) (r : Row) → slice_get rows i ≡ Some r → IsRowWithin 1 r) }
+    ensures within { IfOk result (λ rows. (i : ℕ) (r : Row) → slice_get rows i ≡ Some r → IsRowWithin 1 r) }
+    ensures held { IfOk result (λ rows. (numbers : List ℤ) (totals : List ℕ) → MeetsRows 1 rows numbers totals → AreWithin ((pos 0, pos 1) ∷ []) numbers) }
+    ensures fits { IfOk result (λ rows. All (RowFits (amounts ((pos 0, pos 1) ∷ []))) rows) }
 {
-    let large = 1 << 100;
     let mut rows = Items::new(alloc);
     rows.push(row(alloc, RowKind::Le, -1, 0)?)?;
     rows.push(row(alloc, RowKind::Le, 1, -1)?)?;
-    rows.push(row(alloc, RowKind::Le, 3 * large + 1, -2 * large)?)?;
-    rows.push(row(alloc, RowKind::Le, 1 - 3 * large, large)?)?;
+    rows.push(row(
+        alloc,
+        RowKind::Le,
+        3_000_000_000_000_000_000_000_000_000_001,
+        -2_000_000_000_000_000_000_000_000_000_000,
+    )?)?;
+    rows.push(row(
+        alloc,
+        RowKind::Le,
+        -3_000_000_000_000_000_000_000_000_000_001,
+        1_000_000_000_000_000_000_000_000_000_000,
+    )?)?;
     Ok(rows)
 }
 

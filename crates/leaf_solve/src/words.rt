@@ -1,7 +1,6 @@
 //! Answers without rows: shortest words decide.
-ghost use Rattle.std.specs.Prelude.{◌≡◌, ℕ, ◌≤◌, ◌↔◌, [], List, length, map, IsTrue, IfOk};
+ghost use Rattle.std.specs.Prelude.{◌≡◌, ◌≤◌, ◌↔◌, [], true, length, map, IsTrue, IfOk};
 ghost use Rattle.std.specs.List.{AllZip};
-ghost use Rattle.machine_core.specs.declared.run.Run.{Run};
 ghost use Rattle.trim_search.specs.Shortest.{IsShortestRun};
 ghost use Rattle.box_search.specs.Hits.{characters};
 ghost use Rattle.leaf_solve.specs.Questions.{total_states};
