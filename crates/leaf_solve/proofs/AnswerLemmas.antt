@@ -18,8 +18,8 @@ use Rattle.leaf_solve.specs.Questions.{IsAsked}
 use Rattle.leaf_solve.specs.Longs.{HasRun, IsBeyond}
 use Rattle.leaf_solve.specs.Answers.{HasNoHit, IsPast, IsSatAnswer, IsClosedAnswer, IsLongAnswer, row_reach}
 use Rattle.leaf_solve.specs.Steps.{HaveShortFlowsAt}
-use Rattle.leaf_solve.specs.declared.too_long.Beyond.{Beyond}
-use Rattle.leaf_solve.specs.declared.too_long.TooLong.TheVariants.{Rows}
+use Rattle.leaf_solve.specs.declared.long_shown.Beyond.{Beyond}
+use Rattle.leaf_solve.specs.declared.long_shown.LongShown.TheVariants.{Rows}
 use Rattle.leaf_solve.specs.declared.closing.Closing.TheVariants.{Tree as ByTree, Box}
 use Rattle.leaf_solve.proofs.RegionLemmas.{AreShort, past-outside, past-none}
 use Rattle.leaf_solve.proofs.SystemLemmas.{names, HitsSolve, FlowsHit, SolutionsFlow, closed-none, closed-past, none-solves, row-reach, row-none, reach-holds, take-values}

@@ -13,7 +13,7 @@ use Rattle.box_search.specs.declared.region.Region.{Region}
 use Rattle.leaf_solve.specs.Questions.{IsAsked, EachHit, LieIn}
 use Rattle.leaf_solve.specs.Longs.{IsShortestWord, letters}
 use Rattle.leaf_solve.specs.Answers.{HasNoHit, IsPast, IsLongAnswer}
-use Rattle.leaf_solve.specs.declared.too_long.TooLong.TheVariants.{Words}
+use Rattle.leaf_solve.specs.declared.long_shown.LongShown.TheVariants.{Words}
 use Rattle.leaf_solve.proofs.RunLemmas.{least-characters, runs-each, inhabited, shortest-words, letters-are}
 
 -- a region that holds a hit holds a short one

@@ -11,10 +11,10 @@ use Rattle.lia_branch.specs.Outcomes.{IsAccepted}
 use Rattle.lia_branch.specs.declared.evidence.Evidence.{Evidence}
 use Rattle.parikh_flow.specs.Rows.{IsSystemOf}
 use Rattle.leaf_solve.specs.Questions.{EachHit, LieIn, total_states}
-use Rattle.leaf_solve.specs.Longs.{HasRun, IsTooLong}
+use Rattle.leaf_solve.specs.Longs.{HasRun, IsLongShown}
 use Rattle.leaf_solve.specs.declared.closing.Closing.{Closing}
 use Rattle.leaf_solve.specs.declared.closing.Closing.TheVariants as closing
-use Rattle.leaf_solve.specs.declared.too_long.TooLong.{TooLong}
+use Rattle.leaf_solve.specs.declared.long_shown.LongShown.{LongShown}
 use Rattle.leaf_solve.specs.declared.leaf_answer.LeafAnswer.{LeafAnswer}
 use Rattle.leaf_solve.specs.declared.leaf_answer.LeafAnswer.TheVariants as answer
 
@@ -46,11 +46,11 @@ module _ (machines : List Graph) (registers integers : ℕ) (rows : List Row) wh
     pub none : HasNoHit
     pub shown : IsClosing small closing
 
-  pub record IsLongAnswer (region : Region) (small : Bool) (reach : ℕ) (long : TooLong) : Type 0 where
+  pub record IsLongAnswer (region : Region) (small : Bool) (reach : ℕ) (long : LongShown) : Type 0 where
     pub inhabited : All HasRun machines
     pub past : IsPast reach
     pub none_in_region : EachHit machines registers integers rows (λ runs numbers. LieIn region runs numbers → ⊥)
-    pub shown : IsTooLong machines registers integers rows small (pos reach) long
+    pub shown : IsLongShown machines registers integers rows small (pos reach) long
 
   pub record IsOpenAnswer (region : Region) (small : Bool) (reach : ℕ) (system : System) (evidence : Evidence) : Type 0 where
     pub inhabited : All HasRun machines

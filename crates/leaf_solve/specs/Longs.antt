@@ -9,10 +9,10 @@ use Rattle.farkas_check.specs.declared.system.System.{System}
 use Rattle.lia_branch.specs.EvidenceHolds.{Holds}
 use Rattle.lia_branch.specs.Outcomes.{IsSolution, IsAccepted}
 use Rattle.parikh_flow.specs.Rows.{IsSystemOf}
-use Rattle.leaf_solve.specs.declared.too_long.Beyond.{Beyond}
-use Rattle.leaf_solve.specs.declared.too_long.Beyond.TheVariants.{Values, GaveUp}
-use Rattle.leaf_solve.specs.declared.too_long.TooLong.{TooLong}
-use Rattle.leaf_solve.specs.declared.too_long.TooLong.TheVariants.{Words, Rows}
+use Rattle.leaf_solve.specs.declared.long_shown.Beyond.{Beyond}
+use Rattle.leaf_solve.specs.declared.long_shown.Beyond.TheVariants.{Values, GaveUp}
+use Rattle.leaf_solve.specs.declared.long_shown.LongShown.{LongShown}
+use Rattle.leaf_solve.specs.declared.long_shown.LongShown.TheVariants.{Words, Rows}
 
 -- some run of the machine
 abbrev pub HasRun : Graph → Type 0
@@ -35,9 +35,9 @@ IsBeyond machines registers integers rows small (Values xs) = (system : System) 
 IsBeyond machines registers integers rows small (GaveUp system evidence) = (small ≡ false) × IsSystemOf machines integers registers rows None system × Holds system evidence
 
 -- without rows, shortest words of the machines, which have together more characters than the reach; with rows, and some machine, a tree that closes the system with the row for reach, and what lies beyond
-abbrev pub IsTooLong : List Graph → ℕ → ℕ → List Row → Bool → ℤ → TooLong → Type 0
-IsTooLong machines registers integers rows small reach (Words ws) =
+abbrev pub IsLongShown : List Graph → ℕ → ℕ → List Row → Bool → ℤ → LongShown → Type 0
+IsLongShown machines registers integers rows small reach (Words ws) =
     (rows ≡ []) × AllZip IsShortestWord machines ws × (reach <ℤ pos (letters ws))
-IsTooLong machines registers integers rows small reach (Rows system tree beyond) =
+IsLongShown machines registers integers rows small reach (Rows system tree beyond) =
     (rows ≢ []) × (machines ≢ []) × (n : ℕ) × (reach ≡ pos n) × IsSystemOf machines integers registers rows (Some n) system × IsAccepted system tree
     × IsBeyond machines registers integers rows small beyond

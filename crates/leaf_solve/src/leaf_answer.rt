@@ -1,5 +1,5 @@
 use crate::closing::Closing;
-use crate::too_long::TooLong;
+use crate::long_shown::LongShown;
 use box_search::Hit;
 use farkas_check::System;
 use lia_branch::Evidence;
@@ -12,7 +12,7 @@ pub enum LeafAnswer {
     /// Nothing meets the rows.
     Closed(Closing),
     /// Whatever meets the rows has more characters than the reach.
-    Long(TooLong),
+    Long(LongShown),
     /// The solver gave up on this system, and the region holds nothing.
     Open(System, Evidence),
 }

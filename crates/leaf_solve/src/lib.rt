@@ -20,16 +20,16 @@ mod answering;
 mod closing;
 mod counts;
 mod leaf_answer;
+mod long_shown;
 mod question;
 mod rows;
 mod shortest;
 mod systems;
 #[cfg(test)]
 mod tests;
-mod too_long;
 mod words;
 
 pub use answering::leaf;
 pub use closing::Closing;
 pub use leaf_answer::LeafAnswer;
-pub use too_long::{Beyond, TooLong};
+pub use long_shown::{Beyond, LongShown};

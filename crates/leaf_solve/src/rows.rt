@@ -8,9 +8,9 @@ ghost use Rattle.leaf_solve.specs.Steps.{IsQuestion, Answers, IsSystemFor};
 
 use crate::closing::Closing;
 use crate::leaf_answer::LeafAnswer;
+use crate::long_shown::{Beyond, LongShown};
 use crate::question::Question;
 use crate::systems::{hit_of, row_reach, solved, system};
-use crate::too_long::{Beyond, TooLong};
 use box_search::{hits_are_short, search};
 use farkas_check::{System, Tree};
 use lia_branch::{Evidence, Outcome};
@@ -59,7 +59,7 @@ fn past_reach(
     solutions_are_hits(question.machines, &free);
     match solved(alloc, &free)? {
         Outcome::Closed(whole) => Ok(LeafAnswer::Closed(Closing::Tree(free, whole))),
-        Outcome::Solution(point) => Ok(LeafAnswer::Long(TooLong::Rows {
+        Outcome::Solution(point) => Ok(LeafAnswer::Long(LongShown::Rows {
             system: bounded,
             tree,
             beyond: Beyond::Values(point),
@@ -68,7 +68,7 @@ fn past_reach(
             if question.small {
                 return Ok(LeafAnswer::Closed(Closing::Box));
             }
-            Ok(LeafAnswer::Long(TooLong::Rows {
+            Ok(LeafAnswer::Long(LongShown::Rows {
                 system: bounded,
                 tree,
                 beyond: Beyond::GaveUp(free, evidence),

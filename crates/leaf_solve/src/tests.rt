@@ -4,7 +4,7 @@ ghost use Rattle.sv_linear.specs.Rows.{IsRowWithin, MeetsRows, RowFits};
 ghost use Rattle.sv_linear.specs.declared.row.Row.{Row};
 ghost use Rattle.box_search.specs.Regions.{AreWithin, amounts};
 
-use crate::{Beyond, Closing, LeafAnswer, TooLong, leaf};
+use crate::{Beyond, Closing, LeafAnswer, LongShown, leaf};
 use box_search::{Hit, Region};
 use machine_core::{Cost, Explicit};
 use std::alloc::{AllocError, Global};
@@ -41,15 +41,15 @@ fn ending_of(answer: &LeafAnswer) -> Ending {
         LeafAnswer::Closed(Closing::Empty(place)) => Ending::Empty(*place),
         LeafAnswer::Closed(Closing::Tree(_, _)) => Ending::Tree,
         LeafAnswer::Closed(Closing::Box) => Ending::Box,
-        LeafAnswer::Long(TooLong::Words(_)) => Ending::Words,
+        LeafAnswer::Long(LongShown::Words(_)) => Ending::Words,
         LeafAnswer::Long(
-            TooLong::Rows {
+            LongShown::Rows {
                 beyond: Beyond::Values(_),
                 ..
             },
         ) => Ending::Values,
         LeafAnswer::Long(
-            TooLong::Rows {
+            LongShown::Rows {
                 beyond: Beyond::GaveUp(_, _),
                 ..
             },

@@ -8,8 +8,8 @@ ghost use Rattle.leaf_solve.specs.Answers.{IsDecided};
 ghost use Rattle.leaf_solve.specs.Steps.{IsQuestion, Answers};
 
 use crate::leaf_answer::LeafAnswer;
+use crate::long_shown::LongShown;
 use crate::question::Question;
-use crate::too_long::TooLong;
 use box_search::{Hit, hits_are_short, words_are_short};
 use machine_core::Run;
 use std::alloc::{AllocError, Global};
@@ -71,6 +71,6 @@ pub fn by_words(
         Ok(LeafAnswer::Sat(Hit { runs, integers }))
     } else {
         let words = words_of(alloc, runs.as_slice())?;
-        Ok(LeafAnswer::Long(TooLong::Words(words)))
+        Ok(LeafAnswer::Long(LongShown::Words(words)))
     }
 }

@@ -14,7 +14,7 @@ pub enum Beyond {
 
 /// What shows that words are too long together.
 #[derive(Drop)]
-pub enum TooLong {
+pub enum LongShown {
     /// Without rows: a shortest word of each machine.
     Words(Items<Word>),
     /// With rows: the system with the row for reach, a tree that closes it, and what lies beyond.
