@@ -193,9 +193,14 @@ ascends-below low high n [] h le none = le
 ascends-below low high n (t ∷ ts) h le none =
     let first = h.0 in
     let own = met t.0 t ts (nat_eq t.0 t.0) (let e : nat_eq t.0 t.0 ≡ true = grind (arith, nat_tests) in e) (below_low (t.0 + 1) high t.0 ts h.1.1 (omega arith)) in
-    let lt = by_less t.0 n (λ lt. lt) (λ ge. absurd (let z = sym own ∙ none t.0 ge in let some = h.1.0 in let a = ap unsigned_abs z in omega arith)) in
-    (first, (h.1.0, ascends-below (t.0 + 1) high n ts h.1.1 (let l : t.0 < n = lt in omega arith)
-    (λ u ge. let l : t.0 < n = lt in let e : nat_eq t.0 u ≡ false = grind (arith, nat_tests) in sym (passed u t ts (nat_eq t.0 u) e) ∙ none u ge)))
+    let lt = by_less t.0 n (λ lt. lt) (λ ge. absurd (let z = sym own ∙ none t.0 ge in let some = h.1.0 in let a = ap unsigned_abs z in omega arith)) in (
+      first,
+      (
+        h.1.0,
+        ascends-below (t.0 + 1) high n ts h.1.1 (let l : t.0 < n = lt in omega arith)
+            (λ u ge. let l : t.0 < n = lt in let e : nat_eq t.0 u ≡ false = grind (arith, nat_tests) in sym (passed u t ts (nat_eq t.0 u) e) ∙ none u ge),
+      ),
+    )
 
 same-within : (n : ℕ) (r : Row) (c : Constraint) → IsSameRow r c → IsWithin n c → IsRowWithin n r
 same-within n r c s w = record {
