@@ -3,10 +3,6 @@ pub mod KindLemmas
 pub mod WordLemmas
 pub mod StepLemmas
 pub mod LetterLemmas
-pub mod ChoiceLemmas
-pub mod ChainLemmas
-pub mod ChainMoves
-pub mod ChoiceMoves
 pub mod CopyMoves
 pub mod CopyLemmas
 pub mod PieceLemmas
@@ -15,7 +11,6 @@ pub mod LanguageLemmas
 pub mod MeetLemmas
 pub mod SideLemmas
 pub mod FormLemmas
-pub mod LetterParts
 pub mod OnwardLemmas
 pub mod WovenLemmas
 pub mod WeaveLemmas

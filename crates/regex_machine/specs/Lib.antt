@@ -1,7 +1,5 @@
 pub mod Joined
 pub mod Stepped
-pub mod Chosen
-pub mod Chained
 pub mod Copied
 pub mod Laws
 pub mod Sided

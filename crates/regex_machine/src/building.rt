@@ -9,12 +9,10 @@ ghost use Rattle.regex_machine.specs.Joined.{Reads, AreMade};
 ghost use Rattle.regex_machine.specs.Kinds.{Together, weight, most_states};
 ghost use Rattle.regex_machine.specs.Onwards.{AreBegun, Precedes};
 ghost use Rattle.regex_machine.specs.Parts.{AddsParts};
-ghost use Rattle.regex_machine.specs.declared.kind.Kind.TheVariants.{Turn, One};
+ghost use Rattle.regex_machine.specs.declared.kind.Kind.TheVariants.{Turn, One, All};
 ghost use Rattle.trim_search.specs.declared.build_fault.BuildFault.TheVariants.{States};
 
-use crate::joining::{complement, copied, difference, put_together};
-use crate::kind::Kind;
-use crate::letter_parts::join_alike;
+use crate::joining::{all_of, complement, copied, difference};
 use crate::letters;
 use crate::letters::{any_character, between, empty_word, everything, fit, nothing, range};
 use crate::onward::{Onward, Rest};
@@ -29,12 +27,11 @@ use trim_search::BuildFault;
 /// A machine without registers whose words are those of the expression, with at most
 /// [`bound`](crate::bound) states and at most `limit`.
 ///
-/// `States` carries the bound and comes only where it is above `limit`. Every part is explored from its
-/// start, so that what isn't reached takes no memory, and a machine may be built though its bound is
-/// above the limit. A list within a list of its kind is one list, and all parts of a list and all copies
-/// of a loop are put together in one pass: time and memory are linear in the machine that comes out, but
-/// for one look-up in an ordered map for each of its edges, and once more for each level of other forms
-/// above.
+/// `States` carries the bound and comes only where it is above `limit`. What isn't reached takes no
+/// state, so that a machine may be built though its bound is above the limit. Unions and concatenations,
+/// however nested, are written in one pass from their end on, and then explored: time and memory are
+/// linear in the machine that comes out, but for one look-up in an ordered map for each of its edges.
+/// Every other form explores the machines of its parts, so that each level of such forms is one more pass.
 pub fn build(alloc: Global, regex: &Regex, limit: u64) -> Result<Explicit, BuildFault>
     ensures registers { IfOk result (λ m. m.registers ≡ 0) }
     ensures words { IfOk result (λ m. (word : List ℕ) → Accepts m word [] ↔ In regex.now word) }
@@ -62,7 +59,7 @@ fn make(alloc: Global, regex: &Regex, limit: u64) -> Result<Explicit, BuildFault
         Regex::Range(lo, hi) => fit(range(alloc, *lo, *hi), limit),
         Regex::Concat(rs) => make_turn(alloc, rs.as_slice(), limit),
         Regex::Union(rs) => make_one(alloc, rs.as_slice(), limit),
-        Regex::Inter(rs) => make_list(alloc, Kind::All, rs.as_slice(), limit),
+        Regex::Inter(rs) => make_inter(alloc, rs.as_slice(), limit),
         Regex::Diff(rs) => make_difference(alloc, rs.as_slice(), limit),
         Regex::Star(r) => make_copies(alloc, r.get(), 0, 1, true, limit),
         Regex::Plus(r) => make_copies(alloc, r.get(), 1, 1, true, limit),
@@ -249,30 +246,29 @@ fn make_all(alloc: Global, rs: &[Regex], limit: u64) -> Result<Items<Explicit>, 
     Ok(parts)
 }
 
+// A word of all.
 #[cycle(make)]
-fn make_list(alloc: Global, kind: Kind, rs: &[Regex], limit: u64) -> Result<Explicit, BuildFault>
-    ensures { Builds (Together kind In rs.now) (most_states kind (weight kind size rs.now)) limit result }
+fn make_inter(alloc: Global, rs: &[Regex], limit: u64) -> Result<Explicit, BuildFault>
+    ensures { Builds (Together All In rs.now) (most_states All (weight All size rs.now)) limit result }
 {
     let mut parts = Items::new(alloc);
-    add_parts(alloc, kind, &mut parts, rs, limit)?;
-    let joined = join_alike(alloc, kind, parts)?;
-    put_together(alloc, kind, joined.as_slice(), limit)
+    add_parts(alloc, &mut parts, rs, limit)?;
+    all_of(alloc, parts.as_slice(), limit)
 }
 
-// Adds the machines of a list. A list of the same kind within it counts as its elements.
+// Adds the machines of a list. A list of this kind within it counts as its elements.
 #[cycle(make)]
 fn add_parts(
     alloc: Global,
-    kind: Kind,
     parts: &mut Items<Explicit>,
     rs: &[Regex],
     limit: u64,
 ) -> Result<(), BuildFault>
-    ensures ok { OnOk result (AddsParts kind rs.now parts.old parts.new) }
-    ensures beyond { (n : ℕ) → result ≡ Err (States n) → (limit < most_states kind (weight kind size rs.now)) × (limit < 2 ^ 32) }
+    ensures ok { OnOk result (AddsParts All rs.now parts.old parts.new) }
+    ensures beyond { (n : ℕ) → result ≡ Err (States n) → (limit < most_states All (weight All size rs.now)) × (limit < 2 ^ 32) }
 {
     for r in rs {
-        add_part(alloc, kind, parts, r, limit)?;
+        add_part(alloc, parts, r, limit)?;
     }
     Ok(())
 }
@@ -280,18 +276,15 @@ fn add_parts(
 #[cycle(make)]
 fn add_part(
     alloc: Global,
-    kind: Kind,
     parts: &mut Items<Explicit>,
     r: &Regex,
     limit: u64,
 ) -> Result<(), BuildFault>
-    ensures ok { OnOk result (AddsParts kind (r.now ∷ []) parts.old parts.new) }
+    ensures ok { OnOk result (AddsParts All (r.now ∷ []) parts.old parts.new) }
     ensures beyond { (n : ℕ) → result ≡ Err (States n) → (limit < size r.now) × (limit < 2 ^ 32) }
 {
-    match (kind, r) {
-        (Kind::Turn, Regex::Concat(rs)) => add_parts(alloc, kind, parts, rs.as_slice(), limit),
-        (Kind::One, Regex::Union(rs)) => add_parts(alloc, kind, parts, rs.as_slice(), limit),
-        (Kind::All, Regex::Inter(rs)) => add_parts(alloc, kind, parts, rs.as_slice(), limit),
+    match r {
+        Regex::Inter(rs) => add_parts(alloc, parts, rs.as_slice(), limit),
         _ => {
             let part = make(alloc, r, limit)?;
             parts.push(part)?;

@@ -1,4 +1,4 @@
-//! Machines put together: choices, one after another, copies, and what lies in several of them.
+//! Machines put together: copies, and what lies in several of them or in one alone.
 ghost use Rattle.std.specs.Prelude.{◌≡◌, ℕ, ◌≤◌, ◌<◌, ◌^◌, IsTrue, IfOk, drop, map};
 ghost use Rattle.sv_word.specs.Words.{IsWord};
 ghost use Rattle.sv_terms.specs.Language.{InFirstOnly};
@@ -8,74 +8,21 @@ ghost use Rattle.regex_machine.specs.Copied.{InCopies, copies_size};
 ghost use Rattle.regex_machine.specs.Joined.{WordsOf, ArePlain};
 ghost use Rattle.regex_machine.specs.Kinds.{Together, weight, most_states, states_of};
 ghost use Rattle.regex_machine.specs.OtherSides.{AreOtherSides};
-ghost use Rattle.regex_machine.specs.declared.kind.Kind.TheVariants.{Turn, One, All};
+ghost use Rattle.regex_machine.specs.declared.kind.Kind.TheVariants.{All};
 
-use crate::chain::Chain;
-use crate::choice::Choice;
 use crate::copies::Copies;
 use crate::explored::explored;
-use crate::kind::Kind;
-use crate::letters::{empty_word, fit, nothing};
+use crate::letters::{fit, nothing};
 use crate::sides::Side;
 use machine_core::Explicit;
 use machine_meet::Meet;
 use std::alloc::{AllocError, Global};
 use subset_machine::Subset;
-use sv_list::{Copied, Items};
+use sv_list::Items;
 use trim_search::BuildFault;
 
-// So many parts as a `u32` counts.
-const MANY: usize = u32::MAX as usize;
-
-/// The parts, put together in this way.
-pub fn put_together(
-    alloc: Global,
-    kind: Kind,
-    parts: &[Explicit],
-    limit: u64,
-) -> Result<Explicit, BuildFault>
-    requires { ArePlain parts.now }
-    ensures { Builds (Together kind WordsOf parts.now) (most_states kind (weight kind states_of parts.now)) limit result }
-{
-    match kind {
-        Kind::Turn => in_turn(alloc, parts, limit),
-        Kind::One => any_of(alloc, parts, limit),
-        Kind::All => all_of(alloc, parts, limit),
-    }
-}
-
-// The words of at least one part.
-fn any_of(alloc: Global, parts: &[Explicit], limit: u64) -> Result<Explicit, BuildFault>
-    requires { ArePlain parts.now }
-    ensures { Builds (Together One WordsOf parts.now) (most_states One (weight One states_of parts.now)) limit result }
-{
-    if parts.len() == 1 {
-        return fit(parts[0].copy(alloc), limit);
-    }
-    if parts.len() > MANY {
-        return Err(BuildFault::Memory(AllocError));
-    }
-    let choice = Choice::of(parts);
-    explored(alloc, &choice, limit)
-}
-
-// One word of each part, in their order.
-fn in_turn(alloc: Global, parts: &[Explicit], limit: u64) -> Result<Explicit, BuildFault>
-    requires { ArePlain parts.now }
-    ensures { Builds (Together Turn WordsOf parts.now) (most_states Turn (weight Turn states_of parts.now)) limit result }
-{
-    if parts.is_empty() {
-        return fit(empty_word(alloc), limit);
-    }
-    if parts.len() > MANY {
-        return Err(BuildFault::Memory(AllocError));
-    }
-    let chain = Chain::of(parts);
-    explored(alloc, &chain, limit)
-}
-
-// The words of all parts.
-fn all_of(alloc: Global, parts: &[Explicit], limit: u64) -> Result<Explicit, BuildFault>
+/// The words of all parts.
+pub fn all_of(alloc: Global, parts: &[Explicit], limit: u64) -> Result<Explicit, BuildFault>
     requires { ArePlain parts.now }
     ensures { Builds (Together All WordsOf parts.now) (most_states All (weight All states_of parts.now)) limit result }
 {

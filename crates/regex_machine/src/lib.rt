@@ -4,10 +4,11 @@
 //! and has at most [`bound`] states**. Its meaning is the definition `In`, by cases on the form of the
 //! expression; automata appear in the code alone.
 //!
-//! The machines of the parts are joined by machines that are explored state by state: a choice, parts
-//! one after another, copies of a part, what is in all parts and what is in none. So a list of any
-//! length and a loop of any number are one pass over what is reached, and what isn't reached takes no
-//! memory. A refusal comes only where the bound is above the limit that is given.
+//! Unions and concatenations are written from their end on: a part is made when all that may follow it
+//! is known, so that no state changes once it is made, and words and characters share the state behind
+//! them. Loops, what is in all parts and what is in none are machines that are explored state by state,
+//! and take their place in what is written. What isn't reached is dropped by the last exploration. A
+//! refusal comes only where the bound is above the limit that is given.
 //!
 //! ```
 //! // A shortest word that isn't in the expression.
@@ -17,13 +18,10 @@
 #![tactic(auto)]
 
 mod building;
-mod chain;
-mod choice;
 mod copies;
 mod explored;
 mod joining;
 mod kind;
-mod letter_parts;
 mod letters;
 mod onward;
 mod sides;

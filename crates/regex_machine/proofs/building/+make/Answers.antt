@@ -55,7 +55,7 @@ make-returns-in-Union t c = builds-list c.args.regex.now c.args.limit c.make_one
 
 pub make-returns-in-Inter : goal.make-returns-in-Inter
 make-returns-in-Inter t c =
-    builds-list c.args.regex.now c.args.limit c.make_list.result kind.All c.in-Inter.rs c.as_slice-in-Inter.result.now c.as_slice-in-Inter.ensures c.in-Inter.is c.make_list.ensures
+    builds-list c.args.regex.now c.args.limit c.make_inter.result kind.All c.in-Inter.rs c.as_slice-in-Inter.result.now c.as_slice-in-Inter.ensures c.in-Inter.is c.make_inter.ensures
 
 pub make-returns-in-Diff : goal.make-returns-in-Diff
 make-returns-in-Diff t c = builds-Diff c.args.regex.now c.args.limit c.make_difference.result c.in-Diff.rs c.as_slice-in-Diff.result.now c.as_slice-in-Diff.ensures c.in-Diff.is c.make_difference.ensures
@@ -147,81 +147,41 @@ pub add_parts-returns-in_err-add_part-clause-beyond : goal.add_parts-returns-in_
 add_parts-returns-in_err-add_part-clause-beyond t c = λ n e.
     let d = rw e at c.from_residual.ensures.1 in
     let b = c.in_err-add_part.ensures.beyond n (ap Err (sym d)) in
-    let more = part-size c.args.kind c.args.rs.now c.r-item.result (c.loop-r.r-index, c.loop-r-test.true, sym c.r-item.is) in
+    let more = part-size kind.All c.args.rs.now c.r-item.result (c.loop-r.r-index, c.loop-r-test.true, sym c.r-item.is) in
     let low = b.0 in
     (omega arith, b.1)
 
 pub add_parts-loop-r-init : goal.add_parts-loop-r-init
-add_parts-loop-r-init t c = adds-none c.args.kind c.args.parts.now
+add_parts-loop-r-init t c = adds-none kind.All c.args.parts.now
 
 pub add_parts-loop-r-preserved : goal.add_parts-loop-r-preserved
 add_parts-loop-r-preserved t c =
-    adds-next c.args.kind c.args.rs.now c.loop-r.r-index c.r-item.result c.args.parts.now c.loop-r.parts c.add_part.new.parts
+    adds-next kind.All c.args.rs.now c.loop-r.r-index c.r-item.result c.args.parts.now c.loop-r.parts c.add_part.new.parts
     c.loop-r-test.true c.r-item.is c.loop-r.invariant c.in_ok-add_part.ensures.ok
 
 pub add_parts-returns-clause-ok : goal.add_parts-returns-clause-ok
-add_parts-returns-clause-ok t c = adds-all c.args.kind c.args.rs.now c.loop-r.r-index c.args.parts.now c.loop-r.parts c.loop-r-test.false c.loop-r.invariant
+add_parts-returns-clause-ok t c = adds-all kind.All c.args.rs.now c.loop-r.r-index c.args.parts.now c.loop-r.parts c.loop-r-test.false c.loop-r.invariant
 
-pub make_list-join_alike-requires : goal.make_list-join_alike-requires
-make_list-join_alike-requires t c = adds-plain c.args.kind c.args.rs.now c.add_parts.new.parts c.add_parts.new.parts c.new-parts.result refl c.new-parts.ensures c.in_ok-add_parts.ensures.ok
+pub make_inter-all_of-requires : goal.make_inter-all_of-requires
+make_inter-all_of-requires t c = adds-plain kind.All c.args.rs.now c.add_parts.new.parts c.as_slice.result.now c.new-parts.result c.as_slice.ensures c.new-parts.ensures c.in_ok-add_parts.ensures.ok
 
-pub make_list-put_together-requires : goal.make_list-put_together-requires
-make_list-put_together-requires t c =
-    let adds = c.in_ok-joined.ensures c.args.rs.now (subst (λ l. AddsParts c.args.kind c.args.rs.now l c.add_parts.new.parts) c.new-parts.ensures c.in_ok-add_parts.ensures.ok) in
-    adds-plain c.args.kind c.args.rs.now c.in_ok-joined.joined c.as_slice.result.now [] c.as_slice.ensures refl adds
+pub make_inter-returns : goal.make_inter-returns
+make_inter-returns t c =
+    list-made c.args.limit c.all_of.result kind.All c.args.rs.now c.add_parts.new.parts c.as_slice.result.now c.as_slice.ensures c.new-parts.result c.new-parts.ensures c.in_ok-add_parts.ensures.ok c.all_of.ensures
 
-pub make_list-returns : goal.make_list-returns
-make_list-returns t c =
-    let adds = c.in_ok-joined.ensures c.args.rs.now (subst (λ l. AddsParts c.args.kind c.args.rs.now l c.add_parts.new.parts) c.new-parts.ensures c.in_ok-add_parts.ensures.ok) in
-    list-made c.args.limit c.put_together.result c.args.kind c.args.rs.now c.in_ok-joined.joined c.as_slice.result.now c.as_slice.ensures [] refl adds c.put_together.ensures
-
-pub make_list-returns-in_err-add_parts : goal.make_list-returns-in_err-add_parts
-make_list-returns-in_err-add_parts t c = builds-err _ _ c.args.limit c.from_residual.result c.from_residual.ensures.0 (λ n e.
+pub make_inter-returns-in_err-add_parts : goal.make_inter-returns-in_err-add_parts
+make_inter-returns-in_err-add_parts t c = builds-err _ _ c.args.limit c.from_residual.result c.from_residual.ensures.0 (λ n e.
     let d = rw e at c.from_residual.ensures.1 in
     c.in_err-add_parts.ensures.beyond n (ap Err (sym d)))
 
-pub add_part-returns-in-Turn-Concat-clause-ok : goal.add_part-returns-in-Turn-Concat-clause-ok
-add_part-returns-in-Turn-Concat-clause-ok t c =
-    let a = c.in-Turn-Concat in
-    let is = a.is-1 ∙ ap (λ k. formed k a.rs) (sym a.is-0) in
-    onok-as c.add_parts.result _ _ (adds-inner c.args.kind c.args.r.now a.rs c.as_slice.result.now c.args.parts.now c.add_parts.new.parts is c.as_slice.ensures) c.add_parts.ensures.ok
+pub add_part-returns-in-Inter-clause-ok : goal.add_part-returns-in-Inter-clause-ok
+add_part-returns-in-Inter-clause-ok t c =
+    onok-as c.add_parts.result _ _ (adds-inner kind.All c.args.r.now c.in-Inter.rs c.as_slice.result.now c.args.parts.now c.add_parts.new.parts c.in-Inter.is c.as_slice.ensures) c.add_parts.ensures.ok
 
-pub add_part-returns-in-Turn-Concat-clause-beyond : goal.add_part-returns-in-Turn-Concat-clause-beyond
-add_part-returns-in-Turn-Concat-clause-beyond t c = λ n e.
-    let a = c.in-Turn-Concat in
-    let is = a.is-1 ∙ ap (λ k. formed k a.rs) (sym a.is-0) in
+pub add_part-returns-in-Inter-clause-beyond : goal.add_part-returns-in-Inter-clause-beyond
+add_part-returns-in-Inter-clause-beyond t c = λ n e.
     let b = c.add_parts.ensures.beyond n e in
-    let more = inner-size c.args.kind c.args.r.now a.rs c.as_slice.result.now is c.as_slice.ensures in
-    let low = b.0 in
-    (omega arith, b.1)
-
-pub add_part-returns-in-One-Union-clause-ok : goal.add_part-returns-in-One-Union-clause-ok
-add_part-returns-in-One-Union-clause-ok t c =
-    let a = c.in-One-Union in
-    let is = a.is-1 ∙ ap (λ k. formed k a.rs) (sym a.is-0) in
-    onok-as c.add_parts-in-One-Union.result _ _ (adds-inner c.args.kind c.args.r.now a.rs c.as_slice-in-One-Union.result.now c.args.parts.now c.add_parts-in-One-Union.new.parts is c.as_slice-in-One-Union.ensures) c.add_parts-in-One-Union.ensures.ok
-
-pub add_part-returns-in-One-Union-clause-beyond : goal.add_part-returns-in-One-Union-clause-beyond
-add_part-returns-in-One-Union-clause-beyond t c = λ n e.
-    let a = c.in-One-Union in
-    let is = a.is-1 ∙ ap (λ k. formed k a.rs) (sym a.is-0) in
-    let b = c.add_parts-in-One-Union.ensures.beyond n e in
-    let more = inner-size c.args.kind c.args.r.now a.rs c.as_slice-in-One-Union.result.now is c.as_slice-in-One-Union.ensures in
-    let low = b.0 in
-    (omega arith, b.1)
-
-pub add_part-returns-in-All-Inter-clause-ok : goal.add_part-returns-in-All-Inter-clause-ok
-add_part-returns-in-All-Inter-clause-ok t c =
-    let a = c.in-All-Inter in
-    let is = a.is-1 ∙ ap (λ k. formed k a.rs) (sym a.is-0) in
-    onok-as c.add_parts-in-All-Inter.result _ _ (adds-inner c.args.kind c.args.r.now a.rs c.as_slice-in-All-Inter.result.now c.args.parts.now c.add_parts-in-All-Inter.new.parts is c.as_slice-in-All-Inter.ensures) c.add_parts-in-All-Inter.ensures.ok
-
-pub add_part-returns-in-All-Inter-clause-beyond : goal.add_part-returns-in-All-Inter-clause-beyond
-add_part-returns-in-All-Inter-clause-beyond t c = λ n e.
-    let a = c.in-All-Inter in
-    let is = a.is-1 ∙ ap (λ k. formed k a.rs) (sym a.is-0) in
-    let b = c.add_parts-in-All-Inter.ensures.beyond n e in
-    let more = inner-size c.args.kind c.args.r.now a.rs c.as_slice-in-All-Inter.result.now is c.as_slice-in-All-Inter.ensures in
+    let more = inner-size kind.All c.args.r.now c.in-Inter.rs c.as_slice.result.now c.in-Inter.is c.as_slice.ensures in
     let low = b.0 in
     (omega arith, b.1)
 

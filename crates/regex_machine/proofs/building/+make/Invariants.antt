@@ -1,6 +1,7 @@
 use Rattle.std.proofs.Common.{◌<◌, length, take}
 use Rattle.regex_machine.specs.Joined.{AreMade}
 use Rattle.regex_machine.specs.Parts.{AddsParts}
+use Rattle.regex_machine.specs.declared.kind.Kind.TheVariants.{All}
 use Rattle.regex_machine.specs.Onwards.{AreBegun}
 use Rattle.regex_machine.proofs.WeaveLemmas.{IsWritten, IsChosen}
 use Rattle.regex_machine.proofs.building.+make.Given as goal
@@ -9,7 +10,7 @@ abbrev pub invariant-make_all-loop-r : goal.invariant-make_all-loop-r
 invariant-make_all-loop-r l = AreMade (take l.r-index l.rs) l.parts
 
 abbrev pub invariant-add_parts-loop-r : goal.invariant-add_parts-loop-r
-invariant-add_parts-loop-r l = AddsParts l.kind (take l.r-index l.rs) l.initial.parts l.parts
+invariant-add_parts-loop-r l = AddsParts All (take l.r-index l.rs) l.initial.parts l.parts
 
 abbrev pub invariant-before_each-loop-at : goal.invariant-before_each-loop-at
 invariant-before_each-loop-at l = record {
