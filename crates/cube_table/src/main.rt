@@ -28,6 +28,8 @@ mod stop;
 mod straight;
 mod table;
 mod terms;
+#[cfg(test)]
+mod tests;
 mod text;
 
 use crate::running::run;

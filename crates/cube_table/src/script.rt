@@ -54,6 +54,7 @@ impl std::marker::Model for Script {
 
 impl Script {
     /// Nothing is declared or asserted.
+    #[tactic(auto, using(crate::proofs::Standing::stands_opened))]
     pub fn new(alloc: Global) -> Script
         ensures { result ≡ empty ∷ [] }
     {
@@ -90,6 +91,7 @@ impl Script {
         }
     }
 
+    #[tactic(auto, using(crate::proofs::Standing::stands_declared))]
     fn declare(&mut self, name: Name, entry: Entry) -> Result<Asked, AllocError>
         requires { IsAdded (symbols_of self.old) name entry }
     {
@@ -97,6 +99,7 @@ impl Script {
         Ok(Asked::Nothing)
     }
 
+    #[tactic(auto, using(crate::proofs::Standing::stands_asserted))]
     fn assert(&mut self, term: Term) -> Result<Asked, AllocError>
         requires { sort_of term ≡ Some sort.Bool }
     {
@@ -104,6 +107,7 @@ impl Script {
         Ok(Asked::Nothing)
     }
 
+    #[tactic(auto, using(crate::proofs::Standing::stands_pushed))]
     fn push(&mut self, levels: u32) -> Result<Asked, AllocError> {
         match self.stack.push(levels) {
             Ok(()) => Ok(Asked::Nothing),
@@ -112,6 +116,7 @@ impl Script {
         }
     }
 
+    #[tactic(auto, using(crate::proofs::Standing::stands_dropped))]
     fn pop(&mut self, levels: u32) -> Asked {
         well_formed_first();
         match self.stack.pop(levels) {
@@ -120,6 +125,7 @@ impl Script {
         }
     }
 
+    #[tactic(auto, using(crate::proofs::Standing::stands_opened))]
     fn reset(&mut self) -> Asked {
         self.stack.reset();
         Asked::Nothing

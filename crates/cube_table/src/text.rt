@@ -18,9 +18,13 @@ impl Text {
         }
     }
 
+    pub fn as_bytes(&self) -> &[u8] {
+        self.bytes.as_slice()
+    }
+
     /// Writes the text to standard output.
     pub fn print(&self, rt: HostRuntime) -> Result<(), Stop> {
-        match rt.stdout().write_all(self.bytes.as_slice()) {
+        match rt.stdout().write_all(self.as_bytes()) {
             Ok(()) => Ok(()),
             Err(_) => Err(Stop::Unwritten),
         }

@@ -1,4 +1,4 @@
-ghost use Rattle.std.specs.Prelude.{◌≡◌, IfOk};
+ghost use Rattle.std.specs.Prelude.{◌+◌, ◌<◌, ◌^◌, IfOk};
 ghost use Rattle.box_search.specs.Hits.{HaveRegisters};
 ghost use Rattle.parikh_flow.specs.Rows.{IsSystemOf};
 
@@ -18,8 +18,8 @@ use sv_list::{Copied, Items};
 /// its edges and its ends. The given rows come first; then for each register that it is what the edges and
 /// ends cost there; that each register and each count is at least 0; for each machine that one end is used,
 /// and the balance of each state; and, where `reach` is given, that the words have together at most so
-/// many characters. Linear in the rows and in the machines times the registers. More unknowns than a `u32`
-/// counts are want of memory.
+/// many characters. Linear in the rows and in the machines times the registers. More edges and ends than leave
+/// the unknowns below 2^32 are want of memory: they would take more than 100 GB.
 pub fn system_of(
     alloc: Global,
     machines: &[Explicit],
@@ -28,12 +28,11 @@ pub fn system_of(
     rows: &[Row],
     reach: Option<u64>,
 ) -> Result<System, AllocError>
-    requires { HaveRegisters registers machines.now }
+    requires registers { HaveRegisters registers machines.now }
+    requires few { integers + registers < 2 ^ 31 }
     ensures { IfOk result (IsSystemOf machines.now integers registers rows.now reach) }
 {
-    let Some(base) = integers.checked_add(registers) else {
-        return Err(AllocError);
-    };
+    let base = integers + registers;
     let Some(unknowns) = unknowns_from(machines, base) else {
         return Err(AllocError);
     };
