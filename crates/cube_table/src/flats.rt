@@ -77,8 +77,8 @@ impl Text {
             By::Through(_, _) => self.add(": (transducer")?,
         }
         self.numbers(definition.by.used())?;
-        if let By::First(pattern, replacement, _) | By::All(pattern, replacement, _) =
-            &definition.by
+        if let By::First(pattern, replacement, _)
+        | By::All(pattern, replacement, _) = &definition.by
         {
             self.worded(alloc, " ", pattern)?;
             self.worded(alloc, " ", replacement)?;

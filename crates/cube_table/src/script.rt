@@ -8,9 +8,7 @@ ghost use Rattle.sv_terms.specs.declared.sort.Sort.TheVariants as sort;
 
 use assert_stack::{Stack, StackFault};
 use sexpr_reader::Sexpr;
-use sort_check::{
-    CheckFault, Command, command, terms_sorted, well_formed_first, well_formed_more,
-};
+use sort_check::{CheckFault, Command, command, terms_sorted, well_formed_first, well_formed_more};
 use std::alloc::{AllocError, Global};
 use sv_list::Items;
 use sv_terms::{Entry, Name, Term};

@@ -55,7 +55,10 @@ fn definition(alloc: Global, number: u32) -> Result<Term, AllocError>
     ensures { IfOk result IsSorted }
 {
     let before = Term::Constant(name(alloc, b'x', number.saturating_sub(4))?, Sort::String);
-    let joined = Term::Apply(Op::Concat, pair(alloc, before, Term::Text(word(alloc, b"a")?))?);
+    let joined = Term::Apply(
+        Op::Concat,
+        pair(alloc, before, Term::Text(word(alloc, b"a")?))?,
+    );
     let text = Term::Constant(name(alloc, b'x', number)?, Sort::String);
     Ok(Term::Apply(Op::Equal, pair(alloc, text, joined)?))
 }
@@ -67,7 +70,10 @@ fn length(alloc: Global, number: u32) -> Result<Term, AllocError>
     let mut terms = Items::new(alloc);
     terms.push(Term::Constant(name(alloc, b'x', number % 50)?, Sort::String))?;
     let length = Term::Apply(Op::Length, terms);
-    Ok(Term::Apply(Op::LessEqual, pair(alloc, length, Term::Number(i128::from(number)))?))
+    Ok(Term::Apply(
+        Op::LessEqual,
+        pair(alloc, length, Term::Number(i128::from(number)))?,
+    ))
 }
 
 fn literal(alloc: Global, number: u32) -> Result<Term, AllocError>
@@ -138,7 +144,11 @@ fn flatten_long(rt: HostRuntime, cube: &Cube)
     let alloc = rt.alloc();
     let stopwatch = Stopwatch::start(rt);
     let flat = flatten(alloc, cube);
-    stopwatch.stop(rt, "variables of a cube of 10,000 literals", variables(&flat));
+    stopwatch.stop(
+        rt,
+        "variables of a cube of 10,000 literals",
+        variables(&flat),
+    );
     if let Ok(flat) = flat {
         let stopwatch = Stopwatch::start(rt);
         let growth = numbers(alloc, &flat).ok().map(|numbers| numbers.growth);
@@ -151,7 +161,11 @@ fn flatten_long(rt: HostRuntime, cube: &Cube)
 pub fn measure(rt: HostRuntime) {
     let alloc = rt.alloc();
     let stopwatch = Stopwatch::start(rt);
-    stopwatch.stop(rt, "literals of the cubes of twenty choices", count_literals(alloc).ok());
+    stopwatch.stop(
+        rt,
+        "literals of the cubes of twenty choices",
+        count_literals(alloc).ok(),
+    );
     if let Ok(Some(cube)) = long_cube(alloc) {
         flatten_long(rt, &cube);
     }

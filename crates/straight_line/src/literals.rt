@@ -50,11 +50,8 @@ fn head_of(op: Op) -> Head
         Role::Test(Test::Suffix) => Head::Suffix,
         Role::Test(Test::Contains) => Head::Contains,
         Role::Test(Test::Digit) => Head::Digit,
-        Role::Connective
-        | Role::Distinct
-        | Role::Joined(_)
-        | Role::Length
-        | Role::Built(_) => Head::Other,
+        Role::Connective | Role::Distinct | Role::Joined(_) | Role::Length | Role::Built(_) =>
+            Head::Other,
     }
 }
 
