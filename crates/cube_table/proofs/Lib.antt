@@ -1,2 +1,2 @@
 mod Standing
-mod Clear
+mod Cleared

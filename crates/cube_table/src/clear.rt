@@ -38,7 +38,7 @@ fn is_some_opaque(terms: &[Term]) -> bool
 }
 
 /// Copies of the terms without opaque parts, in their order.
-#[tactic(auto, using(crate::proofs::Clear::kept_more, crate::proofs::Clear::kept_same))]
+#[tactic(auto, using(crate::proofs::Cleared::kept_more, crate::proofs::Cleared::kept_same))]
 pub fn clear(alloc: Global, terms: &[Term]) -> Result<Items<Term>, AllocError>
     ensures { IfOk result (λ ts. ts ≡ clear_of terms.now) }
 {

@@ -16,7 +16,7 @@ use sv_terms::Term;
 
 /// Prints the cubes of those assertions that have no opaque part, each with its literals, its flat form and the
 /// numbers of that, or with why it isn't straight.
-#[tactic(auto, using(crate::proofs::Clear::clear_sorted))]
+#[tactic(auto, using(crate::proofs::Cleared::clear_sorted))]
 pub fn print_table(rt: HostRuntime, live: &[Term]) -> Result<(), Stop>
     requires { AllByRecursion (λ t. sort_of t ≡ Some sort.Bool) live.now }
 {
