@@ -10,6 +10,7 @@ use sv_terms::Term;
 
 // Whether an opaque part stands in a term. Linear.
 #[cycle(opaque)]
+#[tactic(auto, using(crate::proofs::Opaques::opaques))]
 fn is_opaque(term: &Term) -> bool
     ensures { result ≡ is_opaque term.now }
 {
@@ -26,6 +27,7 @@ fn is_opaque(term: &Term) -> bool
 }
 
 #[cycle(opaque)]
+#[tactic(auto, using(crate::proofs::Opaques::opaques))]
 fn is_some_opaque(terms: &[Term]) -> bool
     ensures { result ≡ list_any is_opaque terms.now }
 {

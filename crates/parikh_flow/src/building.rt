@@ -1,4 +1,4 @@
-ghost use Rattle.std.specs.Prelude.{◌+◌, ◌<◌, ◌^◌, IfOk};
+ghost use Rattle.std.specs.Prelude.{◌≡◌, ◌+◌, ◌<◌, ◌^◌, IfOk};
 ghost use Rattle.box_search.specs.Hits.{HaveRegisters};
 ghost use Rattle.parikh_flow.specs.Rows.{IsSystemOf};
 
