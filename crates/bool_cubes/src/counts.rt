@@ -124,11 +124,8 @@ fn op_sort(op: Op) -> Sort
     match role_of(op) {
         Role::Joined(_) | Role::Length => Sort::Int,
         Role::Built(_) => Sort::String,
-        Role::Connective
-        | Role::Equality
-        | Role::Distinct
-        | Role::Order(_)
-        | Role::Test(_) => Sort::Bool,
+        Role::Connective | Role::Equality | Role::Distinct | Role::Order(_) | Role::Test(_) =>
+            Sort::Bool,
     }
 }
 
