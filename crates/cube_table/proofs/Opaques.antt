@@ -55,11 +55,11 @@ or_true false c e = e
 from_front : (n : ℕ) (ts : List Term) → list_any is_opaque (take n ts) ≡ true → list_any is_opaque ts ≡ true
 from_front zero ts h = absurd (cc)
 from_front (suc n) [] h = h
-from_front (suc n) (t ∷ ts) h = by_first (is_opaque t) h
+from_front (suc n) (t ∷ ts) h = by_first (is_opaque t) (from_front n ts) h
   where
-    by_first : (b : Bool) → (b || list_any is_opaque (take n ts)) ≡ true → (b || list_any is_opaque ts) ≡ true
-    by_first true e = refl
-    by_first false e = from_front n ts e
+    by_first : (b : Bool) → (list_any is_opaque (take n ts) ≡ true → list_any is_opaque ts ≡ true) → (b || list_any is_opaque (take n ts)) ≡ true → (b || list_any is_opaque ts) ≡ true
+    by_first true f e = refl
+    by_first false f e = f e
 
 -- one that is opaque is found; after others the next is looked at; at the end none is
 pub any_here : (ts : List Term) (i : ℕ) (t : Term) → i < length ts → t ≡ get_or ts i t → is_opaque t ≡ true → list_any is_opaque ts ≡ true
