@@ -1,5 +1,5 @@
 -- Forms that are joined from the left.
-use Rattle.std.proofs.Common.{◌≡◌, refl, sym, ap, ◌∙◌, subst, ℕ, zero, suc, ◌+◌, ◌<◌, ◌≤◌, ℤ, pos, Bool, List, [], ◌∷◌, ◌++◌, map, length, take, drop, get_or, append_assoc, arith, inl, inr}
+use Rattle.std.proofs.Common.{◌≡◌, refl, sym, ap, ◌∙◌, subst, ℕ, zero, suc, ◌+◌, ◌<◌, ◌≤◌, ℤ, pos, Bool, List, [], ◌∷◌, ◌++◌, map, length, take, drop, get_or, append_assoc, arith, inl, inr, append-nil}
 use Rattle.std.specs.Prelude.{Result, Err}
 use Rattle.std.proofs.lemmas.List.{take_more, length-take}
 use Rattle.sv_terms.specs.declared.op.Op.{Op}
@@ -20,8 +20,8 @@ use Rattle.bool_cubes.specs.Past.{ArePlain, IsPast}
 use Rattle.bool_cubes.specs.Shapes.{Shape, Shapes, truth, number, text, constant, apply, member, related, opaque, end, ◌⨾◌, shapes, seen, raw}
 use Rattle.bool_cubes.specs.declared.fault.CubeFault.{CubeFault}
 use Rattle.bool_cubes.specs.declared.fault.CubeFault.TheVariants.{Past, TooMany, Memory}
-use Rattle.bool_cubes.specs.declared.reading.Joint.{Joint}
-use Rattle.bool_cubes.specs.declared.reading.Joint.TheVariants as joint
+use Rattle.bool_cubes.specs.declared.roles.Joint.{Joint}
+use Rattle.bool_cubes.specs.declared.roles.Joint.TheVariants as joint
 use Rattle.bool_cubes.specs.declared.reading.Reading.{Reading}
 use Rattle.bool_cubes.specs.declared.reading.Reading.TheVariants as reading
 use Rattle.bool_cubes.specs.declared.term_form.TermForm.{TermForm}
@@ -42,11 +42,7 @@ from_push f a [] b = refl
 from_push f a (c ∷ bs) b = from_push f (f a c) bs b
 
 steps_push : (f : Linear → Linear → Linear) (s : Linear → Linear → List Step) (a : Linear) (bs : List Linear) (b : Linear) → steps_from f s a (bs ++ b ∷ []) ≡ steps_from f s a bs ++ s (from_left f a bs) b
-steps_push f s a [] b = append_nil (s a b)
-  where
-    append_nil : (xs : List Step) → xs ++ [] ≡ xs
-    append_nil [] = refl
-    append_nil (x ∷ xs) = ap (λ ys. x ∷ ys) (append_nil xs)
+steps_push f s a [] b = append-nil (s a b)
 steps_push f s a (c ∷ bs) b = ap (λ x. s a c ++ x) (steps_push f s (f a c) bs b) ∙ sym (append_assoc (s a c) (steps_from f s (f a c) bs) (s (from_left f (f a c) bs) b))
 
 module _ (j : Joint) where
@@ -85,10 +81,6 @@ linears_length (t ∷ ts) = ap suc (linears_length ts)
 steps_join : (ts us : List Term) → steps_of (ts ++ us) ≡ steps_of ts ++ steps_of us
 steps_join [] us = refl
 steps_join (t ∷ ts) us = ap (λ x. steps (seen t) ++ x) (steps_join ts us) ∙ sym (append_assoc (steps (seen t)) (steps_of ts) (steps_of us))
-
-append_nil : {X : Type 0} (xs : List X) → xs ++ [] ≡ xs
-append_nil [] = refl
-append_nil (x ∷ xs) = ap (λ ys. x ∷ ys) (append_nil xs)
 
 more : (ts : List Term) (i : ℕ) (t : Term) → i < length ts → t ≡ get_or ts i t → take (i + 1) ts ≡ take i ts ++ t ∷ []
 more ts i t h e = take_more ts i t h ∙ ap (λ x. take i ts ++ x ∷ []) (sym e)
@@ -310,7 +302,7 @@ pub unknown_more : (old us : List (List ℤ)) (u : Unknown) (f : TermForm) → I
 unknown_more old us u f h = h.more
 
 pub none_more : (us : List (List ℤ)) → AreNumbered us → IsMore us us
-none_more us n = record { behind = []; whole = sym (append_nil us); numbered = n }
+none_more us n = record { behind = []; whole = sym (append-nil us); numbered = n }
 
 pub combined_more : (a b c : List (List ℤ)) → IsMore a b → IsMore b c → IsMore a c
 combined_more a b c p q = more_trans a b c p q

@@ -1,5 +1,5 @@
 -- Codes as numbers of unknowns.
-use Rattle.std.proofs.Common.{◌≡◌, refl, sym, ap, ◌∙◌, subst, ℕ, suc, ◌+◌, ◌<◌, ◌≤◌, ℤ, pos, Bool, true, false, List, [], ◌∷◌, ◌++◌, map, length, drop, get_or, drop-cons, length-append, append_assoc, nat_eq, arith, ⊎_elim, ◌⊎◌, inl, inr}
+use Rattle.std.proofs.Common.{◌≡◌, refl, sym, ap, ◌∙◌, subst, ℕ, suc, ◌+◌, ◌<◌, ◌≤◌, ℤ, pos, Bool, true, false, List, [], ◌∷◌, ◌++◌, map, length, drop, get_or, drop-cons, length-append, append_assoc, nat_eq, arith, ⊎_elim, ◌⊎◌, inl, inr, append-nil}
 use Rattle.std.specs.Prelude.{if◌then◌else◌}
 use Rattle.std.specs.Cmp.Lexicographic.{pointwise}
 use Rattle.std.specs.Ordering.{int_eq}
@@ -35,11 +35,7 @@ place_nowhere vs i c l h =
 
 -- an unknown that is there, and one that is put behind the others
 more_none : (us : List (List ℤ)) → AreNumbered us → IsMore us us
-more_none us n = record { behind = []; whole = sym (append_nil us); numbered = n }
-  where
-    append_nil : (xs : List (List ℤ)) → xs ++ [] ≡ xs
-    append_nil [] = refl
-    append_nil (x ∷ xs) = ap (λ ys. x ∷ ys) (append_nil xs)
+more_none us n = record { behind = []; whole = sym (append-nil us); numbered = n }
 
 pub found : (us : List (List ℤ)) (c : List ℤ) (u : Unknown) (i k : ℕ) → AreNumbered us → c ≡ flat (unknown_code u) → i ≡ place_of us c → i < length us → k ≡ i → HasNumber us us u k
 found us c u i k n e p h q = record { more = more_none us n; within = omega arith; place = ap (place_of us) (sym e) ∙ sym p ∙ sym q }

@@ -1,5 +1,5 @@
 -- Codes of terms as lists of numbers that are made from the front.
-use Rattle.std.proofs.Common.{◌≡◌, refl, sym, ap, ◌∙◌, ℕ, zero, suc, ◌+◌, ◌<◌, ◌≤◌, ℤ, pos, Bool, List, [], ◌∷◌, ◌++◌, ◌⊎◌, inl, inr, map, length, take, drop, get_or, drop-cons, append_assoc, arith}
+use Rattle.std.proofs.Common.{◌≡◌, refl, sym, ap, ◌∙◌, ℕ, zero, suc, ◌+◌, ◌<◌, ◌≤◌, ℤ, pos, Bool, List, [], ◌∷◌, ◌++◌, ◌⊎◌, inl, inr, map, length, take, drop, get_or, drop-cons, append_assoc, arith, append-nil}
 use Rattle.std.proofs.lemmas.List.{drop_all, take_more, map-append}
 use Rattle.sv_terms.specs.declared.op.Op.{Op}
 use Rattle.sv_terms.specs.declared.op.Op.TheVariants as op
@@ -16,10 +16,6 @@ use Rattle.bool_cubes.specs.Shapes.{Shape, Shapes, truth, number, text, constant
 
 next : (k : ℕ) → suc k ≡ k + 1
 next k = omega arith
-
-append_nil : {X : Type 0} (xs : List X) → xs ++ [] ≡ xs
-append_nil [] = refl
-append_nil (x ∷ xs) = ap (λ ys. x ∷ ys) (append_nil xs)
 
 chain_two : (a b c x y : List ℤ) → b ≡ a ++ x → c ≡ b ++ y → c ≡ a ++ (x ++ y)
 chain_two a b c x y e f = f ∙ ap (λ z. z ++ y) e ∙ append_assoc a x y
@@ -68,7 +64,7 @@ each_step a b c d ts k t l e h f g =
     ap (λ x. x ++ each_of (drop (k + 1) ts)) two_on ∙ append_assoc b (pos 2 ∷ flat (code (seen t))) (each_of (drop (k + 1) ts)) ∙ ap (λ us. b ++ each_of us) (sym front) ∙ h
 
 pub each_all : (a b : List ℤ) (ts : List Term) (k : ℕ) → length ts ≤ k → b ++ each_of (drop k ts) ≡ a → b ≡ a
-each_all a b ts k l h = sym (append_nil b) ∙ ap (λ us. b ++ each_of us) (sym (drop_all k ts l)) ∙ h
+each_all a b ts k l h = sym (append-nil b) ∙ ap (λ us. b ++ each_of us) (sym (drop_all k ts l)) ∙ h
 
 -- the code of a term, by its head
 module _ (a b c d e f : List ℤ) (t : Term) where
@@ -213,7 +209,7 @@ set_end end = refl
 set_end (s ⨾ ss) = ap (λ x. s ⨾ x) (set_end ss)
 
 plain_split : (u : Shape) (ts : Shapes) → each_flat (u ⨾ ts) ≡ each_flat (u ⨾ end) ++ each_flat ts
-plain_split u ts = ap (λ x. pos 2 ∷ (x ++ each_flat ts)) (sym (append_nil (flat (code u))))
+plain_split u ts = ap (λ x. pos 2 ∷ (x ++ each_flat ts)) (sym (append-nil (flat (code u))))
 
 before_split : (u : Shape) (ts : Shapes) → each_flat (before u ts) ≡ each_flat (before u end) ++ each_flat ts
 before_split (apply op.Concat ss) ts = set_flat ss ts ∙ ap (λ x. each_flat x ++ each_flat ts) (sym (set_end ss))
@@ -229,7 +225,7 @@ pieces_step a b c ts k t l e h f =
     ∙ ap (λ x. b ++ x) (sym (before_split (written (seen t)) (pieces (shapes (map seen (drop (k + 1) ts)))))) ∙ ap (λ us. b ++ pieces_of us) (sym front) ∙ h
 
 pub pieces_all : (a b : List ℤ) (ts : List Term) (k : ℕ) → length ts ≤ k → b ++ pieces_of (drop k ts) ≡ a → b ≡ a
-pieces_all a b ts k l h = sym (append_nil b) ∙ ap (λ us. b ++ pieces_of us) (sym (drop_all k ts l)) ∙ h
+pieces_all a b ts k l h = sym (append-nil b) ∙ ap (λ us. b ++ pieces_of us) (sym (drop_all k ts l)) ∙ h
 
 -- one piece
 before_other : (o : Op) (ss : Shapes) → (o ≡ op.Concat → ⊥) → before (written (apply o ss)) end ≡ written (apply o ss) ⨾ end
@@ -259,7 +255,7 @@ piece_concat a b t o ts e h p =
     p ∙ ap (λ x. a ++ each_flat x) (sym (set_end (pieces (shapes (map seen ts)))) ∙ ap (λ z. before (written z) end) (sym s))
 
 one_piece : (a b c : List ℤ) (u : Shape) → b ≡ a ++ pos 2 ∷ [] → c ≡ b ++ flat (code u) → c ≡ a ++ each_flat (u ⨾ end)
-one_piece a b c u p q = chain_two a b c (pos 2 ∷ []) (flat (code u)) p q ∙ ap (λ x. a ++ pos 2 ∷ x) (sym (append_nil (flat (code u))))
+one_piece a b c u p q = chain_two a b c (pos 2 ∷ []) (flat (code u)) p q ∙ ap (λ x. a ++ pos 2 ∷ x) (sym (append-nil (flat (code u))))
 
 pub piece_other : (a b c : List ℤ) (t : Term) (o : Op) (ts : List Term) → t ≡ term.Apply o ts → (o ≡ op.Concat → ⊥) → b ≡ a ++ pos 2 ∷ [] → c ≡ b ++ flat (code (written (seen t))) → c ≡ a ++ each_flat (before (written (seen t)) end)
 piece_other a b c t o ts e h p q =

@@ -4,7 +4,7 @@ use Rattle.sv_terms.specs.declared.term.Term.{Term}
 use Rattle.bool_cubes.specs.Linear.{Linear, Unknown, Step, all_steps, combined, combined_steps, linears, of_unknown}
 use Rattle.bool_cubes.specs.Numbered.{IsMore, IsNumbered, joint_of, joint_steps}
 use Rattle.bool_cubes.specs.Shapes.{seen, shapes}
-use Rattle.bool_cubes.specs.declared.reading.Joint.{Joint}
+use Rattle.bool_cubes.specs.declared.roles.Joint.{Joint}
 use Rattle.bool_cubes.specs.declared.term_form.TermForm.{TermForm}
 
 abbrev pub linears_of : List Term → List Linear

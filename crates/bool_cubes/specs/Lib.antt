@@ -7,6 +7,7 @@ pub mod Cubes
 pub mod Linear
 pub mod Past
 pub mod Refusing
+pub mod Roles
 pub mod Laws
 pub mod Counting
 pub mod Picking

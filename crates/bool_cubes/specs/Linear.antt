@@ -4,8 +4,11 @@ use Rattle.sv_terms.specs.Sorting.{same_sort}
 use Rattle.sv_terms.specs.declared.sort.Sort.TheVariants as sort
 use Rattle.sv_terms.specs.declared.op.Op.{Op}
 use Rattle.sv_terms.specs.declared.op.Op.TheVariants as op
-use Rattle.bool_cubes.specs.declared.reading.Joint.{Joint}
-use Rattle.bool_cubes.specs.declared.reading.Joint.TheVariants as joint
+use Rattle.bool_cubes.specs.declared.roles.Joint.{Joint}
+use Rattle.bool_cubes.specs.declared.roles.Joint.TheVariants as joint
+use Rattle.bool_cubes.specs.Roles.{role_of}
+use Rattle.bool_cubes.specs.declared.roles.Role.{Role}
+use Rattle.bool_cubes.specs.declared.roles.Role.TheVariants as role
 use Rattle.bool_cubes.specs.declared.reading.Reading.{Reading}
 use Rattle.bool_cubes.specs.declared.reading.Reading.TheVariants as reading
 use Rattle.bool_cubes.specs.Codes.{Code, word, tagged, code, same_code}
@@ -149,30 +152,18 @@ length_form (s ⨾ end) = of_unknown (length_of (written s))
 length_form (s ⨾ t ⨾ ss) = whole (apply op.Length (s ⨾ t ⨾ ss))
 
 -- what a function gives: a form joined of those of its arguments, a length, or an unknown
+abbrev pub reading_by : Role → Reading
+reading_by role.Connective = reading.Whole
+reading_by role.Equality = reading.Whole
+reading_by role.Distinct = reading.Whole
+reading_by (role.Order o) = reading.Whole
+reading_by (role.Joined j) = reading.Joined j
+reading_by role.Length = reading.Length
+reading_by (role.Built b) = reading.Whole
+reading_by (role.Test t) = reading.Whole
+
 abbrev pub reading_of : Op → Reading
-reading_of op.Not = reading.Whole
-reading_of op.And = reading.Whole
-reading_of op.Or = reading.Whole
-reading_of op.Xor = reading.Whole
-reading_of op.Implies = reading.Whole
-reading_of op.Equal = reading.Whole
-reading_of op.Distinct = reading.Whole
-reading_of op.IfThenElse = reading.Whole
-reading_of op.LessEqual = reading.Whole
-reading_of op.Less = reading.Whole
-reading_of op.GreaterEqual = reading.Whole
-reading_of op.Greater = reading.Whole
-reading_of op.Add = reading.Joined joint.Sum
-reading_of op.Subtract = reading.Joined joint.Difference
-reading_of op.Multiply = reading.Joined joint.Product
-reading_of op.Length = reading.Length
-reading_of op.Concat = reading.Whole
-reading_of op.Replace = reading.Whole
-reading_of op.ReplaceAll = reading.Whole
-reading_of op.PrefixOf = reading.Whole
-reading_of op.SuffixOf = reading.Whole
-reading_of op.Contains = reading.Whole
-reading_of op.IsDigit = reading.Whole
+reading_of o = reading_by (role_of o)
 
 abbrev pub joined_of : Joint → List Linear → Linear
 joined_of joint.Sum ls = combined added ls

@@ -11,8 +11,8 @@ use Rattle.bool_cubes.specs.Linear.{Linear, Unknown, unknown_code, multiple_of, 
 use Rattle.bool_cubes.specs.Past.{ArePlain, IsPast}
 use Rattle.bool_cubes.specs.declared.fault.CubeFault.{CubeFault}
 use Rattle.bool_cubes.specs.declared.fault.CubeFault.TheVariants.{Past, TooMany, Memory}
-use Rattle.bool_cubes.specs.declared.reading.Joint.{Joint}
-use Rattle.bool_cubes.specs.declared.reading.Joint.TheVariants as joint
+use Rattle.bool_cubes.specs.declared.roles.Joint.{Joint}
+use Rattle.bool_cubes.specs.declared.roles.Joint.TheVariants as joint
 use Rattle.bool_cubes.specs.declared.term_form.TermForm.{TermForm}
 
 -- the place of a code, the length of the list where it isn't there

@@ -2,10 +2,12 @@
 use Rattle.std.specs.Prelude.{◌≡◌, ℤ, pos, ◌+ℤ◌, ◌*ℤ◌, List, [], ◌∷◌, ◌++◌, FitsSigned, ⊤, Result, Ok, Err}
 use Rattle.std.specs.Int.{w128}
 use Rattle.sv_terms.specs.declared.op.Op.{Op}
-use Rattle.sv_terms.specs.declared.op.Op.TheVariants as op
 use Rattle.sv_terms.specs.declared.sort.Sort.{Sort}
 use Rattle.sv_terms.specs.declared.sort.Sort.TheVariants as sort
 use Rattle.sv_terms.specs.declared.term.Term.{Term}
+use Rattle.bool_cubes.specs.Roles.{role_of}
+use Rattle.bool_cubes.specs.declared.roles.Role.{Role}
+use Rattle.bool_cubes.specs.declared.roles.Role.TheVariants as role
 use Rattle.bool_cubes.specs.declared.reading.Relation.{Relation}
 use Rattle.bool_cubes.specs.declared.reading.Relation.TheVariants as relation
 use Rattle.bool_cubes.specs.declared.fault.CubeFault.{CubeFault}
@@ -31,30 +33,18 @@ equal_steps sort.String s t = []
 equal_steps sort.RegLan s t = []
 
 -- which functions compare
+abbrev pub relation_by : Role → Relation
+relation_by role.Connective = relation.Neither
+relation_by role.Equality = relation.Equality
+relation_by role.Distinct = relation.Neither
+relation_by (role.Order o) = relation.Order
+relation_by (role.Joined j) = relation.Neither
+relation_by role.Length = relation.Neither
+relation_by (role.Built b) = relation.Neither
+relation_by (role.Test t) = relation.Neither
+
 abbrev pub relation_of : Op → Relation
-relation_of op.Not = relation.Neither
-relation_of op.And = relation.Neither
-relation_of op.Or = relation.Neither
-relation_of op.Xor = relation.Neither
-relation_of op.Implies = relation.Neither
-relation_of op.Equal = relation.Equality
-relation_of op.Distinct = relation.Neither
-relation_of op.IfThenElse = relation.Neither
-relation_of op.LessEqual = relation.Order
-relation_of op.Less = relation.Order
-relation_of op.GreaterEqual = relation.Order
-relation_of op.Greater = relation.Order
-relation_of op.Add = relation.Neither
-relation_of op.Subtract = relation.Neither
-relation_of op.Multiply = relation.Neither
-relation_of op.Length = relation.Neither
-relation_of op.Concat = relation.Neither
-relation_of op.Replace = relation.Neither
-relation_of op.ReplaceAll = relation.Neither
-relation_of op.PrefixOf = relation.Neither
-relation_of op.SuffixOf = relation.Neither
-relation_of op.Contains = relation.Neither
-relation_of op.IsDigit = relation.Neither
+relation_of o = relation_by (role_of o)
 
 abbrev pub relation_steps : Relation → Shape → Shape → List Step
 relation_steps relation.Equality s t = equal_steps (head_sort s) s t

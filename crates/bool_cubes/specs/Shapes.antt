@@ -2,7 +2,9 @@
 use Rattle.std.specs.Prelude.{ℕ, ℤ, Bool, List, [], ◌∷◌}
 use Rattle.sv_terms.specs.Language.{Word}
 use Rattle.sv_terms.specs.declared.op.Op.{Op}
-use Rattle.sv_terms.specs.declared.op.Op.TheVariants as op
+use Rattle.bool_cubes.specs.Roles.{role_of}
+use Rattle.bool_cubes.specs.declared.roles.Role.{Role}
+use Rattle.bool_cubes.specs.declared.roles.Role.TheVariants as role
 use Rattle.sv_terms.specs.declared.regex.Regex.{Regex}
 use Rattle.sv_terms.specs.declared.sort.Sort.{Sort}
 use Rattle.sv_terms.specs.declared.sort.Sort.TheVariants as sort
@@ -63,30 +65,18 @@ abbrev mutual
   raws (s ⨾ ss) = raw s ∷ raws ss
 
 -- the sort that a function with a meaning gives
+abbrev pub sort_by : Role → Sort
+sort_by role.Connective = sort.Bool
+sort_by role.Equality = sort.Bool
+sort_by role.Distinct = sort.Bool
+sort_by (role.Order o) = sort.Bool
+sort_by (role.Joined j) = sort.Int
+sort_by role.Length = sort.Int
+sort_by (role.Built b) = sort.String
+sort_by (role.Test t) = sort.Bool
+
 abbrev pub op_sort : Op → Sort
-op_sort op.Not = sort.Bool
-op_sort op.And = sort.Bool
-op_sort op.Or = sort.Bool
-op_sort op.Xor = sort.Bool
-op_sort op.Implies = sort.Bool
-op_sort op.Equal = sort.Bool
-op_sort op.Distinct = sort.Bool
-op_sort op.IfThenElse = sort.Bool
-op_sort op.LessEqual = sort.Bool
-op_sort op.Less = sort.Bool
-op_sort op.GreaterEqual = sort.Bool
-op_sort op.Greater = sort.Bool
-op_sort op.Add = sort.Int
-op_sort op.Subtract = sort.Int
-op_sort op.Multiply = sort.Int
-op_sort op.Length = sort.Int
-op_sort op.Concat = sort.String
-op_sort op.Replace = sort.String
-op_sort op.ReplaceAll = sort.String
-op_sort op.PrefixOf = sort.Bool
-op_sort op.SuffixOf = sort.Bool
-op_sort op.Contains = sort.Bool
-op_sort op.IsDigit = sort.Bool
+op_sort o = sort_by (role_of o)
 
 -- the sort of a term whose functions stand at arguments of their ranks
 abbrev pub head_sort : Shape → Sort

@@ -11,6 +11,7 @@ ghost use Rattle.sv_terms.specs.CutOff.{cut_off};
 ghost use Rattle.bool_cubes.specs.Shapes.{head_sort, op_sort, seen};
 ghost use Rattle.bool_cubes.specs.Trees.{applied, conjunction, disjunction, equal, exclusive, formula, implied, negated, neighbours, pairs, fixed};
 
+use crate::roles::{Role, role_of};
 use sv_terms::{Op, Sort, Term};
 
 /// The numbers of cubes of a formula and of its negation, 2^64 - 1 where they are more.
@@ -120,25 +121,11 @@ pub fn head_sort(term: &Term) -> Sort
 fn op_sort(op: Op) -> Sort
     ensures { result ≡ op_sort op }
 {
-    match op {
-        Op::Add | Op::Subtract | Op::Multiply | Op::Length => Sort::Int,
-        Op::Concat | Op::Replace | Op::ReplaceAll => Sort::String,
-        Op::Not
-        | Op::And
-        | Op::Or
-        | Op::Xor
-        | Op::Implies
-        | Op::Equal
-        | Op::Distinct
-        | Op::IfThenElse
-        | Op::LessEqual
-        | Op::Less
-        | Op::GreaterEqual
-        | Op::Greater
-        | Op::PrefixOf
-        | Op::SuffixOf
-        | Op::Contains
-        | Op::IsDigit => Sort::Bool,
+    match role_of(op) {
+        Role::Joined(_) | Role::Length => Sort::Int,
+        Role::Built(_) => Sort::String,
+        Role::Connective | Role::Equality | Role::Distinct | Role::Order(_) | Role::Test(_) =>
+            Sort::Bool,
     }
 }
 

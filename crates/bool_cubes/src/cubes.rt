@@ -28,6 +28,8 @@ pub struct Cubes {
     root: usize,
     count: u64,
     given: u64,
+    /// How many literals the last cube had: the next one is given room for as many.
+    room: usize,
 }
 
 impl Model for Cubes {
@@ -85,6 +87,7 @@ impl Cubes {
             root: sides.holding,
             count: cubes,
             given: 0,
+            room: 0,
         })
     }
 
@@ -97,7 +100,14 @@ impl Cubes {
         if self.given >= self.count {
             return Ok(None);
         }
-        let literals = pick(alloc, self.nodes.as_slice(), self.root, self.given)?;
+        let literals = pick(
+            alloc,
+            self.nodes.as_slice(),
+            self.root,
+            self.given,
+            self.room,
+        )?;
+        self.room = literals.len();
         self.given += 1;
         Ok(Some(Cube { literals }))
     }
@@ -111,12 +121,13 @@ impl Cubes {
     }
 }
 
-/// The literals of the cube of this number of a node's tree.
+/// The literals of the cube of this number of a node's tree, with room for so many.
 fn pick(
     alloc: Global,
     nodes: &[Node],
     root: usize,
     number: u64,
+    room: usize,
 ) -> Result<Items<Literal>, AllocError>
     requires plan { IsPlan nodes.now }
     requires root { root < length nodes.now }
@@ -125,6 +136,7 @@ fn pick(
     ensures { IfOk result (λ ls. ls ≡ cube_at (tree_at nodes.now root) number) }
 {
     let mut literals = Items::new(alloc);
+    literals.reserve(room)?;
     gather(alloc, nodes, root, number, &mut literals)?;
     Ok(literals)
 }

@@ -8,7 +8,8 @@ ghost use Rattle.bool_cubes.specs.Shapes.{end, seen, ◌⨾◌};
 
 use crate::code::Written;
 use crate::fault::CubeFault;
-use crate::reading::{Joint, Reading, read};
+use crate::reading::{Reading, read};
+use crate::roles::Joint;
 use crate::term_form::TermForm;
 use crate::unknowns::Unknowns;
 use std::alloc::{AllocError, Global};

@@ -29,6 +29,7 @@ mod past;
 mod plan;
 mod planning;
 mod reading;
+mod roles;
 mod term_form;
 #[cfg(test)]
 mod tests;
@@ -43,5 +44,6 @@ pub use laws::{
 };
 pub use literal::{Cube, Literal};
 pub use past::{Differences, subtract};
+pub use roles::{Build, Joint, Order, Role, Test, role_of};
 pub use term_form::TermForm;
 pub use unknowns::Unknowns;

@@ -4,7 +4,7 @@ ghost use Rattle.bool_cubes.specs.Linear.{Linear, Unknown, addition, added, less
 ghost use Rattle.bool_cubes.specs.Numbered.{AreNumbered, IsMadeBy, IsNumbered, fault_of, joint_of, joint_steps, place_in};
 
 use crate::fault::CubeFault;
-use crate::reading::Joint;
+use crate::roles::Joint;
 use std::alloc::{AllocError, Global};
 use sv_linear::{Form, FormFault};
 

@@ -91,18 +91,87 @@ fn sizes(hit: &Hit) -> (usize, i128) {
     )
 }
 
-#[test]
-fn no_words_are_long_enough(rt: HostRuntime) -> Result<(), AllocError> {
-    let found = hit(rt.alloc(), &sums(rt.alloc(), 41)?)?;
-    assert!(rt; found.is_none());
-    Ok(())
+// The sizes of what is found of lengths that add up to `sum` and a number from 0 to 8; `None` where nothing is.
+fn found(alloc: Global, sum: i128) -> Result<Option<(usize, i128)>, AllocError>
+    requires low { pos 0 ≤ℤ sum }
+    requires high { sum ≤ℤ pos 100 }
+{
+    let hit = hit(alloc, &sums(alloc, sum)?)?;
+    Ok(hit.map(|hit| sizes(&hit)))
 }
 
 #[test]
-fn words_are_long_enough(rt: HostRuntime) -> Result<(), AllocError> {
-    match hit(rt.alloc(), &sums(rt.alloc(), 32)?)? {
-        Some(found) => assert_eq!(rt; sizes(&found), (32, 0)),
-        None => assert!(rt; false),
-    }
+fn lengths_that_add_up(rt: HostRuntime) -> Result<(), AllocError> {
+    let alloc = rt.alloc();
+    assert_eq!(rt; found(alloc, 41)?, None);
+    assert_eq!(rt; found(alloc, 40)?, Some((40, 0)));
+    assert_eq!(rt; found(alloc, 32)?, Some((32, 0)));
+    assert_eq!(rt; found(alloc, 0)?, Some((0, 0)));
+    assert_eq!(rt; found(alloc, 100)?, None);
+    Ok(())
+}
+
+// The words of one character other than `a`, each with its length.
+fn other_letters(alloc: Global) -> Result<Explicit, AllocError>
+    ensures { IfOk result (λ m. m.registers ≡ 1) }
+{
+    let mut machine = Explicit::new(alloc, 2, 1)?;
+    let on = Ranges::of(alloc, 0x61, 0x61)?.complement(alloc)?;
+    machine.add_edge(0, on, Cost::from_slice(alloc, &[1])?, 1)?;
+    machine.add_end(1, Cost::zeros(alloc, 1)?)?;
+    Ok(machine)
+}
+
+// A number that is -5.
+fn number_row(alloc: Global) -> Result<Row, AllocError>
+    ensures terms { IfOk result (λ r. r.form.coefficients ≡ (0, pos 1) ∷ []) }
+    ensures constant { IfOk result (λ r. r.form.constant ≡ pos 5) }
+{
+    let mut form = Form::of_constant(alloc, 5);
+    form.push(0, 1)?;
+    Ok(Row {
+        form,
+        kind: RowKind::Eq,
+    })
+}
+
+// A length that is at most 1.
+fn length_row(alloc: Global) -> Result<Row, AllocError>
+    ensures terms { IfOk result (λ r. r.form.coefficients ≡ (1, pos 1) ∷ []) }
+    ensures constant { IfOk result (λ r. r.form.constant ≡ negsuc 0) }
+{
+    let mut form = Form::of_constant(alloc, -1);
+    form.push(1, 1)?;
+    Ok(Row {
+        form,
+        kind: RowKind::Le,
+    })
+}
+
+// One such word and the number -5.
+fn letter_and_number(alloc: Global) -> Result<Question, AllocError>
+    ensures { IfOk result (λ q. IsQuestion q.machines 1 q.rows q.region) }
+{
+    let mut machines = Items::new(alloc);
+    machines.push(other_letters(alloc)?)?;
+    let mut rows = Items::new(alloc);
+    rows.push(number_row(alloc)?)?;
+    rows.push(length_row(alloc)?)?;
+    let region = Region {
+        empty: false,
+        registers: Items::from_slice(alloc, &[(0, 1)])?,
+        integers: Items::from_slice(alloc, &[(-5, -5)])?,
+    };
+    Ok(Question {
+        machines,
+        rows,
+        region,
+    })
+}
+
+#[test]
+fn a_letter_and_a_number_below_0(rt: HostRuntime) -> Result<(), AllocError> {
+    let found = hit(rt.alloc(), &letter_and_number(rt.alloc())?)?;
+    assert_eq!(rt; found.map(|hit| sizes(&hit)), Some((1, -5)));
     Ok(())
 }

@@ -1,4 +1,4 @@
-ghost use Rattle.std.specs.Prelude.{◌≡◌, ℕ, ◌+◌, Some, slice_get, IfOk};
+ghost use Rattle.std.specs.Prelude.{◌≡◌, ℕ, ◌+◌, ◌<◌, ◌^◌, Some, slice_get, IfOk};
 ghost use Rattle.sv_linear.specs.Rows.{IsRowWithin};
 ghost use Rattle.sv_linear.specs.declared.row.Row.{Row};
 ghost use Rattle.box_search.specs.Hits.{HaveRegisters};
@@ -21,8 +21,8 @@ use sv_list::{Copied, Items};
 /// ends cost there; that each register and each count is at least 0; for each machine that one end is used,
 /// and the balance of each state; and, where `reach` is given, that the words have together at most so
 /// many characters. Where the given rows name integers and registers alone and don't hold the number -2^127,
-/// the others don't either. Linear in the rows and in the machines times the registers. More unknowns than
-/// a `u32` counts are want of memory.
+/// the others don't either. Linear in the rows and in the machines times the registers. More edges and ends
+/// than leave the unknowns below 2^32 are want of memory: they would take more than 100 GB.
 pub fn system_of(
     alloc: Global,
     machines: &[Explicit],
@@ -31,14 +31,13 @@ pub fn system_of(
     rows: &[Row],
     reach: Option<u64>,
 ) -> Result<System, AllocError>
-    requires { HaveRegisters registers machines.now }
+    requires registers { HaveRegisters registers machines.now }
+    requires few { integers + registers < 2 ^ 31 }
     ensures system { IfOk result (IsSystemOf machines.now integers registers rows.now reach) }
     ensures within { ((i : ℕ) (r : Row) → slice_get rows.now i ≡ Some r → IsRowWithin (integers + registers) r)
         → IfOk result (λ s. (i : ℕ) (r : Row) → slice_get s.rows i ≡ Some r → IsRowWithin s.unknowns r) }
 {
-    let Some(base) = integers.checked_add(registers) else {
-        return Err(AllocError);
-    };
+    let base = integers + registers;
     let Some(unknowns) = unknowns_from(machines, base) else {
         return Err(AllocError);
     };

@@ -156,5 +156,7 @@ pub fn tour_of(
     while more {
         more = step(machine, &mut tour)?;
     }
+    // The way is empty, and its room is free again.
+    tour.way = Items::new(alloc);
     Ok(tour)
 }

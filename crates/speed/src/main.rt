@@ -10,6 +10,7 @@
 //! ```
 #![tactic(auto)]
 
+mod cubes;
 mod machines;
 mod memberships;
 mod reading;
@@ -29,6 +30,7 @@ fn main(rt: HostRuntime) -> ExitCode {
         return ExitCode::from(2);
     };
     match subject.as_str() {
+        "cubes" => cubes::measure(rt),
         "machines" => machines::measure(rt),
         "memberships" => memberships::measure(rt),
         "reading" => reading::measure(rt),

@@ -7,19 +7,8 @@ use Rattle.straight_line.specs.Bounds.{is_defined, used}
 use Rattle.straight_line.specs.Flattening.{IsCycle, NoCycle, Uses, UsesInTurn, ordered}
 use Rattle.straight_line.specs.Straight.{InOrder}
 use Rattle.straight_line.specs.declared.definition.Definition.{Definition}
+use Rattle.straight_line.proofs.Members.{all_at, all_contains, neither}
 use Rattle.straight_line.proofs.Ordered.{ordered_back}
-
-neither : (a b : Bool) → (a || b) ≡ false → (a ≡ false) × (b ≡ false)
-neither true b e = absurd (cc)
-neither false b e = (refl, e)
-
-all_at : {X : Type 0} (P : X → Type 0) (xs : List X) (k : ℕ) (d : X) → k < length xs → AllByRecursion P xs → P (get_or xs k d)
-all_at P [] k d l a = absurd (omega arith)
-all_at P (x ∷ xs) zero d l a = a.0
-all_at P (x ∷ xs) (suc k) d l a = all_at P xs k d (omega arith) a.1
-
-all_contains : {X : Type 0} (P : X → Type 0) (xs : List X) (x : X) → Contains xs x → AllByRecursion P xs → P x
-all_contains P xs x c a = subst P c.2 (all_at P xs c.0 x c.1 a)
 
 -- in how many ends of the list a variable is defined
 abbrev one_if : Bool → ℕ

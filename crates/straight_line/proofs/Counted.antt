@@ -15,7 +15,7 @@ use Rattle.bool_cubes.specs.Shapes.{Shape, raw}
 use Rattle.bool_cubes.specs.Linear.{Linear, Unknown, integer, length_of, linear, less, scaled, minus_one, of_number}
 use Rattle.bool_cubes.specs.Linear as form
 use Rattle.straight_line.specs.Flattening.{Bounded, IsRowFor, all_bounded, bounded_of, compared, has_column, opposite, unknowns_of}
-use Rattle.straight_line.proofs.Entries.{Among}
+use Rattle.straight_line.specs.Waiting.{Among}
 use Rattle.straight_line.proofs.Members.{neither}
 use Rattle.straight_line.specs.Met.{Comparison, Draft}
 use Rattle.sv_linear.specs.Rows.{Compares, MeetsRow}

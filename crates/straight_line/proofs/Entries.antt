@@ -13,11 +13,8 @@ use Rattle.straight_line.specs.declared.variable.Own.{Own}
 use Rattle.straight_line.specs.declared.variable.Own.TheVariants as own
 use Rattle.straight_line.specs.declared.definition.By.{By}
 use Rattle.straight_line.specs.declared.definition.By.TheVariants as by
+use Rattle.straight_line.specs.Waiting.{Among}
 use Rattle.bool_cubes.specs.Alike.{and_parts}
-
-abbrev pub Among : {X : Type 0} → X → List X → Type 0
-Among x [] = ⊥
-Among x (y ∷ ys) = (y ≡ x) ⊎ Among x ys
 
 pub among_left : {X : Type 0} (x : X) (xs ys : List X) → Among x xs → Among x (xs ++ ys)
 among_left x [] ys a = absurd a

@@ -39,7 +39,8 @@ use Rattle.straight_line.proofs.Amounts.{amount}
 use Rattle.straight_line.proofs.Counted.{comparisons_rows}
 use Rattle.straight_line.proofs.Determined.{determined}
 use Rattle.straight_line.proofs.Determined as draft
-use Rattle.straight_line.proofs.Entries.{Among, At, at_within}
+use Rattle.straight_line.specs.Waiting.{Among}
+use Rattle.straight_line.proofs.Entries.{At, at_within}
 use Rattle.straight_line.proofs.Identified.{AreOne, Rooted, first, identified_agrees, identified_are_one, identified_length, identified_rooted}
 use Rattle.straight_line.proofs.Lists.{all_by_among, all_filtered, all_two, among_all, among_map, filtered_among, filtered_range, get_map, map_all, map_join, zip_map_at, zip_maps}
 use Rattle.straight_line.proofs.Meetings.{DefinitionHolds, EqualityHolds, Fits, FitsFrom, Holds, PartHolds, TruthHolds}

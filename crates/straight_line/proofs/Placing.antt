@@ -1,5 +1,5 @@
 -- String terms are met: literals, constants, concatenations and replacements.
-use Rattle.std.proofs.Common.{◌≡◌, refl, sym, ap, ◌∙◌, subst, true, false, ℕ, zero, suc, ◌+◌, ◌<◌, ◌≤◌, ℤ, List, [], ◌∷◌, ◌++◌, length, take, get_or, Option, Some, None, append_assoc, arith}
+use Rattle.std.proofs.Common.{◌≡◌, refl, sym, ap, ◌∙◌, subst, true, false, ℕ, zero, suc, ◌+◌, ◌<◌, ◌≤◌, ℤ, List, [], ◌∷◌, ◌++◌, length, take, get_or, Option, Some, None, append_assoc, arith, append-nil}
 use Rattle.std.proofs.lemmas.List.{take_more}
 use Rattle.sv_terms.specs.declared.op.Op.{Op}
 use Rattle.sv_terms.specs.declared.op.Op.TheVariants as op
@@ -185,11 +185,7 @@ all_joined end us d = refl
 all_joined (s ⨾ ss) us d = ap (λ r. ((meet s d).0 ∷ r.0, r.1)) (all_joined ss us (meet s d).1)
 
 pub pieced_none : (m : Meeting) (vs : List ℕ) → ArePieced m m end vs vs
-pieced_none m vs = record { gathers = λ d g. g; places = λ d g. sym (append_nil vs) }
-  where
-    append_nil : {X : Type 0} (xs : List X) → xs ++ [] ≡ xs
-    append_nil [] = refl
-    append_nil (x ∷ xs) = ap (λ ys. x ∷ ys) (append_nil xs)
+pieced_none m vs = record { gathers = λ d g. g; places = λ d g. sym (append-nil vs) }
 
 pub pieced_join : (m a b : Meeting) (ss us : Shapes) (vs ws xs : List ℕ) → ArePieced m a ss vs ws → ArePieced a b us ws xs → ArePieced m b (set_before ss us) vs xs
 pieced_join m a b ss us vs ws xs p q = record {

@@ -1,5 +1,5 @@
 -- What holds while definitions are put in order stays so when one is filed, and when one is taken.
-use Rattle.std.proofs.Common.{◌≡◌, refl, sym, ap, ◌∙◌, subst, ℕ, zero, suc, ◌<◌, ◌≤◌, ◌⊎◌, inl, inr, Bool, true, false, ◌||◌, ◌&&◌, not, append_assoc, length-append, List, [], ◌∷◌, ◌++◌, length, get_or, Option, Some, None, cond, arith, get_or-set_other, get_or-set_same}
+use Rattle.std.proofs.Common.{◌≡◌, refl, sym, ap, ◌∙◌, subst, ℕ, zero, suc, ◌<◌, ◌≤◌, ◌⊎◌, inl, inr, Bool, true, false, ◌||◌, ◌&&◌, not, append_assoc, length-append, List, [], ◌∷◌, ◌++◌, length, get_or, Option, Some, None, cond, arith, get_or-set_other, get_or-set_same, append-nil}
 use borrow.Author.Tests.{ltb-true}
 use Rattle.std.specs.declared.cmp.Ordering.TheVariants.{Less, Equal, Greater}
 use Rattle.std.specs.Prelude.{nat_eq, nat_lt, slice_get, slice_set}
@@ -64,10 +64,6 @@ among_front : (j : ℕ) (xs ys : List ℕ) → Among j xs → Among j (xs ++ ys)
 among_front j [] ys a = absurd a
 among_front j (x ∷ xs) ys (inl e) = inl e
 among_front j (x ∷ xs) ys (inr a) = inr (among_front j xs ys a)
-
-append_nil : {X : Type 0} (xs : List X) → xs ++ [] ≡ xs
-append_nil [] = refl
-append_nil (x ∷ xs) = ap (λ l. x ∷ l) (append_nil xs)
 
 -- what stands at a place
 pub get_item : {X : Type 0} (xs : List X) (i : ℕ) (x d : X) → slice_get xs i ≡ Some x → get_or xs i d ≡ x
@@ -297,7 +293,7 @@ module _ (ds : List Definition) (order : List ℕ) (ahead : List Bool) (waiters 
 
   pub is_sorted : IsSorted ds order ahead
   is_sorted = record {
-    kept = s.kept ∙ ap (λ es. picked ds order ++ es) (taken_none (length s.left) (picked ds s.left) none_free_left) ∙ append_nil (picked ds order);
+    kept = s.kept ∙ ap (λ es. picked ds order ++ es) (taken_none (length s.left) (picked ds s.left) none_free_left) ∙ append-nil (picked ds order);
     placed = s.placed;
     distinct = s.distinct;
     closed = λ v a.

@@ -83,7 +83,7 @@ none_defined v (d ∷ ds) e = by_test (nat_eq d.variable v) e (λ h. none_define
     by_test true e f = absurd (omega arith)
     by_test false e f = f e
 
-defined_none : (v : ℕ) (ds : List Definition) → is_defined ds v ≡ false → passing (defines v) ds ≡ 0
+pub defined_none : (v : ℕ) (ds : List Definition) → is_defined ds v ≡ false → passing (defines v) ds ≡ 0
 defined_none v [] e = refl
 defined_none v (d ∷ ds) e = by_test (nat_eq d.variable v) e (λ h. defined_none v ds h)
   where

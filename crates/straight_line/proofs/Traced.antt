@@ -22,7 +22,7 @@ abbrev pub passing : {X : Type 0} → (X → Bool) → List X → ℕ
 passing p [] = 0
 passing p (x ∷ xs) = cond (p x) (1 + passing p xs) (passing p xs)
 
-passing_is : {X : Type 0} (p : X → Bool) (xs : List X) → passing p xs ≡ count_by p xs
+pub passing_is : {X : Type 0} (p : X → Bool) (xs : List X) → passing p xs ≡ count_by p xs
 passing_is p xs = is_count_by (passing p) p refl (λ d es. refl) xs
 
 no_less : (b : Bool) (n : ℕ) → n ≤ cond b (1 + n) n

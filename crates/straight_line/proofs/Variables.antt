@@ -1,5 +1,5 @@
 -- Variables with what was met at their places are those of the roots.
-use Rattle.std.proofs.Common.{◌≡◌, refl, sym, ap, ◌∙◌, subst, ℕ, zero, suc, ◌<◌, inl, inr, Bool, true, false, List, [], ◌∷◌, ◌++◌, map, length, get_or, replicate, append_assoc, Option, Some, None, cond, arith}
+use Rattle.std.proofs.Common.{◌≡◌, refl, sym, ap, ◌∙◌, subst, ℕ, zero, suc, ◌<◌, inl, inr, Bool, true, false, List, [], ◌∷◌, ◌++◌, map, length, get_or, replicate, append_assoc, Option, Some, None, cond, arith, append-nil}
 use Rattle.std.specs.Prelude.{filter, nat_eq}
 use Rattle.std.specs.List.{range_with_len}
 use Rattle.std.proofs.lemmas.Bool.{eq-eqb, eqb-true}
@@ -11,10 +11,6 @@ use Rattle.straight_line.specs.declared.variable.Own.{Own}
 use Rattle.straight_line.specs.declared.variable.Variable.{Variable}
 use Rattle.straight_line.proofs.Linked.{least, least_count, number_at, numbers_count, ordinal_within, roots, same_root}
 use Rattle.straight_line.proofs.Sorted.{at_set}
-
-append_nil : {X : Type 0} (xs : List X) → xs ++ [] ≡ xs
-append_nil [] = refl
-append_nil (x ∷ xs) = ap (λ l. x ∷ l) (append_nil xs)
 
 same_items : {X : Type 0} (xs ys : List X) (d : X) → length xs ≡ length ys → ((k : ℕ) → k < length xs → get_or xs k d ≡ get_or ys k d) → xs ≡ ys
 same_items [] [] d e h = refl
@@ -41,7 +37,7 @@ abbrev with_names : Variable → List (List ℕ) → Variable
 with_names v ns = record { names = v.names ++ ns; parts = v.parts }
 
 no_names : (v : Variable) → v ≡ with_names v []
-no_names v = ap (λ ns. record { names = ns; parts = v.parts }) (sym (append_nil v.names))
+no_names v = ap (λ ns. record { names = ns; parts = v.parts }) (sym (append-nil v.names))
 
 named_at : (u v : ℕ) (n : Option (List ℕ)) (rest : List (List ℕ)) (vs : List Variable) → u < length vs → with_names (get_or (named u n vs) v free_variable) rest ≡ with_names (get_or vs v free_variable) (with_name (nat_eq u v) n rest)
 named_at u v None rest vs l = ap (with_names (get_or vs v free_variable)) (same (nat_eq u v))
@@ -76,7 +72,7 @@ abbrev with_parts : Variable → List (Own × Bool) → Variable
 with_parts v ps = record { names = v.names; parts = v.parts ++ ps }
 
 no_parts : (v : Variable) → v ≡ with_parts v []
-no_parts v = ap (λ ps. record { names = v.names; parts = ps }) (sym (append_nil v.parts))
+no_parts v = ap (λ ps. record { names = v.names; parts = ps }) (sym (append-nil v.parts))
 
 abbrev of_one : Bool → ℕ × (Own × Bool) → List (ℕ × (Own × Bool)) → List (Own × Bool)
 of_one b p ps = map (λ (q : ℕ × (Own × Bool)). q.1) (cond b (p ∷ ps) ps)

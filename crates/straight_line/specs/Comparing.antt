@@ -6,7 +6,10 @@ use Rattle.sv_linear.specs.declared.form.Form.{Form}
 use Rattle.sv_linear.specs.declared.row.RowKind.{RowKind}
 use Rattle.sv_linear.specs.declared.row.RowKind.TheVariants.{Le, Eq}
 use Rattle.sv_terms.specs.declared.op.Op.{Op}
-use Rattle.sv_terms.specs.declared.op.Op.TheVariants as op
+use Rattle.bool_cubes.specs.Roles.{role_of}
+use Rattle.bool_cubes.specs.declared.roles.Order.TheVariants as order
+use Rattle.bool_cubes.specs.declared.roles.Role.{Role}
+use Rattle.bool_cubes.specs.declared.roles.Role.TheVariants as role
 use Rattle.bool_cubes.specs.Linear.{Linear, Step, addition, added, less, linear, minus_one, of_number, scaled}
 use Rattle.bool_cubes.specs.Marked.{AreDifferences}
 use Rattle.bool_cubes.specs.Numbered.{AreNumbered, IsNumbered}
@@ -29,34 +32,25 @@ pub record IsGathered (m : Meeting) : Type 0 where
 pub record AtomFits (s : Shape) : Type 0 where
   pub plain : ArePlain (atom_steps s)
 
+abbrev pub bound_at : Role → Bool → Bound
+bound_at (role.Order order.AtMost) true = bound.AtMost
+bound_at (role.Order order.AtMost) false = bound.Above
+bound_at (role.Order order.Below) true = bound.Below
+bound_at (role.Order order.Below) false = bound.AtLeast
+bound_at (role.Order order.AtLeast) true = bound.AtLeast
+bound_at (role.Order order.AtLeast) false = bound.Below
+bound_at (role.Order order.Above) true = bound.Above
+bound_at (role.Order order.Above) false = bound.AtMost
+bound_at role.Connective b = bound.Zero
+bound_at role.Equality b = bound.Zero
+bound_at role.Distinct b = bound.Zero
+bound_at (role.Joined j) b = bound.Zero
+bound_at role.Length b = bound.Zero
+bound_at (role.Built k) b = bound.Zero
+bound_at (role.Test t) b = bound.Zero
+
 abbrev pub bound_by : Op → Bool → Bound
-bound_by op.LessEqual true = bound.AtMost
-bound_by op.LessEqual false = bound.Above
-bound_by op.Less true = bound.Below
-bound_by op.Less false = bound.AtLeast
-bound_by op.GreaterEqual true = bound.AtLeast
-bound_by op.GreaterEqual false = bound.Below
-bound_by op.Greater true = bound.Above
-bound_by op.Greater false = bound.AtMost
-bound_by op.Not b = bound.Zero
-bound_by op.And b = bound.Zero
-bound_by op.Or b = bound.Zero
-bound_by op.Xor b = bound.Zero
-bound_by op.Implies b = bound.Zero
-bound_by op.Equal b = bound.Zero
-bound_by op.Distinct b = bound.Zero
-bound_by op.IfThenElse b = bound.Zero
-bound_by op.Add b = bound.Zero
-bound_by op.Subtract b = bound.Zero
-bound_by op.Multiply b = bound.Zero
-bound_by op.Length b = bound.Zero
-bound_by op.Concat b = bound.Zero
-bound_by op.Replace b = bound.Zero
-bound_by op.ReplaceAll b = bound.Zero
-bound_by op.PrefixOf b = bound.Zero
-bound_by op.SuffixOf b = bound.Zero
-bound_by op.Contains b = bound.Zero
-bound_by op.IsDigit b = bound.Zero
+bound_by o b = bound_at (role_of o) b
 
 abbrev pub kind_by : Bound → RowKind
 kind_by bound.Zero = Eq

@@ -1,7 +1,12 @@
 -- What terms and functions are, as literals of straight cubes are made of them.
 use Rattle.std.specs.Prelude.{ℕ, Bool, true, false, ◌&&◌, List, Option, Some, None}
 use Rattle.sv_terms.specs.declared.op.Op.{Op}
-use Rattle.sv_terms.specs.declared.op.Op.TheVariants as op
+use Rattle.bool_cubes.specs.Roles.{role_of}
+use Rattle.bool_cubes.specs.declared.roles.Build.TheVariants as made
+use Rattle.bool_cubes.specs.declared.roles.Joint.TheVariants as joint
+use Rattle.bool_cubes.specs.declared.roles.Role.{Role}
+use Rattle.bool_cubes.specs.declared.roles.Role.TheVariants as role
+use Rattle.bool_cubes.specs.declared.roles.Test.TheVariants as test
 use Rattle.bool_cubes.specs.Linear.{is_constant, is_linear, is_string, linear}
 use Rattle.bool_cubes.specs.Shapes.{Shape, Shapes, truth, number, text, constant, apply, member, related, opaque, end, ◌⨾◌}
 use Rattle.straight_line.specs.declared.literals.Head.{Head}
@@ -24,30 +29,20 @@ is_text (related t s u) = false
 is_text (opaque s) = false
 
 -- what a function builds a string term of
+abbrev pub build_by : Role → Build
+build_by role.Connective = build.Nothing
+build_by role.Equality = build.Nothing
+build_by role.Distinct = build.Nothing
+build_by (role.Order o) = build.Nothing
+build_by (role.Joined j) = build.Nothing
+build_by role.Length = build.Nothing
+build_by (role.Built made.Concat) = build.Concat
+build_by (role.Built made.First) = build.First
+build_by (role.Built made.All) = build.All
+build_by (role.Test t) = build.Nothing
+
 abbrev pub build_of : Op → Build
-build_of op.Not = build.Nothing
-build_of op.And = build.Nothing
-build_of op.Or = build.Nothing
-build_of op.Xor = build.Nothing
-build_of op.Implies = build.Nothing
-build_of op.Equal = build.Nothing
-build_of op.Distinct = build.Nothing
-build_of op.IfThenElse = build.Nothing
-build_of op.LessEqual = build.Nothing
-build_of op.Less = build.Nothing
-build_of op.GreaterEqual = build.Nothing
-build_of op.Greater = build.Nothing
-build_of op.Add = build.Nothing
-build_of op.Subtract = build.Nothing
-build_of op.Multiply = build.Nothing
-build_of op.Length = build.Nothing
-build_of op.Concat = build.Concat
-build_of op.Replace = build.First
-build_of op.ReplaceAll = build.All
-build_of op.PrefixOf = build.Nothing
-build_of op.SuffixOf = build.Nothing
-build_of op.Contains = build.Nothing
-build_of op.IsDigit = build.Nothing
+build_of o = build_by (role_of o)
 
 -- a term of a written form, a literal and a literal
 abbrev pub is_replaced : Shapes → Bool
@@ -72,30 +67,20 @@ abbrev pub linearity_of : Shape → Linearity
 linearity_of s = kind_of (is_linear s) (is_constant (linear s))
 
 -- how a function of sort Int joins what its arguments are
+abbrev pub joining_by : Role → Joining
+joining_by role.Connective = joining.Nothing
+joining_by role.Equality = joining.Nothing
+joining_by role.Distinct = joining.Nothing
+joining_by (role.Order o) = joining.Nothing
+joining_by (role.Joined joint.Sum) = joining.Sum
+joining_by (role.Joined joint.Difference) = joining.Sum
+joining_by (role.Joined joint.Product) = joining.Product
+joining_by role.Length = joining.Length
+joining_by (role.Built b) = joining.Nothing
+joining_by (role.Test t) = joining.Nothing
+
 abbrev pub joint_of : Op → Joining
-joint_of op.Not = joining.Nothing
-joint_of op.And = joining.Nothing
-joint_of op.Or = joining.Nothing
-joint_of op.Xor = joining.Nothing
-joint_of op.Implies = joining.Nothing
-joint_of op.Equal = joining.Nothing
-joint_of op.Distinct = joining.Nothing
-joint_of op.IfThenElse = joining.Nothing
-joint_of op.LessEqual = joining.Nothing
-joint_of op.Less = joining.Nothing
-joint_of op.GreaterEqual = joining.Nothing
-joint_of op.Greater = joining.Nothing
-joint_of op.Add = joining.Sum
-joint_of op.Subtract = joining.Sum
-joint_of op.Multiply = joining.Product
-joint_of op.Length = joining.Length
-joint_of op.Concat = joining.Nothing
-joint_of op.Replace = joining.Nothing
-joint_of op.ReplaceAll = joining.Nothing
-joint_of op.PrefixOf = joining.Nothing
-joint_of op.SuffixOf = joining.Nothing
-joint_of op.Contains = joining.Nothing
-joint_of op.IsDigit = joining.Nothing
+joint_of o = joining_by (role_of o)
 
 abbrev pub sum_of : Linearity → Linearity → Linearity
 sum_of linearity.Constant k = k
@@ -143,27 +128,18 @@ read_of joining.Length ss = length_of ss
 read_of joining.Nothing ss = linearity.Other
 
 -- how a function stands at the head of an atom of a written kind
+abbrev pub head_by : Role → Head
+head_by role.Connective = head.Other
+head_by role.Equality = head.Equality
+head_by role.Distinct = head.Other
+head_by (role.Order o) = head.Order
+head_by (role.Joined j) = head.Other
+head_by role.Length = head.Other
+head_by (role.Built b) = head.Other
+head_by (role.Test test.Prefix) = head.Prefix
+head_by (role.Test test.Suffix) = head.Suffix
+head_by (role.Test test.Contains) = head.Contains
+head_by (role.Test test.Digit) = head.Digit
+
 abbrev pub head_of : Op → Head
-head_of op.Not = head.Other
-head_of op.And = head.Other
-head_of op.Or = head.Other
-head_of op.Xor = head.Other
-head_of op.Implies = head.Other
-head_of op.Equal = head.Equality
-head_of op.Distinct = head.Other
-head_of op.IfThenElse = head.Other
-head_of op.LessEqual = head.Order
-head_of op.Less = head.Order
-head_of op.GreaterEqual = head.Order
-head_of op.Greater = head.Order
-head_of op.Add = head.Other
-head_of op.Subtract = head.Other
-head_of op.Multiply = head.Other
-head_of op.Length = head.Other
-head_of op.Concat = head.Other
-head_of op.Replace = head.Other
-head_of op.ReplaceAll = head.Other
-head_of op.PrefixOf = head.Prefix
-head_of op.SuffixOf = head.Suffix
-head_of op.Contains = head.Contains
-head_of op.IsDigit = head.Digit
+head_of o = head_by (role_of o)

@@ -3,7 +3,8 @@ ghost use Rattle.std.specs.Prelude.{◌≡◌, ◌≢◌, ◌<◌, ◌^◌, ◌+
 ghost use Rattle.bool_cubes.specs.Shapes.{seen};
 ghost use Rattle.bool_cubes.specs.declared.fault.CubeFault.TheVariants as any_fault;
 ghost use Rattle.sv_linear.specs.Terms.{AscendsWithin, AscendsWithin-prop, coefficient};
-ghost use Rattle.straight_line.specs.Comparing.{CanAdd, CanBound, CanRenumber, IsBoundBy, IsComparable, IsPlaceIn, IsPlus, IsRenumbered, kind_by, bound_by};
+ghost use Rattle.straight_line.specs.Comparing.{CanAdd, CanBound, CanRenumber, IsBoundBy, IsComparable, IsPlaceIn, IsPlus, IsRenumbered, kind_by, bound_at, bound_by};
+ghost use Rattle.bool_cubes.specs.declared.roles.Role.TheVariants as any_role;
 ghost use Rattle.straight_line.specs.Gathered.{Becomes, number_at};
 ghost use Rattle.straight_line.specs.Met.{with_comparison};
 ghost use Rattle.std.specs.declared.alloc.AllocError.{AllocError};
@@ -11,7 +12,7 @@ ghost use Rattle.std.specs.declared.alloc.AllocError.{AllocError};
 use crate::code::Code;
 use crate::meeting::Meeting;
 use crate::places::Places;
-use bool_cubes::{CubeFault, Differences, TermForm, Unknowns, subtract};
+use bool_cubes::{CubeFault, Differences, Order, Role, TermForm, Unknowns, role_of, subtract};
 use std::alloc::{AllocError, Global};
 use sv_linear::{Form, Row, RowKind};
 use sv_list::{Copied, Items};
@@ -36,46 +37,42 @@ enum Bound {
 fn bound_of(op: Op, positive: bool) -> Bound
     ensures { result ≡ bound_by op positive }
 {
-    match op {
-        Op::LessEqual => if positive {
+    match role_of(op) {
+        Role::Order(order) => bound_of_order(order, positive),
+        Role::Connective
+        | Role::Equality
+        | Role::Distinct
+        | Role::Joined(_)
+        | Role::Length
+        | Role::Built(_)
+        | Role::Test(_) => Bound::Zero,
+    }
+}
+
+fn bound_of_order(order: Order, positive: bool) -> Bound
+    ensures { result ≡ bound_at (any_role.Order order) positive }
+{
+    match order {
+        Order::AtMost => if positive {
             Bound::AtMost
         } else {
             Bound::Above
         },
-        Op::Less => if positive {
+        Order::Below => if positive {
             Bound::Below
         } else {
             Bound::AtLeast
         },
-        Op::GreaterEqual => if positive {
+        Order::AtLeast => if positive {
             Bound::AtLeast
         } else {
             Bound::Below
         },
-        Op::Greater => if positive {
+        Order::Above => if positive {
             Bound::Above
         } else {
             Bound::AtMost
         },
-        Op::Not
-        | Op::And
-        | Op::Or
-        | Op::Xor
-        | Op::Implies
-        | Op::Equal
-        | Op::Distinct
-        | Op::IfThenElse
-        | Op::Add
-        | Op::Subtract
-        | Op::Multiply
-        | Op::Length
-        | Op::Concat
-        | Op::Replace
-        | Op::ReplaceAll
-        | Op::PrefixOf
-        | Op::SuffixOf
-        | Op::Contains
-        | Op::IsDigit => Bound::Zero,
     }
 }
 

@@ -4,6 +4,7 @@ ghost use Rattle.bool_cubes.specs.Linear.{are_strings, is_linear, is_string};
 ghost use Rattle.bool_cubes.specs.Shapes.{seen, shapes};
 ghost use Rattle.straight_line.specs.Kinds.{build_of, is_replaced, is_text, joined_of, joined_from, joint_of, linearity_of, one_of, read_of};
 
+use bool_cubes::{Build as Built, Joint, Role, role_of};
 use sv_terms::{Op, Sort, Term};
 
 /// What a function builds a string term of.
@@ -21,30 +22,17 @@ pub enum Build {
 pub fn built_by(op: Op) -> Build
     ensures { result ≡ build_of op }
 {
-    match op {
-        Op::Concat => Build::Concat,
-        Op::Replace => Build::First,
-        Op::ReplaceAll => Build::All,
-        Op::Not
-        | Op::And
-        | Op::Or
-        | Op::Xor
-        | Op::Implies
-        | Op::Equal
-        | Op::Distinct
-        | Op::IfThenElse
-        | Op::LessEqual
-        | Op::Less
-        | Op::GreaterEqual
-        | Op::Greater
-        | Op::Add
-        | Op::Subtract
-        | Op::Multiply
-        | Op::Length
-        | Op::PrefixOf
-        | Op::SuffixOf
-        | Op::Contains
-        | Op::IsDigit => Build::Nothing,
+    match role_of(op) {
+        Role::Built(Built::Concat) => Build::Concat,
+        Role::Built(Built::First) => Build::First,
+        Role::Built(Built::All) => Build::All,
+        Role::Connective
+        | Role::Equality
+        | Role::Distinct
+        | Role::Order(_)
+        | Role::Joined(_)
+        | Role::Length
+        | Role::Test(_) => Build::Nothing,
     }
 }
 
@@ -128,29 +116,16 @@ pub enum Joining {
 pub fn joined_by(op: Op) -> Joining
     ensures { result ≡ joint_of op }
 {
-    match op {
-        Op::Add | Op::Subtract => Joining::Sum,
-        Op::Multiply => Joining::Product,
-        Op::Length => Joining::Length,
-        Op::Not
-        | Op::And
-        | Op::Or
-        | Op::Xor
-        | Op::Implies
-        | Op::Equal
-        | Op::Distinct
-        | Op::IfThenElse
-        | Op::LessEqual
-        | Op::Less
-        | Op::GreaterEqual
-        | Op::Greater
-        | Op::Concat
-        | Op::Replace
-        | Op::ReplaceAll
-        | Op::PrefixOf
-        | Op::SuffixOf
-        | Op::Contains
-        | Op::IsDigit => Joining::Nothing,
+    match role_of(op) {
+        Role::Joined(Joint::Sum) | Role::Joined(Joint::Difference) => Joining::Sum,
+        Role::Joined(Joint::Product) => Joining::Product,
+        Role::Length => Joining::Length,
+        Role::Connective
+        | Role::Equality
+        | Role::Distinct
+        | Role::Order(_)
+        | Role::Built(_)
+        | Role::Test(_) => Joining::Nothing,
     }
 }
 

@@ -1,4 +1,6 @@
 //! Straight cubes: what a cube says, as variables over words, definitions and rows.
+//!
+//! Its examples are those of the program `cube_table`, which reads them as a script.
 #![tactic(auto)]
 
 mod arranging;
@@ -56,10 +58,3 @@ pub use number_laws::{
     growth_goes_along, growth_solved, sources_stand, states_solved, words_are_short,
 };
 pub use variable::{Own, Variable};
-
-#[cfg(test)]
-mod finishing_tests;
-#[cfg(test)]
-mod tests;
-#[cfg(test)]
-mod wording_tests;

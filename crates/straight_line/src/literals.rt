@@ -13,7 +13,7 @@ use crate::definition::By;
 use crate::kind::{is_linear, is_string};
 use crate::meeting::Meeting;
 use crate::variable::Own;
-use bool_cubes::{Literal, head_sort};
+use bool_cubes::{Literal, Role, Test, head_sort, role_of};
 use std::alloc::{AllocError, Global};
 use sv_list::Copied;
 use sv_terms::{Name, Op, Regex, Sort, Term, Transducer};
@@ -43,27 +43,15 @@ enum Head {
 fn head_of(op: Op) -> Head
     ensures { result ≡ head_of op }
 {
-    match op {
-        Op::Equal => Head::Equality,
-        Op::LessEqual | Op::Less | Op::GreaterEqual | Op::Greater => Head::Order,
-        Op::PrefixOf => Head::Prefix,
-        Op::SuffixOf => Head::Suffix,
-        Op::Contains => Head::Contains,
-        Op::IsDigit => Head::Digit,
-        Op::Not
-        | Op::And
-        | Op::Or
-        | Op::Xor
-        | Op::Implies
-        | Op::Distinct
-        | Op::IfThenElse
-        | Op::Add
-        | Op::Subtract
-        | Op::Multiply
-        | Op::Length
-        | Op::Concat
-        | Op::Replace
-        | Op::ReplaceAll => Head::Other,
+    match role_of(op) {
+        Role::Equality => Head::Equality,
+        Role::Order(_) => Head::Order,
+        Role::Test(Test::Prefix) => Head::Prefix,
+        Role::Test(Test::Suffix) => Head::Suffix,
+        Role::Test(Test::Contains) => Head::Contains,
+        Role::Test(Test::Digit) => Head::Digit,
+        Role::Connective | Role::Distinct | Role::Joined(_) | Role::Length | Role::Built(_) =>
+            Head::Other,
     }
 }
 

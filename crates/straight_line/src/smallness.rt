@@ -11,9 +11,7 @@ ghost use Rattle.sv_terms.specs.CutOff.{cut_off};
 
 use crate::flat::Flat;
 use sv_linear::Row;
-
-/// The most points of a small box.
-const MOST_POINTS: u64 = 4096;
+use sv_terms::MOST_POINTS;
 
 // Whether a region of so many points may be searched, by the other numbers of the cube.
 fn can_search(most_states: u64, points: u64, free: u64, limit: i64) -> bool

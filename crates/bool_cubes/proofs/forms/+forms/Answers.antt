@@ -8,7 +8,7 @@ use Rattle.bool_cubes.specs.Linear.{joined_of, joined_steps, linear, of_number, 
 use Rattle.bool_cubes.specs.Numbered.{IsMadeBy, IsNumbered}
 use Rattle.bool_cubes.specs.Past.{ArePlain}
 use Rattle.bool_cubes.specs.Shapes.{seen}
-use Rattle.bool_cubes.specs.declared.reading.Joint.TheVariants as joint
+use Rattle.bool_cubes.specs.declared.roles.Joint.TheVariants as joint
 use Rattle.bool_cubes.proofs.Combined.{all_combined, argument_past, err_made, first_combined, joined_as, joined_read, joint_err, length_other, length_read, more_both, next_combined, none_joined, number_read, one_difference, one_err, one_product, one_sum}
 use Rattle.bool_cubes.proofs.forms.+forms.Goals as goal
 

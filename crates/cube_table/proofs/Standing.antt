@@ -1,0 +1,56 @@
+-- The levels of a script stay sound, whatever command is done.
+use Rattle.std.proofs.Common.{◌≡◌, refl, sym, subst, ap, ℕ, zero, suc, List, [], ◌∷◌, ◌++◌, drop, Some, IsTrue, append_assoc, append-nil}
+use Rattle.std.specs.Prelude.{replicate}
+use Rattle.std.specs.List.{AllByRecursion}
+use Rattle.assert_stack.specs.Levels.{Level, Symbol, empty, symbols_of, live, pushed, declared, asserted}
+use Rattle.sort_check.specs.WellFormed.{is_well_formed, IsAdded}
+use Rattle.sv_terms.specs.Sorting.{sort_of}
+use Rattle.sv_terms.specs.declared.entry.Entry.{Entry}
+use Rattle.sv_terms.specs.declared.sort.Sort.TheVariants as sort
+use Rattle.sv_terms.specs.declared.term.Term.{Term}
+use Rattle.cube_table.specs.Standing.{IsStanding}
+
+abbrev IsBool : Term → Type 0
+IsBool t = sort_of t ≡ Some sort.Bool
+
+-- the first names of those that are well formed are
+abbrev pub Prefixes : Type 0
+Prefixes = (xs ys : List Symbol) → IsTrue (is_well_formed (xs ++ ys)) → IsTrue (is_well_formed xs)
+
+front : {X : Type 0} (P : X → Type 0) (xs ys : List X) → AllByRecursion P (xs ++ ys) → AllByRecursion P xs
+front P [] ys h = tt
+front P (x ∷ xs) ys h = (h.0, front P xs ys h.1)
+
+joined : {X : Type 0} (P : X → Type 0) (xs ys : List X) → AllByRecursion P xs → AllByRecursion P ys → AllByRecursion P (xs ++ ys)
+joined P [] ys h k = k
+joined P (x ∷ xs) ys h k = (h.0, joined P xs ys h.1 k)
+
+pub stands_opened : IsStanding (empty ∷ [])
+stands_opened = record { formed = refl; sorted = tt }
+
+outer : Prefixes → (level : Level) (levels : List Level) → IsStanding (level ∷ levels) → IsStanding levels
+outer prefixes level levels h = record { formed = prefixes (symbols_of levels) level.0 h.formed; sorted = front IsBool (live levels) level.1 h.sorted }
+
+pub stands_dropped : Prefixes → (n : ℕ) (levels : List Level) → IsStanding levels → IsStanding (drop n levels)
+stands_dropped prefixes zero [] h = h
+stands_dropped prefixes zero (level ∷ levels) h = h
+stands_dropped prefixes (suc n) [] h = h
+stands_dropped prefixes (suc n) (level ∷ levels) h = stands_dropped prefixes n levels (outer prefixes level levels h)
+
+inner : (levels : List Level) → IsStanding levels → IsStanding (empty ∷ levels)
+inner levels h = record { formed = subst (λ z. IsTrue (is_well_formed z)) (sym (append-nil (symbols_of levels))) h.formed; sorted = subst (AllByRecursion IsBool) (sym (append-nil (live levels))) h.sorted }
+
+pub stands_pushed : (n : ℕ) (levels : List Level) → IsStanding levels → IsStanding (pushed n levels)
+stands_pushed zero levels h = h
+stands_pushed (suc n) levels h = inner (pushed n levels) (stands_pushed n levels h)
+
+pub stands_declared : (name : List ℕ) (e : Entry) (levels : List Level) → IsAdded (symbols_of levels) name e → IsStanding levels → IsStanding (declared name e levels)
+stands_declared name e [] a h = h
+stands_declared name e (level ∷ levels) a h = record { formed = subst (λ z. IsTrue (is_well_formed z)) (append_assoc (symbols_of levels) level.0 ((name, e) ∷ [])) a.well_formed; sorted = h.sorted }
+
+pub stands_asserted : (t : Term) (levels : List Level) → IsBool t → IsStanding levels → IsStanding (asserted t levels)
+stands_asserted t [] b h = h
+stands_asserted t (level ∷ levels) b h = record {
+  formed = h.formed;
+  sorted = subst (AllByRecursion IsBool) (append_assoc (live levels) level.1 (t ∷ [])) (joined IsBool (live levels ++ level.1) (t ∷ []) h.sorted (b, tt));
+}

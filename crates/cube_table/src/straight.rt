@@ -1,0 +1,26 @@
+ghost use Rattle.std.specs.List.{AllByRecursion};
+ghost use Rattle.bool_cubes.specs.Past.{IsFitting};
+ghost use Rattle.cube_table.specs.Straightened.{IsStraightened};
+
+use bool_cubes::Cube;
+use std::alloc::Global;
+use straight_line::{Flat, FlatFault, Numbers, flatten, numbers};
+
+/// A straight cube: its flat form, and the numbers of that.
+#[derive(Drop)]
+pub struct Straight {
+    pub flat: Flat,
+    pub numbers: Numbers,
+}
+
+/// The flat form of a cube and its numbers, or why it isn't straight.
+pub fn straighten(alloc: Global, cube: &Cube) -> Result<Straight, FlatFault>
+    requires { AllByRecursion IsFitting cube.now.literals }
+    ensures { IsStraightened cube.now.literals result }
+{
+    let flat = flatten(alloc, cube)?;
+    match numbers(alloc, &flat) {
+        Ok(numbers) => Ok(Straight { flat, numbers }),
+        Err(error) => Err(FlatFault::Memory(error)),
+    }
+}

@@ -1,0 +1,6 @@
+use Rattle.std.specs.List.{AllByRecursion}
+use Rattle.bool_cubes.specs.Laws.{IsSorted}
+use Rattle.speed.proofs.cubes.literals.Given as goal
+
+abbrev pub invariant-loop-number : goal.invariant-loop-number
+invariant-loop-number l = AllByRecursion IsSorted l.terms
