@@ -12,3 +12,7 @@ pub mod LoopLemmas
 pub mod RunsBack
 pub mod MadeLemmas
 pub mod TestLemmas
+pub mod CutBackLemmas
+pub mod OrderLemmas
+pub mod StateLemmas
+pub mod StepLemmas

@@ -55,7 +55,7 @@ pub between-width : (m : Graph) (from : ℕ) (to : Option ℕ) (word cost : List
 between-width m from None word cost r = run_width m.states m.registers m.edges m.ends m.formed word from cost r
 between-width m from (Some t) word cost r = path_width m.states m.registers m.edges m.ends m.formed t word from cost r
 
-graph-words : (m : Graph) (word cost : List ℕ) → Accepts m word cost → IsWord word
+pub graph-words : (m : Graph) (word cost : List ℕ) → Accepts m word cost → IsWord word
 graph-words m word cost r = runs_are_words (λ s. s < m.states) (StepsBy m.edges) (λ s t c cost ok st. step_target m.states m.registers m.edges m.ends m.formed s t c cost st) (EndsAt m.ends)
     (λ s t c cost ok st. step_character m.states m.registers m.edges m.ends m.formed s t c cost st) word 0 cost m.started r
 

@@ -8,3 +8,9 @@ pub mod Carried
 pub mod Runs
 pub mod Made
 pub mod Back
+pub mod PiecesBack
+pub mod Definitions
+pub mod Chains
+pub mod States
+pub mod Steps
+pub mod Leaves

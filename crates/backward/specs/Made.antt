@@ -37,7 +37,7 @@ pub record IsPassed (ms : Family) (x v : ℕ) (t : Transducer) (ns : LeafState) 
   pub other : v ≡ x → ⊥
   pub before : PreBuilt
   pub meeting : Meeting
-  pub made : ns.made ≡ made.Through before meeting
+  pub made : ns.made ≡ made.Through t before meeting
   pub pre : IsPreKept t target before
   pub kept : IsKept reader before.built.machine 0 None meeting
   pub machines : ns.machines ≡ slice_set (without ms x) v (Some meeting.small.machine)

@@ -8,7 +8,10 @@
 //! - [`LeafState`] is a family: one machine for each variable that isn't carried yet.
 //! - [`carry_concat`] and [`carry_through`] carry one definition. Each meeting is explored at once, and has
 //!   at most the product of its parts' numbers of states.
-//! - [`lift_through`] takes runs of a family back over a transducer.
+//! - [`lift_cut`] and [`lift_through`] take runs of a family back over such a step.
+//! - [`step_concat`] and [`step_through`] carry the definition at a place of a flat cube, and [`lift_step`]
+//!   takes runs back over it. A family that the cube's text leads to leads on to such a family: a chain of
+//!   steps, machines that are as small as the text says, and costs that growth bounds.
 //!
 //! ```
 //! // What is left for y of "abab" as y twice, cut in the middle.
@@ -18,18 +21,25 @@
 #![tactic(auto)]
 
 mod carrying;
+mod cut_lifting;
 mod family;
+mod first_family;
 mod laws;
 mod leaf_state;
 mod lifting;
 mod meeting;
+mod stepping;
+#[cfg(test)]
+mod stepping_tests;
 #[cfg(test)]
 mod tests;
 mod through;
 
 pub use carrying::carry_concat;
-pub use laws::{costs_fit, cuts_are_exact, growth_is_kept};
+pub use cut_lifting::lift_cut;
+pub use laws::{costs_fit, cuts_are_exact, growth_is_kept, next_can_be_carried};
 pub use leaf_state::{LeafState, Made};
 pub use lifting::lift_through;
 pub use meeting::Meeting;
+pub use stepping::{lift_step, step_concat, step_through};
 pub use through::{PreBuilt, carry_through};

@@ -10,7 +10,7 @@ use sv_word::Ranges;
 use trim_search::shortest;
 
 // Adds an edge on one letter at this cost.
-fn add_edge(
+pub fn add_edge(
     alloc: Global,
     machine: &mut Explicit,
     from: u32,
@@ -56,7 +56,7 @@ fn two_letters(alloc: Global) -> Result<Explicit, AllocError>
 }
 
 // The family of two machines.
-fn family(alloc: Global, first: Explicit, second: Explicit) -> Result<LeafState, AllocError>
+pub fn family(alloc: Global, first: Explicit, second: Explicit) -> Result<LeafState, AllocError>
     requires first { first.registers ≡ 1 }
     requires second { second.registers ≡ 1 }
     ensures { IfOk result (λ s. s.machines ≡ Some first ∷ Some second ∷ []) }

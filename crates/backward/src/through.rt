@@ -44,7 +44,8 @@ fn pre_image(alloc: Global, through: &Transducer, target: &Explicit) -> Result<P
 }
 
 /// The family in which the machine of `x`, which is defined from `v` through the transducer, is
-/// carried to `v`: its pre-image under the transducer is met with the machine of `v`.
+/// carried to `v`: its pre-image under the transducer is met with the machine of `v`. The transducer is
+/// kept, since runs are taken back by it.
 ///
 /// Both are explored at once. That takes at most the product of the three numbers of states.
 pub fn carry_through(
@@ -52,17 +53,17 @@ pub fn carry_through(
     state: &LeafState,
     x: u32,
     v: u32,
-    through: &Transducer,
+    through: Transducer,
 ) -> Result<LeafState, AllocError>
-    requires { (m k : Graph) × CanPass state.now.machines x m v k through.now }
+    requires { (m k : Graph) × CanPass state.now.machines x m v k through }
     ensures registers { IfOk result (λ s. s.registers ≡ state.now.registers) }
-    ensures carried { IfOk result (λ s. (m k : Graph) (slope base : ℕ) → CanPass state.now.machines x m v k through.now → WritesWithin through.now (λ n. slope * n + base) →
-        IsCarriedThrough (Pairs through.now) through.now.states slope base state.now.registers state.now.machines x m v s.machines) }
-    ensures made { IfOk result (IsPassed state.now.machines x v through.now) }
+    ensures carried { IfOk result (λ s. (m k : Graph) (slope base : ℕ) → CanPass state.now.machines x m v k through → WritesWithin through (λ n. slope * n + base) →
+        IsCarriedThrough (Pairs through) through.states slope base state.now.registers state.now.machines x m v s.machines) }
+    ensures made { IfOk result (IsPassed state.now.machines x v through) }
 {
     let target = machine_at(state.machines.as_slice(), x);
     let reader = machine_at(state.machines.as_slice(), v);
-    let before = pre_image(alloc, through, target)?;
+    let before = pre_image(alloc, &through, target)?;
     let meeting = meet_slice(alloc, reader, &before.built.machine, 0, None)?;
     let met = meeting.small.machine.copy(alloc)?;
     let mut machines = copy_without(alloc, state.machines.as_slice(), x)?;
@@ -70,6 +71,6 @@ pub fn carry_through(
     Ok(LeafState {
         registers: state.registers,
         machines,
-        made: Made::Through(before, meeting),
+        made: Made::Through(through, before, meeting),
     })
 }

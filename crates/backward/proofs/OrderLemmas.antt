@@ -1,0 +1,88 @@
+-- Definitions in order: what stands behind one of them, and how often they use a variable.
+use Rattle.std.proofs.Common.{◌≡◌, ℕ, zero, suc, ◌+◌, ◌*◌, ◌^◌, ◌<◌, ◌≤◌, ◌||◌, nat_eq, cond, Bool, true, false, List, [], ◌∷◌, length, drop, Contains, Option, Some, None, slice_get, refl, sym, ap, ◌∙◌, subst, arith, inl, inr, one-mul}
+use Rattle.std.specs.List.{AllByRecursion, count_by, sum_by}
+use Rattle.std.proofs.lemmas.Bool.{eq-eqb, ne_eqb, false≢true}
+use Rattle.std.proofs.lemmas.Bool.Decides.{eqb_tells}
+use Rattle.std.proofs.lemmas.List.Sums.{sum_by-cons}
+use Rattle.std.proofs.Math.Nat.{pow-zero}
+use Rattle.straight_line.specs.Bounds.{is_defined, product_by, states_at, through_states, used}
+use Rattle.straight_line.specs.NumberLaws.{factor}
+use Rattle.straight_line.specs.Straight.{InOrder, StandsBefore}
+use Rattle.straight_line.specs.declared.definition.Definition.{Definition}
+use Rattle.straight_line.specs.declared.flat.Flat.{Flat}
+use Rattle.backward.specs.Bounds.{sum_of}
+use Rattle.backward.specs.Pieces.{occurrences}
+
+-- what a definition in order keeps of those behind it
+pub stands-at : (n : ℕ) (ds : List Definition) (at : ℕ) (d : Definition) → InOrder n ds → slice_get ds at ≡ Some d → StandsBefore n d (drop (suc at) ds)
+stands-at n [] at d h e = cc
+stands-at n (c ∷ ds) zero d h e = let same : c ≡ d = cc in subst (λ x. StandsBefore n x ds) same h.0
+stands-at n (c ∷ ds) (suc at) d h e = stands-at n ds at d h.1 e
+
+pub or-false : (a b : Bool) → (a || b) ≡ false → (a ≡ false) × (b ≡ false)
+or-false true b h = absurd (false≢true (sym h))
+or-false false b h = (refl, h)
+
+pub or-right : (a b : Bool) → b ≡ true → (a || b) ≡ true
+or-right true b h = refl
+or-right false b h = h
+
+pub each-at : {P : ℕ → Type 0} (vs : List ℕ) → AllByRecursion P vs → (v : ℕ) → Contains vs v → P v
+each-at [] h v c = absurd (omega (arith, c.1))
+each-at {P = P} (u ∷ vs) h v (zero, lt, e) = subst P e h.0
+each-at (u ∷ vs) h v (suc i, lt, e) = each-at vs h.1 v (i, omega (arith, lt), e)
+
+-- a definition isn't of a variable that isn't defined
+pub not-of : (d : Definition) (ds : List Definition) (v : ℕ) → is_defined (d ∷ ds) v ≡ false → v ≡ d.variable → ⊥
+not-of d ds v h e = let t = eq-eqb d.variable v (sym e) in let f = or-false (nat_eq d.variable v) (is_defined ds v) h in false≢true (sym f.0 ∙ t)
+
+-- one of the definitions defines its variable
+pub defined-at : (ds : List Definition) (at : ℕ) (d : Definition) → slice_get ds at ≡ Some d → is_defined ds d.variable ≡ true
+defined-at [] at d e = cc
+defined-at (c ∷ ds) zero d e = let same : c ≡ d = cc in ap (λ (x : Definition). nat_eq x.variable d.variable || is_defined ds d.variable) same ∙ ap (λ b. b || is_defined ds d.variable) (eq-eqb d.variable d.variable refl)
+defined-at (c ∷ ds) (suc at) d e = or-right (nat_eq c.variable d.variable) (is_defined ds d.variable) (defined-at ds at d e)
+
+-- a variable that is defined isn't among those that aren't
+count-none : (ds : List Definition) (v : ℕ) → is_defined ds v ≡ true → (us : List ℕ) → AllByRecursion (λ u. is_defined ds u ≡ false) us → count_by (nat_eq v) us ≡ 0
+count-none ds v t [] h = refl
+count-none ds v t (u ∷ us) h =
+    let ne : v ≡ u → ⊥ = λ e. false≢true (sym h.0 ∙ sym (ap (is_defined ds) e) ∙ t) in
+    let rest = count-none ds v t us h.1 in
+    let one : cond (nat_eq v u) 1 0 ≡ 0 = ap (λ b. cond b 1 0) (ne_eqb v u ne) in
+    let all = sum_by-cons (λ x. cond (nat_eq v x) 1 0) u us in
+    omega arith
+
+-- a definition that doesn't use a variable multiplies its states by 1
+factor-one : (flat : Flat) (v : ℕ) (d : Definition) → count_by (nat_eq v) (used d.by) ≡ 0 → factor flat v d ≡ 1
+factor-one flat v d h = ap (λ n. (through_states d.by * states_at flat d.variable) ^ n) h ∙ pow-zero (through_states d.by * states_at flat d.variable)
+
+-- the definitions up to that of a variable don't use it
+pub factors-behind : (flat : Flat) (n : ℕ) (ds : List Definition) (at : ℕ) (d : Definition) → InOrder n ds → slice_get ds at ≡ Some d
+    → product_by (factor flat d.variable) ds ≡ product_by (factor flat d.variable) (drop (suc at) ds)
+factors-behind flat n [] at d o e = cc
+factors-behind flat n (c ∷ ds) zero d o e =
+    let none = factor-one flat d.variable c (count-none (c ∷ ds) d.variable (defined-at (c ∷ ds) zero d e) (used c.by) o.0.apart) in
+    ap (λ k. k * product_by (factor flat d.variable) ds) none ∙ one-mul (product_by (factor flat d.variable) ds)
+factors-behind flat n (c ∷ ds) (suc at) d o e =
+    let none = factor-one flat d.variable c (count-none (c ∷ ds) d.variable (defined-at (c ∷ ds) (suc at) d e) (used c.by) o.0.apart) in
+    ap (λ k. k * product_by (factor flat d.variable) ds) none ∙ one-mul (product_by (factor flat d.variable) ds) ∙ factors-behind flat n ds at d o.1 e
+
+-- both ways to count how often a variable stands among others, and both ways to add up
+pub occurrences-count : (v : ℕ) (ps : List ℕ) → occurrences v ps ≡ count_by (nat_eq v) ps
+occurrences-count v [] = refl
+occurrences-count v (p ∷ ps) = elim (eqb_tells p v) [
+  | inl is ↦
+      let rest = occurrences-count v ps in
+      let all = sum_by-cons (λ x. cond (nat_eq v x) 1 0) p ps in
+      let one : cond (nat_eq v p) 1 0 ≡ 1 = ap (λ b. cond b 1 0) (eq-eqb v p (sym is.1)) in
+      rw is.0 (omega arith)
+  | inr off ↦
+      let rest = occurrences-count v ps in
+      let all = sum_by-cons (λ x. cond (nat_eq v x) 1 0) p ps in
+      let one : cond (nat_eq v p) 1 0 ≡ 0 = ap (λ b. cond b 1 0) (ne_eqb v p (λ e. off.1 (sym e))) in
+      rw off.0 (omega arith)
+]
+
+pub sum-same : (f : ℕ → ℕ) (ps : List ℕ) → sum_of f ps ≡ sum_by f ps
+sum-same f [] = refl
+sum-same f (p ∷ ps) = ap (λ n. f p + n) (sum-same f ps) ∙ sym (sum_by-cons f p ps)

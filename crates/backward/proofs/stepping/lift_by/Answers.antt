@@ -1,0 +1,26 @@
+use Rattle.std.proofs.Common.{◌≡◌, ℕ, sym, subst}
+use Rattle.straight_line.specs.Satisfying.{ComesBy}
+use Rattle.backward.specs.Made.{IsCut}
+use Rattle.backward.specs.Runs.{run_words}
+use Rattle.backward.specs.Steps.{IsMadeBy}
+use Rattle.backward.proofs.StepLemmas.{gives-comes, made-through, reads-other}
+use Rattle.backward.proofs.stepping.lift_by.Goals as goal
+
+pub lift_cut-requires-clause-cut : goal.lift_cut-requires-clause-cut
+lift_cut-requires-clause-cut c =
+    subst (λ l. IsCut c.args.before.now.machines c.args.x l c.args.cuts.now c.args.after.now) (sym c.as_slice.ensures)
+    (subst (λ b. IsMadeBy b c.args.x c.args.cuts.now c.args.before.now.machines c.args.after.now) c.in-Concat.is c.requires.made)
+
+pub read_by-read-requires : goal.read_by-read-requires
+read_by-read-requires c = reads-other c.args.by.now c.in_default.not-Concat
+
+pub lift_through-requires-clause-passed : goal.lift_through-requires-clause-passed
+lift_through-requires-clause-passed c =
+    let m = made-through c.args.by.now c.args.x c.read_by-read.result c.args.cuts.now c.args.before.now.machines c.args.after.now c.read_by-read.ensures c.requires.made in
+    (m.0, m.2)
+
+pub returns-clause-defined : goal.returns-clause-defined
+returns-clause-defined c =
+    let m = made-through c.args.by.now c.args.x c.read_by-read.result c.args.cuts.now c.args.before.now.machines c.args.after.now c.read_by-read.ensures c.requires.made in
+    let rs = c.in_ok-lifted-2.lifted in
+    gives-comes c.args.by.now c.read_by-read.result c.read_by-read.ensures m.0 m.1 (run_words rs) (run_words rs c.args.x) (c.in_ok-lifted-2.ensures.defined m.0 m.2)
