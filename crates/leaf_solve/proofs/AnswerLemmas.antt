@@ -1,5 +1,5 @@
 -- What is answered where there are rows.
-use Rattle.std.proofs.Common.{◌≡◌, ℕ, ℤ, ◌+◌, ◌<◌, ◌≤◌, List, [], length, map, take, All, Bool, true, false, Option, Some, None, IfSome, refl, sym, ap, ◌∙◌, subst, arith}
+use Rattle.std.proofs.Common.{◌≡◌, ℕ, ℤ, ◌+◌, ◌≤◌, List, [], length, map, take, All, Bool, true, Some, None, refl, sym, ◌∙◌, subst, arith}
 use Rattle.std.specs.List.{range_with_len}
 use Rattle.sv_linear.specs.declared.row.Row.{Row}
 use Rattle.machine_core.specs.declared.graph.Graph.{Graph}
@@ -16,7 +16,7 @@ use Rattle.parikh_flow.specs.Solutions.{HaveFlowsAt}
 use Rattle.parikh_flow.proofs.FormLemmas.{after-most}
 use Rattle.leaf_solve.specs.Questions.{IsAsked}
 use Rattle.leaf_solve.specs.Longs.{HasRun, IsBeyond}
-use Rattle.leaf_solve.specs.Answers.{HasNoHit, IsPast, IsSatAnswer, IsClosedAnswer, IsLongAnswer, row_reach}
+use Rattle.leaf_solve.specs.Answers.{IsPast, IsSatAnswer, IsClosedAnswer, IsLongAnswer, row_reach}
 use Rattle.leaf_solve.specs.Steps.{HaveShortFlowsAt}
 use Rattle.leaf_solve.specs.declared.long_shown.Beyond.{Beyond}
 use Rattle.leaf_solve.specs.declared.long_shown.LongShown.TheVariants.{Rows}

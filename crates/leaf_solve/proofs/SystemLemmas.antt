@@ -1,5 +1,5 @@
 -- Systems that are closed have no hits.
-use Rattle.std.proofs.Common.{◌≡◌, ℕ, ℤ, ◌+◌, ◌<◌, ◌≤◌, zero, suc, List, [], ◌∷◌, length, map, take, Bool, true, Option, Some, None, IfSome, slice_get, get_or, pos, refl, sym, ap, ◌∙◌, subst, arith}
+use Rattle.std.proofs.Common.{◌≡◌, ℕ, ℤ, ◌+◌, ◌<◌, ◌≤◌, zero, suc, List, [], ◌∷◌, length, map, take, Bool, Option, Some, None, IfSome, get_or, pos, refl, sym, ap, ◌∙◌, subst, arith}
 use Rattle.std.specs.List.{range_with_len}
 use Rattle.sv_linear.specs.Rows.{NameUnknowns}
 use Rattle.sv_linear.specs.declared.row.Row.{Row}

@@ -1,19 +1,17 @@
 -- What the tests ask.
-use Rattle.std.proofs.Common.{◌≡◌, ℕ, zero, suc, ℤ, pos, negsuc, ◌+◌, ◌*◌, ◌+ℤ◌, ◌*ℤ◌, ◌<◌, ◌≤◌, ◌≤ℤ◌, ◌^◌, List, [], ◌∷◌, ◌++◌, length, map, All, Bool, true, false, cond, nat_eq, Some, slice_get, get_or, unsigned_abs, refl, ap, sym, ◌∙◌, subst, arith}
+use Rattle.std.proofs.Common.{◌≡◌, ℕ, zero, suc, ℤ, pos, negsuc, ◌+◌, ◌*◌, ◌+ℤ◌, ◌<◌, ◌≤◌, ◌^◌, List, [], ◌∷◌, length, map, All, Bool, true, false, cond, nat_eq, Some, slice_get, unsigned_abs, ap, subst, arith}
 use Rattle.std.specs.List.{AllByRecursion}
 use Rattle.std.proofs.lemmas.Int.{ints}
 use Rattle.std.proofs.lemmas.List.Elements.{All-nil, All-cons}
 use Rattle.sv_linear.specs.Combining.{IsSymmetric}
-use Rattle.sv_linear.specs.Forms.{form_value}
-use Rattle.sv_linear.specs.Rows.{IsRowWithin, HasSymmetricEntries, MeetsRow, MeetsRows, RowFits, Compares, unknowns_of}
-use Rattle.sv_linear.specs.declared.column.Column.{Column}
+use Rattle.sv_linear.specs.Rows.{IsRowWithin, HasSymmetricEntries, MeetsRow, MeetsRows, RowFits, unknowns_of}
 use Rattle.sv_linear.specs.declared.column.Column.TheVariants.{Unknown, Constant}
 use Rattle.sv_linear.specs.declared.row.Row.{Row}
 use Rattle.sv_linear.specs.declared.row.RowKind.TheVariants.{Le}
 use Rattle.machine_core.specs.declared.graph.Graph.{Graph}
 use Rattle.machine_core.specs.declared.run.Run.{Run}
 use Rattle.box_search.specs.Hits.{AreRunsOf, runs_total}
-use Rattle.box_search.specs.Regions.{IsWithin, AreWithin, amounts, sides_of, FitsRegion, whole_side}
+use Rattle.box_search.specs.Regions.{AreWithin, amounts, whole_side}
 use Rattle.box_search.specs.declared.region.Region.{Region}
 use Rattle.leaf_solve.specs.Questions.{IsAsked}
 

@@ -1,5 +1,5 @@
 -- What is answered for one family of machines and rows.
-use Rattle.std.specs.Prelude.{◌≡◌, ◌≢◌, ℕ, ℤ, pos, ◌<◌, ◌≤◌, ◌⊎◌, List, [], ◌∷◌, length, All, Bool, true, false, Option, Some, None, slice_get}
+use Rattle.std.specs.Prelude.{◌≡◌, ◌≢◌, ℕ, pos, ◌<◌, ◌≤◌, ◌⊎◌, List, [], ◌∷◌, length, All, Bool, true, false, Option, Some, None, slice_get}
 use Rattle.sv_linear.specs.declared.row.Row.{Row}
 use Rattle.machine_core.specs.declared.graph.Graph.{Graph}
 use Rattle.farkas_check.specs.declared.system.System.{System}

@@ -1,4 +1,3 @@
-use Rattle.std.proofs.Common.{◌≡◌, length}
 use Rattle.leaf_solve.proofs.RunLemmas.{empty-none, inhabited}
 use Rattle.leaf_solve.proofs.answering.leaf.Goals as goal
 

@@ -1,4 +1,4 @@
-use Rattle.std.proofs.Common.{◌≡◌, ℕ, ◌+◌, ◌<◌, ◌∷◌, [], ◌++◌, List, pos, length, slice_index, subst, sym, arith}
+use Rattle.std.proofs.Common.{◌≡◌, ℕ, ◌+◌, ◌<◌, List, pos, slice_index, subst, sym, arith}
 use Rattle.std.proofs.lemmas.List.{length-append}
 use Rattle.farkas_check.specs.Cuts.{values_of}
 use Rattle.leaf_solve.proofs.CountLemmas.{values-more}

@@ -1,4 +1,4 @@
-use Rattle.std.proofs.Common.{◌≡◌, ◌∙◌, ℕ, ◌≤◌, List, length, refl, sym, subst}
+use Rattle.std.proofs.Common.{◌∙◌, ℕ, ◌≤◌, List, refl, sym, subst}
 use Rattle.farkas_check.specs.Cuts.{values_of}
 use Rattle.parikh_flow.specs.Balance.{AreBalanced}
 use Rattle.parikh_flow.specs.Counts.{total_count}

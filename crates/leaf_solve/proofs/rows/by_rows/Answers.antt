@@ -1,4 +1,4 @@
-use Rattle.std.proofs.Common.{◌≡◌, length, subst}
+use Rattle.std.proofs.Common.{subst}
 use Rattle.leaf_solve.specs.Steps.{IsSystemFor}
 use Rattle.leaf_solve.proofs.rows.by_rows.Goals as goal
 

@@ -1,4 +1,3 @@
-use Rattle.std.proofs.Common.{◌≡◌, length}
 use Rattle.leaf_solve.proofs.RegionLemmas.{found-hit, none-found, none-held}
 use Rattle.leaf_solve.proofs.SystemLemmas.{names}
 use Rattle.leaf_solve.proofs.rows.in_region.Goals as goal

@@ -1,4 +1,3 @@
-use Rattle.std.proofs.Common.{◌≡◌, List, [], length, refl}
 use Rattle.leaf_solve.proofs.RunLemmas.{is-none, is-some}
 use Rattle.leaf_solve.proofs.AnswerLemmas.{closed-answer, closed-at-once, box-answer, long-answer, beyond-none}
 use Rattle.leaf_solve.proofs.rows.past_reach.Goals as goal

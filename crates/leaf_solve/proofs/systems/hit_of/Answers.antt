@@ -1,4 +1,4 @@
-use Rattle.std.proofs.Common.{◌≡◌, ◌∙◌, ℤ, ◌+◌, List, length, take, ap, sym, subst}
+use Rattle.std.proofs.Common.{◌∙◌, ℤ, ◌+◌, List, length, ap, sym, subst}
 use Rattle.farkas_check.specs.Cuts.{values_of}
 use Rattle.parikh_flow.specs.Rows.{unknowns_after}
 use Rattle.parikh_flow.specs.Solutions.{HaveFlowsAt}

@@ -1,4 +1,4 @@
-use Rattle.std.proofs.Common.{◌+◌, length, sym, subst}
+use Rattle.std.proofs.Common.{◌+◌, sym, subst}
 use Rattle.sv_linear.specs.Rows.{IsRowWithin}
 use Rattle.box_search.specs.Hits.{HaveRegisters}
 use Rattle.parikh_flow.specs.Rows.{IsSystemOf}

@@ -1,4 +1,4 @@
-use Rattle.std.proofs.Common.{◌≡◌, ◌∙◌, List, [], ◌∷◌, ◌++◌, ap, refl, true}
+use Rattle.std.proofs.Common.{◌∙◌, List, [], ◌∷◌, ◌++◌, ap, refl}
 use Rattle.machine_core.specs.declared.graph.Graph.{Graph}
 use Rattle.leaf_solve.proofs.TestRows.{asked-one}
 use Rattle.leaf_solve.proofs.tests.answered.Goals as goal

@@ -1,8 +1,5 @@
-use Rattle.std.proofs.Common.{◌≡◌, ◌∙◌, ℕ, ℤ, pos, negsuc, ◌<◌, ◌^◌, unsigned_abs, List, [], ◌∷◌, ◌++◌, All, Some, slice_get, ap, arith}
-use Rattle.std.proofs.lemmas.Int.{ints}
-use Rattle.sv_linear.specs.Rows.{IsRowWithin, RowFits}
+use Rattle.std.proofs.Common.{◌∙◌, List, [], ◌∷◌, ◌++◌, ap, arith}
 use Rattle.sv_linear.specs.declared.row.Row.{Row}
-use Rattle.box_search.specs.Regions.{amounts}
 use Rattle.leaf_solve.proofs.TestRows.{line, four-lines, between}
 use Rattle.leaf_solve.proofs.tests.numbers.Goals as goal
 
