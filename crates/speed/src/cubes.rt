@@ -2,12 +2,13 @@
 ghost use Rattle.std.specs.Prelude.{◌≡◌, ◌∷◌, [], IfOk, IfSome};
 ghost use Rattle.std.specs.List.{AllByRecursion};
 ghost use Rattle.bool_cubes.specs.Laws.{IsFittingCube, IsSorted};
+ghost use Rattle.straight_line.specs.Straight.{IsStraight};
 
 use crate::stopwatch::Stopwatch;
 use crate::texts::word;
 use bool_cubes::{Cube, CubeFault, Cubes, literals_fit};
 use std::alloc::{AllocError, Global};
-use straight_line::{Flat, FlatFault, flatten, numbers};
+use straight_line::{Flat, flatten, numbers};
 use sv_list::{Boxed, Items};
 use sv_terms::{Name, Op, Regex, Sort, Term};
 
@@ -130,29 +131,29 @@ fn long_cube(alloc: Global) -> Result<Option<Cube>, CubeFault>
     Ok(cubes.next(alloc)?)
 }
 
-fn variables(flat: &Result<Flat, FlatFault>) -> Option<u64> {
-    match flat {
-        Ok(flat) => Some(flat.variables.len() as u64),
+fn measure_numbers(rt: HostRuntime, flat: &Flat)
+    requires { IsStraight flat.now }
+{
+    let stopwatch = Stopwatch::start(rt);
+    let growth = match numbers(rt.alloc(), flat) {
+        Ok(numbers) => Some(numbers.growth),
         Err(_) => None,
-    }
+    };
+    stopwatch.stop(rt, "its growth", growth);
 }
 
 // The flat form of the cube, and its numbers.
-fn flatten_long(rt: HostRuntime, cube: &Cube)
+fn measure_flat(rt: HostRuntime, cube: &Cube)
     requires { IsFittingCube cube.now }
 {
-    let alloc = rt.alloc();
+    let work = "variables of a cube of 10,000 literals";
     let stopwatch = Stopwatch::start(rt);
-    let flat = flatten(alloc, cube);
-    stopwatch.stop(
-        rt,
-        "variables of a cube of 10,000 literals",
-        variables(&flat),
-    );
-    if let Ok(flat) = flat {
-        let stopwatch = Stopwatch::start(rt);
-        let growth = numbers(alloc, &flat).ok().map(|numbers| numbers.growth);
-        stopwatch.stop(rt, "its growth", growth);
+    match flatten(rt.alloc(), cube) {
+        Ok(flat) => {
+            stopwatch.stop(rt, work, Some(flat.variables.len() as u64));
+            measure_numbers(rt, &flat);
+        }
+        Err(_) => stopwatch.stop(rt, work, None),
     }
 }
 
@@ -167,6 +168,6 @@ pub fn measure(rt: HostRuntime) {
         count_literals(alloc).ok(),
     );
     if let Ok(Some(cube)) = long_cube(alloc) {
-        flatten_long(rt, &cube);
+        measure_flat(rt, &cube);
     }
 }
