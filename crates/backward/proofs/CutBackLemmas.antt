@@ -126,25 +126,23 @@ now-there : (mid ns : Family) (p : ℕ) (k : Graph) (q : Meeting) → ns ≡ sli
 now-there mid ns p k q e h = subst (λ l. HasMachine l p q.small.machine) (sym e) (set-same mid p (Some k) (Some q.small.machine) h)
 
 -- no piece is the variable that was cut
+others-step : (x p : ℕ) (ps : List ℕ) (mid ns : Family) (k : Graph) (q : Meeting) → HasMachine mid p k → ns ≡ slice_set mid p (Some q.small.machine)
+    → (slice_get mid x ≡ Some None) × ((r : ℕ) → Contains ps r → r ≡ x → ⊥) → (slice_get ns x ≡ Some None) × ((r : ℕ) → Contains (p ∷ ps) r → r ≡ x → ⊥)
+others-step x p ps mid ns k q there now rest = (ap (λ l. slice_get l x) now ∙ set-other mid p x (Some q.small.machine) (λ e. other (sym e)) ∙ rest.0, each)
+  where
+    other : p ≡ x → ⊥
+    other e = let h = there in let none = rest.0 in let at = ap (slice_get mid) e in cc
+
+    each : (r : ℕ) → Contains (p ∷ ps) r → r ≡ x → ⊥
+    each r (zero, lt, e) = subst (λ u. u ≡ x → ⊥) e other
+    each r (suc i, lt, e) = rest.1 r (i, omega (arith, lt), e)
+
 met-others : (target : Graph) (x : ℕ) (ss ps : List ℕ) (base : Family) → slice_get base x ≡ Some None → (qs : List Meeting) (ns : Family) → AreMet target ss ps base qs ns
     → (slice_get ns x ≡ Some None) × ((p : ℕ) → Contains ps p → p ≡ x → ⊥)
 met-others target x [] [] base gone qs ns h = (ap (λ l. slice_get l x) h.1 ∙ gone, λ p c e. omega (arith, c.1))
 met-others target x [] (p ∷ ps) base gone qs ns h = absurd h
 met-others target x (s ∷ ss) [] base gone qs ns h = absurd h
-met-others target x (s ∷ ss) (p ∷ ps) base gone qs ns h = (
-  ap (λ l. slice_get l x) h.8 ∙ set-other h.0 p x (Some h.2.small.machine) (λ e. other (sym e)) ∙ rest.0,
-  each,
-)
-  where
-    rest : (slice_get h.0 x ≡ Some None) × ((q : ℕ) → Contains ps q → q ≡ x → ⊥)
-    rest = met-others target x ss ps base gone h.3 h.0 h.4
-
-    other : p ≡ x → ⊥
-    other e = let there = h.5 in let none = rest.0 in let at = ap (slice_get h.0) e in cc
-
-    each : (q : ℕ) → Contains (p ∷ ps) q → q ≡ x → ⊥
-    each q (zero, lt, e) = subst (λ u. u ≡ x → ⊥) e other
-    each q (suc i, lt, e) = rest.1 q (i, omega (arith, lt), e)
+met-others target x (s ∷ ss) (p ∷ ps) base gone qs ns h = others-step x p ps h.0 ns h.1 h.2 h.5 h.8 (met-others target x ss ps base gone h.3 h.0 h.4)
 
 -- the variable's machine in the family from which it was taken out
 has-met : (ms : Family) (x v : ℕ) (ps : List ℕ) (qs : List Meeting) (k : Graph) → HasMet (without ms x) v ps qs k → HasMet ms v ps qs k
@@ -236,11 +234,14 @@ module _ (ms : Family) (x : ℕ) (target : Graph) (cuts pieces : List ℕ) (meet
   small-there = now-there next.mid b.family piece next.k next.q next.now next.there
 
   -- its run
-  pub run-there : (r : Run ℕ) × (slice_get rs piece ≡ Some (Some r)) × IsRunOf next.q.small.machine r
-  run-there = run-of b.family piece next.q.small.machine rs small-there b.are
+  run-held : (r : Run ℕ) × (slice_get rs piece ≡ Some (Some r)) × IsRunOf next.q.small.machine r
+  run-held = run-of b.family piece next.q.small.machine rs small-there b.are
+
+  pub run-there : (r : Run ℕ) × (slice_get rs piece ≡ Some (Some r))
+  run-there = (run-held.0, run-held.1)
 
   pub piece-below : piece < length rs
-  piece-below = get-below rs piece (Some run-there.0) run-there.1
+  piece-below = get-below rs piece (Some run-held.0) run-held.1
 
   module _ (g : Graph) (mg : HasMet ms piece (drop (suc i) pieces) meetings g) (q : Meeting) (mq : slice_get meetings (length pieces - 1 - i) ≡ Some q)
       (r : Run ℕ) (mr : slice_get rs piece ≡ Some (Some r)) (from : ℕ) (mf : slice_get (0 ∷ cuts) i ≡ Some from) (to : Option ℕ) (mt : to ≡ slice_get cuts i) where
@@ -265,7 +266,7 @@ module _ (ms : Family) (x : ℕ) (target : Graph) (cuts pieces : List ℕ) (meet
 
     pub piece-run : IsRunOf q.small.machine r
     piece-run =
-        let w = run-there in
+        let w = run-held in
         let f = w.1 in
         let same : w.0 ≡ r = cc in
         subst (λ (m : Meeting). IsRunOf m.small.machine r) same-meeting (subst (IsRunOf next.q.small.machine) same w.2)

@@ -27,10 +27,10 @@ pub or-right : (a b : Bool) → b ≡ true → (a || b) ≡ true
 or-right true b h = refl
 or-right false b h = h
 
-pub each-at : {P : ℕ → Type 0} (vs : List ℕ) → AllByRecursion P vs → (v : ℕ) → Contains vs v → P v
-each-at [] h v c = absurd (omega (arith, c.1))
-each-at {P = P} (u ∷ vs) h v (zero, lt, e) = subst P e h.0
-each-at (u ∷ vs) h v (suc i, lt, e) = each-at vs h.1 v (i, omega (arith, lt), e)
+pub each-at : (P : ℕ → Type 0) (vs : List ℕ) → AllByRecursion P vs → (v : ℕ) → Contains vs v → P v
+each-at P [] h v c = absurd (omega (arith, c.1))
+each-at P (u ∷ vs) h v (zero, lt, e) = subst P e h.0
+each-at P (u ∷ vs) h v (suc i, lt, e) = each-at P vs h.1 v (i, omega (arith, lt), e)
 
 -- a definition isn't of a variable that isn't defined
 pub not-of : (d : Definition) (ds : List Definition) (v : ℕ) → is_defined (d ∷ ds) v ≡ false → v ≡ d.variable → ⊥
@@ -42,15 +42,17 @@ defined-at [] at d e = cc
 defined-at (c ∷ ds) zero d e = let same : c ≡ d = cc in ap (λ (x : Definition). nat_eq x.variable d.variable || is_defined ds d.variable) same ∙ ap (λ b. b || is_defined ds d.variable) (eq-eqb d.variable d.variable refl)
 defined-at (c ∷ ds) (suc at) d e = or-right (nat_eq c.variable d.variable) (is_defined ds d.variable) (defined-at ds at d e)
 
+count-more : (v u : ℕ) (us : List ℕ) → count_by (nat_eq v) (u ∷ us) ≡ cond (nat_eq v u) 1 0 + count_by (nat_eq v) us
+count-more v u us = sum_by-cons (λ x. cond (nat_eq v x) 1 0) u us
+
 -- a variable that is defined isn't among those that aren't
 count-none : (ds : List Definition) (v : ℕ) → is_defined ds v ≡ true → (us : List ℕ) → AllByRecursion (λ u. is_defined ds u ≡ false) us → count_by (nat_eq v) us ≡ 0
 count-none ds v t [] h = refl
 count-none ds v t (u ∷ us) h =
     let ne : v ≡ u → ⊥ = λ e. false≢true (sym h.0 ∙ sym (ap (is_defined ds) e) ∙ t) in
     let rest = count-none ds v t us h.1 in
-    let one : cond (nat_eq v u) 1 0 ≡ 0 = ap (λ b. cond b 1 0) (ne_eqb v u ne) in
-    let all = sum_by-cons (λ x. cond (nat_eq v x) 1 0) u us in
-    omega arith
+    let c = count-more v u us ∙ ap (λ b. cond b 1 0 + count_by (nat_eq v) us) (ne_eqb v u ne) in
+    omega (arith, c, rest)
 
 -- a definition that doesn't use a variable multiplies its states by 1
 factor-one : (flat : Flat) (v : ℕ) (d : Definition) → count_by (nat_eq v) (used d.by) ≡ 0 → factor flat v d ≡ 1
@@ -70,18 +72,18 @@ factors-behind flat n (c ∷ ds) (suc at) d o e =
 -- both ways to count how often a variable stands among others, and both ways to add up
 pub occurrences-count : (v : ℕ) (ps : List ℕ) → occurrences v ps ≡ count_by (nat_eq v) ps
 occurrences-count v [] = refl
-occurrences-count v (p ∷ ps) = elim (eqb_tells p v) [
-  | inl is ↦
-      let rest = occurrences-count v ps in
-      let all = sum_by-cons (λ x. cond (nat_eq v x) 1 0) p ps in
-      let one : cond (nat_eq v p) 1 0 ≡ 1 = ap (λ b. cond b 1 0) (eq-eqb v p (sym is.1)) in
-      rw is.0 (omega arith)
-  | inr off ↦
-      let rest = occurrences-count v ps in
-      let all = sum_by-cons (λ x. cond (nat_eq v x) 1 0) p ps in
-      let one : cond (nat_eq v p) 1 0 ≡ 0 = ap (λ b. cond b 1 0) (ne_eqb v p (λ e. off.1 (sym e))) in
-      rw off.0 (omega arith)
-]
+occurrences-count v (p ∷ ps) =
+    let rest = occurrences-count v ps in
+    elim (eqb_tells p v) [
+      | inl is ↦
+          let c = count-more v p ps ∙ ap (λ b. cond b 1 0 + count_by (nat_eq v) ps) (eq-eqb v p (sym is.1)) in
+          let last : suc (count_by (nat_eq v) ps) ≡ count_by (nat_eq v) (p ∷ ps) = omega (arith, c) in
+          ap (λ b. cond b (suc (occurrences v ps)) (occurrences v ps)) is.0 ∙ ap suc rest ∙ last
+      | inr off ↦
+          let c = count-more v p ps ∙ ap (λ b. cond b 1 0 + count_by (nat_eq v) ps) (ne_eqb v p (λ e. off.1 (sym e))) in
+          let last : count_by (nat_eq v) ps ≡ count_by (nat_eq v) (p ∷ ps) = omega (arith, c) in
+          ap (λ b. cond b (suc (occurrences v ps)) (occurrences v ps)) off.0 ∙ rest ∙ last
+    ]
 
 pub sum-same : (f : ℕ → ℕ) (ps : List ℕ) → sum_of f ps ≡ sum_by f ps
 sum-same f [] = refl

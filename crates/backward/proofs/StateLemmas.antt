@@ -150,8 +150,8 @@ module _ (flat : Flat) (straight : IsStraight flat) (left : ℕ) (s : LeafState)
   -- a variable that the definition uses is another one, and has a machine
   pub used-has : (v : ℕ) → Contains (used d.by) v → (v ≡ d.variable → ⊥) × ((m : Graph) × HasMachine s.machines v m)
   used-has v c =
-      let apart = each-at {P = λ u. is_defined (d ∷ behind) u ≡ false} (used d.by) stands.apart v c in
-      let below = each-at {P = λ u. u < length flat.variables} (used d.by) stands.uses v c in
+      let apart = each-at (λ u. is_defined (d ∷ behind) u ≡ false) (used d.by) stands.apart v c in
+      let below = each-at (λ u. u < length flat.variables) (used d.by) stands.uses v c in
       (not-of d behind v apart, machine-of v below (or-false (nat_eq d.variable v) (is_defined behind v) apart).1)
 
   pub target-has : (m : Graph) × HasMachine s.machines d.variable m

@@ -23,7 +23,7 @@ use Rattle.backward.specs.Carried.{IsCarried, IsCarriedThrough, CanCut, CanPass}
 use Rattle.backward.specs.Definitions.{definition, reads, Gives, IsFor}
 use Rattle.backward.specs.Chains.{ConfBefore}
 use Rattle.backward.specs.Made.{IsCut, IsPassed}
-use Rattle.backward.specs.Steps.{CanCutAt, CanPassAt, CanPassBy, IsCutAt, IsPassedAt, IsMadeAt, IsMadeBy}
+use Rattle.backward.specs.Steps.{CanCutAt, CanPassAt, CanPassBy, IsCutAt, IsPassedAt, IsMadeAt, IsMadeBy, IsPassedBy, Either}
 use Rattle.backward.specs.declared.leaf_state.LeafState.{LeafState}
 use Rattle.backward.proofs.ConfLemmas.{take-out, put-other}
 use Rattle.backward.proofs.LoopLemmas.{get-below, same-found}
@@ -31,6 +31,9 @@ use Rattle.backward.proofs.MeetingLemmas.{graph-words}
 
 same-pieces : (ps qs : List ℕ) → by.Concat ps ≡ by.Concat qs → ps ≡ qs
 same-pieces ps qs e = cc
+
+same-number : (a b : ℕ) → Some a ≡ Some b → a ≡ b
+same-number a b e = cc
 
 -- one definition stands at a place
 pub one-definition : (ds : List Definition) (at : ℕ) (d e : Definition) → slice_get ds at ≡ Some d → slice_get ds at ≡ Some e → d ≡ e
@@ -83,9 +86,8 @@ module _ (flat : Flat) (at : ℕ) (d : Definition) (there : slice_get flat.defin
   pub can-pass-with : {ms : Family} → CanPassAt flat at ms → (v : ℕ) → reads d.by ≡ Some v → (m k : Graph) × CanPassBy ms d.variable m v k d.by
   can-pass-with {ms = ms} can v e =
       let same = one-definition flat.definitions at d (definition can.variable can.how) there can.defined in
-      let read = reads-there can in
-      let f = read.1 in
-      let one : read.0 ≡ v = cc in
+      let f : reads d.by ≡ Some can.reader = ap (λ (z : Definition). reads z.by) same ∙ can.through in
+      let one = same-number can.reader v (sym f ∙ e) in
       (can.target, can.machine, subst (λ (z : Definition). CanPassBy ms z.variable can.target v can.machine z.by) (sym same) (subst (λ u. CanPassBy ms can.variable can.target u can.machine can.how) one can.can))
 
 pub can-pass-through : {ms : Family} {x v : ℕ} {m k : Graph} {b : By} {t : Transducer} → CanPassBy ms x m v k b → IsFor b t → CanPass ms x m v k t
@@ -110,18 +112,26 @@ comes-gives (by.First q u z) v e t g words w is p = let same : z ≡ v = cc in (
 comes-gives (by.All q u z) v e t g words w is p = let same : z ≡ v = cc in (g (words v) w).1 (is, p ∙ ap (λ n. replace_all q u (words n)) same)
 comes-gives (by.Through s z) v e t g words w is p = let same : z ≡ v = cc in subst (λ r. Pairs r (words v) w) (sym g) (subst (λ n. Pairs s (words n) w) same p)
 
+either-in : (A : List ℕ → Type 0) (B : By → Type 0) (b : By) (v : ℕ) → reads b ≡ Some v → B b → Either A B b
+either-in A B (by.Concat vs) v e h = cc
+either-in A B (by.First q u z) v e h = h
+either-in A B (by.All q u z) v e h = h
+either-in A B (by.Through s z) v e h = h
+
+either-out : (A : List ℕ → Type 0) (B : By → Type 0) (b : By) (v : ℕ) → reads b ≡ Some v → Either A B b → B b
+either-out A B (by.Concat vs) v e h = cc
+either-out A B (by.First q u z) v e h = h
+either-out A B (by.All q u z) v e h = h
+either-out A B (by.Through s z) v e h = h
+
 made-by : (b : By) (x v : ℕ) (ms : Family) (ns : LeafState) (t : Transducer) → reads b ≡ Some v → Gives b t → IsPassed ms x v t ns → IsMadeBy b x [] ms ns
-made-by (by.Concat vs) x v ms ns t e g p = cc
-made-by (by.First q u z) x v ms ns t e g p = (t, v, e, g, p)
-made-by (by.All q u z) x v ms ns t e g p = (t, v, e, g, p)
-made-by (by.Through s z) x v ms ns t e g p = (t, v, e, g, p)
+made-by b x v ms ns t e g p = either-in (λ pieces. IsCut ms x pieces [] ns) (IsPassedBy x ms ns) b v e (t, v, e, g, p)
 
 -- what made a family through a transducer
 pub made-through : (b : By) (x v : ℕ) (cuts : List ℕ) (ms : Family) (ns : LeafState) → reads b ≡ Some v → IsMadeBy b x cuts ms ns → (t : Transducer) × Gives b t × IsPassed ms x v t ns
-made-through (by.Concat vs) x v cuts ms ns e h = cc
-made-through (by.First q u z) x v cuts ms ns e h = let f = h.2 in let same : h.1 ≡ v = cc in (h.0, h.3, subst (λ n. IsPassed ms x n h.0 ns) same h.4)
-made-through (by.All q u z) x v cuts ms ns e h = let f = h.2 in let same : h.1 ≡ v = cc in (h.0, h.3, subst (λ n. IsPassed ms x n h.0 ns) same h.4)
-made-through (by.Through s z) x v cuts ms ns e h = let f = h.2 in let same : h.1 ≡ v = cc in (h.0, h.3, subst (λ n. IsPassed ms x n h.0 ns) same h.4)
+made-through b x v cuts ms ns e h =
+    let o : IsPassedBy x ms ns b = either-out (λ pieces. IsCut ms x pieces cuts ns) (IsPassedBy x ms ns) b v e h in
+    (o.0, o.3, subst (λ n. IsPassed ms x n o.0 ns) (same-number o.1 v (sym o.2 ∙ e)) o.4)
 
 module _ (flat : Flat) (at : ℕ) (d : Definition) (there : slice_get flat.definitions at ≡ Some d) (s new : LeafState) (v : ℕ) (reading : reads d.by ≡ Some v) (t : Transducer) (f : IsFor d.by t) where
   pub passed-made : IsPassed s.machines d.variable v t new → IsMadeAt flat at [] s.machines new

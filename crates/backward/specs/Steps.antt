@@ -59,10 +59,18 @@ abbrev pub IsPassedAt : Flat → ℕ → LeafState → LeafState → Type 0
 IsPassedAt flat place old new = (x : ℕ) (b : By) → slice_get flat.definitions place ≡ Some (definition x b)
     → (words : Words) (totals : List ℕ) → Conf new.registers new.machines words totals ↔ ConfBefore old.registers old.machines x b words totals
 
+-- the one of a concatenation, or the other of a definition through a transducer
+abbrev pub Either : (List ℕ → Type 0) → (By → Type 0) → By → Type 0
+Either OfPieces Of (by.Concat pieces) = OfPieces pieces
+Either OfPieces Of b = Of b
+
+-- the family came of the one before through a transducer for the definition of x
+abbrev pub IsPassedBy : ℕ → Family → LeafState → By → Type 0
+IsPassedBy x ms ns b = (t : Transducer) × (v : ℕ) × (reads b ≡ Some v) × Gives b t × IsPassed ms x v t ns
+
 -- the family was made of the one before by the definition of x, at these cuts where it is a concatenation
 abbrev pub IsMadeBy : By → ℕ → List ℕ → Family → LeafState → Type 0
-IsMadeBy (by.Concat pieces) x cuts ms ns = IsCut ms x pieces cuts ns
-IsMadeBy b x cuts ms ns = (t : Transducer) × (v : ℕ) × (reads b ≡ Some v) × Gives b t × IsPassed ms x v t ns
+IsMadeBy b x cuts ms ns = Either (λ pieces. IsCut ms x pieces cuts ns) (IsPassedBy x ms ns) b
 
 abbrev pub IsMadeAt : Flat → ℕ → List ℕ → Family → LeafState → Type 0
 IsMadeAt flat place cuts ms ns = (d : Definition) → slice_get flat.definitions place ≡ Some d → IsMadeBy d.by d.variable cuts ms ns

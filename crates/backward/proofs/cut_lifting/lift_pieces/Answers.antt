@@ -12,7 +12,7 @@ lift_piece-requires-clause-taken c = c.loop-place.invariant.some
 pub loop-place-preserved : goal.loop-place-preserved
 loop-place-preserved c =
     let some = c.loop-place.invariant.some in
-    let next = c.in_ok-lift_piece.ensures in
+    let next = c.in_ok-taken.ensures in
     record { some = (some.0, next some.0 some.1); each = λ old h. next old (c.loop-place.invariant.each old h) }
 
 pub returns : goal.returns
