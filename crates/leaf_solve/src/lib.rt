@@ -25,6 +25,8 @@ mod question;
 mod rows;
 mod shortest;
 mod systems;
+#[cfg(test)]
+mod tests;
 mod words;
 
 pub use answering::leaf;
