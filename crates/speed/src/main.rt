@@ -5,8 +5,8 @@
 //!
 //! ```text
 //! $ speed machines
-//! 1,000 words: 10001
-//! 10,000 words: 100001
+//! 1,000 words: 9002
+//! 10,000 words: 90002
 //! ```
 #![tactic(auto)]
 
