@@ -1,11 +1,14 @@
-use Rattle.std.proofs.Common.{◌+◌, sym, subst}
+use Rattle.std.proofs.Common.{◌+◌, sym, subst, arith}
 use Rattle.sv_linear.specs.Rows.{IsRowWithin}
 use Rattle.box_search.specs.Hits.{HaveRegisters}
 use Rattle.parikh_flow.specs.Rows.{IsSystemOf}
 use Rattle.leaf_solve.proofs.systems.system.Goals as goal
 
-pub system_of-requires : goal.system_of-requires
-system_of-requires c = subst (λ n. HaveRegisters n c.args.question.now.machines.now) (sym c.registers.ensures) c.requires.registers
+pub system_of-requires-clause-registers : goal.system_of-requires-clause-registers
+system_of-requires-clause-registers c = subst (λ n. HaveRegisters n c.args.question.now.machines.now) (sym c.registers.ensures) c.requires.registers
+
+pub system_of-requires-clause-few : goal.system_of-requires-clause-few
+system_of-requires-clause-few c = omega (arith, c.registers.ensures, c.requires.few_registers, c.requires.few_integers)
 
 pub returns-clause-system : goal.returns-clause-system
 returns-clause-system c =
