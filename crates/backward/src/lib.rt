@@ -30,8 +30,6 @@ mod lifting;
 mod meeting;
 mod stepping;
 #[cfg(test)]
-mod stepping_tests;
-#[cfg(test)]
 mod tests;
 mod through;
 
