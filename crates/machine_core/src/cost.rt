@@ -8,11 +8,11 @@ use sv_list::Copied;
 
 /// One number for each register, in the order of the registers.
 ///
-/// Contracts see the list of the numbers. Up to four stand in the value itself, so that costs of at
-/// most four registers allocate nothing. Making, copying and adding are linear in the registers.
+/// Contracts see the list of the numbers. Up to two stand in the value itself, so that costs of at
+/// most two registers allocate nothing. Making, copying and adding are linear in the registers.
 #[derive(Drop)]
 pub struct Cost {
-    entries: SmallVec<u64, 4>,
+    entries: SmallVec<u64, 2>,
 }
 
 impl Model for Cost {
@@ -44,10 +44,10 @@ impl Cost {
         Ok(cost)
     }
 
-    /// The cost of these numbers, the first of which is that of register 0. Up to four need no memory.
+    /// The cost of these numbers, the first of which is that of register 0. Up to two need no memory.
     pub fn from_slice(alloc: Global, entries: &[u64]) -> Result<Self, AllocError>
         ensures entries { IfOk result (λ c. c ≡ entries.now) }
-        ensures few { length entries.now ≤ 4 → IsOk result }
+        ensures few { length entries.now ≤ 2 → IsOk result }
     {
         Ok(Cost {
             entries: SmallVec::from_slice(alloc, entries)?,

@@ -14,7 +14,7 @@
 //!   `moves` and `ends` are linear in what they answer.
 //! - [`Index`] finds places in a list by the row that each belongs to, in constant time.
 //! - [`Run`] is one run with its states and costs, and [`total`] adds the costs up.
-//! - [`Cost`] keeps up to four numbers in place, and allocates nothing for them.
+//! - [`Cost`] keeps up to two numbers in place, and allocates nothing for them.
 //!
 //! ```
 //! // The words of `a*`, each with its length at the one register.

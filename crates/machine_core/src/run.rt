@@ -49,7 +49,7 @@ impl From<AllocError> for CostFault {
 }
 
 /// The costs of a run's steps and of its end, added up at each register. Linear in the costs of the
-/// run, and no allocation for up to four registers.
+/// run, and no allocation for up to two registers.
 pub fn total<T>(alloc: Global, run: &Run<T>) -> Result<Cost, CostFault>
     requires { All (λ k. length k ≡ length run.now.last) run.now.costs }
     ensures sum { IfOk result (λ cost. cost ≡ run_total run.now) }
