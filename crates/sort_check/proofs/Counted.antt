@@ -1,13 +1,13 @@
 -- What commands make of parts in a number that they don't take.
 use Rattle.std.proofs.Common.{◌≡◌, refl, ℕ, ◌<◌, ◌≤◌, List, [], ◌∷◌, length, map, Result, Ok, Err, arith}
 use Rattle.sexpr_reader.specs.declared.sexpr.Sexpr.{Sexpr}
-use Rattle.sort_check.specs.declared.check_fault.CheckFault.TheVariants as fault
+use Rattle.smt_names.specs.declared.check_fault.CheckFault.TheVariants as fault
 use Rattle.sort_check.specs.declared.commands.Command.{Command}
 use Rattle.sort_check.specs.declared.commands.Command.TheVariants as command
 use Rattle.sort_check.specs.Checking.{plain, set_logic, set_option, declare_const, declare_fun, define_fun, assertion, stepped, get_value, get_info, echo}
-use Rattle.sort_check.specs.Form.{forms, seen}
+use Rattle.smt_names.specs.Form.{forms, seen}
 use Rattle.sort_check.specs.Meant.{Names}
-use Rattle.sort_check.proofs.Shapes.{none-seen, one-seen, two-seen, first-seen, seen-Atom, seen-List}
+use Rattle.smt_names.specs.Shapes.{none-seen, one-seen, two-seen, first-seen, seen-Atom, seen-List}
 
 pub plain-many : (c : Command) (xs : List Sexpr) → 1 ≤ length xs → plain c (forms (map seen xs)) ≡ Err fault.Shape
 plain-many c [] h = absurd (omega arith)

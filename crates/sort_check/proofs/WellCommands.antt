@@ -13,30 +13,33 @@ use Rattle.sv_terms.specs.declared.entry.Entry.TheVariants as entry
 use Rattle.sv_terms.specs.declared.sort.Sort.{Sort}
 use Rattle.sv_terms.specs.declared.sort.Sort.TheVariants as sort
 use Rattle.sv_terms.specs.declared.term.Term.{Term}
-use Rattle.sort_check.specs.declared.check_fault.CheckFault.{CheckFault}
-use Rattle.sort_check.specs.declared.check_fault.CheckFault.TheVariants as fault
+use Rattle.smt_names.specs.declared.check_fault.CheckFault.{CheckFault}
+use Rattle.smt_names.specs.declared.check_fault.CheckFault.TheVariants as fault
 use Rattle.sort_check.specs.declared.commands.Command.{Command}
 use Rattle.sort_check.specs.declared.commands.Command.TheVariants as command
 use Rattle.sort_check.specs.declared.pass.Pass.TheVariants as pass
-use Rattle.sort_check.specs.declared.verb.Verb.{Verb}
-use Rattle.sort_check.specs.declared.verb.Verb.TheVariants as verb
-use Rattle.sort_check.specs.Binders.{is_variable, are_all, bound_name, bound_names, repeats, variable_of, variable_sort, variables}
+use Rattle.smt_names.specs.declared.verb.Verb.{Verb}
+use Rattle.smt_names.specs.declared.verb.Verb.TheVariants as verb
+use Rattle.sort_check.specs.Binders.{is_variable, bound_name, bound_names, repeats, variable_of, variable_sort, variables}
+use Rattle.smt_names.specs.Form.{are_all}
 use Rattle.sort_check.specs.Bodies.{body_sort, term_of, parameter_name, is_escaped}
 use Rattle.sort_check.specs.Checking as c
-use Rattle.sort_check.specs.Faults.{◌>>◌, need, refuse, or_fault}
-use Rattle.sort_check.specs.Form.{Form, Forms, token, group, end, ◌⨾◌, count}
+use Rattle.smt_names.specs.Faults.{◌>>◌, need, refuse, or_fault}
+use Rattle.smt_names.specs.Form.{Form, Forms, token, group, end, ◌⨾◌, count}
 use Rattle.sort_check.specs.Meant as m
 use Rattle.sort_check.specs.Meant.{Scope, Names, meant_all, any_size, parameters_of}
 use Rattle.sort_check.specs.Passes.{at_variables, looked}
-use Rattle.sort_check.specs.Signature.{Name, same_name, stands_in, is_reserved, is_some}
+use Rattle.smt_names.specs.Signature.{Name, same_name, stands_in, is_reserved, is_some}
 use Rattle.sort_check.specs.Sizes.{fits}
-use Rattle.sort_check.specs.Tokens as t
+use Rattle.smt_names.specs.Tokens as t
 use Rattle.sv_terms.specs.Parts.{is_plain}
 use Rattle.sort_check.specs.WellFormed.{is_constant_of, is_declared, IsTermOf, IsWritten, hidden_by, is_bound, is_sort, constants_are, is_entry, is_well_formed, IsAdded}
 use Rattle.sort_check.proofs.WellApplied.{same-is, same-self, IsWell}
 use Rattle.sort_check.proofs.WellMeant.{Knows, AreWell, Scoped, Any, any-gives, constants-well, all-well}
 use Rattle.sort_check.proofs.WellNames.{same-name-self, sound-entry, one-more, not-true, not-false}
-use Rattle.sort_check.proofs.WellSteps.{Gives, Maybe, need-gives, refuse-gives, after-gives, or-gives, some-maybe, maybe-some, then-gives, each-both}
+use Rattle.smt_names.specs.Verbs.{verb_of}
+use Rattle.smt_names.specs.Giving.{Gives, Maybe, need-gives, refuse-gives, after-gives, or-gives, some-maybe, maybe-some, then-gives}
+use Rattle.sort_check.proofs.WellSteps.{each-both}
 use Rattle.sort_check.proofs.WellTerms.{both, both-make, Each}
 
 -- a name that isn't one of a parameter
@@ -287,7 +290,7 @@ module _ (symbols : Names) (wf : IsTrue (is_well_formed symbols)) where
   option-sound : (fs : Forms) → Gives Sound (c.set_option fs)
   option-sound end = tt
   option-sound (k ⨾ end) = tt
-  option-sound (k ⨾ b ⨾ end) = set-sound (t.keyword k) (c.truth b)
+  option-sound (k ⨾ b ⨾ end) = set-sound (t.keyword k) (t.truth b)
   option-sound (k ⨾ b ⨾ m ⨾ fs) = tt
 
   info-sound : (fs : Forms) → Gives Sound (c.get_info fs)
@@ -322,7 +325,7 @@ module _ (symbols : Names) (wf : IsTrue (is_well_formed symbols)) where
 
   begun-sound : (fs : Forms) → Gives Sound (c.begun symbols fs)
   begun-sound end = tt
-  begun-sound (w ⨾ parts) = need-gives Sound (is_some (t.symbol w)) fault.Shape _ (λ _. commanded-sound (c.verb_of (t.word w)) parts)
+  begun-sound (w ⨾ parts) = need-gives Sound (is_some (t.symbol w)) fault.Shape _ (λ _. commanded-sound (verb_of (t.word w)) parts)
 
 pub checked-sound : (symbols : Names) (f : Form) → IsTrue (is_well_formed symbols) → Gives (IsSound symbols) (c.checked symbols f)
 checked-sound symbols (token kind text) wf = tt

@@ -14,22 +14,23 @@ use Rattle.sv_terms.specs.declared.sort.Sort.{Sort}
 use Rattle.sv_terms.specs.declared.sort.Sort.TheVariants as sort
 use Rattle.sv_terms.specs.declared.term.Term.{Term}
 use Rattle.sv_terms.specs.declared.term.Term.TheVariants as term
-use Rattle.sort_check.specs.declared.check_fault.CheckFault.{CheckFault}
-use Rattle.sort_check.specs.declared.check_fault.CheckFault.TheVariants as fault
-use Rattle.sort_check.specs.declared.function.Function.{Function}
+use Rattle.smt_names.specs.declared.check_fault.CheckFault.{CheckFault}
+use Rattle.smt_names.specs.declared.check_fault.CheckFault.TheVariants as fault
+use Rattle.smt_names.specs.declared.function.Function.{Function}
 use Rattle.sort_check.specs.Binders.{is_binding, is_variable, are_some, variables}
 use Rattle.sort_check.specs.Bodies.{body_sort, term_of, called, arguments_for, or_constant}
-use Rattle.sort_check.specs.Faults.{and_then, or_fault}
-use Rattle.sort_check.specs.Form.{Form, Forms, token, group, end, ◌⨾◌, count}
+use Rattle.smt_names.specs.Faults.{and_then, or_fault}
+use Rattle.smt_names.specs.Form.{Form, Forms, token, group, end, ◌⨾◌, count}
 use Rattle.sort_check.specs.Meant.{Scope, Names, Head, theory, constant, macro, machine, of_entry, mapped, named, index_of, powered, looped, charred, indexed, identified, of_theory, named_if, head, head_count, head_sorts, head_applied, application, alone, in_parentheses, latest, meant_name, meant_token, as_constants, quantified_over, quantified, bind, meant, meant_all, meant_let, meant_values, meant_value, meant_quantifier, meant_annotated}
 use Rattle.sort_check.specs.Ranks.{are_of}
-use Rattle.sort_check.specs.Signature.{Name, same_name, stands_in, signature, indexed_names, power, loop, character}
-use Rattle.sort_check.specs.Tokens.{symbol, digits, value, is_too_large, literal_word, character_token, opening, is_identifier}
+use Rattle.smt_names.specs.Signature.{Name, same_name, stands_in, signature, indexed_names, power, loop, character}
+use Rattle.smt_names.specs.Tokens.{symbol, digits, value, is_too_large, literal_word, character_token, opening, is_identifier}
 use Rattle.sv_terms.specs.Parts.{is_plain}
 use Rattle.sort_check.specs.WellFormed.{is_constant_of, is_declared, hidden_by, is_bound, is_sort, constants_are, is_body, is_well_formed}
 use Rattle.sort_check.proofs.WellApplied.{same-is, same-self, Sound, function-sound, IsWell, well-term, well-opaque, well-language, well-applied}
 use Rattle.sort_check.proofs.WellNames.{sound-entry}
-use Rattle.sort_check.proofs.WellSteps.{Gives, Maybe, need-gives, refuse-gives, or-gives, some-maybe, else-maybe, if-maybe, each-append, one-of, variable-gives, then-gives, mapped-maybe}
+use Rattle.smt_names.specs.Giving.{Gives, Maybe, need-gives, refuse-gives, or-gives, some-maybe, if-maybe, then-gives}
+use Rattle.sort_check.proofs.WellSteps.{else-maybe, each-append, one-of, variable-gives, mapped-maybe}
 use Rattle.sort_check.proofs.WellTerms.{both, Each, Fit, fit-number, fit-text, fit-constant, fit-weaker, fit-put}
 
 -- all constants that are declared are known

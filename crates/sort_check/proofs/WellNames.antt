@@ -15,10 +15,10 @@ use Rattle.sv_terms.specs.Meaning.{Named}
 use Rattle.sv_terms.specs.Sorting.{sort_of, is_of, is_valued}
 use Rattle.sort_check.specs.Bodies.{body_sort, is_escaped}
 use Rattle.sort_check.specs.Meant.{Names}
-use Rattle.sort_check.specs.Signature.{Name, same_name, is_some}
+use Rattle.smt_names.specs.Signature.{Name, same_name, is_some}
 use Rattle.sv_terms.specs.Parts.{is_plain}
 use Rattle.sort_check.specs.WellFormed.{constants_are, is_constant_of, is_declared, constants_known, hidden_by, is_bound, is_sort, is_body, is_entry, is_new, follow, is_well_formed, is_given, AreGiven}
-use Rattle.sort_check.proofs.Lookups.{lookup-there}
+use Rattle.smt_names.specs.Lookups.{lookup-there}
 use Rattle.sort_check.proofs.WellApplied.{same-is}
 use Rattle.sort_check.proofs.WellTerms.{both, both-make, Each, each-all, all-each, weaker, known-valued}
 

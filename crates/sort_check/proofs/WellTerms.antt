@@ -17,7 +17,7 @@ use Rattle.sv_terms.specs.Language.{Word}
 use Rattle.sv_terms.specs.Meaning.{Named, all_of}
 use Rattle.sv_terms.specs.Sorting.{applied_sort, applied_sort_if, tested_sort, sort_step, sort_of, is_of, valued_step, is_valued}
 use Rattle.sort_check.specs.Bodies.{op_sort, layer_sort, or_constant, put_in_layer, put_in}
-use Rattle.sort_check.specs.Signature.{Name, same_name}
+use Rattle.smt_names.specs.Signature.{Name, same_name}
 use Rattle.sv_terms.specs.Parts.{plain_step, is_plain}
 use Rattle.sort_check.specs.WellFormed.{constants_step, constants_are}
 

@@ -9,47 +9,23 @@ use Rattle.sv_terms.specs.declared.entry.Entry.TheVariants as entry
 use Rattle.sv_terms.specs.declared.sort.Sort.{Sort}
 use Rattle.sv_terms.specs.declared.sort.Sort.TheVariants as sort
 use Rattle.sv_terms.specs.declared.term.Term.{Term}
-use Rattle.sort_check.specs.declared.check_fault.CheckFault.{CheckFault}
-use Rattle.sort_check.specs.declared.check_fault.CheckFault.TheVariants as fault
+use Rattle.smt_names.specs.declared.check_fault.CheckFault.{CheckFault}
+use Rattle.smt_names.specs.declared.check_fault.CheckFault.TheVariants as fault
 use Rattle.sort_check.specs.declared.commands.Command.{Command}
 use Rattle.sort_check.specs.declared.commands.Command.TheVariants as command
 use Rattle.sort_check.specs.declared.pass.Pass.TheVariants as pass
-use Rattle.sort_check.specs.declared.verb.Verb.{Verb}
-use Rattle.sort_check.specs.declared.verb.Verb.TheVariants as verb
-use Rattle.sort_check.specs.Binders.{is_variable, are_all, bound_names, repeats, variables, is_language_sort}
+use Rattle.smt_names.specs.declared.verb.Verb.{Verb}
+use Rattle.smt_names.specs.declared.verb.Verb.TheVariants as verb
+use Rattle.sort_check.specs.Binders.{is_variable, bound_names, repeats, variables, is_language_sort}
+use Rattle.smt_names.specs.Form.{are_all}
 use Rattle.sort_check.specs.Bodies.{body_sort, term_of, parameter_name, is_escaped}
-use Rattle.sort_check.specs.Faults.{and_then, ◌>>◌, need, refuse, or_fault}
-use Rattle.sort_check.specs.Form.{Form, Forms, end, ◌⨾◌, raw}
+use Rattle.smt_names.specs.Faults.{and_then, ◌>>◌, need, refuse, or_fault}
+use Rattle.smt_names.specs.Form.{Form, Forms, end, ◌⨾◌, raw}
 use Rattle.sort_check.specs.Meant.{Names, settled, parameters_of}
 use Rattle.sort_check.specs.Passes.{at_variables, looked, looked_all}
-use Rattle.sort_check.specs.Signature.{Name, same_name, stands_in, is_reserved, is_some}
-use Rattle.sort_check.specs.Tokens.{symbol, word, digits, keyword, literal_text, listed, is_too_large, level, is_sort_form, sort_of}
-
--- the words of the commands that declare and assert, and of the others
-abbrev pub script_verbs : List (Name × Verb)
-script_verbs = (codes "set-logic", verb.SetLogic) ∷ (codes "set-info", verb.SetInfo) ∷ (codes "set-option", verb.SetOption)
-    ∷ (codes "declare-const", verb.DeclareConst) ∷ (codes "declare-fun", verb.DeclareFun) ∷ (codes "define-fun", verb.DefineFun)
-    ∷ (codes "assert", verb.Assert) ∷ (codes "get-value", verb.GetValue) ∷ []
-
-abbrev pub session_verbs : List (Name × Verb)
-session_verbs = (codes "push", verb.Push) ∷ (codes "pop", verb.Pop)
-    ∷ (codes "check-sat", verb.CheckSat) ∷ (codes "get-model", verb.GetModel) ∷ (codes "get-info", verb.GetInfo)
-    ∷ (codes "echo", verb.Echo) ∷ (codes "reset", verb.Reset)
-    ∷ (codes "reset-assertions", verb.ResetAssertions) ∷ (codes "exit", verb.Exit) ∷ []
-
-abbrev pub verbs : List (Name × Verb)
-verbs = script_verbs ++ session_verbs
-
--- `true` or `false`
-abbrev pub truths : List (Name × Bool)
-truths = (codes "true", true) ∷ (codes "false", false) ∷ []
-
-abbrev pub truth_named : Option Name → Option Bool
-truth_named (Some n) = lookup (same_name n) truths
-truth_named None = None
-
-abbrev pub truth : Form → Option Bool
-truth f = truth_named (symbol f)
+use Rattle.smt_names.specs.Signature.{Name, same_name, stands_in, is_reserved, is_some}
+use Rattle.smt_names.specs.Tokens.{symbol, word, digits, keyword, literal_text, listed, truth, is_too_large, level, is_sort_form, sort_of}
+use Rattle.smt_names.specs.Verbs.{verb_of}
 
 -- a command without parts
 abbrev pub plain : Command → Forms → Result Command CheckFault
@@ -201,10 +177,6 @@ commanded symbols (Some verb.Echo) parts = echo parts
 commanded symbols (Some verb.Reset) parts = plain command.Reset parts
 commanded symbols (Some verb.ResetAssertions) parts = plain command.ResetAssertions parts
 commanded symbols (Some verb.Exit) parts = plain command.Exit parts
-
-abbrev pub verb_of : Option Name → Option Verb
-verb_of (Some w) = lookup (same_name w) verbs
-verb_of None = None
 
 abbrev pub begun : Names → Forms → Result Command CheckFault
 begun symbols end = Err fault.Shape

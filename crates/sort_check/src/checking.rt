@@ -6,25 +6,25 @@ ghost use Rattle.sort_check.specs.declared.commands.Command.{Command as AnyComma
 ghost use Rattle.sort_check.specs.Binders as v;
 ghost use Rattle.sort_check.specs.Bodies as b;
 ghost use Rattle.sort_check.specs.Checking as c;
-ghost use Rattle.sort_check.specs.Faults.{Answers, made_of};
-ghost use Rattle.sort_check.specs.Form.{Forms, seen, forms};
-ghost use Rattle.sort_check.specs.Tokens as t;
+ghost use Rattle.smt_names.specs.Faults.{Answers, made_of};
+ghost use Rattle.smt_names.specs.Form.{Forms, seen, forms};
+ghost use Rattle.smt_names.specs.Tokens as t;
+ghost use Rattle.smt_names.specs.Verbs.{verb_of as verb_is};
 
 use crate::applying::{body_sort, into_term};
 use crate::binder::{are_parameters, repeats, variables};
-use crate::check_fault::CheckFault;
 use crate::commands::Command;
 use crate::pass::Pass;
 use crate::passes::{at_variables, look, pass_over};
 use crate::rank::same_sort;
 use crate::scope::parameter_name;
-use crate::signature::{is_reserved, sort_of, truth, verb};
-use crate::token::{
-    digits, is_sort_form, keyword, level, listed, literal_text, symbol, unquoted, word,
-};
-use crate::verb::Verb;
 use crate::walk::{settled, settled_one};
 use sexpr_reader::Sexpr;
+use smt_names::signature::{is_reserved, sort_of, truth, verb};
+use smt_names::token::{
+    digits, is_sort_form, keyword, level, listed, literal_text, symbol, unquoted, word,
+};
+use smt_names::{CheckFault, Verb};
 use std::alloc::{AllocError, Global};
 use sv_list::{Copied, Items};
 use sv_terms::{Body, Entry, Name, Sort, Symbols, Term};
@@ -87,7 +87,7 @@ fn known_option(keyword: &[u8], value: bool) -> Command
 }
 
 fn option_set(first: &Sexpr, second: &Sexpr) -> Command
-    ensures { result ≡ c.option_set (t.keyword (seen first.now)) (c.truth (seen second.now)) }
+    ensures { result ≡ c.option_set (t.keyword (seen first.now)) (t.truth (seen second.now)) }
 {
     match keyword(first) {
         Some(keyword) => match truth(second) {
@@ -520,7 +520,7 @@ fn begun(alloc: Global, symbols: &Symbols, items: &[Sexpr]) -> Result<Command, C
 }
 
 fn verb_of(first: &Sexpr) -> Option<Verb>
-    ensures { result ≡ c.verb_of (t.word (seen first.now)) }
+    ensures { result ≡ verb_is (t.word (seen first.now)) }
 {
     match word(first) {
         Some(word) => verb(word),

@@ -21,38 +21,29 @@
 mod applying;
 mod binder;
 mod building;
-mod check_fault;
 mod checking;
 mod commands;
 mod draft;
-mod function;
 mod head;
 mod laws;
 mod opacity;
-mod opening;
 mod pass;
 mod passes;
 mod places;
 mod rank;
 mod scope;
-mod signature;
-mod token;
-mod verb;
 mod walk;
 mod weigh;
 mod weight;
 
-pub use check_fault::CheckFault;
 pub use checking::command;
 pub use commands::Command;
-pub use function::{Function, Sense, Takes};
 pub use head::Head;
 pub use laws::{
     constants_valued, terms_sorted, well_formed_entries, well_formed_first, well_formed_more,
 };
-pub use opening::Opening;
 pub use pass::Pass;
-pub use verb::Verb;
+pub use smt_names::CheckFault;
 pub use weight::{Factor, Weight};
 
 #[cfg(test)]

@@ -1,7 +1,7 @@
 // The printed form of commands in tests.
-use crate::check_fault::CheckFault;
 use crate::commands::Command;
 use sexpr_reader::Sexpr;
+use smt_names::CheckFault;
 use std::alloc::{AllocError, Global};
 use sv_terms::{Body, Entry, Name, Op, Regex, Sort, Term};
 use sv_word::Word;
