@@ -9,7 +9,7 @@ use Rattle.smt_names.specs.Signature.{Name, same_name}
 abbrev pub script_verbs : List (Name × Verb)
 script_verbs = (codes "set-logic", verb.SetLogic) ∷ (codes "set-info", verb.SetInfo) ∷ (codes "set-option", verb.SetOption)
     ∷ (codes "declare-const", verb.DeclareConst) ∷ (codes "declare-fun", verb.DeclareFun) ∷ (codes "define-fun", verb.DefineFun)
-    ∷ (codes "assert", verb.Assert) ∷ (codes "get-value", verb.GetValue) ∷ []
+    ∷ (codes "define-transducer", verb.DefineTransducer) ∷ (codes "assert", verb.Assert) ∷ (codes "get-value", verb.GetValue) ∷ []
 
 abbrev pub session_verbs : List (Name × Verb)
 session_verbs = (codes "push", verb.Push) ∷ (codes "pop", verb.Pop)

@@ -363,6 +363,7 @@ fn script_verb(word: &[u8]) -> Option<Verb>
         b"declare-const" => Some(Verb::DeclareConst),
         b"declare-fun" => Some(Verb::DeclareFun),
         b"define-fun" => Some(Verb::DefineFun),
+        b"define-transducer" => Some(Verb::DefineTransducer),
         b"assert" => Some(Verb::Assert),
         b"get-value" => Some(Verb::GetValue),
         _ => None,

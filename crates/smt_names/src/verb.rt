@@ -7,6 +7,7 @@ pub enum Verb {
     DeclareConst,
     DeclareFun,
     DefineFun,
+    DefineTransducer,
     Assert,
     Push,
     Pop,

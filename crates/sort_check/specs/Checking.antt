@@ -1,4 +1,4 @@
--- The command that an item is, or its first fault (SMT-LIB 2.6, section 3.9). What is looked for stands in this order, each over the whole item: its written form; declared names; sorts; numerals; the walk over its terms; the size of the terms; their sorts.
+-- The command that an item is, or its first fault (SMT-LIB 2.6, section 3.9). What is looked for stands in this order, each over the whole item: its written form; declared names; sorts; numerals; the walk over its terms; the size of the terms; their sorts; the description of a transducer.
 use Rattle.std.specs.Prelude.{ℕ, Bool, true, false, ◌&&◌, not, List, [], ◌∷◌, ◌++◌, map, Option, Some, None, Result, Ok, Err, codes, if◌then◌else◌}
 use Rattle.std.specs.List.{list_all}
 use Rattle.std.specs.Map.{lookup}
@@ -26,6 +26,8 @@ use Rattle.sort_check.specs.Passes.{at_variables, looked, looked_all}
 use Rattle.smt_names.specs.Signature.{Name, same_name, stands_in, is_reserved, is_some}
 use Rattle.smt_names.specs.Tokens.{symbol, word, digits, keyword, literal_text, listed, truth, is_too_large, level, is_sort_form, sort_of}
 use Rattle.smt_names.specs.Verbs.{verb_of}
+use Rattle.transducer_form.specs.Descriptions.{described}
+use Rattle.transducer_form.specs.Written.{DescriptionForm, description_form}
 
 -- a command without parts
 abbrev pub plain : Command → Forms → Result Command CheckFault
@@ -109,6 +111,15 @@ abbrev pub define_fun : Names → Forms → Result Command CheckFault
 define_fun symbols (n ⨾ ps ⨾ s ⨾ t ⨾ end) = and_then (λ ps. need (are_all is_variable ps && is_sort_form s) fault.Shape >> and_then (λ n. definition symbols n ps s t) (or_fault fault.Shape (symbol n))) (or_fault fault.Shape (listed ps))
 define_fun symbols _ = Err fault.Shape
 
+-- the transducer of a description, under a name that may be declared
+abbrev pub machine : Names → DescriptionForm → Name → Result Command CheckFault
+machine symbols d n = free symbols n >> and_then (λ t. Ok (command.Define n (entry.Machine t))) (described d)
+
+-- a name and the description of a transducer
+abbrev pub define_transducer : Names → Forms → Result Command CheckFault
+define_transducer symbols (n ⨾ states ⨾ start ⨾ edges ⨾ ends ⨾ end) = and_then (λ d. and_then (machine symbols d) (or_fault fault.Shape (symbol n))) (or_fault fault.Shape (description_form states start edges ends))
+define_transducer symbols _ = Err fault.Shape
+
 abbrev pub asserted : List Body → Result Command CheckFault
 asserted (b ∷ []) = need (same_sort sort.Bool (body_sort b)) fault.Sort >> Ok (command.Assert (term_of b))
 asserted _ = Err fault.Shape
@@ -166,6 +177,7 @@ commanded symbols (Some verb.SetOption) parts = set_option parts
 commanded symbols (Some verb.DeclareConst) parts = declare_const symbols parts
 commanded symbols (Some verb.DeclareFun) parts = declare_fun symbols parts
 commanded symbols (Some verb.DefineFun) parts = define_fun symbols parts
+commanded symbols (Some verb.DefineTransducer) parts = define_transducer symbols parts
 commanded symbols (Some verb.Assert) parts = assertion symbols parts
 commanded symbols (Some verb.Push) parts = stepped command.Push parts
 commanded symbols (Some verb.Pop) parts = stepped command.Pop parts

@@ -21,6 +21,9 @@ returns-in-100-2 c = let e : c.args.word.now ≡ codes "declare-fun" = text_from
 pub returns-in-100-3 : goal.returns-in-100-3
 returns-in-100-3 c = let e : c.args.word.now ≡ codes "define-fun" = text_from_reads c.args.word.now (codes "define-fun") (omega arith) (search rules) in rw e refl
 
+pub returns-in-100-4 : goal.returns-in-100-4
+returns-in-100-4 c = let e : c.args.word.now ≡ codes "define-transducer" = text_from_reads c.args.word.now (codes "define-transducer") (omega arith) (search rules) in rw e refl
+
 pub returns-in-assert : goal.returns-in-assert
 returns-in-assert c = let e : c.args.word.now ≡ codes "assert" = text_from_reads c.args.word.now (codes "assert") (omega arith) (search rules) in rw e refl
 
