@@ -9,7 +9,7 @@ use Rattle.std.proofs.lemmas.Bool.{true≢false}
 use Rattle.std.proofs.lemmas.Map.Made.{is_some-lookup}
 use Rattle.assert_stack.specs.Levels.{Symbol}
 use Rattle.sort_check.specs.Bodies.{is_escaped}
-use Rattle.sort_check.specs.Signature.{is_some}
+use Rattle.smt_names.specs.Signature.{is_some}
 use Rattle.sort_check.specs.WellFormed.{is_constant_of, is_declared, constants_known, is_entry, is_new, follow, is_well_formed, is_given, AreGiven}
 use Rattle.sv_terms.specs.Matches.{matches}
 use Rattle.sv_terms.specs.Meaning.{Named, tested, val}

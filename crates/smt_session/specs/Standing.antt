@@ -11,7 +11,6 @@ use Rattle.sv_terms.specs.Sorting.{is_valued, sort_of}
 use Rattle.sv_terms.specs.declared.entry.Entry.TheVariants as entry
 use Rattle.sv_terms.specs.declared.sort.Sort.TheVariants as sort
 use Rattle.sv_terms.specs.declared.term.Term.{Term}
-use Rattle.sv_terms.specs.Parts.{is_plain}
 use Rattle.smt_session.specs.declared.session.Kept.{Kept}
 use Rattle.smt_session.specs.declared.session.Kept.TheVariants as kept
 
@@ -38,4 +37,3 @@ Fits levels _ = ⊤
 pub record IsAsked (values : Named) (term : Term) : Type 0 where
   pub sorted : IsSome (sort_of term)
   pub valued : IsTrue (is_valued values term)
-  pub plain : IsTrue (is_plain term)

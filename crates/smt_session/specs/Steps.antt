@@ -4,8 +4,8 @@ use Rattle.std.specs.Cmp.Lexicographic.{pointwise}
 use Rattle.assert_stack.specs.Levels.{Level, empty, symbols_of, live, pushed, declared, asserted}
 use Rattle.sexpr_reader.specs.declared.sexpr.Sexpr.{Sexpr}
 use Rattle.sort_check.specs.Checking.{checked}
-use Rattle.sort_check.specs.Form.{seen}
-use Rattle.sort_check.specs.declared.check_fault.CheckFault.{CheckFault}
+use Rattle.smt_names.specs.Form.{seen}
+use Rattle.smt_names.specs.declared.check_fault.CheckFault.{CheckFault}
 use Rattle.sort_check.specs.declared.commands.Command.{Command}
 use Rattle.sort_check.specs.declared.commands.Command.TheVariants as command
 use Rattle.sv_terms.specs.Meaning.{Named}

@@ -98,6 +98,31 @@ fn a_verdict_is_kept_until_something_changes(rt: HostRuntime) -> Result<(), Fail
 }
 
 #[test]
+fn a_transducer_relates_values(rt: HostRuntime) -> Result<(), Fail> {
+    let rows = [
+        (
+            "(define-transducer T (q q) q () ())",
+            "(error \"transducer\")\n",
+        ),
+        (
+            "(define-transducer T (q) q ((q \"a\" \"y\" ((in 1)) q)) ((q ())))",
+            "",
+        ),
+        ("(declare-const x String)", ""),
+        ("(assert (str.in_re x (str.to_re \"bcd\")))", ""),
+        ("(check-sat)", "sat\n"),
+        (
+            "(get-value ((T \"abc\" x) (T x \"abc\")))",
+            "(((T \"abc\" x) true) ((T x \"abc\") false))\n",
+        ),
+        ("(assert (T x x))", ""),
+        ("(check-sat)", "(error \"not built\")\n"),
+    ];
+    assert!(rt; answers_all(rt.alloc(), &rows)?);
+    Ok(())
+}
+
+#[test]
 fn a_session_ends_at_exit(rt: HostRuntime) -> Result<(), Fail> {
     let alloc = rt.alloc();
     let mut session = Session::new(alloc);

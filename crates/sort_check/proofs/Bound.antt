@@ -3,15 +3,15 @@ use Rattle.std.proofs.Common.{◌≡◌, refl, sym, ap, ◌∙◌, ℕ, ◌<◌,
 use Rattle.sexpr_reader.specs.declared.kind.Kind.{Kind}
 use Rattle.sexpr_reader.specs.declared.sexpr.Sexpr.{Sexpr}
 use Rattle.sexpr_reader.specs.declared.sexpr.Sexpr.TheVariants as v
-use Rattle.sort_check.specs.declared.check_fault.CheckFault.{CheckFault}
+use Rattle.smt_names.specs.declared.check_fault.CheckFault.{CheckFault}
 use Rattle.sort_check.specs.declared.pass.Pass.{Pass}
-use Rattle.sort_check.specs.Faults.{Answers, ◌>>◌}
+use Rattle.smt_names.specs.Faults.{Answers, ◌>>◌}
 use Rattle.sort_check.specs.Binders.{is_binding, is_variable, are_some}
-use Rattle.sort_check.specs.Form.{Form, forms, seen, token, group, end, ◌⨾◌}
+use Rattle.smt_names.specs.Form.{Form, forms, seen, token, group, end, ◌⨾◌}
 use Rattle.sort_check.specs.Passes.{at_bindings, at_variables, looked, looked_let, looked_values, looked_value, looked_quantifier}
-use Rattle.sort_check.proofs.Looking.{answers-same, fault-passes}
+use Rattle.smt_names.specs.Answering.{answers-same, fault-passes}
 use mathlib.Core.Bool.{cond}
-use Rattle.sort_check.proofs.Shapes.{seen-Atom, seen-List, two-seen}
+use Rattle.smt_names.specs.Shapes.{seen-Atom, seen-List, two-seen}
 
 module _ (pass : Pass) where
   -- a list and a body

@@ -20,7 +20,7 @@ use Rattle.sort_check.specs.Drafts.{at_place, at_places, sense, senses, shown, t
 use Rattle.sort_check.specs.Weights.{place_of}
 use Rattle.std.proofs.lemmas.List.{take_more}
 use Rattle.sort_check.proofs.Calling.{put-index}
-use Rattle.sort_check.specs.Signature.{Name}
+use Rattle.smt_names.specs.Signature.{Name}
 use Rattle.sort_check.specs.Sizes.{total}
 use Rattle.sort_check.proofs.Drafting.{sense-at, sense-past}
 use Rattle.sort_check.proofs.Layers.{map-snoc}

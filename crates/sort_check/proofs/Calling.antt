@@ -17,7 +17,7 @@ use Rattle.sv_terms.specs.declared.term.Term.TheFolds.{fold-Term, fold-roll-Term
 use Rattle.sort_check.specs.declared.weight.Weight.{Weight}
 use Rattle.sort_check.specs.Bodies.{term_of, or_constant, put_in, put_in_layer, arguments_for, called}
 use Rattle.sort_check.specs.Drafts.{shown, weight_found, term_found, place_found, at_place, at_places}
-use Rattle.sort_check.specs.Signature.{Name, same_name}
+use Rattle.smt_names.specs.Signature.{Name, same_name}
 use Rattle.sort_check.specs.Weights.{weight_of, leaf, as_term, op_weight, in_weight, related_weight, regex_weight, weigh_layer, weighed, or_leaf, place_of, nth_if, argument_weight, call_weight}
 use Rattle.sort_check.proofs.Layers.{weight-Truth, weight-Number, weight-Text, weight-Constant, weight-Opaque, weight-Apply, weight-InRe, weight-Related}
 

@@ -1,13 +1,13 @@
 -- What commands make of parts in a number that they don't take.
 use Rattle.std.proofs.Common.{◌≡◌, refl, ℕ, ◌<◌, ◌≤◌, List, [], ◌∷◌, length, map, Result, Ok, Err, arith}
 use Rattle.sexpr_reader.specs.declared.sexpr.Sexpr.{Sexpr}
-use Rattle.sort_check.specs.declared.check_fault.CheckFault.TheVariants as fault
+use Rattle.smt_names.specs.declared.check_fault.CheckFault.TheVariants as fault
 use Rattle.sort_check.specs.declared.commands.Command.{Command}
 use Rattle.sort_check.specs.declared.commands.Command.TheVariants as command
-use Rattle.sort_check.specs.Checking.{plain, set_logic, set_option, declare_const, declare_fun, define_fun, assertion, stepped, get_value, get_info, echo}
-use Rattle.sort_check.specs.Form.{forms, seen}
+use Rattle.sort_check.specs.Checking.{plain, set_logic, set_option, declare_const, declare_fun, define_fun, define_transducer, assertion, stepped, get_value, get_info, echo}
+use Rattle.smt_names.specs.Form.{forms, seen}
 use Rattle.sort_check.specs.Meant.{Names}
-use Rattle.sort_check.proofs.Shapes.{none-seen, one-seen, two-seen, first-seen, seen-Atom, seen-List}
+use Rattle.smt_names.specs.Shapes.{none-seen, one-seen, two-seen, first-seen, seen-Atom, seen-List}
 
 pub plain-many : (c : Command) (xs : List Sexpr) → 1 ≤ length xs → plain c (forms (map seen xs)) ≡ Err fault.Shape
 plain-many c [] h = absurd (omega arith)
@@ -95,6 +95,23 @@ define_fun-many symbols (a ∷ b ∷ d ∷ []) h = absurd (omega arith)
 define_fun-many symbols (a ∷ b ∷ d ∷ e ∷ []) h = absurd (omega arith)
 define_fun-many symbols (a ∷ b ∷ d ∷ e ∷ g ∷ xs) h = refl
 
+pub define_transducer-few : (symbols : Names) (xs : List Sexpr) → length xs < 5 → define_transducer symbols (forms (map seen xs)) ≡ Err fault.Shape
+define_transducer-few symbols [] h = refl
+define_transducer-few symbols (a ∷ []) h = refl
+define_transducer-few symbols (a ∷ b ∷ []) h = refl
+define_transducer-few symbols (a ∷ b ∷ d ∷ []) h = refl
+define_transducer-few symbols (a ∷ b ∷ d ∷ e ∷ []) h = refl
+define_transducer-few symbols (a ∷ b ∷ d ∷ e ∷ g ∷ xs) h = absurd (omega arith)
+
+pub define_transducer-many : (symbols : Names) (xs : List Sexpr) → 6 ≤ length xs → define_transducer symbols (forms (map seen xs)) ≡ Err fault.Shape
+define_transducer-many symbols [] h = absurd (omega arith)
+define_transducer-many symbols (a ∷ []) h = absurd (omega arith)
+define_transducer-many symbols (a ∷ b ∷ []) h = absurd (omega arith)
+define_transducer-many symbols (a ∷ b ∷ d ∷ []) h = absurd (omega arith)
+define_transducer-many symbols (a ∷ b ∷ d ∷ e ∷ []) h = absurd (omega arith)
+define_transducer-many symbols (a ∷ b ∷ d ∷ e ∷ g ∷ []) h = absurd (omega arith)
+define_transducer-many symbols (a ∷ b ∷ d ∷ e ∷ g ∷ k ∷ xs) h = refl
+
 pub assertion-few : (symbols : Names) (xs : List Sexpr) → length xs < 1 → assertion symbols (forms (map seen xs)) ≡ Err fault.Shape
 assertion-few symbols [] h = refl
 assertion-few symbols (a ∷ xs) h = absurd (omega arith)
@@ -113,4 +130,4 @@ get_value-many symbols [] h = absurd (omega arith)
 get_value-many symbols (a ∷ []) h = absurd (omega arith)
 get_value-many symbols (a ∷ b ∷ xs) h = refl
 
-pub ruleset commands = (none-seen, one-seen, two-seen, first-seen, seen-Atom, seen-List, plain-many, set_logic-few, set_logic-many, get_info-few, get_info-many, echo-few, echo-many, set_option-few, set_option-many, stepped-many, declare_const-few, declare_const-many, declare_fun-few, declare_fun-many, define_fun-few, define_fun-many, assertion-few, assertion-many, get_value-few, get_value-many)
+pub ruleset commands = (none-seen, one-seen, two-seen, first-seen, seen-Atom, seen-List, plain-many, set_logic-few, set_logic-many, get_info-few, get_info-many, echo-few, echo-many, set_option-few, set_option-many, stepped-many, declare_const-few, declare_const-many, declare_fun-few, declare_fun-many, define_fun-few, define_fun-many, define_transducer-few, define_transducer-many, assertion-few, assertion-many, get_value-few, get_value-many)

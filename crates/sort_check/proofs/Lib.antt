@@ -2,11 +2,9 @@ mod Answering
 mod Bound
 mod Counted
 mod Looking
-mod Lookups
 mod Names
 mod Shapes
 mod Sorts
-mod Values
 mod Sums
 mod Layers
 mod Pairing

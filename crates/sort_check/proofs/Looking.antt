@@ -2,51 +2,20 @@
 use Rattle.std.proofs.Common.{◌≡◌, refl, sym, ap, ◌∙◌, ℕ, zero, suc, ◌+◌, ◌<◌, ◌≤◌, Bool, true, false, ◌&&◌, List, [], ◌∷◌, length, map, get_or, drop, Result, Ok, Err, arith, add-one}
 use Rattle.sexpr_reader.specs.declared.sexpr.Sexpr.{Sexpr}
 use Rattle.sexpr_reader.specs.declared.sexpr.Sexpr.TheVariants as v
-use Rattle.sort_check.specs.declared.check_fault.CheckFault.{CheckFault}
-use Rattle.sort_check.specs.declared.check_fault.CheckFault.TheVariants as fault
-use Rattle.sort_check.specs.declared.opening.Opening.{Opening}
-use Rattle.sort_check.specs.declared.opening.Opening.TheVariants.{Let, Quantifier, Annotation, Identifier, Application}
+use Rattle.smt_names.specs.declared.check_fault.CheckFault.{CheckFault}
+use Rattle.smt_names.specs.declared.check_fault.CheckFault.TheVariants as fault
+use Rattle.smt_names.specs.declared.opening.Opening.{Opening}
+use Rattle.smt_names.specs.declared.opening.Opening.TheVariants.{Let, Quantifier, Annotation, Identifier, Application}
 use Rattle.sort_check.specs.declared.pass.Pass.{Pass}
-use Rattle.sort_check.specs.Binders.{are_all, are_some, each}
-use Rattle.sort_check.specs.Faults.{Answers, ◌>>◌}
-use Rattle.sort_check.specs.Form.{Form, Forms, forms, seen, group, end, ◌⨾◌}
-use Rattle.sort_check.specs.Passes.{chosen, at_numeral, at_identifier, in_list, looked, looked_all, looked_let, looked_values, looked_value, looked_quantifier, looked_annotated}
-use Rattle.sort_check.specs.Tokens.{opening}
-use Rattle.sort_check.proofs.Shapes.{seen-List}
-
--- a fault of a part is the fault of the whole
-pub fault-passes : {A B : Type 0} (m : Result A CheckFault) (w : Result B CheckFault) (f : CheckFault) → (m ≡ Err f → w ≡ Err f) → Answers m (Err f) → Answers w (Err f)
-fault-passes m w fault.Unknown p a = p a
-fault-passes m w fault.Sort p a = p a
-fault-passes m w fault.Arity p a = p a
-fault-passes m w fault.Declared p a = p a
-fault-passes m w fault.Number p a = p a
-fault-passes m w fault.Reserved p a = p a
-fault-passes m w fault.Shape p a = p a
-fault-passes m w fault.Transducer p a = p a
-fault-passes m w fault.Index p a = p a
-fault-passes m w fault.Size p a = p a
-fault-passes m w (fault.Memory e) p a = tt
-
--- an answer to one question answers an equal one
-pub answers-same : {A : Type 0} (m w : Result A CheckFault) (r : Result A CheckFault) → w ≡ m → Answers m r → Answers w r
-answers-same m w (Ok x) e a = e ∙ a
-answers-same m w (Err f) e a = fault-passes m w f (λ k. e ∙ k) a
-
--- an exact answer answers
-pub exact-answers : {A : Type 0} (m r : Result A CheckFault) → m ≡ r → Answers m r
-exact-answers m (Ok x) e = e
-exact-answers m (Err fault.Unknown) e = e
-exact-answers m (Err fault.Sort) e = e
-exact-answers m (Err fault.Arity) e = e
-exact-answers m (Err fault.Declared) e = e
-exact-answers m (Err fault.Number) e = e
-exact-answers m (Err fault.Reserved) e = e
-exact-answers m (Err fault.Shape) e = e
-exact-answers m (Err fault.Transducer) e = e
-exact-answers m (Err fault.Index) e = e
-exact-answers m (Err fault.Size) e = e
-exact-answers m (Err (fault.Memory a)) e = tt
+use Rattle.sort_check.specs.Binders.{are_some, each}
+use Rattle.smt_names.specs.Form.{are_all}
+use Rattle.smt_names.specs.Faults.{Answers, ◌>>◌}
+use Rattle.smt_names.specs.Form.{Form, Forms, forms, seen, group, end, ◌⨾◌}
+use Rattle.smt_names.specs.Tokens.{chosen}
+use Rattle.sort_check.specs.Passes.{at_numeral, at_identifier, in_list, looked, looked_all, looked_let, looked_values, looked_value, looked_quantifier, looked_annotated}
+use Rattle.smt_names.specs.Tokens.{opening}
+use Rattle.smt_names.specs.Shapes.{seen-List, are-on, are-stop, are-end}
+use Rattle.smt_names.specs.Answering.{answers-same, exact-answers, fault-passes}
 
 -- what is looked for in forms from the left, each by `one`, goes on with the next item
 module _ (one : Form → Result Unit CheckFault) (all : Forms → Result Unit CheckFault) (none : all end ≡ Ok tt) (next : (f : Form) (fs : Forms) → all (f ⨾ fs) ≡ (one f >> all fs)) where
@@ -99,25 +68,8 @@ module _ (one : Form → Result Unit CheckFault) where
   pub each-end : (xs : List Sexpr) (i : ℕ) (w : Result Unit CheckFault) → length xs ≤ i → each one (forms (map seen (drop i xs))) ≡ w → w ≡ Ok tt
   each-end = ends one (each one) refl (λ f fs. refl)
 
--- whether each form passes a test
+-- whether one or more forms pass a test
 module _ (test : Form → Bool) where
-  are-next : (xs : List Sexpr) (i : ℕ) (d : Sexpr) → i < length xs → are_all test (forms (map seen (drop i xs))) ≡ (test (seen (get_or xs i d)) && are_all test (forms (map seen (drop (suc i) xs))))
-  are-next [] i d h = absurd (omega arith)
-  are-next (x ∷ xs) zero d h = refl
-  are-next (x ∷ xs) (suc i) d h = are-next xs i d (omega arith)
-
-  pub are-on : (xs : List Sexpr) (i : ℕ) (d : Sexpr) (w : Bool) → i < length xs → test (seen (get_or xs i d)) ≡ true → are_all test (forms (map seen (drop i xs))) ≡ w → are_all test (forms (map seen (drop (i + 1) xs))) ≡ w
-  are-on xs i d w h e g = rw add-one (sym (ap (λ r. r && are_all test (forms (map seen (drop (suc i) xs)))) e) ∙ sym (are-next xs i d h) ∙ g)
-
-  pub are-stop : (xs : List Sexpr) (i : ℕ) (d : Sexpr) (w : Bool) → i < length xs → test (seen (get_or xs i d)) ≡ false → are_all test (forms (map seen (drop i xs))) ≡ w → false ≡ w
-  are-stop xs i d w h e g = sym (ap (λ r. r && are_all test (forms (map seen (drop (suc i) xs)))) e) ∙ sym (are-next xs i d h) ∙ g
-
-  pub are-end : (xs : List Sexpr) (i : ℕ) (w : Bool) → length xs ≤ i → are_all test (forms (map seen (drop i xs))) ≡ w → true ≡ w
-  are-end [] zero w h g = g
-  are-end [] (suc i) w h g = g
-  are-end (x ∷ xs) zero w h g = absurd (omega arith)
-  are-end (x ∷ xs) (suc i) w h g = are-end xs i w (omega arith) g
-
   pub some-is : (xs : List Sexpr) → 1 ≤ length xs → are_some test (forms (map seen xs)) ≡ are_all test (forms (map seen xs))
   some-is [] h = absurd (omega arith)
   some-is (x ∷ xs) h = refl

@@ -6,8 +6,8 @@ use Rattle.std.specs.Option.{option_to_list}
 use Rattle.sexpr_reader.specs.declared.sexpr.Sexpr.{Sexpr}
 use Rattle.sv_terms.specs.declared.sort.Sort.{Sort}
 use Rattle.sort_check.specs.Binders.{bound_name, bound_names, repeats, variable_of, variable_sort, variables}
-use Rattle.sort_check.specs.Form.{Form, Forms, forms, seen, end, ◌⨾◌}
-use Rattle.sort_check.specs.Signature.{Name, same_name, stands_in}
+use Rattle.smt_names.specs.Form.{Form, Forms, forms, seen, end, ◌⨾◌}
+use Rattle.smt_names.specs.Signature.{Name, same_name, stands_in}
 
 -- lists that are joined of a piece of each form
 module _ {A : Type 0} (piece : Form → List A) (all : Forms → List A) (none : all end ≡ []) (next : (f : Form) (fs : Forms) → all (f ⨾ fs) ≡ piece f ++ all fs) where

@@ -6,7 +6,7 @@ use Rattle.sv_terms.specs.declared.entry.Body.{Body}
 use Rattle.sv_terms.specs.declared.term.Term.{Term}
 use Rattle.sort_check.specs.Bodies.{term_of}
 use Rattle.sort_check.specs.Checking.{beside}
-use Rattle.sort_check.specs.Form.{forms, seen, raw}
+use Rattle.smt_names.specs.Form.{forms, seen, raw}
 use Rattle.sort_check.proofs.Answering.{raw-seen}
 
 pub beside-none : (xs : List Sexpr) → [] ≡ beside (forms (map seen xs)) []

@@ -8,7 +8,7 @@ use Rattle.std.proofs.lemmas.Cmp.{nat_list_eq_equiv}
 use Rattle.std.proofs.lemmas.Grind.{common_steps}
 use Rattle.sv_terms.specs.declared.sort.Sort.{Sort}
 use Rattle.sort_check.specs.Drafts.{flat, shown}
-use Rattle.sort_check.specs.Signature.{Name, same_name}
+use Rattle.smt_names.specs.Signature.{Name, same_name}
 use Rattle.sort_check.specs.Weights.{place_of, nth_if}
 
 pub flat-cond : (b : Bool) (place : Option ℕ) (o : Option (Option ℕ)) → flat (cond b (Some place) o) ≡ cond b place (flat o)

@@ -5,13 +5,13 @@ use Rattle.std.proofs.lemmas.List.{take_more}
 use std.Path.{fun_ext}
 use Rattle.sexpr_reader.specs.declared.sexpr.Sexpr.{Sexpr}
 use Rattle.sv_terms.specs.declared.entry.Body.{Body}
-use Rattle.sort_check.specs.declared.check_fault.CheckFault.{CheckFault}
-use Rattle.sort_check.specs.declared.check_fault.CheckFault.TheVariants as fault
+use Rattle.smt_names.specs.declared.check_fault.CheckFault.{CheckFault}
+use Rattle.smt_names.specs.declared.check_fault.CheckFault.TheVariants as fault
 use Rattle.sort_check.specs.declared.walk.Walk.{Walk}
-use Rattle.sort_check.specs.Faults.{and_then, ◌>>◌, need}
-use Rattle.sort_check.specs.Form.{Form, Forms, forms, seen, end, ◌⨾◌}
+use Rattle.smt_names.specs.Faults.{and_then, ◌>>◌, need}
+use Rattle.smt_names.specs.Form.{Form, Forms, forms, seen, end, ◌⨾◌}
 use Rattle.sort_check.specs.Meant.{Scope, Names, any_size, latest, or_else, meant, meant_all, meant_values, meant_value}
-use Rattle.sort_check.specs.Signature.{Name, same_name}
+use Rattle.smt_names.specs.Signature.{Name, same_name}
 use Rattle.sort_check.specs.Sizes.{fits}
 use Rattle.sort_check.specs.Walks.{Here, Each, Bound, sized, Meaning, Read, Reads}
 use Rattle.sort_check.proofs.Layers.{map-snoc}

@@ -9,7 +9,7 @@ use Rattle.sort_check.specs.declared.scope.Binding.{Binding}
 use Rattle.sort_check.specs.Drafts.{shown}
 use Rattle.sort_check.specs.Meant.{latest, or_else}
 use Rattle.sort_check.specs.Scopes.{bound_pairs, HidesFrom, IsIndexed}
-use Rattle.sort_check.specs.Signature.{Name, same_name}
+use Rattle.smt_names.specs.Signature.{Name, same_name}
 use Rattle.sort_check.proofs.Layers.{map-snoc}
 
 abbrev Places : Type 0

@@ -15,14 +15,14 @@ use Rattle.sv_terms.specs.declared.term.Term.TheVariants as term
 use Rattle.sv_terms.specs.declared.term.Term.TheOpen.{Term-F}
 use Rattle.sv_terms.specs.declared.term.Term.TheFolds.{fold-Term, fold-roll-Term, map-Term, ind-Term}
 use Rattle.sv_terms.specs.Sorting.{same_sort}
-use Rattle.sort_check.specs.declared.function.Sense.{Sense}
-use Rattle.sort_check.specs.declared.function.Sense.TheVariants as is
+use Rattle.smt_names.specs.declared.function.Sense.{Sense}
+use Rattle.smt_names.specs.declared.function.Sense.TheVariants as is
 use Rattle.sort_check.specs.declared.weight.Factor.{Factor}
 use Rattle.sort_check.specs.declared.weight.Factor.TheVariants.{Literal, Known, Unknown}
 use Rattle.sort_check.specs.declared.weight.Weight.{Weight}
 use Rattle.sort_check.specs.Bodies.{body_sort, literal, factor, layer_word, layer_factor, is_language, is_unknown, holds, holds_unknown, applied_factor, term_of, regex_of, opaque}
 use Rattle.sort_check.specs.Ranks.{apply, equality, choice, product, replacement, membership, text_of, range_of, characters, combined, of_one, applied_as, unknowns, word_of}
-use Rattle.sort_check.specs.Signature.{is_some}
+use Rattle.smt_names.specs.Signature.{is_some}
 use Rattle.sort_check.specs.Weights.{weight_of, as_term, unless, is_literal, opacity, plain, plain_weight, op_weight, in_weight, combined_weight, one_weight, regex_weight, language, of_languages}
 use Rattle.sort_check.proofs.Layers.{weight-Truth, weight-Text, weight-Apply, weight-InRe, weight-Opaque, weight-Empty, weight-All, weight-AnyChar, weight-Word, weight-Range, weight-Concat, weight-Union, weight-Inter, weight-Diff, weight-Star, weight-Plus, weight-Opt, weight-Comp, weight-Loop}
 

@@ -16,24 +16,24 @@ use Rattle.sv_terms.specs.declared.sort.Sort.{Sort}
 use Rattle.sv_terms.specs.declared.sort.Sort.TheVariants as sort
 use Rattle.sv_terms.specs.declared.term.Term.TheVariants as term
 use Rattle.sv_terms.specs.Sorting.{same_sort}
-use Rattle.sort_check.specs.declared.check_fault.CheckFault.{CheckFault}
-use Rattle.sort_check.specs.declared.check_fault.CheckFault.TheVariants as fault
-use Rattle.sort_check.specs.declared.opening.Opening.{Opening}
+use Rattle.smt_names.specs.declared.check_fault.CheckFault.{CheckFault}
+use Rattle.smt_names.specs.declared.check_fault.CheckFault.TheVariants as fault
+use Rattle.smt_names.specs.declared.opening.Opening.{Opening}
 use Rattle.sort_check.specs.declared.walk.Walk.{Walk}
 use Rattle.sort_check.specs.Binders.{are_some, is_binding, is_variable, variables}
 use Rattle.sort_check.specs.Bodies.{body_sort, parameter_name, opaque}
 use Rattle.sort_check.specs.Drafts.{at_place, at_places}
-use Rattle.sort_check.specs.Faults.{Answers, and_then, ◌>>◌, need, refuse, or_fault, made_of}
-use Rattle.sort_check.specs.Form.{Form, Forms, forms, seen, token, group, end, ◌⨾◌, count}
+use Rattle.smt_names.specs.Faults.{Answers, and_then, ◌>>◌, need, refuse, or_fault, made_of}
+use Rattle.smt_names.specs.Form.{Form, Forms, forms, seen, token, group, end, ◌⨾◌, count}
 use Rattle.sort_check.specs.Meant.{Scope, Names, Head, any_size, latest, alone, of_theory, identified, head, head_count, in_parentheses, application, meant, meant_all, meant_let, meant_values, meant_value, meant_quantifier, meant_annotated, meant_token, quantified, quantified_over, as_constants, renamed, bind, settled}
-use Rattle.sort_check.specs.Passes.{chosen}
-use Rattle.sort_check.specs.Signature.{Name}
+use Rattle.smt_names.specs.Tokens.{chosen}
+use Rattle.smt_names.specs.Signature.{Name}
 use Rattle.sort_check.specs.Sizes.{fits}
-use Rattle.sort_check.specs.Tokens.{symbol, opening}
+use Rattle.smt_names.specs.Tokens.{symbol, opening}
 use Rattle.sort_check.specs.Walks.{Here, Each, Bound, sized, Meaning, Read, Reads, applied_head, bound_to, fitting}
 use Rattle.sort_check.proofs.Reading.{faulty, alike, fault-first, then-read, then-reads, tested, untested, bound-grow, each-grow, bound-append, each-append, joined, gathered, single, all-gathered, values-gathered, gathered-snoc, gathered-append}
 use Rattle.sort_check.proofs.Layers.{map-snoc}
-use Rattle.sort_check.proofs.Shapes.{seen-Atom, seen-List, two-seen}
+use Rattle.smt_names.specs.Shapes.{seen-Atom, seen-List, two-seen}
 use Rattle.sort_check.proofs.Walking.{answered, each-are, alone-so, fits-so, here-is}
 use Rattle.sort_check.specs.Weights.{weight_of, weight_fits}
 

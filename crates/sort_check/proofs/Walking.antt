@@ -16,18 +16,18 @@ use Rattle.sv_terms.specs.declared.term.Term.{Term}
 use Rattle.sv_terms.specs.declared.term.Term.TheVariants as term
 use Rattle.sv_terms.specs.declared.transducer.Transducer.{Transducer}
 use Rattle.sv_terms.specs.Sorting.{same_sort}
-use Rattle.sort_check.specs.declared.check_fault.CheckFault.{CheckFault}
-use Rattle.sort_check.specs.declared.check_fault.CheckFault.TheVariants as fault
+use Rattle.smt_names.specs.declared.check_fault.CheckFault.{CheckFault}
+use Rattle.smt_names.specs.declared.check_fault.CheckFault.TheVariants as fault
 use Rattle.sort_check.specs.declared.weight.Weight.{Weight}
 use Rattle.sort_check.specs.declared.walk.Walk.{Walk}
 use Rattle.sort_check.specs.Bodies.{body_sort, term_of, opaque}
 use Rattle.sort_check.specs.Drafts.{at_place, at_places}
-use Rattle.sort_check.specs.Faults.{Answers, and_then, ◌>>◌, need, refuse, or_fault}
-use Rattle.sort_check.specs.Form.{Form, Forms, forms, seen, end, ◌⨾◌}
+use Rattle.smt_names.specs.Faults.{Answers, and_then, ◌>>◌, need, refuse, or_fault}
+use Rattle.smt_names.specs.Form.{Form, Forms, forms, seen, end, ◌⨾◌}
 use Rattle.sort_check.specs.Meant.{Scope, Names, Head, any_size, latest, or_else, variable_or, alone, named, application, head_count, head_sorts, head_applied, meant_name, meant_token, related, quantified, mapped, bind, as_constants}
-use Rattle.sort_check.specs.Signature.{Name, same_name}
+use Rattle.smt_names.specs.Signature.{Name, same_name}
 use Rattle.sort_check.specs.Sizes.{fits, nodes, nesting}
-use Rattle.sort_check.specs.Tokens.{value, literal_word}
+use Rattle.smt_names.specs.Tokens.{value, literal_word}
 use Rattle.sort_check.specs.Walks.{Here, Each, Bound, sized, Meaning, Read, Reads, applied_head, bound_to, bound_place}
 use Rattle.sort_check.specs.Weights.{weight_of, weight_fits, as_term, opaque_weight, pair_weight, related_weight, capped}
 use Rattle.sort_check.proofs.Layers.{weight-Related, weight-Opaque, map-snoc}

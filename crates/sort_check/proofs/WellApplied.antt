@@ -16,14 +16,14 @@ use Rattle.sv_terms.specs.declared.term.Term.{Term}
 use Rattle.sv_terms.specs.declared.term.Term.TheVariants as v
 use Rattle.sv_terms.specs.Language.{Word}
 use Rattle.sv_terms.specs.Sorting.{same_sort, sort_if, some_of, more_of, alike, applied_sort}
-use Rattle.sort_check.specs.declared.function.Function.{Function}
-use Rattle.sort_check.specs.declared.function.Takes.{Takes}
-use Rattle.sort_check.specs.declared.function.Takes.TheVariants.{Nothing, One, Two, Three, Each as Each_of, Many, Alike, Choice}
-use Rattle.sort_check.specs.declared.function.Sense.{Sense}
-use Rattle.sort_check.specs.declared.function.Sense.TheVariants as is
+use Rattle.smt_names.specs.declared.function.Function.{Function}
+use Rattle.smt_names.specs.declared.function.Takes.{Takes}
+use Rattle.smt_names.specs.declared.function.Takes.TheVariants.{Nothing, One, Two, Three, Each as Each_of, Many, Alike, Choice}
+use Rattle.smt_names.specs.declared.function.Sense.{Sense}
+use Rattle.smt_names.specs.declared.function.Sense.TheVariants as is
 use Rattle.sort_check.specs.Bodies.{op_sort, body_sort, literal, term_of, is_language, regex_of, opaque}
 use Rattle.sort_check.specs.Ranks.{takes_count, takes_sorts, apply, equality, choice, unknowns, product, replacement, membership, text_of, characters, range_of, combined, of_one, applied_as, applied}
-use Rattle.sort_check.specs.Signature.{Name, Rows, signature, is_some}
+use Rattle.smt_names.specs.Signature.{Name, Rows, signature, is_some}
 use Rattle.sort_check.proofs.WellTerms.{both, both-make, Each, Fit, Fits, fit-truth, fit-text, fit-opaque, fit-member, fit-apply}
 
 pub same-is : (s t : Sort) → IsTrue (same_sort s t) → t ≡ s

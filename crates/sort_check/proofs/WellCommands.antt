@@ -13,30 +13,36 @@ use Rattle.sv_terms.specs.declared.entry.Entry.TheVariants as entry
 use Rattle.sv_terms.specs.declared.sort.Sort.{Sort}
 use Rattle.sv_terms.specs.declared.sort.Sort.TheVariants as sort
 use Rattle.sv_terms.specs.declared.term.Term.{Term}
-use Rattle.sort_check.specs.declared.check_fault.CheckFault.{CheckFault}
-use Rattle.sort_check.specs.declared.check_fault.CheckFault.TheVariants as fault
+use Rattle.smt_names.specs.declared.check_fault.CheckFault.{CheckFault}
+use Rattle.smt_names.specs.declared.check_fault.CheckFault.TheVariants as fault
 use Rattle.sort_check.specs.declared.commands.Command.{Command}
 use Rattle.sort_check.specs.declared.commands.Command.TheVariants as command
 use Rattle.sort_check.specs.declared.pass.Pass.TheVariants as pass
-use Rattle.sort_check.specs.declared.verb.Verb.{Verb}
-use Rattle.sort_check.specs.declared.verb.Verb.TheVariants as verb
-use Rattle.sort_check.specs.Binders.{is_variable, are_all, bound_name, bound_names, repeats, variable_of, variable_sort, variables}
+use Rattle.smt_names.specs.declared.verb.Verb.{Verb}
+use Rattle.smt_names.specs.declared.verb.Verb.TheVariants as verb
+use Rattle.sort_check.specs.Binders.{is_variable, bound_name, bound_names, repeats, variable_of, variable_sort, variables}
+use Rattle.smt_names.specs.Form.{are_all}
 use Rattle.sort_check.specs.Bodies.{body_sort, term_of, parameter_name, is_escaped}
 use Rattle.sort_check.specs.Checking as c
-use Rattle.sort_check.specs.Faults.{◌>>◌, need, refuse, or_fault}
-use Rattle.sort_check.specs.Form.{Form, Forms, token, group, end, ◌⨾◌, count}
+use Rattle.smt_names.specs.Faults.{◌>>◌, need, refuse, or_fault}
+use Rattle.smt_names.specs.Form.{Form, Forms, token, group, end, ◌⨾◌, count}
 use Rattle.sort_check.specs.Meant as m
 use Rattle.sort_check.specs.Meant.{Scope, Names, meant_all, any_size, parameters_of}
 use Rattle.sort_check.specs.Passes.{at_variables, looked}
-use Rattle.sort_check.specs.Signature.{Name, same_name, stands_in, is_reserved, is_some}
+use Rattle.smt_names.specs.Signature.{Name, same_name, stands_in, is_reserved, is_some}
 use Rattle.sort_check.specs.Sizes.{fits}
-use Rattle.sort_check.specs.Tokens as t
-use Rattle.sv_terms.specs.Parts.{is_plain}
-use Rattle.sort_check.specs.WellFormed.{is_constant_of, is_declared, IsTermOf, IsWritten, hidden_by, is_bound, is_sort, constants_are, is_entry, is_well_formed, IsAdded}
+use Rattle.smt_names.specs.Tokens as t
+use Rattle.sort_check.specs.WellFormed.{is_constant_of, is_declared, IsTermOf, IsWritten, hidden_by, is_bound, is_sort, constants_are, has_formed, is_entry, is_well_formed, IsAdded}
 use Rattle.sort_check.proofs.WellApplied.{same-is, same-self, IsWell}
 use Rattle.sort_check.proofs.WellMeant.{Knows, AreWell, Scoped, Any, any-gives, constants-well, all-well}
 use Rattle.sort_check.proofs.WellNames.{same-name-self, sound-entry, one-more, not-true, not-false}
-use Rattle.sort_check.proofs.WellSteps.{Gives, Maybe, need-gives, refuse-gives, after-gives, or-gives, some-maybe, maybe-some, then-gives, each-both}
+use Rattle.smt_names.specs.Verbs.{verb_of}
+use Rattle.sv_terms.specs.TransducerSizes.{is_formed}
+use Rattle.transducer_form.specs.Descriptions.{described}
+use Rattle.transducer_form.specs.Formed.{described-gives}
+use Rattle.transducer_form.specs.Written.{DescriptionForm, description_form}
+use Rattle.smt_names.specs.Giving.{Gives, Maybe, need-gives, refuse-gives, after-gives, or-gives, some-maybe, maybe-some, then-gives}
+use Rattle.sort_check.proofs.WellSteps.{each-both}
 use Rattle.sort_check.proofs.WellTerms.{both, both-make, Each}
 
 -- a name that isn't one of a parameter
@@ -148,7 +154,7 @@ module _ (symbols : Names) (wf : IsTrue (is_well_formed symbols)) where
 
   -- asserted terms
   written : (s : Sort) (b : Body) → IsWell (is_declared symbols) b → body_sort b ≡ s → IsTermOf symbols s (term_of b)
-  written s b w e = record { sorted = w.sorted ∙ ap Some e; known = w.constants; plain = w.plain }
+  written s b w e = record { sorted = w.sorted ∙ ap Some e; known = w.constants; formed = w.formed }
 
   asserted-sound : (bs : List Body) → Each (IsWell (is_declared symbols)) bs → Gives Sound (c.asserted bs)
   asserted-sound [] w = tt
@@ -215,8 +221,8 @@ module _ (symbols : Names) (wf : IsTrue (is_well_formed symbols)) where
   entry-well : (ps : Forms) (b : Body) → IsWell (is_bound (c.parameters ps) symbols) b → IsTrue (is_entry symbols (entry.Macro (c.parameters ps) b))
   entry-well ps (body.Language r) w = refl
   entry-well ps (body.Term u) w =
-      both-make (is_sort (body_sort (body.Term u)) (sort_of u) && is_plain u) (constants_are (is_bound (c.parameters ps) symbols) u)
-      (both-make (is_sort (body_sort (body.Term u)) (sort_of u)) (is_plain u) (ap (is_sort (body_sort (body.Term u))) w.sorted ∙ same-self (body_sort (body.Term u))) w.plain) w.constants
+      both-make (is_sort (body_sort (body.Term u)) (sort_of u) && has_formed u) (constants_are (is_bound (c.parameters ps) symbols) u)
+      (both-make (is_sort (body_sort (body.Term u)) (sort_of u)) (has_formed u) (ap (is_sort (body_sort (body.Term u))) w.sorted ∙ same-self (body_sort (body.Term u))) w.formed) w.constants
 
   defined-sound : (n : Name) (ps : Forms) (s : Sort) (bs : List Body) → Open n → lookup (same_name n) symbols ≡ None → Each (IsWell (is_bound (c.parameters ps) symbols)) bs → Gives Sound (c.defined n ps s bs)
   defined-sound n ps s [] o new w = tt
@@ -239,6 +245,23 @@ module _ (symbols : Names) (wf : IsTrue (is_well_formed symbols)) where
       then-gives (AreWell (is_bound (c.parameters ps) symbols) 1) Sound (c.defined n ps r) (m.settled symbols (parameters_of ps) (u ⨾ end))
       (settled-well (is_bound (c.parameters ps) symbols) (bound-knows ps) (parameters_of ps) (parameters-well ps apart) (u ⨾ end))
       (λ bs a. defined-sound n ps r bs ok new a.well))))
+
+  -- transducers
+  machine-sound : (d : DescriptionForm) (n : Name) → Gives Sound (c.machine symbols d n)
+  machine-sound d n = free-gives n _ (λ ok new.
+      then-gives (λ m. IsTrue (is_formed m)) Sound _ (described d) (described-gives d) (λ m h.
+      record { new = new; well_formed = one-more symbols n (entry.Machine m) wf ok new h }))
+
+  transducer-sound : (fs : Forms) → Gives Sound (c.define_transducer symbols fs)
+  transducer-sound end = tt
+  transducer-sound (n ⨾ end) = tt
+  transducer-sound (n ⨾ ss ⨾ end) = tt
+  transducer-sound (n ⨾ ss ⨾ s ⨾ end) = tt
+  transducer-sound (n ⨾ ss ⨾ s ⨾ es ⨾ end) = tt
+  transducer-sound (n ⨾ ss ⨾ s ⨾ es ⨾ ds ⨾ end) =
+      then-gives Any Sound _ (or_fault fault.Shape (description_form ss s es ds)) (any-gives (or_fault fault.Shape (description_form ss s es ds))) (λ d _.
+      then-gives Any Sound (c.machine symbols d) (or_fault fault.Shape (t.symbol n)) (any-gives (or_fault fault.Shape (t.symbol n))) (λ x _. machine-sound d x))
+  transducer-sound (n ⨾ ss ⨾ s ⨾ es ⨾ ds ⨾ w ⨾ fs) = tt
 
   define-sound : (fs : Forms) → Gives Sound (c.define_fun symbols fs)
   define-sound end = tt
@@ -287,7 +310,7 @@ module _ (symbols : Names) (wf : IsTrue (is_well_formed symbols)) where
   option-sound : (fs : Forms) → Gives Sound (c.set_option fs)
   option-sound end = tt
   option-sound (k ⨾ end) = tt
-  option-sound (k ⨾ b ⨾ end) = set-sound (t.keyword k) (c.truth b)
+  option-sound (k ⨾ b ⨾ end) = set-sound (t.keyword k) (t.truth b)
   option-sound (k ⨾ b ⨾ m ⨾ fs) = tt
 
   info-sound : (fs : Forms) → Gives Sound (c.get_info fs)
@@ -308,6 +331,7 @@ module _ (symbols : Names) (wf : IsTrue (is_well_formed symbols)) where
   commanded-sound (Some verb.DeclareConst) fs = const-sound fs
   commanded-sound (Some verb.DeclareFun) fs = fun-sound fs
   commanded-sound (Some verb.DefineFun) fs = define-sound fs
+  commanded-sound (Some verb.DefineTransducer) fs = transducer-sound fs
   commanded-sound (Some verb.Assert) fs = assertion-sound fs
   commanded-sound (Some verb.Push) fs = stepped-sound command.Push fs (λ n. tt)
   commanded-sound (Some verb.Pop) fs = stepped-sound command.Pop fs (λ n. tt)
@@ -322,7 +346,7 @@ module _ (symbols : Names) (wf : IsTrue (is_well_formed symbols)) where
 
   begun-sound : (fs : Forms) → Gives Sound (c.begun symbols fs)
   begun-sound end = tt
-  begun-sound (w ⨾ parts) = need-gives Sound (is_some (t.symbol w)) fault.Shape _ (λ _. commanded-sound (c.verb_of (t.word w)) parts)
+  begun-sound (w ⨾ parts) = need-gives Sound (is_some (t.symbol w)) fault.Shape _ (λ _. commanded-sound (verb_of (t.word w)) parts)
 
 pub checked-sound : (symbols : Names) (f : Form) → IsTrue (is_well_formed symbols) → Gives (IsSound symbols) (c.checked symbols f)
 checked-sound symbols (token kind text) wf = tt

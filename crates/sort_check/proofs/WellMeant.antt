@@ -1,4 +1,4 @@
--- What is read as a term has a sort, no transducers and known constants.
+-- What is read as a term has a sort, formed transducers and known constants.
 use Rattle.std.proofs.Common.{◌≡◌, refl, sym, ap, ◌∙◌, subst, map, length, Bool, true, false, ◌&&◌, IsTrue, nat_le, ℕ, suc, pos, List, [], ◌∷◌, ◌++◌, Option, Some, None, Result, Ok, Err, codes, if◌then◌else◌}
 use Rattle.std.specs.Map.{lookup}
 use mathlib.Core.Bool.{cond}
@@ -14,23 +14,25 @@ use Rattle.sv_terms.specs.declared.sort.Sort.{Sort}
 use Rattle.sv_terms.specs.declared.sort.Sort.TheVariants as sort
 use Rattle.sv_terms.specs.declared.term.Term.{Term}
 use Rattle.sv_terms.specs.declared.term.Term.TheVariants as term
-use Rattle.sort_check.specs.declared.check_fault.CheckFault.{CheckFault}
-use Rattle.sort_check.specs.declared.check_fault.CheckFault.TheVariants as fault
-use Rattle.sort_check.specs.declared.function.Function.{Function}
+use Rattle.sv_terms.specs.declared.transducer.Transducer.{Transducer}
+use Rattle.smt_names.specs.declared.check_fault.CheckFault.{CheckFault}
+use Rattle.smt_names.specs.declared.check_fault.CheckFault.TheVariants as fault
+use Rattle.smt_names.specs.declared.function.Function.{Function}
 use Rattle.sort_check.specs.Binders.{is_binding, is_variable, are_some, variables}
 use Rattle.sort_check.specs.Bodies.{body_sort, term_of, called, arguments_for, or_constant}
-use Rattle.sort_check.specs.Faults.{and_then, or_fault}
-use Rattle.sort_check.specs.Form.{Form, Forms, token, group, end, ◌⨾◌, count}
-use Rattle.sort_check.specs.Meant.{Scope, Names, Head, theory, constant, macro, machine, of_entry, mapped, named, index_of, powered, looped, charred, indexed, identified, of_theory, named_if, head, head_count, head_sorts, head_applied, application, alone, in_parentheses, latest, meant_name, meant_token, as_constants, quantified_over, quantified, bind, meant, meant_all, meant_let, meant_values, meant_value, meant_quantifier, meant_annotated}
+use Rattle.smt_names.specs.Faults.{and_then, or_fault}
+use Rattle.smt_names.specs.Form.{Form, Forms, token, group, end, ◌⨾◌, count}
+use Rattle.sort_check.specs.Meant.{Scope, Names, Head, theory, constant, macro, machine, of_entry, mapped, named, index_of, powered, looped, charred, indexed, identified, of_theory, named_if, head, head_count, head_sorts, head_applied, related, application, alone, in_parentheses, latest, meant_name, meant_token, as_constants, quantified_over, quantified, bind, meant, meant_all, meant_let, meant_values, meant_value, meant_quantifier, meant_annotated}
 use Rattle.sort_check.specs.Ranks.{are_of}
-use Rattle.sort_check.specs.Signature.{Name, same_name, stands_in, signature, indexed_names, power, loop, character}
-use Rattle.sort_check.specs.Tokens.{symbol, digits, value, is_too_large, literal_word, character_token, opening, is_identifier}
-use Rattle.sv_terms.specs.Parts.{is_plain}
-use Rattle.sort_check.specs.WellFormed.{is_constant_of, is_declared, hidden_by, is_bound, is_sort, constants_are, is_body, is_well_formed}
+use Rattle.smt_names.specs.Signature.{Name, same_name, stands_in, signature, indexed_names, power, loop, character}
+use Rattle.smt_names.specs.Tokens.{symbol, digits, value, is_too_large, literal_word, character_token, opening, is_identifier}
+use Rattle.sv_terms.specs.TransducerSizes.{is_formed}
+use Rattle.sort_check.specs.WellFormed.{is_constant_of, is_declared, hidden_by, is_bound, is_sort, constants_are, has_formed, is_body, is_well_formed}
 use Rattle.sort_check.proofs.WellApplied.{same-is, same-self, Sound, function-sound, IsWell, well-term, well-opaque, well-language, well-applied}
 use Rattle.sort_check.proofs.WellNames.{sound-entry}
-use Rattle.sort_check.proofs.WellSteps.{Gives, Maybe, need-gives, refuse-gives, or-gives, some-maybe, else-maybe, if-maybe, each-append, one-of, variable-gives, then-gives, mapped-maybe}
-use Rattle.sort_check.proofs.WellTerms.{both, Each, Fit, fit-number, fit-text, fit-constant, fit-weaker, fit-put}
+use Rattle.smt_names.specs.Giving.{Gives, Maybe, need-gives, refuse-gives, or-gives, some-maybe, if-maybe, then-gives}
+use Rattle.sort_check.proofs.WellSteps.{else-maybe, each-append, one-of, variable-gives, mapped-maybe}
+use Rattle.sort_check.proofs.WellTerms.{both, Each, Fit, fit-number, fit-text, fit-constant, fit-related, fit-weaker, fit-put}
 
 -- all constants that are declared are known
 abbrev pub Knows : Names → (Name → Sort → Bool) → Type 0
@@ -44,7 +46,7 @@ abbrev SoundHead : (Name → Sort → Bool) → Head → Type 0
 SoundHead known (theory f) = Sound f
 SoundHead known (constant n s) = IsTrue (known n s)
 SoundHead known (macro parameters b) = Calls known parameters b
-SoundHead known (machine t) = ⊥
+SoundHead known (machine t) = IsTrue (is_formed t)
 
 -- arguments in the place of parameters
 module _ (known : Name → Sort → Bool) (n : Name) (s : Sort) (declared : Bool) (knows : IsTrue declared → IsTrue (known n s)) where
@@ -68,15 +70,15 @@ module _ (symbols : Names) (wf : IsTrue (is_well_formed symbols)) (known : Name 
   body-calls : (ps : List (Name × Sort)) (b : Body) → IsTrue (is_body ps symbols b) → Calls known ps b
   body-calls ps (body.Language r) h bs e w = well-language known r
   body-calls ps (body.Term t) h bs e w =
-      let k = both (is_sort (body_sort (body.Term t)) (sort_of t) && is_plain t) (constants_are (is_bound ps symbols) t) h in
-      let l = both (is_sort (body_sort (body.Term t)) (sort_of t)) (is_plain t) k.0 in
+      let k = both (is_sort (body_sort (body.Term t)) (sort_of t) && has_formed t) (constants_are (is_bound ps symbols) t) h in
+      let l = both (is_sort (body_sort (body.Term t)) (sort_of t)) (has_formed t) k.0 in
       well-term known (body_sort (body.Term t)) _ (fit-put (is_bound ps symbols) known (λ n. lookup (same_name n) (arguments_for ps bs)) (λ n s q. put-argument known n s (is_declared symbols n s) (knows n s) ps bs e w q)
-      (body_sort (body.Term t)) t (record { sorted = sort-is (body_sort (body.Term t)) (sort_of t) l.0; shown = refl; constants = k.1; plain = l.1 }))
+      (body_sort (body.Term t)) t (record { sorted = sort-is (body_sort (body.Term t)) (sort_of t) l.0; shown = refl; constants = k.1; formed = l.1 }))
 
   entry-sound : (n : Name) (e : Entry) → lookup (same_name n) symbols ≡ Some e → SoundHead known (of_entry n e)
   entry-sound n (entry.Constant s) f = knows n s (ap (is_constant_of s) f ∙ same-self s)
   entry-sound n (entry.Macro ps b) f = body-calls ps b (sound-entry symbols n (entry.Macro ps b) wf f).entry
-  entry-sound n (entry.Machine t) f = let k : false ≡ true = (sound-entry symbols n (entry.Machine t) wf f).entry in absurd (cc)
+  entry-sound n (entry.Machine t) f = (sound-entry symbols n (entry.Machine t) wf f).entry
 
   named-sound : (n : Name) → Gives (SoundHead known) (named symbols n)
   named-sound n = refuse-gives (SoundHead known) (stands_in indexed_names n) fault.Index _ (λ _. or-gives (SoundHead known) fault.Unknown _ (else-maybe (SoundHead known) (mapped theory (lookup (same_name n) signature)) (mapped (of_entry n) (lookup (same_name n) symbols))
@@ -134,11 +136,21 @@ module _ (known : Name → Sort → Bool) where
     pub well : Each (IsWell known) bs
     pub many : length bs ≡ n
 
+  -- a transducer takes two words
+  related-well : (m : Transducer) (bs : List Body) → IsTrue (is_formed m) → Each (IsWell known) bs → IsTrue (head_sorts (machine m) (map body_sort bs)) → IsWell known (related m bs)
+  related-well m [] s w g = absurd (cc)
+  related-well m (a ∷ []) s w g = absurd (cc)
+  related-well m (a ∷ b ∷ []) s w g =
+      let k = both (same_sort sort.String (body_sort a)) (same_sort sort.String (body_sort b)) g in
+      well-term known sort.Bool (term.Related m (term_of a) (term_of b)) (fit-related known m (term_of a) (term_of b) s
+      (subst (λ z. Fit known z (term_of a)) (same-is sort.String (body_sort a) k.0) w.0) (subst (λ z. Fit known z (term_of b)) (same-is sort.String (body_sort b) k.1) w.1.0))
+  related-well m (a ∷ b ∷ d ∷ bs) s w g = absurd (cc)
+
   head-well : (h : Head) (bs : List Body) → SoundHead known h → Each (IsWell known) bs → IsTrue (head_count h (length bs)) → IsTrue (head_sorts h (map body_sort bs)) → IsWell known (head_applied h bs)
   head-well (theory f) bs s w c g = well-applied known f bs s w c g
   head-well (constant n s) bs k w c g = well-term known s (term.Constant n s) (fit-constant known n s k)
   head-well (macro ps b) bs s w c g = s bs g w
-  head-well (machine t) bs s w c g = absurd s
+  head-well (machine t) bs s w c g = related-well t bs s w g
 
   application-well : (h : Head) (n : ℕ) (r : Result (List Body) CheckFault) → SoundHead known h → Gives (AreWell n) r → Gives (IsWell known) (application h n r)
   application-well h n r s w = need-gives (IsWell known) (head_count h n) fault.Arity _ (λ c.

@@ -15,10 +15,9 @@ use Rattle.sv_terms.specs.Meaning.{Named}
 use Rattle.sv_terms.specs.Sorting.{sort_of, is_of, is_valued}
 use Rattle.sort_check.specs.Bodies.{body_sort, is_escaped}
 use Rattle.sort_check.specs.Meant.{Names}
-use Rattle.sort_check.specs.Signature.{Name, same_name, is_some}
-use Rattle.sv_terms.specs.Parts.{is_plain}
-use Rattle.sort_check.specs.WellFormed.{constants_are, is_constant_of, is_declared, constants_known, hidden_by, is_bound, is_sort, is_body, is_entry, is_new, follow, is_well_formed, is_given, AreGiven}
-use Rattle.sort_check.proofs.Lookups.{lookup-there}
+use Rattle.smt_names.specs.Signature.{Name, same_name, is_some}
+use Rattle.sort_check.specs.WellFormed.{constants_are, is_constant_of, is_declared, constants_known, has_formed, hidden_by, is_bound, is_sort, is_body, is_entry, is_new, follow, is_well_formed, is_given, AreGiven}
+use Rattle.smt_names.specs.Lookups.{lookup-there}
 use Rattle.sort_check.proofs.WellApplied.{same-is}
 use Rattle.sort_check.proofs.WellTerms.{both, both-make, Each, each-all, all-each, weaker, known-valued}
 
@@ -51,14 +50,14 @@ hidden-more None a b s k h = k h
 body-more : (parameters : List (Name × Sort)) (xs ys : Names) (b : Body) → IsTrue (is_body parameters xs b) → IsTrue (is_body parameters (xs ++ ys) b)
 body-more parameters xs ys (body.Language r) h = refl
 body-more parameters xs ys (body.Term t) h =
-    let k = both (is_sort (body_sort (body.Term t)) (sort_of t) && is_plain t) (constants_are (is_bound parameters xs) t) h in
-    both-make (is_sort (body_sort (body.Term t)) (sort_of t) && is_plain t) (constants_are (is_bound parameters (xs ++ ys)) t) k.0
+    let k = both (is_sort (body_sort (body.Term t)) (sort_of t) && has_formed t) (constants_are (is_bound parameters xs) t) h in
+    both-make (is_sort (body_sort (body.Term t)) (sort_of t) && has_formed t) (constants_are (is_bound parameters (xs ++ ys)) t) k.0
     (weaker (is_bound parameters xs) (is_bound parameters (xs ++ ys)) (λ n s. hidden-more (lookup (same_name n) parameters) (is_declared xs n s) (is_declared (xs ++ ys) n s) s (declared-more xs ys n s)) t k.1)
 
 entry-more : (xs ys : Names) (e : Entry) → IsTrue (is_entry xs e) → IsTrue (is_entry (xs ++ ys) e)
 entry-more xs ys (entry.Constant s) h = h
 entry-more xs ys (entry.Macro parameters b) h = body-more parameters xs ys b h
-entry-more xs ys (entry.Machine t) h = absurd (cc)
+entry-more xs ys (entry.Machine t) h = h
 
 -- prefixes
 pub follow-prefix : (before xs ys : Names) → IsTrue (follow before (xs ++ ys)) → IsTrue (follow before xs)

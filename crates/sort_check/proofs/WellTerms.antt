@@ -15,11 +15,11 @@ use Rattle.sv_terms.specs.declared.term.Term.TheFolds.{map-Term, ind-Term, fold-
 use Rattle.sv_terms.specs.declared.transducer.Transducer.{Transducer}
 use Rattle.sv_terms.specs.Language.{Word}
 use Rattle.sv_terms.specs.Meaning.{Named, all_of}
-use Rattle.sv_terms.specs.Sorting.{applied_sort, applied_sort_if, tested_sort, sort_step, sort_of, is_of, valued_step, is_valued}
+use Rattle.sv_terms.specs.Sorting.{applied_sort, applied_sort_if, tested_sort, related_sort, sort_step, sort_of, is_of, valued_step, is_valued}
 use Rattle.sort_check.specs.Bodies.{op_sort, layer_sort, or_constant, put_in_layer, put_in}
-use Rattle.sort_check.specs.Signature.{Name, same_name}
-use Rattle.sv_terms.specs.Parts.{plain_step, is_plain}
-use Rattle.sort_check.specs.WellFormed.{constants_step, constants_are}
+use Rattle.smt_names.specs.Signature.{Name, same_name}
+use Rattle.sv_terms.specs.TransducerSizes.{is_formed}
+use Rattle.sort_check.specs.WellFormed.{constants_step, constants_are, formed_step, has_formed}
 
 pub both : (a b : Bool) → IsTrue (a && b) → IsTrue a × IsTrue b
 both true b h = (refl, h)
@@ -77,37 +77,41 @@ module _ (P : Term → Type 0)
 abbrev pub term_sort : Term → Sort
 term_sort = fold-Term Sort layer_sort
 
--- a term of this sort, without transducers, whose constants are known
+-- a term of this sort, whose transducers are formed and whose constants are known
 pub record Fit (known : Name → Sort → Bool) (s : Sort) (t : Term) : Type 0 where
   pub sorted : sort_of t ≡ Some s
   pub shown : term_sort t ≡ s
   pub constants : IsTrue (constants_are known t)
-  pub plain : IsTrue (is_plain t)
+  pub formed : IsTrue (has_formed t)
 
 module _ (known : Name → Sort → Bool) where
   pub fit-truth : (b : Bool) → Fit known sort.Bool (v.Truth b)
   fit-truth b = let r = v.rolls-Truth b in let x : Term-F Term = Term-F.Truth b in
-      record { sorted = at sort_step _ x r; shown = at layer_sort _ x r; constants = at (constants_step known) _ x r; plain = at plain_step _ x r }
+      record { sorted = at sort_step _ x r; shown = at layer_sort _ x r; constants = at (constants_step known) _ x r; formed = at formed_step _ x r }
 
   pub fit-number : (n : ℤ) → Fit known sort.Int (v.Number n)
   fit-number n = let r = v.rolls-Number n in let x : Term-F Term = Term-F.Number n in
-      record { sorted = at sort_step _ x r; shown = at layer_sort _ x r; constants = at (constants_step known) _ x r; plain = at plain_step _ x r }
+      record { sorted = at sort_step _ x r; shown = at layer_sort _ x r; constants = at (constants_step known) _ x r; formed = at formed_step _ x r }
 
   pub fit-text : (w : Word) → Fit known sort.String (v.Text w)
   fit-text w = let r = v.rolls-Text w in let x : Term-F Term = Term-F.Text w in
-      record { sorted = at sort_step _ x r; shown = at layer_sort _ x r; constants = at (constants_step known) _ x r; plain = at plain_step _ x r }
+      record { sorted = at sort_step _ x r; shown = at layer_sort _ x r; constants = at (constants_step known) _ x r; formed = at formed_step _ x r }
 
   pub fit-constant : (n : Name) (s : Sort) → IsTrue (known n s) → Fit known s (v.Constant n s)
   fit-constant n s k = let r = v.rolls-Constant n s in let x : Term-F Term = Term-F.Constant n s in
-      record { sorted = at sort_step _ x r; shown = at layer_sort _ x r; constants = at (constants_step known) _ x r ∙ k; plain = at plain_step _ x r }
+      record { sorted = at sort_step _ x r; shown = at layer_sort _ x r; constants = at (constants_step known) _ x r ∙ k; formed = at formed_step _ x r }
 
   pub fit-opaque : (s : Sort) → Fit known s (v.Opaque s)
   fit-opaque s = let r = v.rolls-Opaque s in let x : Term-F Term = Term-F.Opaque s in
-      record { sorted = at sort_step _ x r; shown = at layer_sort _ x r; constants = at (constants_step known) _ x r; plain = at plain_step _ x r }
+      record { sorted = at sort_step _ x r; shown = at layer_sort _ x r; constants = at (constants_step known) _ x r; formed = at formed_step _ x r }
 
   pub fit-member : (t : Term) (m : Regex) → Fit known sort.String t → Fit known sort.Bool (v.InRe t m)
   fit-member t m f = let r = v.rolls-InRe t m in let x : Term-F Term = Term-F.InRe t m in
-      record { sorted = at sort_step _ x r ∙ ap tested_sort f.sorted; shown = at layer_sort _ x r; constants = at (constants_step known) _ x r ∙ f.constants; plain = at plain_step _ x r ∙ f.plain }
+      record { sorted = at sort_step _ x r ∙ ap tested_sort f.sorted; shown = at layer_sort _ x r; constants = at (constants_step known) _ x r ∙ f.constants; formed = at formed_step _ x r ∙ f.formed }
+
+  pub fit-related : (m : Transducer) (t u : Term) → IsTrue (is_formed m) → Fit known sort.String t → Fit known sort.String u → Fit known sort.Bool (v.Related m t u)
+  fit-related m t u h f g = let r = v.rolls-Related m t u in let x : Term-F Term = Term-F.Related m t u in
+      record { sorted = at sort_step _ x r ∙ (λ i. related_sort (f.sorted i) (g.sorted i)); shown = at layer_sort _ x r; constants = at (constants_step known) _ x r ∙ both-make (constants_are known t) (constants_are known u) f.constants g.constants; formed = at formed_step _ x r ∙ both-make (is_formed m) (has_formed t && has_formed u) h (both-make (has_formed t) (has_formed u) f.formed g.formed) }
 
   -- terms of these sorts, one after another
   abbrev pub Fits : List Sort → List Term → Type 0
@@ -127,15 +131,15 @@ module _ (known : Name → Sort → Bool) where
   each-constants (s ∷ ss) [] fs = absurd fs
   each-constants (s ∷ ss) (t ∷ ts) fs = both-make (constants_are known t) (list_all (λ b. b) (map (constants_are known) ts)) fs.0.constants (each-constants ss ts fs.1)
 
-  each-plain : (ss : List Sort) (ts : List Term) → Fits ss ts → IsTrue (list_all (λ b. b) (map is_plain ts))
-  each-plain [] [] fs = refl
-  each-plain [] (t ∷ ts) fs = absurd fs
-  each-plain (s ∷ ss) [] fs = absurd fs
-  each-plain (s ∷ ss) (t ∷ ts) fs = both-make (is_plain t) (list_all (λ b. b) (map is_plain ts)) fs.0.plain (each-plain ss ts fs.1)
+  each-formed : (ss : List Sort) (ts : List Term) → Fits ss ts → IsTrue (list_all (λ b. b) (map has_formed ts))
+  each-formed [] [] fs = refl
+  each-formed [] (t ∷ ts) fs = absurd fs
+  each-formed (s ∷ ss) [] fs = absurd fs
+  each-formed (s ∷ ss) (t ∷ ts) fs = both-make (has_formed t) (list_all (λ b. b) (map has_formed ts)) fs.0.formed (each-formed ss ts fs.1)
 
   pub fit-apply : (o : Op) (ss : List Sort) (ts : List Term) → Fits ss ts → applied_sort o ss ≡ Some (op_sort o) → Fit known (op_sort o) (v.Apply o ts)
   fit-apply o ss ts fs e = let r = v.rolls-Apply o ts in let x : Term-F Term = Term-F.Apply o ts in
-      record { sorted = at sort_step _ x r ∙ ap (applied_sort_if o) (each-sorted ss ts fs) ∙ e; shown = at layer_sort _ x r; constants = at (constants_step known) _ x r ∙ each-constants ss ts fs; plain = at plain_step _ x r ∙ each-plain ss ts fs }
+      record { sorted = at sort_step _ x r ∙ ap (applied_sort_if o) (each-sorted ss ts fs) ∙ e; shown = at layer_sort _ x r; constants = at (constants_step known) _ x r ∙ each-constants ss ts fs; formed = at formed_step _ x r ∙ each-formed ss ts fs }
 
 -- what is known in one place is known in another
 module _ (p q : Name → Sort → Bool) (le : (n : Name) (s : Sort) → IsTrue (p n s) → IsTrue (q n s)) where
@@ -165,7 +169,7 @@ module _ (p q : Name → Sort → Bool) (le : (n : Name) (s : Sort) → IsTrue (
       (λ s h. at (constants_step q) _ (Term-F.Opaque s) (v.rolls-Opaque s))
 
   pub fit-weaker : (s : Sort) (t : Term) → Fit p s t → Fit q s t
-  fit-weaker s t f = record { sorted = f.sorted; shown = f.shown; constants = weaker t f.constants; plain = f.plain }
+  fit-weaker s t f = record { sorted = f.sorted; shown = f.shown; constants = weaker t f.constants; formed = f.formed }
 
 -- arguments in the place of constants of their sorts
 module _ (p q : Name → Sort → Bool) (found : Name → Option Term) (put : (n : Name) (s : Sort) → IsTrue (p n s) → Fit q s (or_constant n s (found n))) where
@@ -173,21 +177,21 @@ module _ (p q : Name → Sort → Bool) (found : Name → Option Term) (put : (n
     sorted : sort_of (put_in found t) ≡ sort_of t
     shown : term_sort (put_in found t) ≡ term_sort t
     constants : IsTrue (constants_are q (put_in found t))
-    plain : IsTrue (is_plain (put_in found t))
+    formed : IsTrue (has_formed (put_in found t))
 
   abbrev Puts : Term → Type 0
-  Puts t = IsTrue (constants_are p t) → IsTrue (is_plain t) → IsPut t
+  Puts t = IsTrue (constants_are p t) → IsTrue (has_formed t) → IsPut t
 
   -- the term with arguments put in is u, which is made of the layer y as t is of the layer x
   made : (t u : Term) (x y : Term-F Term) → roll-Term x ≡ t → roll-Term y ≡ u → put_in found t ≡ u
       → sort_step (map-Term Term (Option Sort) sort_of y) ≡ sort_step (map-Term Term (Option Sort) sort_of x)
       → layer_sort (map-Term Term Sort term_sort y) ≡ layer_sort (map-Term Term Sort term_sort x)
-      → IsTrue (constants_step q (map-Term Term Bool (constants_are q) y)) → IsTrue (plain_step (map-Term Term Bool is_plain y)) → IsPut t
+      → IsTrue (constants_step q (map-Term Term Bool (constants_are q) y)) → IsTrue (formed_step (map-Term Term Bool has_formed y)) → IsPut t
   made t u x y r s e a b c d = record {
     sorted = ap sort_of e ∙ at sort_step u y s ∙ a ∙ sym (at sort_step t x r);
     shown = ap term_sort e ∙ at layer_sort u y s ∙ b ∙ sym (at layer_sort t x r);
     constants = ap (constants_are q) e ∙ at (constants_step q) u y s ∙ c;
-    plain = ap is_plain e ∙ at plain_step u y s ∙ d;
+    formed = ap has_formed e ∙ at formed_step u y s ∙ d;
   }
 
   put-at : (t : Term) (x : Term-F Term) → roll-Term x ≡ t → put_in found t ≡ put_in_layer found (map-Term Term Term (put_in found) x)
@@ -196,23 +200,23 @@ module _ (p q : Name → Sort → Bool) (found : Name → Option Term) (put : (n
   record ArePut (ts : List Term) : Type 0 where
     sorted : all_of (map sort_of (map (put_in found) ts)) ≡ all_of (map sort_of ts)
     constants : IsTrue (list_all (λ b. b) (map (constants_are q) (map (put_in found) ts)))
-    plain : IsTrue (list_all (λ b. b) (map is_plain (map (put_in found) ts)))
+    formed : IsTrue (list_all (λ b. b) (map has_formed (map (put_in found) ts)))
 
   all-sorted : (o p : Option Sort) (os ps : List (Option Sort)) → o ≡ p → all_of os ≡ all_of ps → all_of (o ∷ os) ≡ all_of (p ∷ ps)
   all-sorted None p os ps e f = ap (λ z. all_of (z ∷ ps)) e
   all-sorted (Some s) p os ps e f = ap (option_map (λ q. s ∷ q)) f ∙ ap (λ z. all_of (z ∷ ps)) e
 
-  put-each : (ts : List Term) → Each Puts ts → IsTrue (list_all (λ b. b) (map (constants_are p) ts)) → IsTrue (list_all (λ b. b) (map is_plain ts)) → ArePut ts
-  put-each [] w h g = record { sorted = refl; constants = refl; plain = refl }
+  put-each : (ts : List Term) → Each Puts ts → IsTrue (list_all (λ b. b) (map (constants_are p) ts)) → IsTrue (list_all (λ b. b) (map has_formed ts)) → ArePut ts
+  put-each [] w h g = record { sorted = refl; constants = refl; formed = refl }
   put-each (t ∷ ts) w h g =
       let b = both (constants_are p t) (list_all (λ b. b) (map (constants_are p) ts)) h in
-      let c = both (is_plain t) (list_all (λ b. b) (map is_plain ts)) g in
+      let c = both (has_formed t) (list_all (λ b. b) (map has_formed ts)) g in
       let one = w.0 b.0 c.0 in
       let rest = put-each ts w.1 b.1 c.1 in
       record {
         sorted = all-sorted (sort_of (put_in found t)) (sort_of t) (map sort_of (map (put_in found) ts)) (map sort_of ts) one.sorted rest.sorted;
         constants = both-make (constants_are q (put_in found t)) (list_all (λ b. b) (map (constants_are q) (map (put_in found) ts))) one.constants rest.constants;
-        plain = both-make (is_plain (put_in found t)) (list_all (λ b. b) (map is_plain (map (put_in found) ts))) one.plain rest.plain;
+        formed = both-make (has_formed (put_in found t)) (list_all (λ b. b) (map has_formed (map (put_in found) ts))) one.formed rest.formed;
       }
 
   put-constant : (n : Name) (s : Sort) → Puts (v.Constant n s)
@@ -225,7 +229,7 @@ module _ (p q : Name → Sort → Bool) (found : Name → Option Term) (put : (n
         sorted = ap sort_of e ∙ f.sorted ∙ sym (at sort_step _ x r);
         shown = ap term_sort e ∙ f.shown ∙ sym (at layer_sort _ x r);
         constants = ap (constants_are q) e ∙ f.constants;
-        plain = ap is_plain e ∙ f.plain;
+        formed = ap has_formed e ∙ f.formed;
       }
 
   put-apply : (o : Op) (ts : List Term) → Each Puts ts → Puts (v.Apply o ts)
@@ -233,19 +237,31 @@ module _ (p q : Name → Sort → Bool) (found : Name → Option Term) (put : (n
       let r = v.rolls-Apply o ts in
       let x : Term-F Term = Term-F.Apply o ts in
       let us = map (put_in found) ts in
-      let f = put-each ts w (sym (at (constants_step p) _ x r) ∙ h) (sym (at plain_step _ x r) ∙ g) in
-      made _ (v.Apply o us) x (Term-F.Apply o us) r (v.rolls-Apply o us) (put-at _ x r) (ap (applied_sort_if o) f.sorted) refl f.constants f.plain
+      let f = put-each ts w (sym (at (constants_step p) _ x r) ∙ h) (sym (at formed_step _ x r) ∙ g) in
+      made _ (v.Apply o us) x (Term-F.Apply o us) r (v.rolls-Apply o us) (put-at _ x r) (ap (applied_sort_if o) f.sorted) refl f.constants f.formed
 
   put-member : (t : Term) (m : Regex) → Puts t → Puts (v.InRe t m)
   put-member t m w h g =
       let r = v.rolls-InRe t m in
       let x : Term-F Term = Term-F.InRe t m in
       let u = put_in found t in
-      let f = w (sym (at (constants_step p) _ x r) ∙ h) (sym (at plain_step _ x r) ∙ g) in
-      made _ (v.InRe u m) x (Term-F.InRe u m) r (v.rolls-InRe u m) (put-at _ x r) (ap tested_sort f.sorted) refl f.constants f.plain
+      let f = w (sym (at (constants_step p) _ x r) ∙ h) (sym (at formed_step _ x r) ∙ g) in
+      made _ (v.InRe u m) x (Term-F.InRe u m) r (v.rolls-InRe u m) (put-at _ x r) (ap tested_sort f.sorted) refl f.constants f.formed
 
   put-related : (m : Transducer) (t u : Term) → Puts t → Puts u → Puts (v.Related m t u)
-  put-related m t u w z h g = let f : false ≡ true = sym (at plain_step _ (Term-F.Related m t u) (v.rolls-Related m t u)) ∙ g in absurd (cc)
+  put-related m t u w z h g =
+      let r = v.rolls-Related m t u in
+      let x : Term-F Term = Term-F.Related m t u in
+      let a = put_in found t in
+      let b = put_in found u in
+      let c = both (constants_are p t) (constants_are p u) (sym (at (constants_step p) _ x r) ∙ h) in
+      let d = both (is_formed m) (has_formed t && has_formed u) (sym (at formed_step _ x r) ∙ g) in
+      let e = both (has_formed t) (has_formed u) d.1 in
+      let k = w c.0 e.0 in
+      let l = z c.1 e.1 in
+      made _ (v.Related m a b) x (Term-F.Related m a b) r (v.rolls-Related m a b) (put-at _ x r) (λ i. related_sort (k.sorted i) (l.sorted i)) refl
+      (both-make (constants_are q a) (constants_are q b) k.constants l.constants)
+      (both-make (is_formed m) (has_formed a && has_formed b) d.0 (both-make (has_formed a) (has_formed b) k.formed l.formed))
 
   puts : (t : Term) → Puts t
   puts = induct Puts
@@ -259,7 +275,7 @@ module _ (p q : Name → Sort → Bool) (found : Name → Option Term) (put : (n
       (λ s h g. let r = v.rolls-Opaque s in let x : Term-F Term = Term-F.Opaque s in made _ _ x x r r (put-at _ x r) refl refl refl refl)
 
   pub fit-put : (s : Sort) (t : Term) → Fit p s t → Fit q s (put_in found t)
-  fit-put s t f = let k = puts t f.constants f.plain in record { sorted = k.sorted ∙ f.sorted; shown = k.shown ∙ f.shown; constants = k.constants; plain = k.plain }
+  fit-put s t f = let k = puts t f.constants f.formed in record { sorted = k.sorted ∙ f.sorted; shown = k.shown ∙ f.shown; constants = k.constants; formed = k.formed }
 
 -- constants that have values of their sorts
 module _ (known : Name → Sort → Bool) (values : Named) (given : (n : Name) (s : Sort) → IsTrue (known n s) → IsTrue (is_of s (lookup (pointwise nat_eq n) values))) where

@@ -4,17 +4,12 @@ use Rattle.std.specs.List.{list_any}
 use Rattle.std.specs.Option.{option_to_list}
 use Rattle.sv_terms.specs.declared.sort.Sort.{Sort}
 use Rattle.sv_terms.specs.declared.sort.Sort.TheVariants as sort
-use Rattle.sort_check.specs.declared.check_fault.CheckFault.{CheckFault}
-use Rattle.sort_check.specs.declared.check_fault.CheckFault.TheVariants as fault
-use Rattle.sort_check.specs.Faults.{◌>>◌, need, refuse}
-use Rattle.sort_check.specs.Form.{Form, Forms, token, group, end, ◌⨾◌}
-use Rattle.sort_check.specs.Signature.{Name, same_name, is_some}
-use Rattle.sort_check.specs.Tokens.{symbol, is_sort_form, sort_of}
-
--- the items of a list of two
-abbrev pub two : Form → Option (Form × Form)
-two (group (a ⨾ b ⨾ end)) = Some (a, b)
-two _ = None
+use Rattle.smt_names.specs.declared.check_fault.CheckFault.{CheckFault}
+use Rattle.smt_names.specs.declared.check_fault.CheckFault.TheVariants as fault
+use Rattle.smt_names.specs.Faults.{◌>>◌, need, refuse}
+use Rattle.smt_names.specs.Form.{Form, Forms, end, ◌⨾◌, two, are_all}
+use Rattle.smt_names.specs.Signature.{Name, same_name, is_some}
+use Rattle.smt_names.specs.Tokens.{symbol, is_sort_form, sort_of}
 
 abbrev pub first_symbol : Option (Form × Form) → Option Name
 first_symbol (Some p) = symbol p.0
@@ -35,10 +30,6 @@ second_is_sort None = false
 -- a symbol and its sort: a parameter, or a variable of a quantifier
 abbrev pub is_variable : Form → Bool
 is_variable f = is_binding f && second_is_sort (two f)
-
-abbrev pub are_all : (Form → Bool) → Forms → Bool
-are_all p end = true
-are_all p (f ⨾ fs) = p f && are_all p fs
 
 abbrev pub are_some : (Form → Bool) → Forms → Bool
 are_some p end = false

@@ -16,7 +16,7 @@ use Rattle.sv_terms.specs.declared.term.Term.TheOpen.{Term-F}
 use Rattle.sv_terms.specs.declared.term.Term.TheFolds.{fold-Term}
 use Rattle.sort_check.specs.declared.weight.Factor.{Factor}
 use Rattle.sort_check.specs.declared.weight.Factor.TheVariants.{Literal, Known, Unknown}
-use Rattle.sort_check.specs.Signature.{Name, same_name}
+use Rattle.smt_names.specs.Signature.{Name, same_name}
 
 -- the sort that a function with a meaning gives
 abbrev pub op_sort : Op → Sort

@@ -1,4 +1,4 @@
--- The command that an item is, or its first fault (SMT-LIB 2.6, section 3.9). What is looked for stands in this order, each over the whole item: its written form; declared names; sorts; numerals; the walk over its terms; the size of the terms; their sorts.
+-- The command that an item is, or its first fault (SMT-LIB 2.6, section 3.9). What is looked for stands in this order, each over the whole item: its written form; declared names; sorts; numerals; the walk over its terms; the size of the terms; their sorts; the description of a transducer.
 use Rattle.std.specs.Prelude.{ℕ, Bool, true, false, ◌&&◌, not, List, [], ◌∷◌, ◌++◌, map, Option, Some, None, Result, Ok, Err, codes, if◌then◌else◌}
 use Rattle.std.specs.List.{list_all}
 use Rattle.std.specs.Map.{lookup}
@@ -9,47 +9,25 @@ use Rattle.sv_terms.specs.declared.entry.Entry.TheVariants as entry
 use Rattle.sv_terms.specs.declared.sort.Sort.{Sort}
 use Rattle.sv_terms.specs.declared.sort.Sort.TheVariants as sort
 use Rattle.sv_terms.specs.declared.term.Term.{Term}
-use Rattle.sort_check.specs.declared.check_fault.CheckFault.{CheckFault}
-use Rattle.sort_check.specs.declared.check_fault.CheckFault.TheVariants as fault
+use Rattle.smt_names.specs.declared.check_fault.CheckFault.{CheckFault}
+use Rattle.smt_names.specs.declared.check_fault.CheckFault.TheVariants as fault
 use Rattle.sort_check.specs.declared.commands.Command.{Command}
 use Rattle.sort_check.specs.declared.commands.Command.TheVariants as command
 use Rattle.sort_check.specs.declared.pass.Pass.TheVariants as pass
-use Rattle.sort_check.specs.declared.verb.Verb.{Verb}
-use Rattle.sort_check.specs.declared.verb.Verb.TheVariants as verb
-use Rattle.sort_check.specs.Binders.{is_variable, are_all, bound_names, repeats, variables, is_language_sort}
+use Rattle.smt_names.specs.declared.verb.Verb.{Verb}
+use Rattle.smt_names.specs.declared.verb.Verb.TheVariants as verb
+use Rattle.sort_check.specs.Binders.{is_variable, bound_names, repeats, variables, is_language_sort}
+use Rattle.smt_names.specs.Form.{are_all}
 use Rattle.sort_check.specs.Bodies.{body_sort, term_of, parameter_name, is_escaped}
-use Rattle.sort_check.specs.Faults.{and_then, ◌>>◌, need, refuse, or_fault}
-use Rattle.sort_check.specs.Form.{Form, Forms, end, ◌⨾◌, raw}
+use Rattle.smt_names.specs.Faults.{and_then, ◌>>◌, need, refuse, or_fault}
+use Rattle.smt_names.specs.Form.{Form, Forms, end, ◌⨾◌, raw}
 use Rattle.sort_check.specs.Meant.{Names, settled, parameters_of}
 use Rattle.sort_check.specs.Passes.{at_variables, looked, looked_all}
-use Rattle.sort_check.specs.Signature.{Name, same_name, stands_in, is_reserved, is_some}
-use Rattle.sort_check.specs.Tokens.{symbol, word, digits, keyword, literal_text, listed, is_too_large, level, is_sort_form, sort_of}
-
--- the words of the commands that declare and assert, and of the others
-abbrev pub script_verbs : List (Name × Verb)
-script_verbs = (codes "set-logic", verb.SetLogic) ∷ (codes "set-info", verb.SetInfo) ∷ (codes "set-option", verb.SetOption)
-    ∷ (codes "declare-const", verb.DeclareConst) ∷ (codes "declare-fun", verb.DeclareFun) ∷ (codes "define-fun", verb.DefineFun)
-    ∷ (codes "assert", verb.Assert) ∷ (codes "get-value", verb.GetValue) ∷ []
-
-abbrev pub session_verbs : List (Name × Verb)
-session_verbs = (codes "push", verb.Push) ∷ (codes "pop", verb.Pop)
-    ∷ (codes "check-sat", verb.CheckSat) ∷ (codes "get-model", verb.GetModel) ∷ (codes "get-info", verb.GetInfo)
-    ∷ (codes "echo", verb.Echo) ∷ (codes "reset", verb.Reset)
-    ∷ (codes "reset-assertions", verb.ResetAssertions) ∷ (codes "exit", verb.Exit) ∷ []
-
-abbrev pub verbs : List (Name × Verb)
-verbs = script_verbs ++ session_verbs
-
--- `true` or `false`
-abbrev pub truths : List (Name × Bool)
-truths = (codes "true", true) ∷ (codes "false", false) ∷ []
-
-abbrev pub truth_named : Option Name → Option Bool
-truth_named (Some n) = lookup (same_name n) truths
-truth_named None = None
-
-abbrev pub truth : Form → Option Bool
-truth f = truth_named (symbol f)
+use Rattle.smt_names.specs.Signature.{Name, same_name, stands_in, is_reserved, is_some}
+use Rattle.smt_names.specs.Tokens.{symbol, word, digits, keyword, literal_text, listed, truth, is_too_large, level, is_sort_form, sort_of}
+use Rattle.smt_names.specs.Verbs.{verb_of}
+use Rattle.transducer_form.specs.Descriptions.{described}
+use Rattle.transducer_form.specs.Written.{DescriptionForm, description_form}
 
 -- a command without parts
 abbrev pub plain : Command → Forms → Result Command CheckFault
@@ -133,6 +111,15 @@ abbrev pub define_fun : Names → Forms → Result Command CheckFault
 define_fun symbols (n ⨾ ps ⨾ s ⨾ t ⨾ end) = and_then (λ ps. need (are_all is_variable ps && is_sort_form s) fault.Shape >> and_then (λ n. definition symbols n ps s t) (or_fault fault.Shape (symbol n))) (or_fault fault.Shape (listed ps))
 define_fun symbols _ = Err fault.Shape
 
+-- the transducer of a description, under a name that may be declared
+abbrev pub machine : Names → DescriptionForm → Name → Result Command CheckFault
+machine symbols d n = free symbols n >> and_then (λ t. Ok (command.Define n (entry.Machine t))) (described d)
+
+-- a name and the description of a transducer
+abbrev pub define_transducer : Names → Forms → Result Command CheckFault
+define_transducer symbols (n ⨾ states ⨾ start ⨾ edges ⨾ ends ⨾ end) = and_then (λ d. and_then (machine symbols d) (or_fault fault.Shape (symbol n))) (or_fault fault.Shape (description_form states start edges ends))
+define_transducer symbols _ = Err fault.Shape
+
 abbrev pub asserted : List Body → Result Command CheckFault
 asserted (b ∷ []) = need (same_sort sort.Bool (body_sort b)) fault.Sort >> Ok (command.Assert (term_of b))
 asserted _ = Err fault.Shape
@@ -190,6 +177,7 @@ commanded symbols (Some verb.SetOption) parts = set_option parts
 commanded symbols (Some verb.DeclareConst) parts = declare_const symbols parts
 commanded symbols (Some verb.DeclareFun) parts = declare_fun symbols parts
 commanded symbols (Some verb.DefineFun) parts = define_fun symbols parts
+commanded symbols (Some verb.DefineTransducer) parts = define_transducer symbols parts
 commanded symbols (Some verb.Assert) parts = assertion symbols parts
 commanded symbols (Some verb.Push) parts = stepped command.Push parts
 commanded symbols (Some verb.Pop) parts = stepped command.Pop parts
@@ -201,10 +189,6 @@ commanded symbols (Some verb.Echo) parts = echo parts
 commanded symbols (Some verb.Reset) parts = plain command.Reset parts
 commanded symbols (Some verb.ResetAssertions) parts = plain command.ResetAssertions parts
 commanded symbols (Some verb.Exit) parts = plain command.Exit parts
-
-abbrev pub verb_of : Option Name → Option Verb
-verb_of (Some w) = lookup (same_name w) verbs
-verb_of None = None
 
 abbrev pub begun : Names → Forms → Result Command CheckFault
 begun symbols end = Err fault.Shape

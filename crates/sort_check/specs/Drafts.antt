@@ -13,7 +13,7 @@ use Rattle.sort_check.specs.declared.draft.Part.{Part}
 use Rattle.sort_check.specs.declared.weight.Weight.{Weight}
 use Rattle.sort_check.specs.Bodies.{opaque, called, term_of}
 use Rattle.sort_check.specs.Meant.{related}
-use Rattle.sort_check.specs.Signature.{Name, same_name}
+use Rattle.smt_names.specs.Signature.{Name, same_name}
 use Rattle.sort_check.specs.Weights.{plain, as_term, nth_if}
 
 -- what is at a place; past the end nothing is

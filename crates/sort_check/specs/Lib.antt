@@ -2,16 +2,12 @@ pub mod Binders
 pub mod Bodies
 pub mod Checking
 pub mod Drafts
-pub mod Faults
-pub mod Form
 pub mod Heads
 pub mod Meant
 pub mod Passes
 pub mod Ranks
 pub mod Scopes
-pub mod Signature
 pub mod Sizes
-pub mod Tokens
 pub mod Walks
 pub mod Weights
 pub mod WellFormed

@@ -16,19 +16,18 @@ use Rattle.sv_terms.specs.declared.term.Term.{Term}
 use Rattle.sv_terms.specs.declared.term.Term.TheVariants as term
 use Rattle.sv_terms.specs.declared.transducer.Transducer.{Transducer}
 use Rattle.sv_terms.specs.declared.limits.TheConstants.{MOST_TIMES}
-use Rattle.sort_check.specs.declared.check_fault.CheckFault.{CheckFault}
-use Rattle.sort_check.specs.declared.check_fault.CheckFault.TheVariants as fault
-use Rattle.sort_check.specs.declared.function.Function.{Function}
-use Rattle.sort_check.specs.declared.function.Takes.TheVariants.{Nothing, Two}
+use Rattle.smt_names.specs.declared.check_fault.CheckFault.{CheckFault}
+use Rattle.smt_names.specs.declared.check_fault.CheckFault.TheVariants as fault
+use Rattle.smt_names.specs.declared.function.Function.{Function}
+use Rattle.smt_names.specs.declared.function.Takes.TheVariants.{Nothing, Two}
 use Rattle.sort_check.specs.Binders.{is_binding, is_variable, are_some, bound_name, variables}
 use Rattle.sort_check.specs.Bodies.{body_sort, term_of, opaque, called, parameter_name}
-use Rattle.sort_check.specs.Faults.{and_then, ◌>>◌, need, refuse, or_fault}
-use Rattle.sort_check.specs.Form.{Form, Forms, token, group, end, ◌⨾◌, count}
-use Rattle.sort_check.specs.Passes.{chosen}
+use Rattle.smt_names.specs.Faults.{and_then, ◌>>◌, need, refuse, or_fault}
+use Rattle.smt_names.specs.Form.{Form, Forms, token, group, end, ◌⨾◌, count}
 use Rattle.sort_check.specs.Ranks.{takes_count, takes_sorts, are_of, applied}
-use Rattle.sort_check.specs.Signature.{Name, same_name, stands_in, signature, indexed_names, power, loop, character}
+use Rattle.smt_names.specs.Signature.{Name, same_name, stands_in, signature, indexed_names, power, loop, character}
 use Rattle.sort_check.specs.Sizes.{fits}
-use Rattle.sort_check.specs.Tokens.{symbol, digits, value, is_too_large, literal_word, character_token, opening, is_identifier}
+use Rattle.smt_names.specs.Tokens.{symbol, digits, value, is_too_large, literal_word, character_token, opening, is_identifier, chosen}
 
 abbrev pub Scope : Type 0
 Scope = List (Name × Body)

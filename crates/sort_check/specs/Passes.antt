@@ -2,16 +2,16 @@
 use Rattle.std.specs.Prelude.{ℕ, List, [], ◌∷◌, Option, Some, None, Result, Ok, Err, if◌then◌else◌}
 use Rattle.sexpr_reader.specs.declared.kind.Kind.{Kind}
 use Rattle.sexpr_reader.specs.declared.kind.Kind.TheVariants.{Numeral}
-use Rattle.sort_check.specs.declared.check_fault.CheckFault.{CheckFault}
-use Rattle.sort_check.specs.declared.check_fault.CheckFault.TheVariants as fault
-use Rattle.sort_check.specs.declared.opening.Opening.{Opening}
-use Rattle.sort_check.specs.declared.opening.Opening.TheVariants.{Let, Quantifier, Annotation, Identifier, Application}
+use Rattle.smt_names.specs.declared.check_fault.CheckFault.{CheckFault}
+use Rattle.smt_names.specs.declared.check_fault.CheckFault.TheVariants as fault
+use Rattle.smt_names.specs.declared.opening.Opening.{Opening}
+use Rattle.smt_names.specs.declared.opening.Opening.TheVariants.{Let, Quantifier, Annotation, Identifier, Application}
 use Rattle.sort_check.specs.declared.pass.Pass.{Pass}
 use Rattle.sort_check.specs.declared.pass.Pass.TheVariants.{Names, Sorts, Languages, Numbers}
 use Rattle.sort_check.specs.Binders.{is_binding, is_variable, are_some, bound_names, repeats, known_sort, no_language, each}
-use Rattle.sort_check.specs.Faults.{◌>>◌, refuse}
-use Rattle.sort_check.specs.Form.{Form, Forms, token, group, end, ◌⨾◌}
-use Rattle.sort_check.specs.Tokens.{digits, is_too_large, opening}
+use Rattle.smt_names.specs.Faults.{◌>>◌, refuse}
+use Rattle.smt_names.specs.Form.{Form, Forms, token, group, end, ◌⨾◌}
+use Rattle.smt_names.specs.Tokens.{digits, is_too_large, opening, chosen}
 
 abbrev pub small : Option (List ℕ) → Result Unit CheckFault
 small (Some ds) = refuse (is_too_large ds) fault.Number
@@ -42,14 +42,6 @@ at_identifier pass (n ⨾ indices) = each (at_numeral pass) indices
 abbrev pub in_list : Form → Result Unit CheckFault → Result Unit CheckFault
 in_list (group fs) answer = answer
 in_list (token kind text) answer = Ok tt
-
--- one answer for each kind of term that a list may be
-abbrev pub chosen : {A : Type 0} → Opening → A → A → A → A → A → A
-chosen Let a b c d e = a
-chosen Quantifier a b c d e = b
-chosen Annotation a b c d e = c
-chosen Identifier a b c d e = d
-chosen Application a b c d e = e
 
 module _ (pass : Pass) where
   abbrev mutual

@@ -12,13 +12,13 @@ use Rattle.sv_terms.specs.declared.sort.Sort.TheVariants as sort
 use Rattle.sv_terms.specs.declared.term.Term.TheVariants as term
 use Rattle.sv_terms.specs.Sorting.{same_sort}
 use Rattle.sv_word.specs.Words.{greatest_character}
-use Rattle.sort_check.specs.declared.function.Function.{Function}
-use Rattle.sort_check.specs.declared.function.Takes.{Takes}
-use Rattle.sort_check.specs.declared.function.Takes.TheVariants.{Nothing, One, Two, Three, Each, Many, Alike, Choice}
-use Rattle.sort_check.specs.declared.function.Sense.{Sense}
-use Rattle.sort_check.specs.declared.function.Sense.TheVariants as is
+use Rattle.smt_names.specs.declared.function.Function.{Function}
+use Rattle.smt_names.specs.declared.function.Takes.{Takes}
+use Rattle.smt_names.specs.declared.function.Takes.TheVariants.{Nothing, One, Two, Three, Each, Many, Alike, Choice}
+use Rattle.smt_names.specs.declared.function.Sense.{Sense}
+use Rattle.smt_names.specs.declared.function.Sense.TheVariants as is
 use Rattle.sort_check.specs.Bodies.{body_sort, literal, term_of, is_language, regex_of, opaque, holds_unknown}
-use Rattle.sort_check.specs.Signature.{is_some}
+use Rattle.smt_names.specs.Signature.{is_some}
 
 -- whether so many arguments are taken
 abbrev pub takes_count : Takes → ℕ → Bool

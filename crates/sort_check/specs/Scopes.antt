@@ -3,7 +3,7 @@ use Rattle.std.specs.Prelude.{◌≡◌, ℕ, List, [], ◌∷◌, ◌++◌, map
 use Rattle.sort_check.specs.declared.scope.Binding.{Binding}
 use Rattle.sort_check.specs.Drafts.{shown}
 use Rattle.sort_check.specs.Meant.{latest}
-use Rattle.sort_check.specs.Signature.{Name}
+use Rattle.smt_names.specs.Signature.{Name}
 
 abbrev pub bound_pairs : List Binding → List (Name × ℕ)
 bound_pairs bs = map (λ b. (b.name, b.place)) bs

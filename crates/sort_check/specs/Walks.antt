@@ -2,13 +2,13 @@
 use Rattle.std.specs.Prelude.{◌≡◌, ℕ, Bool, true, false, not, ◌||◌, List, [], ◌∷◌, ◌++◌, map, slice_get, Option, Some, None, Result, Ok, Err}
 use Rattle.std.specs.List.{list_all}
 use Rattle.sv_terms.specs.declared.entry.Body.{Body}
-use Rattle.sort_check.specs.declared.check_fault.CheckFault.{CheckFault}
-use Rattle.sort_check.specs.declared.check_fault.CheckFault.TheVariants as fault
+use Rattle.smt_names.specs.declared.check_fault.CheckFault.{CheckFault}
+use Rattle.smt_names.specs.declared.check_fault.CheckFault.TheVariants as fault
 use Rattle.sort_check.specs.declared.walk.Walk.{Walk}
 use Rattle.sort_check.specs.Bodies.{body_sort}
-use Rattle.sort_check.specs.Faults.{◌>>◌, need}
+use Rattle.smt_names.specs.Faults.{◌>>◌, need}
 use Rattle.sort_check.specs.Meant.{Scope, Head, any_size, head_sorts, head_applied, bind}
-use Rattle.sort_check.specs.Signature.{Name}
+use Rattle.smt_names.specs.Signature.{Name}
 use Rattle.sort_check.specs.Sizes.{fits}
 
 -- a place where this is

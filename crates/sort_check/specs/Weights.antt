@@ -16,14 +16,14 @@ use Rattle.sv_terms.specs.declared.term.Term.TheVariants as term
 use Rattle.sv_terms.specs.declared.term.Term.TheOpen.{Term-F}
 use Rattle.sv_terms.specs.declared.term.Term.TheFolds.{fold-Term}
 use Rattle.sv_terms.specs.Sorting.{same_sort}
-use Rattle.sort_check.specs.declared.function.Sense.{Sense}
-use Rattle.sort_check.specs.declared.function.Sense.TheVariants as is
+use Rattle.smt_names.specs.declared.function.Sense.{Sense}
+use Rattle.smt_names.specs.declared.function.Sense.TheVariants as is
 use Rattle.sort_check.specs.declared.weight.Factor.{Factor}
 use Rattle.sort_check.specs.declared.weight.Factor.TheVariants.{Literal, Known, Unknown}
 use Rattle.sort_check.specs.declared.weight.Weight.{Weight}
 use Rattle.sort_check.specs.Bodies.{body_sort, factor, literal, is_language, term_of, regex_of, opaque, op_sort, is_unknown, holds, applied_factor}
 use Rattle.sort_check.specs.Ranks.{apply, text_of, range_of, of_one, word_of}
-use Rattle.sort_check.specs.Signature.{Name, same_name}
+use Rattle.smt_names.specs.Signature.{Name, same_name}
 use Rattle.sort_check.specs.Sizes.{nodes, nesting, one_more, one_deeper, regex_nodes, regex_nesting}
 
 abbrev pub capped : ℕ → ℕ

@@ -11,11 +11,12 @@ use Rattle.sv_terms.specs.declared.term.Term.{Term}
 use Rattle.sv_terms.specs.declared.term.Term.TheOpen.{Term-F}
 use Rattle.sv_terms.specs.declared.term.Term.TheFolds.{fold-Term}
 use Rattle.sv_terms.specs.Meaning.{Named}
-use Rattle.sv_terms.specs.Parts.{every_step, is_plain}
+use Rattle.sv_terms.specs.Parts.{every_step}
 use Rattle.sv_terms.specs.Sorting.{same_sort, sort_of, is_of}
+use Rattle.sv_terms.specs.TransducerSizes.{is_formed}
 use Rattle.sort_check.specs.Bodies.{body_sort, is_escaped}
 use Rattle.sort_check.specs.Meant.{Names}
-use Rattle.sort_check.specs.Signature.{Name, same_name, is_some}
+use Rattle.smt_names.specs.Signature.{Name, same_name, is_some}
 
 -- whether each constant of a term is known, by its name and sort
 module _ (known : Name → Sort → Bool) where
@@ -37,11 +38,18 @@ is_declared symbols n s = is_constant_of s (lookup (same_name n) symbols)
 abbrev pub constants_known : Names → Term → Bool
 constants_known symbols = constants_are (is_declared symbols)
 
--- a term of this sort over the declared constants, in which no transducer stands
+abbrev pub formed_step : Term-F Bool → Bool
+formed_step = every_step (λ n s. true) is_formed
+
+-- whether each transducer of a term is formed
+abbrev pub has_formed : Term → Bool
+has_formed = fold-Term Bool formed_step
+
+-- a term of this sort over the declared constants, whose transducers are formed
 pub record IsTermOf (symbols : Names) (s : Sort) (t : Term) : Type 0 where
   pub sorted : sort_of t ≡ Some s
   pub known : IsTrue (constants_known symbols t)
-  pub plain : IsTrue (is_plain t)
+  pub formed : IsTrue (has_formed t)
 
 -- the same, where the sort is any one of which values are written
 abbrev pub IsWritten : Names → Term → Type 0
@@ -62,14 +70,14 @@ is_sort s None = false
 
 -- the body of a macro with these parameters, declared behind these names
 abbrev pub is_body : List (Name × Sort) → Names → Body → Bool
-is_body parameters before (body.Term t) = is_sort (body_sort (body.Term t)) (sort_of t) && is_plain t && constants_are (is_bound parameters before) t
+is_body parameters before (body.Term t) = is_sort (body_sort (body.Term t)) (sort_of t) && has_formed t && constants_are (is_bound parameters before) t
 is_body parameters before (body.Language r) = true
 
 -- what may be declared behind these names
 abbrev pub is_entry : Names → Entry → Bool
 is_entry before (entry.Constant s) = not (same_sort sort.RegLan s)
 is_entry before (entry.Macro parameters b) = is_body parameters before b
-is_entry before (entry.Machine t) = false
+is_entry before (entry.Machine t) = is_formed t
 
 -- a name that may be declared behind these
 abbrev pub is_new : Names → Name → Bool
@@ -80,7 +88,7 @@ abbrev pub follow : Names → Names → Bool
 follow before [] = true
 follow before (e ∷ es) = is_new before e.0 && is_entry before e.1 && follow (before ++ e ∷ []) es
 
--- names declared one after another: constants that have values, and macros whose bodies have sorts and constants that are parameters or were declared before
+-- names declared one after another: constants that have values, formed transducers, and macros whose bodies have sorts and constants that are parameters or were declared before
 abbrev pub is_well_formed : Names → Bool
 is_well_formed symbols = follow [] symbols
 

@@ -5,8 +5,8 @@ ghost use Rattle.sort_check.specs.Meant as m;
 ghost use Rattle.sort_check.specs.Ranks as r;
 ghost use Rattle.sort_check.specs.Weights as w;
 
-use crate::function::Sense;
 use crate::weight::op_sort;
+use smt_names::Sense;
 use std::alloc::{AllocError, Global};
 use sv_list::{Boxed, Copied, Items};
 use sv_terms::{Body, Op, Regex, Sort, Term, Transducer};

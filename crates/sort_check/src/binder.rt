@@ -1,34 +1,20 @@
 // What `let`, quantifiers and macros bind.
 ghost use Rattle.std.specs.Prelude.{◌≡◌, true, not, [], ◌∷◌, ◌++◌, map, IfOk};
-ghost use Rattle.sort_check.specs.Signature.{stands_in};
+ghost use Rattle.smt_names.specs.Signature.{stands_in};
 ghost use Rattle.std.specs.Option.{option_map, option_to_list};
 ghost use Rattle.sv_terms.specs.Names.{symbol_name};
-ghost use Rattle.sort_check.specs.Form.{seen, forms};
-ghost use Rattle.sort_check.specs.Faults.{Answers};
+ghost use Rattle.smt_names.specs.Form.{seen, forms, are_all};
+ghost use Rattle.smt_names.specs.Faults.{Answers};
 ghost use Rattle.sort_check.specs.Binders as b;
 
-use crate::check_fault::CheckFault;
-use crate::signature::sort_of;
-use crate::token::{is_sort_form, symbol};
 use indexmap::IndexSet;
 use sexpr_reader::Sexpr;
+use smt_names::CheckFault;
+use smt_names::signature::sort_of;
+use smt_names::token::{is_sort_form, pair, symbol};
 use std::alloc::{AllocError, Global};
 use sv_list::Items;
 use sv_terms::{Name, Sort};
-
-/// The two items of a list of two.
-#[tactic(auto, using(crate::proofs::Shapes::shapes))]
-pub fn pair(item: &Sexpr) -> Option<(&Sexpr, &Sexpr)>
-    ensures { option_map (λ p. (seen p.0.now, seen p.1.now)) result ≡ b.two (seen item.now) }
-{
-    match item {
-        Sexpr::List(items) => match items.as_slice() {
-            [first, second] => Some((first, second)),
-            _ => None,
-        },
-        Sexpr::Atom(_, _) => None,
-    }
-}
 
 /// Whether it is a symbol and one item more: a binding of `let`.
 pub fn is_binding(item: &Sexpr) -> bool
@@ -59,7 +45,7 @@ pub fn bound_name(item: &Sexpr) -> Option<&[u8]>
 
 #[tactic(auto, using(crate::proofs::Looking::testing))]
 fn all_bindings(items: &[Sexpr]) -> bool
-    ensures { result ≡ b.are_all b.is_binding (forms (map seen items.now)) }
+    ensures { result ≡ are_all b.is_binding (forms (map seen items.now)) }
 {
     for item in items {
         if !is_binding(item) {
@@ -80,7 +66,7 @@ pub fn are_bindings(items: &[Sexpr]) -> bool
 /// Whether each is a symbol and its sort: the parameters of a macro.
 #[tactic(auto, using(crate::proofs::Looking::testing))]
 pub fn are_parameters(items: &[Sexpr]) -> bool
-    ensures { result ≡ b.are_all b.is_variable (forms (map seen items.now)) }
+    ensures { result ≡ are_all b.is_variable (forms (map seen items.now)) }
 {
     for item in items {
         if !is_variable(item) {

@@ -6,28 +6,30 @@ ghost use Rattle.sort_check.specs.declared.commands.Command.{Command as AnyComma
 ghost use Rattle.sort_check.specs.Binders as v;
 ghost use Rattle.sort_check.specs.Bodies as b;
 ghost use Rattle.sort_check.specs.Checking as c;
-ghost use Rattle.sort_check.specs.Faults.{Answers, made_of};
-ghost use Rattle.sort_check.specs.Form.{Forms, seen, forms};
-ghost use Rattle.sort_check.specs.Tokens as t;
+ghost use Rattle.smt_names.specs.Faults.{Answers, made_of};
+ghost use Rattle.smt_names.specs.Form.{Forms, seen, forms};
+ghost use Rattle.smt_names.specs.Tokens as t;
+ghost use Rattle.smt_names.specs.Verbs.{verb_of as verb_is};
+ghost use Rattle.transducer_form.specs.Written as w;
 
 use crate::applying::{body_sort, into_term};
 use crate::binder::{are_parameters, repeats, variables};
-use crate::check_fault::CheckFault;
 use crate::commands::Command;
 use crate::pass::Pass;
 use crate::passes::{at_variables, look, pass_over};
 use crate::rank::same_sort;
 use crate::scope::parameter_name;
-use crate::signature::{is_reserved, sort_of, truth, verb};
-use crate::token::{
-    digits, is_sort_form, keyword, level, listed, literal_text, symbol, unquoted, word,
-};
-use crate::verb::Verb;
 use crate::walk::{settled, settled_one};
 use sexpr_reader::Sexpr;
+use smt_names::signature::{is_reserved, sort_of, truth, verb};
+use smt_names::token::{
+    digits, is_sort_form, keyword, level, listed, literal_text, symbol, unquoted, word,
+};
+use smt_names::{CheckFault, Verb};
 use std::alloc::{AllocError, Global};
 use sv_list::{Copied, Items};
 use sv_terms::{Body, Entry, Name, Sort, Symbols, Term};
+use transducer_form::{Description, described};
 
 #[tactic(auto, using(crate::proofs::Counted::commands))]
 fn plain(made: Command, parts: &[Sexpr]) -> Result<Command, CheckFault>
@@ -87,7 +89,7 @@ fn known_option(keyword: &[u8], value: bool) -> Command
 }
 
 fn option_set(first: &Sexpr, second: &Sexpr) -> Command
-    ensures { result ≡ c.option_set (t.keyword (seen first.now)) (c.truth (seen second.now)) }
+    ensures { result ≡ c.option_set (t.keyword (seen first.now)) (t.truth (seen second.now)) }
 {
     match keyword(first) {
         Some(keyword) => match truth(second) {
@@ -324,6 +326,47 @@ fn define_fun(alloc: Global, symbols: &Symbols, parts: &[Sexpr]) -> Result<Comma
     }
 }
 
+/// The transducer of a description, under a name that may be declared.
+#[tactic(auto, using(crate::proofs::Answering::answering))]
+fn machine(
+    alloc: Global,
+    symbols: &Symbols,
+    description: &Description<'_>,
+    text: &[u8],
+) -> Result<Command, CheckFault>
+    ensures { Answers (c.machine symbols.now (w.description_seen description.now) (symbol_name text.now)) result }
+{
+    match free(alloc, symbols, text) {
+        Ok(name) => match described(alloc, description) {
+            Ok(transducer) => Ok(Command::Define(name, Entry::Machine(transducer))),
+            Err(fault) => Err(fault),
+        },
+        Err(fault) => Err(fault),
+    }
+}
+
+#[tactic(auto, using(crate::proofs::Counted::commands))]
+fn define_transducer(
+    alloc: Global,
+    symbols: &Symbols,
+    parts: &[Sexpr],
+) -> Result<Command, CheckFault>
+    ensures { Answers (c.define_transducer symbols.now (forms (map seen parts.now))) result }
+{
+    match parts {
+        [name, states, start, edges, ends] => {
+            match Description::of(states, start, edges, ends) {
+                Some(description) => match symbol(name) {
+                    Some(text) => machine(alloc, symbols, &description, text),
+                    None => Err(CheckFault::Shape),
+                },
+                None => Err(CheckFault::Shape),
+            }
+        }
+        _ => Err(CheckFault::Shape),
+    }
+}
+
 fn asserted(body: Body) -> Result<Command, CheckFault>
     ensures { result ≡ c.asserted (body ∷ []) }
 {
@@ -487,6 +530,7 @@ fn commanded(
         Verb::DeclareConst => declare_const(alloc, symbols, parts),
         Verb::DeclareFun => declare_fun(alloc, symbols, parts),
         Verb::DefineFun => define_fun(alloc, symbols, parts),
+        Verb::DefineTransducer => define_transducer(alloc, symbols, parts),
         Verb::Assert => assertion(alloc, symbols, parts),
         Verb::Push => Ok(Command::Push(stepped(parts)?)),
         Verb::Pop => Ok(Command::Pop(stepped(parts)?)),
@@ -520,7 +564,7 @@ fn begun(alloc: Global, symbols: &Symbols, items: &[Sexpr]) -> Result<Command, C
 }
 
 fn verb_of(first: &Sexpr) -> Option<Verb>
-    ensures { result ≡ c.verb_of (t.word (seen first.now)) }
+    ensures { result ≡ verb_is (t.word (seen first.now)) }
 {
     match word(first) {
         Some(word) => verb(word),
@@ -535,6 +579,7 @@ fn verb_of(first: &Sexpr) -> Option<Verb>
 /// Reserved and Declared names; Unknown sorts, and variables of sort RegLan; Numbers; then the walk
 /// over the terms, in which the head of a term comes before the number of its arguments, these from
 /// left to right, and their sorts; Size; and the Sort of the whole (SMT-LIB 2.6, sections 3.6 and 3.9).
+/// A description of a transducer has its fault behind those of its form and its name.
 ///
 /// Time is linear in the item, the bodies of the macros that it calls, and the terms that it
 /// answers. Stack is linear in the nesting.

@@ -2,8 +2,8 @@ ghost use Rattle.std.specs.Prelude.{◌≡◌, [], ◌∷◌, ◌++◌, length, 
 ghost use Rattle.sort_check.specs.Drafts as d;
 ghost use Rattle.sort_check.specs.Weights as w;
 
-use crate::function::Sense;
 use crate::weight::Weight;
+use smt_names::Sense;
 use std::alloc::{AllocError, Global};
 use std::marker::Model;
 use sv_list::Items;

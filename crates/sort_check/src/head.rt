@@ -2,22 +2,20 @@
 ghost use Rattle.std.specs.Prelude.{◌≡◌, Some, map};
 ghost use Rattle.std.specs.Map.{lookup};
 ghost use Rattle.sv_terms.specs.Names.{symbol_name};
-ghost use Rattle.sort_check.specs.declared.check_fault.CheckFault.TheVariants.{Unknown};
-ghost use Rattle.sort_check.specs.Faults.{Answers, made_of, or_fault};
-ghost use Rattle.sort_check.specs.Form.{seen, forms};
+ghost use Rattle.smt_names.specs.declared.check_fault.CheckFault.TheVariants.{Unknown};
+ghost use Rattle.smt_names.specs.Faults.{Answers, made_of, or_fault};
+ghost use Rattle.smt_names.specs.Form.{seen, forms};
 ghost use Rattle.sort_check.specs.Heads as h;
 ghost use Rattle.sort_check.specs.Meant as m;
-ghost use Rattle.sort_check.specs.Signature.{same_name};
-ghost use Rattle.sort_check.specs.Tokens as t;
+ghost use Rattle.smt_names.specs.Signature.{same_name};
+ghost use Rattle.smt_names.specs.Tokens as t;
 
-use crate::check_fault::CheckFault;
-use crate::function::{Function, Takes};
-use crate::opening::Opening;
 use crate::rank::{are_of, takes_count, takes_sorts};
-use crate::signature::{character, function, is_indexed, loop_from};
-use crate::token::{character_token, digits, number, opening, symbol, unquoted};
 use crate::weight::Weight;
 use sexpr_reader::Sexpr;
+use smt_names::signature::{character, function, is_indexed, loop_from};
+use smt_names::token::{character_token, digits, number, opening, symbol, unquoted};
+use smt_names::{CheckFault, Function, Opening, Takes};
 use std::alloc::Global;
 use sv_terms::{Body, Entry, MOST_TIMES, Name, Sort, Symbols, Transducer};
 

@@ -11,9 +11,9 @@ ghost use Rattle.sv_terms.specs.declared.sort.Sort.TheVariants as sort;
 ghost use Rattle.sv_terms.specs.declared.term.Term.{Term as AnyTerm};
 ghost use Rattle.sort_check.specs.declared.commands.Command.TheVariants as command;
 ghost use Rattle.sort_check.specs.Checking.{checked};
-ghost use Rattle.sort_check.specs.Form.{Form};
+ghost use Rattle.smt_names.specs.Form.{Form};
 ghost use Rattle.sort_check.specs.Meant.{Names};
-ghost use Rattle.sort_check.specs.Signature.{Name, same_name};
+ghost use Rattle.smt_names.specs.Signature.{Name, same_name};
 ghost use Rattle.sort_check.specs.WellFormed.{is_well_formed, constants_known, is_entry, AreGiven, IsTermOf, IsWritten, IsAdded};
 
 /// No names are well formed, and so are the first ones of those that are.

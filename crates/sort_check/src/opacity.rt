@@ -2,12 +2,12 @@
 ghost use Rattle.std.specs.Prelude.{◌≡◌};
 ghost use Rattle.sort_check.specs.Weights as w;
 
-use crate::function::Sense;
 use crate::rank::same_sort;
 use crate::weight::{
     Factor, Weight, are_languages, combined_weight, in_weight, is_literal, one_weight, op_weight,
     unknowns,
 };
+use smt_names::Sense;
 use sv_terms::{Op, Sort};
 
 /// This sort, where the test fails.

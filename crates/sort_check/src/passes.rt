@@ -1,18 +1,17 @@
 // What is looked for in the whole of a term before it is walked. Each pass takes time linear in the
 // term, and stack in its nesting.
 ghost use Rattle.std.specs.Prelude.{◌≡◌, map};
-ghost use Rattle.sort_check.specs.Form.{seen, forms};
+ghost use Rattle.smt_names.specs.Form.{seen, forms};
 ghost use Rattle.sort_check.specs.Binders as b;
-ghost use Rattle.sort_check.specs.Faults.{Answers};
+ghost use Rattle.smt_names.specs.Faults.{Answers};
 ghost use Rattle.sort_check.specs.Passes as p;
 ghost use Rattle.sort_check.specs.Checking as c;
 
 use crate::binder::{are_bindings, are_variables, known_sort, no_language, repeats};
-use crate::check_fault::CheckFault;
-use crate::opening::Opening;
 use crate::pass::Pass;
-use crate::token::{digits, number, opening};
 use sexpr_reader::Sexpr;
+use smt_names::token::{digits, number, opening};
+use smt_names::{CheckFault, Opening};
 use std::alloc::Global;
 
 /// Number, where a numeral is too large.

@@ -1,6 +1,6 @@
 ghost use Rattle.std.specs.Prelude.{◌≡◌, [], None, Some, cond, IfOk, OnOk, OnErr};
 ghost use Rattle.sort_check.specs.Drafts as d;
-ghost use Rattle.sort_check.specs.Signature.{Name as AnyName, same_name};
+ghost use Rattle.smt_names.specs.Signature.{Name as AnyName, same_name};
 ghost use Rattle.sort_check.specs.Weights as w;
 
 use indexmap::IndexMap;

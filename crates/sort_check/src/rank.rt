@@ -4,8 +4,8 @@ ghost use Rattle.std.specs.List.{list_all};
 ghost use Rattle.sv_terms.specs.Sorting.{same_sort as is_same_sort};
 ghost use Rattle.sort_check.specs.Ranks as r;
 
-use crate::function::Takes;
 use crate::weight::Weight;
+use smt_names::Takes;
 use sv_terms::{Name, Sort};
 
 pub fn same_sort(a: Sort, b: Sort) -> bool

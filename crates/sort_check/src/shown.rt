@@ -1,9 +1,9 @@
 // The printed form of commands in tests.
-use crate::check_fault::CheckFault;
 use crate::commands::Command;
 use sexpr_reader::Sexpr;
+use smt_names::CheckFault;
 use std::alloc::{AllocError, Global};
-use sv_terms::{Body, Entry, Name, Op, Regex, Sort, Term};
+use sv_terms::{Body, Entry, Item, Name, Op, Regex, Sort, Term, TransEdge, Transducer};
 use sv_word::Word;
 
 type Out = Vec<u8>;
@@ -173,6 +173,56 @@ fn regexes(alloc: Global, out: &mut Out, name: &[u8], rs: &[Regex]) -> Result<()
     text(out, b")")
 }
 
+/// A number, with its sign if it is below 0.
+fn number(out: &mut Out, n: i32) -> Result<(), AllocError> {
+    if n < 0 {
+        text(out, b"-")?;
+    }
+    digits_of(out, n.unsigned_abs() as u128)
+}
+
+fn items(out: &mut Out, items: &[Item]) -> Result<(), AllocError> {
+    for item in items {
+        text(out, b" ")?;
+        match item {
+            Item::Text(word) => literal(out, word)?,
+            Item::Shift(by) => number(out, *by)?,
+        }
+    }
+    Ok(())
+}
+
+fn edge(out: &mut Out, edge: &TransEdge) -> Result<(), AllocError> {
+    text(out, b" (")?;
+    digits_of(out, edge.from as u128)?;
+    text(out, b" ")?;
+    digits_of(out, edge.lo as u128)?;
+    text(out, b"-")?;
+    digits_of(out, edge.hi as u128)?;
+    items(out, edge.items.as_slice())?;
+    text(out, b" to ")?;
+    digits_of(out, edge.to as u128)?;
+    text(out, b")")
+}
+
+fn machine(out: &mut Out, transducer: &Transducer) -> Result<(), AllocError> {
+    text(out, b"machine ")?;
+    digits_of(out, transducer.states as u128)?;
+    text(out, b" ")?;
+    digits_of(out, transducer.start as u128)?;
+    for e in transducer.edges.as_slice() {
+        edge(out, e)?;
+    }
+    for (at, word) in transducer.ends.as_slice() {
+        text(out, b" (")?;
+        digits_of(out, *at as u128)?;
+        text(out, b" ")?;
+        literal(out, word)?;
+        text(out, b")")?;
+    }
+    Ok(())
+}
+
 fn entry(alloc: Global, out: &mut Out, entry: &Entry) -> Result<(), AllocError> {
     match entry {
         Entry::Constant(sort) => text(out, sort_name(*sort)),
@@ -188,7 +238,7 @@ fn entry(alloc: Global, out: &mut Out, entry: &Entry) -> Result<(), AllocError> 
                 Body::Language(r) => regex(alloc, out, r),
             }
         }
-        Entry::Machine(_) => text(out, b"machine"),
+        Entry::Machine(transducer) => machine(out, transducer),
     }
 }
 

@@ -30,7 +30,6 @@ assert |shape|
 ("a") |shape|
 (frobnicate 5) |unsupported|
 (|assert| p) |unsupported|
-(define-transducer T) |unsupported|
 (check-sat-assuming (p)) |unsupported|
 (get-proof) |unsupported|
 (set-logic QF_S) |inform|
@@ -89,6 +88,47 @@ assert |shape|
 (declare-fun z () Int Int) |shape|
 (define-fun 5 () Int 1) |shape|
 (get-value (p) q) |shape|
+; transducers
+(define-transducer T) |shape|
+(define-transducer T q q () ()) |shape|
+(define-transducer T ("q") q () ()) |shape|
+(define-transducer T (q) q () () ()) |shape|
+(define-transducer T (q) q ((q "a" "a" q)) ()) |shape|
+(define-transducer T (q) q ((q a "a" () q)) ()) |shape|
+(define-transducer T (q) q ((q "a" "a" (out) q)) ()) |shape|
+(define-transducer T (q) q ((q "a" "a" ((in)) q)) ()) |shape|
+(define-transducer T (q) q ((q "a" "a" ((in (+ 1))) q)) ()) |shape|
+(define-transducer T (q) q () ((q "a"))) |shape|
+(define-transducer T (q) q () ((q (a)))) |shape|
+(define-transducer and (q q) q () ((q))) |shape|
+(define-transducer and (q q) q () ()) |reserved|
+(define-transducer x (q q) q () ()) |declared|
+(define-transducer T (q q) q () ()) |transducer|
+(define-transducer T (q |q|) q () ()) |transducer|
+(define-transducer T () q () ()) |transducer|
+(define-transducer T (q) r () ()) |transducer|
+(define-transducer T (q) q ((q "a" "a" () r)) ()) |transducer|
+(define-transducer T (q) q ((r "a" "a" () q)) ()) |transducer|
+(define-transducer T (q) q () ((r ()))) |transducer|
+(define-transducer T (q) q ((q "b" "a" () q)) ()) |transducer|
+(define-transducer T (q) q ((q "" "a" () q)) ()) |transducer|
+(define-transducer T (q) q ((q "a" "ab" () q)) ()) |transducer|
+(define-transducer T (q) q ((q "a" "a" ((in 196608)) q)) ()) |transducer|
+(define-transducer T (q) q ((q "a" "a" ((in (- 196608))) q)) ()) |transducer|
+(define-transducer T (q) q ((q "a" "a" ((in 340282366920938463463374607431768211456)) q)) ()) |transducer|
+(define-transducer T (q) q ((q "a" "a" ((in 196607) (in (- 196607))) q)) ()) |define T machine 1 0 (0 97-97 196607 -196607 to 0)|
+(define-transducer T (q) q () ()) |define T machine 1 0|
+(define-transducer T (q r) r ((q "a" "z" ("b" in (in 1)) r) (r "c" "c" () q)) ((r ()) (q ("d" "" "ef")))) |define T machine 2 1 (0 97-122 "b" 0 1 to 1) (1 99-99 to 0) (1 "") (0 "def")|
+(define-transducer T (q) q ((q "a" "a" ("0") q) (q "a" "a" ("1") q)) ((q ()))) (assert (T y x)) |assert (related y x)|
+(define-transducer T (q) q () ()) (assert (T "a" (str.++ x y))) |assert (related "a" (++ x y))|
+(define-transducer T (q) q () ()) (define-fun h ((a String)) Bool (T a "b")) (assert (not (h y))) |assert (not (related y "b"))|
+(define-transducer T (q) q () ()) (assert (T y)) |arity|
+(define-transducer T (q) q () ()) (assert (T x y x)) |arity|
+(define-transducer T (q) q () ()) (assert T) |arity|
+(define-transducer T (q) q () ()) (assert (T y n)) |sort|
+(define-transducer T (q) q () ()) (assert ((_ T 1) x y)) |index|
+(define-transducer T (q) q () ()) (define-transducer T (q) q () ()) |declared|
+(define-transducer T (q) q () ()) (declare-const T Int) |declared|
 ; declared names, sorts, and numerals, over the whole item
 (declare-const str.len Int) |reserved|
 (declare-const |and| Foo) |reserved|
@@ -359,7 +399,7 @@ assert |shape|
 "#;
 
 /// How many rows there are.
-const COUNT: usize = 325;
+const COUNT: usize = 364;
 
 /// Declares what a command declares, where the name is new.
 fn declare(symbols: &mut Symbols, name: Name, entry: Entry) -> Result<(), AllocError> {

@@ -4,7 +4,7 @@ ghost use Rattle.std.specs.Map.{lookup};
 ghost use Rattle.std.specs.Option.{option_map};
 ghost use Rattle.sort_check.specs.Bodies as b;
 ghost use Rattle.sort_check.specs.Drafts as d;
-ghost use Rattle.sort_check.specs.Signature.{Name as AnyName, same_name};
+ghost use Rattle.smt_names.specs.Signature.{Name as AnyName, same_name};
 ghost use Rattle.sort_check.specs.Weights as w;
 
 use crate::places::Places;

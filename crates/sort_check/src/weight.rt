@@ -4,7 +4,7 @@ ghost use Rattle.sort_check.specs.Bodies as b;
 ghost use Rattle.sort_check.specs.Sizes as z;
 ghost use Rattle.sort_check.specs.Weights as w;
 
-use crate::function::Sense;
+use smt_names::Sense;
 use sv_terms::{MOST_NESTING, MOST_NODES, Op, Sort};
 
 /// What a factor of a product is: a literal word, something without unknowns, or something that

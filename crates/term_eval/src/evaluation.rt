@@ -1,24 +1,28 @@
 ghost use Rattle.std.specs.Prelude.{◌≡◌, map, Some, IfOk, IsTrue, IsSome};
-ghost use Rattle.std.specs.List.{list_all, list_any};
-ghost use Rattle.sv_terms.specs.Meaning.{tested, val};
+ghost use Rattle.std.specs.List.{list_any};
+ghost use Rattle.sv_terms.specs.Meaning.{related, tested, val};
 ghost use Rattle.sv_terms.specs.Matches.{matches};
-ghost use Rattle.sv_terms.specs.Parts.{is_opaque, is_plain};
+ghost use Rattle.sv_terms.specs.Parts.{is_opaque};
 ghost use Rattle.sv_terms.specs.Sorting.{is_valued, sort_of};
+ghost use Rattle.sv_terms.specs.Transduction.{writes};
 ghost use Rattle.term_eval.specs.Evaluation.{Answers, evaluated, in_turn, or_opaque, value_or_fault};
 
 use crate::fault::EvalFault;
 use crate::functions::apply;
 use regex_match::contains;
-use std::alloc::Global;
+use std::alloc::{AllocError, Global};
 use sv_list::Items;
-use sv_terms::{Model, Regex, Term, Value, decided};
+use sv_terms::{Model, Regex, Term, Transducer, Value, decided, pairs_are_runs, pairs_decided};
+use sv_word::Word;
+use transducer_core::run_pair;
 
 /// The value of a term whose functions stand at arguments of their ranks and whose constants have
-/// values of their sorts in the model. No transducer stands in it.
+/// values of their sorts in the model.
 ///
 /// Time and memory are those of its functions: linear in the values, but for `distinct`, which
 /// compares each two, for `str.contains`, `str.replace` and `str.replace_all`, which compare the
-/// pattern at each place, and for `str.in_re` (see `regex_match`). The stack grows with the nesting.
+/// pattern at each place, for `str.in_re` (see `regex_match`), and for a transducer (see
+/// `transducer_core`). The stack grows with the nesting.
 ///
 /// # Errors
 ///
@@ -29,7 +33,6 @@ use sv_terms::{Model, Regex, Term, Value, decided};
 pub fn eval(alloc: Global, term: &Term, model: &Model) -> Result<Value, EvalFault>
     requires sorted { IsSome (sort_of term.now) }
     requires valued { IsTrue (is_valued model.now term.now) }
-    requires plain { IsTrue (is_plain term.now) }
     ensures answer { Answers (value_or_fault model.now term.now) result }
     ensures value { IfOk result (λ v. val model.now term.now ≡ Some v) }
 {
@@ -84,11 +87,48 @@ fn is_member(alloc: Global, value: &Value, regex: &Regex) -> Result<Value, EvalF
     }
 }
 
+// Whether the transducer relates two words.
+#[tactic(auto, using(crate::proofs::Evaluating::relating))]
+fn is_related(
+    alloc: Global,
+    transducer: &Transducer,
+    read: &Word,
+    written: &Word,
+) -> Result<bool, AllocError>
+    ensures { IfOk result (λ b. b ≡ writes transducer.now transducer.now.start read.now written.now) }
+{
+    pairs_decided();
+    pairs_are_runs();
+    match run_pair(alloc, transducer, read, written) {
+        Ok(Some(_)) => Ok(true),
+        Ok(None) => Ok(false),
+        Err(error) => Err(error),
+    }
+}
+
+// `(T s t)`
+fn relation(
+    alloc: Global,
+    transducer: &Transducer,
+    read: &Value,
+    written: &Value,
+) -> Result<Value, EvalFault>
+    ensures { Answers (or_opaque (related transducer.now (Some read.now) (Some written.now))) result }
+{
+    match read {
+        Value::Text(read) => match written {
+            Value::Text(written) => Ok(Value::Truth(is_related(alloc, transducer, read, written)?)),
+            _ => Err(EvalFault::Opaque),
+        },
+        _ => Err(EvalFault::Opaque),
+    }
+}
+
 // The value, or the first fault.
 #[cycle(value_of)]
 #[tactic(auto, using(crate::proofs::Evaluating::evaluating))]
 fn value_of(alloc: Global, term: &Term, model: &Model) -> Result<Value, EvalFault>
-    ensures { IsTrue (is_plain term.now) → Answers (evaluated model.now term.now) result }
+    ensures { Answers (evaluated model.now term.now) result }
 {
     match term {
         Term::Truth(b) => Ok(Value::Truth(*b)),
@@ -106,7 +146,13 @@ fn value_of(alloc: Global, term: &Term, model: &Model) -> Result<Value, EvalFaul
             Ok(value) => is_member(alloc, &value, regex),
             Err(fault) => Err(fault),
         },
-        Term::Related(_, _, _) => Err(EvalFault::Opaque),
+        Term::Related(transducer, read, written) => match value_of(alloc, read.get(), model) {
+            Ok(read) => match value_of(alloc, written.get(), model) {
+                Ok(written) => relation(alloc, transducer, &read, &written),
+                Err(fault) => Err(fault),
+            },
+            Err(fault) => Err(fault),
+        },
         Term::Opaque(_) => Err(EvalFault::Opaque),
     }
 }
@@ -114,7 +160,7 @@ fn value_of(alloc: Global, term: &Term, model: &Model) -> Result<Value, EvalFaul
 #[cycle(value_of)]
 #[tactic(auto, using(crate::proofs::Evaluating::evaluating))]
 fn values_of(alloc: Global, terms: &[Term], model: &Model) -> Result<Items<Value>, EvalFault>
-    ensures { IsTrue (list_all is_plain terms.now) → Answers (in_turn (map (evaluated model.now) terms.now)) result }
+    ensures { Answers (in_turn (map (evaluated model.now) terms.now)) result }
 {
     let mut all = Items::new(alloc);
     for term in terms {

@@ -1,5 +1,5 @@
 use Rattle.std.proofs.Common.{◌≡◌, map, drop}
-use Rattle.sort_check.specs.Form.{seen, forms}
+use Rattle.smt_names.specs.Form.{seen, forms}
 use Rattle.sort_check.specs.Binders.{bound_names, repeats}
 use Rattle.sort_check.proofs.Names.{later}
 use Rattle.sort_check.proofs.binder.repeats.Given as goal

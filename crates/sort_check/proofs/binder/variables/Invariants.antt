@@ -1,5 +1,5 @@
 use Rattle.std.proofs.Common.{◌≡◌, ◌++◌, map, drop}
-use Rattle.sort_check.specs.Form.{seen, forms}
+use Rattle.smt_names.specs.Form.{seen, forms}
 use Rattle.sort_check.specs.Binders.{variables}
 use Rattle.sort_check.proofs.binder.variables.Given as goal
 

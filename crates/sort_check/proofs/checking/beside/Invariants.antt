@@ -1,7 +1,7 @@
 use Rattle.std.proofs.Common.{◌≡◌, ◌++◌, length, map}
 use Rattle.std.specs.Vec.Iter.{into_iter_items}
 use Rattle.sort_check.specs.Checking.{beside}
-use Rattle.sort_check.specs.Form.{forms, seen}
+use Rattle.smt_names.specs.Form.{forms, seen}
 use Rattle.sort_check.proofs.checking.beside.Given as goal
 
 abbrev pub invariant-loop-body : goal.invariant-loop-body

@@ -1,6 +1,6 @@
 use Rattle.std.proofs.Common.{map}
 use Rattle.sv_terms.specs.Names.{symbol_name}
-use Rattle.sort_check.specs.Form.{forms, seen}
+use Rattle.smt_names.specs.Form.{forms, seen}
 use Rattle.sort_check.proofs.Answering.{defining}
 use Rattle.sort_check.proofs.checking.definition.Goals as goal
 

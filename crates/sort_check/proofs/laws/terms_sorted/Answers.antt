@@ -4,7 +4,7 @@ use Rattle.sort_check.specs.Checking.{checked}
 use Rattle.sort_check.specs.WellFormed.{IsWritten}
 use Rattle.sort_check.specs.declared.commands.Command.TheVariants as command
 use Rattle.sort_check.proofs.WellCommands.{IsSound, checked-sound}
-use Rattle.sort_check.proofs.WellSteps.{gave}
+use Rattle.smt_names.specs.Giving.{gave}
 use Rattle.sort_check.proofs.WellTerms.{each-all}
 use Rattle.sort_check.proofs.laws.terms_sorted.Goals as goal
 

@@ -1,7 +1,7 @@
 use Rattle.sort_check.specs.Checking.{checked}
 use Rattle.sort_check.specs.declared.commands.Command.TheVariants as command
 use Rattle.sort_check.proofs.WellCommands.{IsSound, checked-sound}
-use Rattle.sort_check.proofs.WellSteps.{gave}
+use Rattle.smt_names.specs.Giving.{gave}
 use Rattle.sort_check.proofs.laws.well_formed_more.Goals as goal
 
 pub returns-clause-declared : goal.returns-clause-declared

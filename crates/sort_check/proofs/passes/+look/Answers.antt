@@ -1,9 +1,9 @@
 use Rattle.std.proofs.Common.{◌≡◌, sym, ap, ◌∙◌, map, Err}
 use Rattle.sexpr_reader.specs.declared.sexpr.Sexpr.TheVariants as v
 use Rattle.sort_check.proofs.Bound.{let-value, let-body, quantifier-variable, quantifier-body, value-two, value-few, value-many}
-use Rattle.sort_check.specs.Form.{forms, seen}
+use Rattle.smt_names.specs.Form.{forms, seen}
 use Rattle.sort_check.specs.Passes.{looked_quantifier}
-use Rattle.sort_check.proofs.Looking.{exact-answers}
+use Rattle.smt_names.specs.Answering.{exact-answers}
 use Rattle.sort_check.proofs.passes.+look.Goals as goal
 
 pub look_value-returns-in-len2 : goal.look_value-returns-in-len2

@@ -1,5 +1,5 @@
 use Rattle.std.proofs.Common.{◌≡◌, map, drop}
-use Rattle.sort_check.specs.Form.{seen, forms}
+use Rattle.smt_names.specs.Form.{seen, forms}
 use Rattle.sort_check.specs.Binders.{each}
 use Rattle.sort_check.specs.Passes.{at_numeral}
 use Rattle.sort_check.proofs.passes.at_indices.Given as goal

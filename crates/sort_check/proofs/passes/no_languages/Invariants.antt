@@ -1,5 +1,5 @@
 use Rattle.std.proofs.Common.{◌≡◌, map, drop}
-use Rattle.sort_check.specs.Form.{seen, forms}
+use Rattle.smt_names.specs.Form.{seen, forms}
 use Rattle.sort_check.specs.Binders.{each, no_language}
 use Rattle.sort_check.proofs.passes.no_languages.Given as goal
 

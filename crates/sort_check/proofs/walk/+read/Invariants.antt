@@ -1,5 +1,5 @@
 use Rattle.std.proofs.Common.{◌≡◌, map, take}
-use Rattle.sort_check.specs.Form.{seen}
+use Rattle.smt_names.specs.Form.{seen}
 use Rattle.sort_check.specs.Meant.{Scope, meant, meant_value}
 use Rattle.sort_check.specs.Walks.{Each, Bound, Read}
 use Rattle.sort_check.proofs.Reading.{gathered, single}

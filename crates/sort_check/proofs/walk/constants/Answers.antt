@@ -2,7 +2,7 @@ use Rattle.std.proofs.Common.{◌+◌, sym, ap, subst, ◌∙◌, take, Ok, Err,
 use Rattle.sv_terms.specs.declared.entry.Body.TheVariants as body
 use Rattle.sv_terms.specs.declared.term.Term.TheVariants as term
 use Rattle.sort_check.specs.Meant.{as_constants, renamed}
-use Rattle.sort_check.specs.Signature.{Name}
+use Rattle.smt_names.specs.Signature.{Name}
 use Rattle.sort_check.specs.Walks.{Here, Bound, Read}
 use Rattle.sort_check.proofs.Reading.{fault-first}
 use Rattle.sort_check.proofs.Walking.{constants-none, constants-more, constants-end}

@@ -1,5 +1,5 @@
-use Rattle.sort_check.specs.Form.{seen}
-use Rattle.sort_check.specs.Tokens.{symbol}
+use Rattle.smt_names.specs.Form.{seen}
+use Rattle.smt_names.specs.Tokens.{symbol}
 use Rattle.sort_check.proofs.Walking.{noted-read}
 use Rattle.sort_check.proofs.walk.noted.Goals as goal
 

@@ -1,5 +1,5 @@
 use Rattle.std.proofs.Common.{sym, ap, Ok, [], map}
-use Rattle.sort_check.specs.Form.{forms, seen}
+use Rattle.smt_names.specs.Form.{forms, seen}
 use Rattle.sort_check.specs.Meant.{theory, alone, application, identified, of_theory}
 use Rattle.sort_check.specs.Walks.{Here}
 use Rattle.sort_check.proofs.Reading.{alike}

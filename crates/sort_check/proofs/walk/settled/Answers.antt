@@ -1,11 +1,11 @@
 use Rattle.std.proofs.Common.{refl, sym, ap, subst, ◌∙◌, ◌++◌, map, true, false, Result, List, ℕ}
 use Rattle.sv_terms.specs.declared.entry.Body.{Body}
-use Rattle.sort_check.specs.declared.check_fault.CheckFault.{CheckFault}
+use Rattle.smt_names.specs.declared.check_fault.CheckFault.{CheckFault}
 use Rattle.sort_check.specs.declared.walk.Walk.{Walk}
 use Rattle.sort_check.specs.Bodies.{parameter_name}
 use Rattle.sort_check.specs.Drafts.{at_places}
-use Rattle.sort_check.specs.Faults.{Answers}
-use Rattle.sort_check.specs.Form.{forms, seen}
+use Rattle.smt_names.specs.Faults.{Answers}
+use Rattle.smt_names.specs.Form.{forms, seen}
 use Rattle.sort_check.specs.Meant.{as_constants}
 use Rattle.sort_check.specs.Walks.{fitting}
 use Rattle.sort_check.proofs.Termwise.{begin-bound, begin-past, settled-places, settled-size, settled-err}

@@ -1,7 +1,7 @@
 use Rattle.std.proofs.Common.{refl, sym, ap, ◌∙◌, ◌++◌, true, false}
 use Rattle.sort_check.specs.declared.walk.Walk.{Walk}
 use Rattle.sort_check.specs.Bodies.{parameter_name}
-use Rattle.sort_check.specs.Form.{seen}
+use Rattle.smt_names.specs.Form.{seen}
 use Rattle.sort_check.specs.Meant.{as_constants}
 use Rattle.sort_check.specs.Weights.{weight_fits}
 use Rattle.sort_check.proofs.Termwise.{begin-bound, begin-past, one-settled, one-unfit, one-past, one-err}

@@ -1,7 +1,7 @@
 use Rattle.std.proofs.Common.{ap, sym, ◌∙◌, subst, Ok}
 use Rattle.assert_stack.specs.Levels.{symbols_of}
 use Rattle.sort_check.specs.Checking.{checked}
-use Rattle.sort_check.specs.Form.{seen}
+use Rattle.smt_names.specs.Form.{seen}
 use Rattle.sort_check.specs.WellFormed.{IsAdded}
 use Rattle.sv_terms.specs.declared.entry.Entry.TheVariants as entry
 use Rattle.cube_table.proofs.script.Script.step.Goals as goal

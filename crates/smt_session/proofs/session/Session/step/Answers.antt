@@ -1,7 +1,7 @@
 use Rattle.std.proofs.Common.{ap, sym, ◌∙◌, subst}
 use Rattle.assert_stack.specs.Levels.{symbols_of}
 use Rattle.sort_check.specs.Checking.{checked}
-use Rattle.sort_check.specs.Form.{seen}
+use Rattle.smt_names.specs.Form.{seen}
 use Rattle.smt_session.specs.Standing.{Fits}
 use Rattle.smt_session.specs.Steps.{State, Performs}
 use Rattle.smt_session.proofs.Names.{if-ok}

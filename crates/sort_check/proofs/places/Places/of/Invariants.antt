@@ -1,6 +1,6 @@
 use Rattle.std.proofs.Common.{◌≡◌, ◌≤◌, length, drop}
 use Rattle.sort_check.specs.Drafts.{shown}
-use Rattle.sort_check.specs.Signature.{Name}
+use Rattle.smt_names.specs.Signature.{Name}
 use Rattle.sort_check.specs.Weights.{place_of}
 use Rattle.sort_check.proofs.Placing.{shifted}
 use Rattle.sort_check.proofs.places.Places.of.Given as goal

@@ -1,0 +1,9 @@
+pub mod Answering
+pub mod Faults
+pub mod Form
+pub mod Giving
+pub mod Lookups
+pub mod Shapes
+pub mod Signature
+pub mod Tokens
+pub mod Verbs

@@ -1,0 +1,22 @@
+/// The word of a command whose parts are looked at.
+#[derive(Clone, Copy, Debug, PartialEq, Eq)]
+pub enum Verb {
+    SetLogic,
+    SetInfo,
+    SetOption,
+    DeclareConst,
+    DeclareFun,
+    DefineFun,
+    DefineTransducer,
+    Assert,
+    Push,
+    Pop,
+    CheckSat,
+    GetModel,
+    GetValue,
+    GetInfo,
+    Echo,
+    Reset,
+    ResetAssertions,
+    Exit,
+}

@@ -1,0 +1,4 @@
+mod Five
+mod Joined
+mod Limits
+mod States

@@ -1,0 +1,4 @@
+pub mod Descriptions
+pub mod Formed
+pub mod LiteralWords
+pub mod Written

@@ -1,0 +1,210 @@
+// The written form of a transducer's description. Each takes time linear in the s-expression.
+ghost use Rattle.std.specs.Option.{option_map};
+ghost use Rattle.std.specs.Prelude.{◌≡◌, map, codes};
+ghost use Rattle.smt_names.specs.Form.{are_all, forms, seen, two};
+ghost use Rattle.smt_names.specs.Tokens as t;
+ghost use Rattle.transducer_form.specs.Written as w;
+
+use sexpr_reader::Sexpr;
+use smt_names::token::{digits, listed, literal_text, pair, symbol, unquoted};
+
+/// A transducer's description in its written form: its states, its start, its edges and its ends.
+#[derive(Drop)]
+pub struct Description<'a> {
+    pub states: &'a [Sexpr],
+    pub start: &'a Sexpr,
+    pub edges: &'a [Sexpr],
+    pub ends: &'a [Sexpr],
+}
+
+/// The parts of an edge.
+#[derive(Drop)]
+pub struct EdgeParts<'a> {
+    pub from: &'a Sexpr,
+    pub low: &'a Sexpr,
+    pub high: &'a Sexpr,
+    pub items: &'a [Sexpr],
+    pub to: &'a Sexpr,
+}
+
+impl<'a> Description<'a> {
+    /// The description of these parts, if they are in the written form.
+    pub fn of(
+        states: &'a Sexpr,
+        start: &'a Sexpr,
+        edges: &'a Sexpr,
+        ends: &'a Sexpr,
+    ) -> Option<Description<'a>>
+        ensures { option_map w.description_seen result ≡ w.description_form (seen states.now) (seen start.now) (seen edges.now) (seen ends.now) }
+    {
+        let states = listed(states)?;
+        let edges = listed(edges)?;
+        let ends = listed(ends)?;
+        if are_symbols(states) && symbol(start).is_some() && are_edges(edges) && are_ends(ends) {
+            Some(Description {
+                states,
+                start,
+                edges,
+                ends,
+            })
+        } else {
+            None
+        }
+    }
+}
+
+/// The parts of an edge, if it is a list of five of which the fourth is a list.
+#[tactic(auto, using(smt_names::specs::Shapes::shapes, crate::proofs::Five::fives))]
+pub fn edge_parts(edge: &Sexpr) -> Option<EdgeParts<'_>>
+    ensures { option_map w.edge_seen result ≡ w.edge_form (seen edge.now) }
+{
+    match edge {
+        Sexpr::List(parts) => match parts.as_slice() {
+            [from, low, high, items, to] => match listed(items) {
+                Some(items) => Some(EdgeParts {
+                    from,
+                    low,
+                    high,
+                    items,
+                    to,
+                }),
+                None => None,
+            },
+            _ => None,
+        },
+        Sexpr::Atom(_, _) => None,
+    }
+}
+
+/// Whether it is the symbol `in`.
+fn is_in(part: &Sexpr) -> bool
+    ensures { result ≡ w.is_named (codes "in") (t.symbol (seen part.now)) }
+{
+    match symbol(part) {
+        Some(text) => unquoted(text) == b"in".as_slice(),
+        None => false,
+    }
+}
+
+/// Whether it is the symbol `-`.
+fn is_minus(part: &Sexpr) -> bool
+    ensures { result ≡ w.is_named (codes "-") (t.symbol (seen part.now)) }
+{
+    match symbol(part) {
+        Some(text) => unquoted(text) == b"-".as_slice(),
+        None => false,
+    }
+}
+
+/// Whether it is `(- K)`.
+fn is_below(part: &Sexpr) -> bool
+    ensures { result ≡ w.is_below (two (seen part.now)) }
+{
+    match pair(part) {
+        Some((sign, amount)) => is_minus(sign) && digits(amount).is_some(),
+        None => false,
+    }
+}
+
+/// Whether it is `(in K)` or `(in (- K))`.
+fn is_move(part: &Sexpr) -> bool
+    ensures { result ≡ w.is_move (two (seen part.now)) }
+{
+    match pair(part) {
+        Some((word, amount)) => is_in(word) && (digits(amount).is_some() || is_below(amount)),
+        None => false,
+    }
+}
+
+fn is_item(part: &Sexpr) -> bool
+    ensures { result ≡ w.is_item (seen part.now) }
+{
+    literal_text(part).is_some() || is_in(part) || is_move(part)
+}
+
+fn is_edge(edge: &Sexpr) -> bool
+    ensures { result ≡ w.is_edge (seen edge.now) }
+{
+    match edge_parts(edge) {
+        Some(parts) => {
+            symbol(parts.from).is_some()
+                && literal_text(parts.low).is_some()
+                && literal_text(parts.high).is_some()
+                && are_items(parts.items)
+                && symbol(parts.to).is_some()
+        }
+        None => false,
+    }
+}
+
+fn is_end(end: &Sexpr) -> bool
+    ensures { result ≡ w.is_end (seen end.now) }
+{
+    match pair(end) {
+        Some((state, words)) => match listed(words) {
+            Some(words) => symbol(state).is_some() && are_texts(words),
+            None => false,
+        },
+        None => false,
+    }
+}
+
+#[tactic(auto, using(smt_names::specs::Shapes::listing))]
+fn are_symbols(parts: &[Sexpr]) -> bool
+    ensures { result ≡ are_all w.is_symbol (forms (map seen parts.now)) }
+{
+    for part in parts {
+        if symbol(part).is_none() {
+            return false;
+        }
+    }
+    true
+}
+
+#[tactic(auto, using(smt_names::specs::Shapes::listing))]
+fn are_texts(parts: &[Sexpr]) -> bool
+    ensures { result ≡ are_all w.is_text (forms (map seen parts.now)) }
+{
+    for part in parts {
+        if literal_text(part).is_none() {
+            return false;
+        }
+    }
+    true
+}
+
+#[tactic(auto, using(smt_names::specs::Shapes::listing))]
+fn are_items(parts: &[Sexpr]) -> bool
+    ensures { result ≡ are_all w.is_item (forms (map seen parts.now)) }
+{
+    for part in parts {
+        if !is_item(part) {
+            return false;
+        }
+    }
+    true
+}
+
+#[tactic(auto, using(smt_names::specs::Shapes::listing))]
+fn are_edges(parts: &[Sexpr]) -> bool
+    ensures { result ≡ are_all w.is_edge (forms (map seen parts.now)) }
+{
+    for part in parts {
+        if !is_edge(part) {
+            return false;
+        }
+    }
+    true
+}
+
+#[tactic(auto, using(smt_names::specs::Shapes::listing))]
+fn are_ends(parts: &[Sexpr]) -> bool
+    ensures { result ≡ are_all w.is_end (forms (map seen parts.now)) }
+{
+    for part in parts {
+        if !is_end(part) {
+            return false;
+        }
+    }
+    true
+}

@@ -1,0 +1,68 @@
+// What a transducer writes at the end of a word, in its description.
+ghost use Rattle.std.specs.Prelude.{◌≡◌, ◌≤◌, length, map};
+ghost use Rattle.smt_names.specs.Faults.{Answers};
+ghost use Rattle.smt_names.specs.Form.{forms, seen};
+ghost use Rattle.transducer_form.specs.Descriptions as d;
+
+use crate::state::state;
+use crate::text::word;
+use indexmap::IndexSet;
+use sexpr_reader::Sexpr;
+use smt_names::CheckFault;
+use smt_names::token::{listed, pair};
+use std::alloc::Global;
+use sv_list::Items;
+use sv_terms::Name;
+use sv_word::Word;
+
+/// The words of literals, one after another. Linear.
+#[tactic(auto, using(crate::proofs::Joined::joining))]
+fn words_joined(alloc: Global, parts: &[Sexpr]) -> Result<Word, CheckFault>
+    ensures { Answers (d.words_joined (forms (map seen parts.now))) result }
+{
+    let mut all = Word::new(alloc);
+    for part in parts {
+        match word(alloc, part) {
+            Ok(more) => all.append(&more)?,
+            Err(fault) => return Err(fault),
+        }
+    }
+    Ok(all)
+}
+
+/// A state, and what is written there at the end.
+fn end(alloc: Global, states: &IndexSet<Name>, part: &Sexpr) -> Result<(u32, Word), CheckFault>
+    requires { length states.now.keys ≤ 256 }
+    ensures { Answers (d.end_of states.now.keys (seen part.now)) result }
+{
+    match pair(part) {
+        Some((at, words)) => {
+            let at = state(alloc, states, at)?;
+            match listed(words) {
+                Some(words) => Ok((at, words_joined(alloc, words)?)),
+                None => Err(CheckFault::Shape),
+            }
+        }
+        None => Err(CheckFault::Shape),
+    }
+}
+
+/// All ends, in their order. Linear.
+#[tactic(auto, using(crate::proofs::Joined::listing))]
+pub fn ends(
+    alloc: Global,
+    states: &IndexSet<Name>,
+    parts: &[Sexpr],
+) -> Result<Items<(u32, Word)>, CheckFault>
+    requires { length states.now.keys ≤ 256 }
+    ensures { Answers (d.each (d.end_of states.now.keys) (forms (map seen parts.now))) result }
+{
+    let mut all = Items::new(alloc);
+    for part in parts {
+        match end(alloc, states, part) {
+            Ok(end) => all.push(end)?,
+            Err(fault) => return Err(fault),
+        }
+    }
+    Ok(all)
+}
