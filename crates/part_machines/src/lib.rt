@@ -26,6 +26,8 @@ mod part;
 mod pattern;
 mod pricing;
 mod table;
+#[cfg(test)]
+mod tests;
 
 pub use laws::bounds_some;
 pub use own::own_machine;
