@@ -23,3 +23,4 @@ mod rows;
 mod tests;
 
 pub use replacing::{replace_all, replace_first};
+pub use rows::{FailureAutomaton, Row, failure_automaton, row_at};

@@ -7,7 +7,7 @@ ghost use Rattle.replace_machines.specs.Edges.{copy_edge, front_edge};
 ghost use Rattle.replace_machines.specs.Relating.{Relates};
 
 use crate::edges::{held_edges, held_ends};
-use crate::rows::rows;
+use crate::rows::failure_automaton;
 use std::alloc::{AllocError, Global};
 use sv_list::Items;
 use sv_terms::{Item, TransEdge, Transducer};
@@ -89,8 +89,8 @@ fn replace_each(alloc: Global, pattern: &Word, by: &Word) -> Result<Transducer, 
 {
     pattern.is_word();
     by.is_word();
-    let rows = rows(alloc, pattern)?;
-    let edges = held_edges(alloc, pattern, by, 0, rows.as_slice())?;
+    let automaton = failure_automaton(alloc, pattern)?;
+    let edges = held_edges(alloc, pattern, by, 0, automaton.rows.as_slice())?;
     let ends = held_ends(alloc, pattern)?;
     Ok(Transducer {
         states: pattern.len() as u32,
@@ -108,9 +108,9 @@ fn replace_one(alloc: Global, pattern: &Word, by: &Word) -> Result<Transducer, A
 {
     pattern.is_word();
     by.is_word();
-    let rows = rows(alloc, pattern)?;
+    let automaton = failure_automaton(alloc, pattern)?;
     let last = pattern.len() as u32;
-    let mut edges = held_edges(alloc, pattern, by, last, rows.as_slice())?;
+    let mut edges = held_edges(alloc, pattern, by, last, automaton.rows.as_slice())?;
     edges.push(copy_edge(alloc, last)?)?;
     let mut ends = held_ends(alloc, pattern)?;
     ends.push((last, Word::new(alloc)))?;

@@ -1,0 +1,5 @@
+pub mod TableLemmas
+pub mod ChainLemmas
+pub mod PatternLemmas
+pub mod PartLemmas
+pub mod PriceLemmas

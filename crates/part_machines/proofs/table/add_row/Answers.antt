@@ -1,0 +1,18 @@
+use Rattle.std.proofs.Common.{◌∙◌}
+use Rattle.part_machines.specs.Tables.{leg}
+use Rattle.part_machines.proofs.TableLemmas.{led-end, led-loop}
+use Rattle.part_machines.proofs.table.add_row.Goals as goal
+
+pub loop-leg-preserved : goal.loop-leg-preserved
+loop-leg-preserved c = record {
+  states = c.in_ok-add_leg.ensures.states ∙ c.loop-leg.invariant.states;
+  registers = c.in_ok-add_leg.ensures.registers ∙ c.loop-leg.invariant.registers;
+  ends = c.in_ok-add_leg.ensures.ends ∙ c.loop-leg.invariant.ends;
+  led = led-loop c.args.machine.now.edges c.loop-leg.machine c.add_leg.new.machine c.args.at c.args.row.now c.loop-leg.start c.args.machine.now.states c.loop-leg.leg-index c.max-start.result c.as_slice-leg-items.result.now (leg 0 0)
+      c.as_slice-leg-items.ensures c.loop-leg-test.true c.loop-leg.invariant.states c.max-start.ensures c.requires.row c.loop-leg.invariant.led c.in_ok-add_leg.ensures.steps;
+}
+
+pub returns-clause-steps : goal.returns-clause-steps
+returns-clause-steps c =
+    led-end c.args.machine.now.edges c.loop-leg.machine c.add_leg-2.new.machine c.args.at c.args.row.now c.loop-leg.start c.args.machine.now.states c.loop-leg.leg-index c.as_slice-leg-items.result.now
+    c.as_slice-leg-items.ensures c.loop-leg-test.false c.loop-leg.invariant.states c.loop-leg.invariant.led c.in_ok-add_leg-2.ensures.steps

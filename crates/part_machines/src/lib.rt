@@ -1,0 +1,35 @@
+//! Machines of what the literals say of one variable over words.
+//!
+//! The central fact, the clause of [`part_machine`]: **the machine of a part reads exactly the words that
+//! meet it, and has at most as many states as its bound says**, for a part that is to hold and for one that
+//! isn't. [`own_machine`] joins the machines of all parts of a variable, and lets each character cost what
+//! the registers of the variable count.
+//!
+//! A regular expression is built, and its complement made by the subset construction. All other parts come
+//! by a table that says where each state leads on each character: a word, a prefix and a digit by a chain
+//! along their characters, what occurs and what ends a word by the failure automaton of Knuth, Morris and
+//! Pratt (Fast pattern matching in strings, 1977). A table is complete, so that a part that isn't to hold has
+//! the same edges with the other ends. Tables are linear in their characters but for the rows of the failure
+//! automaton, which are logarithmic each, and edges are read by ranges of characters.
+//!
+//! ```
+//! // The words that contain "ab" and don't end with "b", each with its length at one register.
+//! let one = Cost::from_slice(alloc, &[1])?;
+//! let machine = own_machine(alloc, &parts, &one)?;
+//! ```
+#![tactic(auto)]
+
+mod chains;
+mod laws;
+mod own;
+mod part;
+mod pattern;
+mod pricing;
+mod table;
+#[cfg(test)]
+mod tests;
+
+pub use laws::bounds_some;
+pub use own::own_machine;
+pub use part::{MOST_STATES, part_machine};
+pub use pricing::price;

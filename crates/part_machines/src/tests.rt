@@ -1,0 +1,77 @@
+//! Parts at concrete words, to hold and not to hold.
+ghost use Rattle.std.specs.Prelude.{◌≡◌, ◌≤◌, ◌∷◌, [], IfOk};
+ghost use Rattle.straight_line.specs.Bounds.{part_bound};
+
+use crate::{MOST_STATES, part_machine};
+use machine_core::Explicit;
+use std::alloc::{AllocError, Global};
+use straight_line::Own;
+use sv_word::Word;
+
+// The word "a".
+fn letter(alloc: Global) -> Result<Word, AllocError>
+    ensures { IfOk result (λ w. w ≡ 97 ∷ []) }
+{
+    let mut word = Word::new(alloc);
+    word.push(97)?;
+    Ok(word)
+}
+
+// Where a state leads on a byte.
+fn step(machine: &Explicit, at: u32, byte: u8) -> Option<u32> {
+    for edge in machine.edges() {
+        if edge.from == at && edge.on.holds(u32::from(byte)) {
+            return Some(edge.to);
+        }
+    }
+    None
+}
+
+fn ends(machine: &Explicit, at: u32) -> bool {
+    for end in machine.finals() {
+        if end.at == at {
+            return true;
+        }
+    }
+    false
+}
+
+// Whether a deterministic machine reads the text.
+fn reads(machine: &Explicit, text: &str) -> bool {
+    let mut at = 0;
+    for byte in text.as_bytes() {
+        match step(machine, at, *byte) {
+            Some(to) => at = to,
+            None => return false,
+        }
+    }
+    ends(machine, at)
+}
+
+// Whether the machine of a part reads the first text, and not the second.
+fn tells(alloc: Global, own: Own, holds: bool, yes: &str, no: &str) -> Result<bool, AllocError>
+    requires { part_bound (own, holds) ≤ MOST_STATES }
+{
+    let part = (own, holds);
+    let machine = part_machine(alloc, &part)?;
+    let first = reads(&machine, yes);
+    let second = reads(&machine, no);
+    Ok(first && !second)
+}
+
+#[test]
+fn digits(rt: HostRuntime) -> Result<(), AllocError> {
+    let alloc = rt.alloc();
+    assert!(rt; tells(alloc, Own::Digit, true, "9", ":")?);
+    assert!(rt; tells(alloc, Own::Digit, false, "00", "0")?);
+    Ok(())
+}
+
+#[test]
+fn patterns(rt: HostRuntime) -> Result<(), AllocError> {
+    let alloc = rt.alloc();
+    assert!(rt; tells(alloc, Own::Contains(letter(alloc)?), true, "bab", "bb")?);
+    assert!(rt; tells(alloc, Own::Suffix(letter(alloc)?), false, "ab", "ba")?);
+    assert!(rt; tells(alloc, Own::Prefix(letter(alloc)?), true, "ab", "ba")?);
+    Ok(())
+}
