@@ -17,7 +17,7 @@ use Rattle.bool_cubes.specs.Codes.{same}
 use Rattle.bool_cubes.specs.Linear.{are_linear, are_strings, before, integer, is_linear, is_product, is_string, linears, pieces, set_before as spliced, written}
 use Rattle.bool_cubes.specs.Shapes.{Shape, Shapes, number, text, constant, apply, member, related, end, ◌⨾◌, head_sort, seen}
 use Rattle.bool_cubes.specs.declared.literal.Literal.{Literal}
-use Rattle.straight_line.specs.FormLaws.{NamesAreApart}
+use Rattle.straight_line.specs.FormLaws.{AreNamesSorted, NamesAreApart, NamesAreSorted}
 use Rattle.straight_line.specs.Flattening.{AreSortedBy, IsFlatOf, IsSortedBy, all_bounded, firsts_of, has_column, integers_of, name_of, roots_of, variable_at}
 use Rattle.straight_line.specs.Met.{Draft, Found, add, add_all, all_met, concat_met, first_met, known_or, meet, meet_all, meet_all_unknowns, meet_unknowns, met, nothing_met, place_of, registered, with_term, with_value}
 use Rattle.straight_line.specs.Said.{Said, are_one, atom_said, compares, constant_said, equality_said, has_part, holds, one_said, outside, pair_said, part_said, row_said, said, string_said, value_is, where_true, written_by}
@@ -291,5 +291,19 @@ module _ (sorts : List ℕ → Sort) where
       (subst (λ z. Differ (texts ++ z ++ truth_names flat.truths)) (sym g.integers)
       (subst (λ z. Differ (texts ++ integers_of d ++ truth_names z)) (sym g.truths) (subst Differ (sym (append_assoc texts (integers_of d) (truth_names d.truths))) whole)))
 
+  sorted : (d : Draft) (flat : Flat) → Fits d → IsFlatOf d flat → AreNamesSorted sorts flat
+  sorted d flat f g =
+      let p : List ℕ → Bool = λ name. has_column (all_bounded d) (integer name) in
+      let is_text = all_within d.terms (firsts_of d) (λ n. sorts n ≡ sort.String) (roots_of d) (texts_sorted d.terms f.0.0) in
+      let names : string_names flat.variables ≡ names_of_all d.terms (firsts_of d) (roots_of d) = ap string_names g.variables ∙ names_met d (roots_of d) in
+      record {
+        strings = subst (AllByRecursion (λ n. sorts n ≡ sort.String)) (sym names) is_text;
+        integers = subst (AllByRecursion (λ n. sorts n ≡ sort.Int)) (sym g.integers) (filter_within (λ n. sorts n ≡ sort.Int) p d.integers f.1.0.0);
+        truths = subst (λ z. AllByRecursion (λ n. sorts n ≡ sort.Bool) (truth_names z)) (sym g.truths) f.1.1.0;
+      }
+
 pub names_apart : NamesAreApart
 names_apart ls flat one f = names_distinct _ (apart one.0 (met ls) flat (all_fit one.0 ls nothing_met one.1 ((tt, tt), ((tt, tt), (tt, tt)))) f.of)
+
+pub names_sorted : NamesAreSorted
+names_sorted sorts ls flat o f = sorted sorts (met ls) flat (all_fit sorts ls nothing_met o ((tt, tt), ((tt, tt), (tt, tt)))) f.of

@@ -1,5 +1,5 @@
 -- The variables and definitions of what was met at places.
-use Rattle.std.specs.Prelude.{◌≡◌, ℕ, ◌<◌, Bool, List, map, length, get_or, Option, Result, Ok, Err}
+use Rattle.std.specs.Prelude.{◌≡◌, ℕ, ◌<◌, ◌^◌, Bool, List, map, length, get_or, Option, Result, Ok, Err}
 use Rattle.std.specs.List.{range_with_len}
 use Rattle.straight_line.specs.Filling.{ArePartsBelow, variable_from}
 use Rattle.straight_line.specs.Flattening.{identified}
@@ -31,6 +31,7 @@ pub record IsWording (names : List (Option (List ℕ))) (parts : List (ℕ × (O
   pub numbers : (i : ℕ) → i < length names → get_or w.of.items i 0 ≡ ordinal (length names) (least_of (length names) equalities) i
   pub count : length w.of.items ≡ length names
   pub variables : w.variables ≡ map (variable_from names parts (least_of (length names) equalities)) (roots_in (length names) (least_of (length names) equalities))
+  pub few : length w.variables < 2 ^ 32
   pub within : AreWithin (length w.variables) (definitions_by (length names) equalities definitions)
   pub straight : IsStraightened (definitions_by (length names) equalities definitions) (Ok w.definitions)
 

@@ -1,4 +1,5 @@
 //! The flat cube of what was met.
+ghost use Rattle.std.specs.Prelude.{◌<◌, ◌^◌, length, IfOk};
 ghost use Rattle.straight_line.specs.Drafted.{Holds};
 ghost use Rattle.straight_line.specs.Flattening.{IsFinished};
 ghost use Rattle.straight_line.specs.Met.{Draft as Met};
@@ -15,7 +16,8 @@ use std::alloc::Global;
 /// variable with two definitions, a cycle, too many registers or integer constants. Linear up to a logarithm.
 pub fn finish(alloc: Global, draft: Draft) -> Result<Flat, FlatFault>
     requires { IsReady draft }
-    ensures { (d : Met) → Holds draft d → IsFinished d result }
+    ensures finished { (d : Met) → Holds draft d → IsFinished d result }
+    ensures few { IfOk result (λ flat. length flat.variables < 2 ^ 32) }
 {
     let Draft {
         names,

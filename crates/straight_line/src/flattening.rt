@@ -1,4 +1,5 @@
 //! The flat cube of a cube.
+ghost use Rattle.std.specs.Prelude.{◌<◌, ◌^◌, length, IfOk};
 ghost use Rattle.std.specs.List.{AllByRecursion};
 ghost use Rattle.bool_cubes.specs.Past.{IsFitting};
 ghost use Rattle.straight_line.specs.Flattening.{IsFlattened};
@@ -17,7 +18,8 @@ use std::alloc::Global;
 #[tactic(auto, using(crate::proofs::Flattened::ready, crate::proofs::Flattened::scan_refused))]
 pub fn flatten(alloc: Global, cube: &Cube) -> Result<Flat, FlatFault>
     requires { AllByRecursion IsFitting cube.now.literals }
-    ensures { IsFlattened cube.now.literals result }
+    ensures flat { IsFlattened cube.now.literals result }
+    ensures few { IfOk result (λ flat. length flat.variables < 2 ^ 32) }
 {
     let draft = scan(alloc, cube)?;
     finish(alloc, draft)

@@ -1,5 +1,5 @@
 //! Laws of what flat cubes are made of. Each is a function without a body, whose clause is the law.
-ghost use Rattle.straight_line.specs.FormLaws.{NamesAreApart, TransducersAreFormed};
+ghost use Rattle.straight_line.specs.FormLaws.{NamesAreApart, NamesAreSorted, TransducersAreFormed};
 
 /// The transducers of a flat cube are formed where those of its cube's literals are.
 #[tactic(auto, using(crate::proofs::Formed::transducers_formed))]
@@ -11,4 +11,11 @@ pub fn transducers_formed()
 #[tactic(auto, using(crate::proofs::Called::names_apart))]
 pub fn names_apart()
     ensures { NamesAreApart }
+{}
+
+/// The names of a flat cube have the sorts that they have in its cube's literals, where each name has one: those of
+/// variables String, of integer constants Int, of truths Bool.
+#[tactic(auto, using(crate::proofs::Called::names_sorted))]
+pub fn names_sorted()
+    ensures { NamesAreSorted }
 {}

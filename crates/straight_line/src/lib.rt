@@ -50,7 +50,7 @@ pub use definition::{By, Definition};
 pub use fault::FlatFault;
 pub use flat::Flat;
 pub use flattening::flatten;
-pub use form_laws::{names_apart, transducers_formed};
+pub use form_laws::{names_apart, names_sorted, transducers_formed};
 pub use laws::{flat_exact, flat_one, refused_none};
 pub use measures::Numbers;
 pub use measuring::numbers;

@@ -42,10 +42,10 @@ pub fn eval(alloc: Global, term: &Term, model: &Model) -> Result<Value, EvalFaul
     Ok(value_of(alloc, term, model)?)
 }
 
-// Whether an opaque part stands in the term.
+/// Whether an opaque part stands in the term. Time is linear in it, the stack grows with the nesting.
 #[cycle(has_opaque)]
 #[tactic(auto, using(crate::proofs::Opaques::opaques))]
-fn has_opaque(term: &Term) -> bool
+pub fn has_opaque(term: &Term) -> bool
     ensures { result ≡ is_opaque term.now }
 {
     match term {

@@ -21,6 +21,6 @@ mod sums;
 mod tests;
 mod truths;
 
-pub use evaluation::eval;
+pub use evaluation::{eval, has_opaque};
 pub use fault::EvalFault;
 pub use laws::{opaque_is_told, value_is_meant};

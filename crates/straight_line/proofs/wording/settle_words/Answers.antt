@@ -61,7 +61,9 @@ returns-in_ok-variables-in-Ok c =
     let of2 = numbers_are (length c.args.names) c.args.equalities.now c.requires.equalities_in c.as_slice.result.now is c.as_slice-2.result.now (c.as_slice-2.ensures.value ∙ c.in_ok-numbering.ensures.of) in
     let k = count_is (length c.args.names) c.args.equalities.now c.requires.equalities_in c.as_slice.result.now is c.in_ok-numbering.numbering.count c.in_ok-numbering.ensures.count in
     let s = renamed_straight (length c.args.names) c.args.equalities.now c.requires.equalities_in c.as_slice-2.result.now of2 c.in_ok-numbering.numbering.count k c.args.definitions c.requires.definitions_in c.in_ok-renamed.renamed c.in_ok-renamed.ensures (Ok c.in-Ok.straight) c.in-Ok.ensures in
-    worded c.args.names c.args.equalities.now c.requires.equalities_in (record { of = c.in_ok-numbering.numbering.of; variables = c.in_ok-variables-in-Ok.variables; definitions = c.in-Ok.straight }) c.in_ok-numbering.numbering.count c.args.parts c.args.definitions of k c.requires.parts_in c.requires.definitions_in (c.in_ok-variables-in-Ok.ensures ∙ ap (λ z. parted_all z c.args.parts (named_all z c.args.names (replicate c.in_ok-numbering.numbering.count free_variable))) c.as_slice-in-Ok.ensures.value) s
+    let e = c.in_ok-places.ensures.count ∙ c.len.ensures in
+    let l = c.in_ok-places.ensures.few in
+    worded c.args.names c.args.equalities.now c.requires.equalities_in (omega arith) (record { of = c.in_ok-numbering.numbering.of; variables = c.in_ok-variables-in-Ok.variables; definitions = c.in-Ok.straight }) c.in_ok-numbering.numbering.count c.args.parts c.args.definitions of k c.requires.parts_in c.requires.definitions_in (c.in_ok-variables-in-Ok.ensures ∙ ap (λ z. parted_all z c.args.parts (named_all z c.args.names (replicate c.in_ok-numbering.numbering.count free_variable))) c.as_slice-in-Ok.ensures.value) s
 
 pub returns-in-Err : goal.returns-in-Err
 returns-in-Err c =
