@@ -1,5 +1,5 @@
 //! The options and the file as `clap` reads them.
-ghost use Rattle.std.specs.Prelude.{◌≡◌, ◌≢◌, [], true, false, Some, IfOk, IfErr, IsErrOf, map, option_map, option_and_then, string_bytes, codes};
+ghost use Rattle.std.specs.Prelude.{◌≡◌, ◌≢◌, ◌≤◌, [], true, false, Some, IfOk, IfSome, IfErr, IsErrOf, map, option_map, option_and_then, string_bytes, codes};
 ghost use Rattle.clap.specs.Words.{app_of, found_of, rows_of, matches_of, kind_of, fault_of, rule_of, first_of};
 ghost use Rattle.command_words.specs.Words.{form_app, option_rule, plain_app, given, number_in, number_given, are_options, is_right_text};
 
@@ -60,7 +60,8 @@ fn parsed<'a>(alloc: Global, words: &'a [String]) -> Result<ArgMatches<'a>, Erro
 
 // The number of a text, where it is one within these bounds.
 fn number(text: &str, least: u64, most: u64) -> Option<u64>
-    ensures { result ≡ number_in least most text.now }
+    ensures number { result ≡ number_in least most text.now }
+    ensures within { IfSome result (λ number. (least ≤ number) × (number ≤ most)) }
 {
     match text.parse::<u64>() {
         Ok(number) => {
@@ -79,6 +80,7 @@ fn number(text: &str, least: u64, most: u64) -> Option<u64>
 // The number of a text that may be missing, or that there is a wrong text.
 fn number_of(text: Option<&str>, least: u64, most: u64) -> Result<Option<u64>, WordsFault>
     ensures ok { IfOk result (λ number. number ≡ option_and_then (number_in least most) (option_map (λ text. text.now) text.entry)) }
+    ensures within { IfOk result (λ number. IfSome number (λ n. (least ≤ n) × (n ≤ most))) }
     ensures right { IfOk result (λ number. is_right_text (option_map (λ text. text.now) text.entry) number ≡ true) }
     ensures wrong { IfErr result (λ fault. (fault ≡ WordsFault.Outside) × (is_right_text (option_map (λ text. text.now) text.entry) (option_and_then (number_in least most) (option_map (λ text. text.now) text.entry)) ≡ false)) }
 {
@@ -106,6 +108,7 @@ fn text_of<'a>(found: &ArgMatches<'a>, name: &str) -> Option<&'a str>
 pub fn read_options<'a>(alloc: Global, words: &'a [String]) -> Result<Options<'a>, WordsFault>
     ensures form { IfOk result (λ options. are_options (map string_bytes words.entry.now) ≡ true) }
     ensures workers { IfOk result (λ options. options.workers ≡ number_given (codes "workers") 1 64 (map string_bytes words.entry.now)) }
+    ensures few { IfOk result (λ options. IfSome options.workers (λ n. (1 ≤ n) × (n ≤ 64))) }
     ensures seed { IfOk result (λ options. options.seed ≡ number_given (codes "generate") 0 18446744073709551615 (map string_bytes words.entry.now)) }
     ensures size { IfOk result (λ options. options.size ≡ number_given (codes "size") 1 100000 (map string_bytes words.entry.now)) }
     ensures file { IfOk result (λ options. option_map (λ text. text.now) options.file ≡ given (codes "file") (map string_bytes words.entry.now)) }
