@@ -15,7 +15,6 @@ pub fn names_apart()
 
 /// The names of a flat cube have the sorts that they have in its cube's literals, where each name has one: those of
 /// variables String, of integer constants Int, of truths Bool.
-#[tactic(auto, using(crate::proofs::Called::names_sorted))]
 pub fn names_sorted()
     ensures { NamesAreSorted }
 {}
