@@ -19,7 +19,7 @@ use Rattle.smt_session.specs.declared.reply.Reply.TheVariants.{Success, Unsuppor
 use Rattle.smt_session.specs.declared.session.Kept.{Kept}
 use Rattle.smt_session.specs.declared.session.Kept.TheVariants as kept
 use Rattle.strsolve.specs.Scripts.{Follows, none, next, Answers, to_end, to_exit, to_fault, AnswersFront, so_far, all, IsTrueOf}
-use Rattle.strsolve.specs.Runs.{IsRead, IsTrueBehind}
+use Rattle.strsolve.specs.Runs.{IsTrueFor}
 use Rattle.sexpr_reader.specs.Reads.{Begins}
 use Rattle.std.proofs.lemmas.List.{append-nil}
 
@@ -153,13 +153,10 @@ last_or_before (z ∷ early) late (y ∷ log) r x e =
     more_before y z early log r x same (last_or_before early late log r x left)
 
 -- each verdict of a right log is true
-module _ (left_old left_new : Option (List ℕ)) (ended : Bool) (bytes : List ℕ) (read : IsRead ended left_old left_new bytes) where
+module _ (ended : Bool) (bytes : List ℕ) where
   told : (items : List Sexpr) (rest : List ℕ) (early : List Reply) (r : Reply) → Begins ended bytes items rest
-      → (before after : List Sexpr) × (u : State) × (items ≡ before ++ after) × Follows opened before early u × IsTrueOf u r → IsTrueBehind left_old left_new early r
+      → (before after : List Sexpr) × (u : State) × (items ≡ before ++ after) × Follows opened before early u × IsTrueOf u r → IsTrueFor ended bytes early r
   told items rest early r begins h = record {
-    ended = ended;
-    bytes = bytes;
-    read = read;
     items = h.0;
     others = h.1;
     rest = rest;
@@ -170,18 +167,18 @@ module _ (left_old left_new : Option (List ℕ)) (ended : Bool) (bytes : List �
   }
 
   at_fault : (items : List Sexpr) (rest : List ℕ) (s : State) (first early : List Reply) (r : Reply) (kind : ErrorKind) → Begins ended bytes items rest → Follows opened items first s
-      → ((early ≡ first) × (r ≡ Error kind)) ⊎ ((more : List Reply) × (first ≡ early ++ r ∷ more)) → IsTrueBehind left_old left_new early r
+      → ((early ≡ first) × (r ≡ Error kind)) ⊎ ((more : List Reply) × (first ≡ early ++ r ∷ more)) → IsTrueFor ended bytes early r
   at_fault items rest s first early r kind begins follows (inl h) =
       told items rest early r begins (items, [], s, sym (append-nil items), subst (λ (l : List Reply). Follows opened items l s) (sym h.0) follows, subst (IsTrueOf s) (sym h.1) tt)
   at_fault items rest s first early r kind begins follows (inr h) = told items rest early r begins (behind opened s items first early h.0 r follows h.1)
 
-  in_answers : (log early late : List Reply) (r : Reply) → Answers ended bytes log → log ≡ early ++ r ∷ late → IsTrueBehind left_old left_new early r
+  in_answers : (log early late : List Reply) (r : Reply) → Answers ended bytes log → log ≡ early ++ r ∷ late → IsTrueFor ended bytes early r
   in_answers log early late r (to_end items s is ends follows) e =
       told items ends.rest early r (subst (λ b. Begins b bytes items ends.rest) (sym is) ends.reads.begins) (behind opened s items log early late r follows e)
   in_answers log early late r (to_exit items rest s begins follows is) e = told items rest early r begins (behind opened s items log early late r follows e)
   in_answers log early late r (to_fault items first s fault kind faulty follows goes is last) e =
       at_fault items faulty.rest s first early r kind faulty.reads.begins follows (last_or_before early late first r (Error kind) (sym last ∙ e))
 
-  pub verdict_true : (log early late : List Reply) (r : Reply) → AnswersFront ended bytes log → log ≡ early ++ r ∷ late → IsTrueBehind left_old left_new early r
+  pub verdict_true : (log early late : List Reply) (r : Reply) → AnswersFront ended bytes log → log ≡ early ++ r ∷ late → IsTrueFor ended bytes early r
   verdict_true log early late r (so_far items rest s begins follows) e = told items rest early r begins (behind opened s items log early late r follows e)
   verdict_true log early late r (all h) e = in_answers log early late r h e

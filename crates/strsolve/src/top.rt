@@ -6,16 +6,21 @@ ghost use Rattle.std.specs.declared.option.Option.{Option as Optional};
 ghost use Rattle.sv_io.specs.Counts.{Rose};
 ghost use Rattle.sv_io.specs.Names.{IsOwn};
 ghost use Rattle.smt_session.specs.declared.reply.Reply.{Reply as AnyReply};
-ghost use Rattle.strsolve.specs.CommandLine.{named, usage};
+ghost use Rattle.command_words.specs.Asked.{named};
+ghost use Rattle.command_words.specs.Words.{is_in_form};
+ghost use Rattle.generated_script.specs.Blocks.{script};
+ghost use Rattle.strsolve.specs.CommandLine.{AskFor, usage};
+ghost use Rattle.strsolve.specs.Generated.{IsGenerated, IsTrueIn};
 ghost use Rattle.strsolve.specs.Runs.{IsTrueBehind, IsAnswered, IsFront, IsPrompt, IsRefused, IsUnfinished};
 ghost use Rattle.strsolve.specs.Scripts.{has_error};
 ghost use Rattle.strsolve.specs.Standing.{Ended};
 
 use crate::answering::Answering;
-use crate::command_line::are_taken;
+use crate::generating::answer_generated;
 use crate::log::Log;
 use crate::outcome::{Ending, NO_MEMORY, Outcome, Run, WRITE_FAILED, WRONG_WORDS};
 use crate::transfer::write_all;
+use command_words::{Task, WordsFault, read};
 use std::alloc::Global;
 use std::thread::Threads;
 use sv_io::{Sink, SinkFault, Source, Words};
@@ -114,11 +119,12 @@ fn answer_script<S: Source, K: Sink>(
     }
 }
 
-/// Answers the script that the source gives, and writes each printed reply before the next command.
+/// Answers the script that the words ask for: that of the named file or of standard input, each printed
+/// reply written before the next command; or a generated one, of which one line sums up the verdicts.
 ///
-/// The words are none, or one that doesn't begin with a `-`: the name that the source is opened
-/// with. With any others the source isn't touched, and the sink gets one line that says how the
-/// program is called.
+/// The words are those behind the program's name, `[--workers N] [FILE]` or
+/// `[--workers N] --generate SEED --size N`, as `command_words` reads them. With any others the source
+/// isn't touched, and the sink gets one line that says how the program is called.
 ///
 /// Takes time and memory in the bytes of the longest item, and what its commands take: the source
 /// is read in pieces, and each item is answered as soon as it is whole.
@@ -131,30 +137,46 @@ pub fn run<R: Threads + Sync, S: Source, K: Sink>(
 ) -> Run
     requires { S.is_open source.old ≡ false }
     ensures statuses { result.status ≤ 5 }
-    ensures answered { (result.status ≡ 0) ⊎ (result.status ≡ 1) → IsAnswered (S.left source.old) (S.left source.new) (K.taken sink.old) (K.taken sink.new) result.log }
-    ensures right { result.status ≡ 0 → has_error result.log ≡ false }
+    ensures answered { is_some (named words.now) ≡ true → (result.status ≡ 0) ⊎ (result.status ≡ 1) → IsAnswered (S.left source.old) (S.left source.new) (K.taken sink.old) (K.taken sink.new) result.log }
+    ensures right { is_some (named words.now) ≡ true → result.status ≡ 0 → has_error result.log ≡ false }
     ensures error { result.status ≡ 1 → has_error result.log ≡ true }
-    ensures verdicts { (early late : List AnyReply) (verdict : AnyReply) → result.log ≡ early ++ verdict ∷ late → IsTrueBehind (S.left source.old) (S.left source.new) early verdict }
-    ensures wrong_words { result.status ≡ 2 → (named words.now ≡ None) × Appends (K.taken sink.old) (K.taken sink.new) usage }
-    ensures words { named words.now ≡ None → (result.status ≡ 2) ⊎ (result.status ≡ 4) ⊎ (result.status ≡ 5) }
-    ensures refused { named words.now ≡ None → (source.new ≡ source.old) × IsRefused (K.taken sink.old) (K.taken sink.new) result.log }
+    ensures verdicts { is_some (named words.now) ≡ true → (early late : List AnyReply) (verdict : AnyReply) → result.log ≡ early ++ verdict ∷ late → IsTrueBehind (S.left source.old) (S.left source.new) early verdict }
+    ensures wrong_words { result.status ≡ 2 → (is_in_form words.now ≡ false) × Appends (K.taken sink.old) (K.taken sink.new) usage }
+    ensures words { is_in_form words.now ≡ false → (result.status ≡ 2) ⊎ (result.status ≡ 4) ⊎ (result.status ≡ 5) }
+    ensures refused { is_in_form words.now ≡ false → (source.new ≡ source.old) × IsRefused (K.taken sink.old) (K.taken sink.new) result.log }
     ensures read_fault { result.status ≡ 3 → Rose (S.faults source.old) (S.faults source.new) × IsUnfinished (S.left source.old) (S.left source.new) (K.taken sink.old) (K.taken sink.new) result.log }
     ensures write_fault { result.status ≡ 4 → Rose (K.faults sink.old) (K.faults sink.new) }
     ensures front { is_some (named words.now) ≡ true → IsFront (S.left source.old) (S.left source.new) (K.taken sink.old) (K.taken sink.new) result.log }
     ensures prompt { is_some (named words.now) ≡ true → IsPrompt (S.left source.old) (S.left source.new) (K.taken sink.old) (K.taken sink.new) result.log }
-    ensures open { (result.status ≡ 0) ⊎ (result.status ≡ 1) → S.is_open source.new ≡ true }
-    ensures name { (result.status ≡ 0) ⊎ (result.status ≡ 1) → (name : Optional (List ℕ)) × (named words.now ≡ Some name) × IsOwn (S.own_name source.old) name }
+    ensures open { is_some (named words.now) ≡ true → (result.status ≡ 0) ⊎ (result.status ≡ 1) → S.is_open source.new ≡ true }
+    ensures name { (name : Optional (List ℕ)) → named words.now ≡ Some name → (result.status ≡ 0) ⊎ (result.status ≡ 1) → IsOwn (S.own_name source.old) name }
     ensures astray { (name : Optional (List ℕ)) → named words.now ≡ Some name → IsOwn (S.own_name source.old) name → S.is_astray source.new ≡ S.is_astray source.old }
+    ensures generated { (seed size : ℕ) → AskFor words.now seed size → (source.new ≡ source.old) × IsGenerated (script seed size) size (K.taken sink.old) (K.taken sink.new) result.status result.log }
+    ensures generated_verdicts { (seed size : ℕ) → AskFor words.now seed size → (early late : List AnyReply) (verdict : AnyReply) → result.log ≡ early ++ verdict ∷ late → IsTrueIn (script seed size) early verdict }
 {
-    if !are_taken(words) {
-        let status = refuse_words(sink);
-        return Run {
-            status,
-            log: Log::new(),
-        };
+    let line = match read(alloc, words.as_slice()) {
+        Ok(line) => line,
+        Err(WordsFault::Outside) => {
+            let status = refuse_words(sink);
+            return Run {
+                status,
+                log: Log::new(),
+            };
+        }
+        Err(WordsFault::Memory(_)) => {
+            return Run {
+                status: NO_MEMORY,
+                log: Log::new(),
+            };
+        }
+    };
+    match line.task {
+        Task::Answer(name) => {
+            let outcome = answer_script(alloc, name, source, sink);
+            let status = outcome.status();
+            let Outcome { log, .. } = outcome;
+            Run { status, log }
+        }
+        Task::Generate { seed, size } => answer_generated(alloc, seed, size, sink),
     }
-    let outcome = answer_script(alloc, words.get(0), source, sink);
-    let status = outcome.status();
-    let Outcome { log, .. } = outcome;
-    Run { status, log }
 }
