@@ -4,8 +4,7 @@ use Rattle.std.specs.List.{list_all}
 use Rattle.std.specs.Map.{lookup}
 use Rattle.std.specs.Str.Parse.{digits_value}
 use Rattle.std.specs.Prelude.{ℕ, ◌+◌, ◌*◌, ◌-◌, ◌^◌, min, Bool, true, false, nat_le, ◌&&◌, List, [], ◌∷◌, length, take, drop, Option, Some, None, Result, Ok, Err, codes, if◌then◌else◌}
-use Rattle.sexpr_reader.specs.declared.kind.Kind.{Kind}
-use Rattle.sexpr_reader.specs.declared.kind.Kind.TheVariants.{Numeral, Decimal, Hexadecimal, Binary, Symbol, Quoted, Keyword, Literal}
+use Rattle.sexpr_reader.specs.declared.kind.Kind.TheVariants.{Numeral, Hexadecimal, Symbol, Quoted, Keyword, Literal}
 use Rattle.sv_word.specs.declared.literal_fault.LiteralFault.{LiteralFault}
 use Rattle.sv_word.specs.Literals.{lit}
 use Rattle.sv_word.specs.Words.{greatest_character}
@@ -13,7 +12,7 @@ use Rattle.sv_terms.specs.Names.{symbol_name}
 use Rattle.sv_terms.specs.declared.sort.Sort.{Sort}
 use Rattle.smt_names.specs.declared.opening.Opening.{Opening}
 use Rattle.smt_names.specs.declared.opening.Opening.TheVariants.{Let, Quantifier, Annotation, Identifier, Application}
-use Rattle.smt_names.specs.Form.{Form, Forms, token, group, end, ◌⨾◌}
+use Rattle.smt_names.specs.Form.{Form, Forms, token, group}
 use Rattle.smt_names.specs.Signature.{Name, same_name, sorts}
 
 -- the name of a symbol; `abc` and `|abc|` are one

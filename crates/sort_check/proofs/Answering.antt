@@ -4,10 +4,7 @@ use Rattle.sexpr_reader.specs.declared.sexpr.Sexpr.{Sexpr, roll-Sexpr}
 use Rattle.sexpr_reader.specs.declared.sexpr.Sexpr.TheFolds.{ind-Sexpr, map-Sexpr}
 use Rattle.sexpr_reader.specs.declared.sexpr.Sexpr.TheOpen.{Sexpr-F}
 use Rattle.sexpr_reader.specs.declared.sexpr.Sexpr.TheVariants as v
-use Rattle.sv_terms.specs.declared.entry.Body.{Body}
-use Rattle.sv_terms.specs.declared.term.Term.{Term}
 use Rattle.smt_names.specs.declared.check_fault.CheckFault.{CheckFault}
-use Rattle.sort_check.specs.Bodies.{term_of}
 use Rattle.sort_check.specs.Checking.{definition, free, is_empty, passed, passed_definition, settled_definition, valued, values}
 use Rattle.smt_names.specs.Tokens.{listed, sort_of}
 use Rattle.smt_names.specs.Signature.{Name}
@@ -15,7 +12,7 @@ use Rattle.sort_check.specs.declared.commands.Command.{Command}
 use Rattle.smt_names.specs.declared.check_fault.CheckFault.TheVariants as fault
 use Rattle.sv_terms.specs.declared.sort.Sort.{Sort}
 use Rattle.smt_names.specs.Faults.{Answers, and_then, ◌>>◌, or_fault}
-use Rattle.smt_names.specs.Form.{Form, Forms, forms, seen, raw, raws, token, group, end, ◌⨾◌}
+use Rattle.smt_names.specs.Form.{Form, Forms, forms, seen, raw, raws, group}
 use Rattle.smt_names.specs.Answering.{answers-same, fault-passes}
 use Rattle.smt_names.specs.Shapes.{seen-Atom, seen-List, none-seen, one-seen}
 use Rattle.sort_check.proofs.Counted.{assertion-few, assertion-many}

@@ -1,12 +1,10 @@
 -- Building ends, and builds what the parts are.
-use Rattle.std.proofs.Common.{Bor, ◌≡◌, refl, sym, ap, ◌∙◌, subst, Bool, ℕ, ℤ, zero, suc, ◌+◌, ◌<◌, ◌≤◌, List, [], ◌∷◌, ◌++◌, length, map, get_or, take, Option, Some, None, arith}
-use Rattle.std.specs.Option.{option_map}
+use Rattle.std.proofs.Common.{Bor, ◌≡◌, sym, ap, ◌∙◌, Bool, ℕ, ℤ, zero, suc, ◌+◌, ◌<◌, ◌≤◌, List, [], ◌∷◌, ◌++◌, length, map, get_or, take, Option, arith}
 use Rattle.sv_terms.specs.declared.regex.Regex.{Regex}
 use Rattle.sv_terms.specs.declared.entry.Body.{Body}
 use Rattle.sv_terms.specs.declared.entry.Body.TheVariants as body
 use Rattle.sv_terms.specs.declared.op.Op.{Op}
 use Rattle.sv_terms.specs.declared.sort.Sort.{Sort}
-use Rattle.sv_terms.specs.declared.sort.Sort.TheVariants as sort
 use Rattle.sv_terms.specs.declared.term.Term.{Term, roll-Term}
 use Rattle.sv_terms.specs.declared.term.Term.TheVariants as term
 use Rattle.sv_terms.specs.declared.term.Term.TheOpen.{Term-F}
@@ -15,8 +13,8 @@ use Rattle.sv_terms.specs.declared.transducer.Transducer.{Transducer}
 use Rattle.sort_check.specs.declared.draft.Node.{Node}
 use Rattle.sort_check.specs.declared.draft.Node.TheVariants as node
 use Rattle.sort_check.specs.declared.draft.Part.{Part}
-use Rattle.sort_check.specs.Bodies.{or_constant, put_in, put_in_layer, opaque, called}
-use Rattle.sort_check.specs.Drafts.{at_place, at_places, sense, senses, shown, term_found}
+use Rattle.sort_check.specs.Bodies.{or_constant, put_in, put_in_layer, called}
+use Rattle.sort_check.specs.Drafts.{at_places, sense, shown, term_found}
 use Rattle.sort_check.specs.Weights.{place_of}
 use Rattle.std.proofs.lemmas.List.{take_more}
 use Rattle.sort_check.proofs.Calling.{put-index}

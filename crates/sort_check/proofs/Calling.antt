@@ -1,24 +1,21 @@
 -- Macros at arguments: what they weigh, and what they are.
-use Rattle.std.proofs.Common.{◌≡◌, refl, sym, ap, ◌∙◌, subst, ℕ, zero, suc, ◌<◌, ◌≤◌, Bool, true, false, cond, List, [], ◌∷◌, length, map, get_or, Option, Some, None, arith}
-use Rattle.std.specs.Prelude.{slice_get, if◌then◌else◌}
+use Rattle.std.proofs.Common.{◌≡◌, refl, sym, ap, ◌∙◌, subst, ℕ, zero, suc, Bool, true, false, cond, List, [], ◌∷◌, map, Option, Some, None}
+use Rattle.std.specs.Prelude.{slice_get}
 use Rattle.std.specs.Option.{option_map}
 use Rattle.std.specs.Map.{lookup}
 use std.Path.{fun_ext}
-use Rattle.sv_terms.specs.declared.regex.Regex.{Regex}
 use Rattle.sv_terms.specs.declared.entry.Body.{Body}
 use Rattle.sv_terms.specs.declared.entry.Body.TheVariants as body
-use Rattle.sv_terms.specs.declared.op.Op.{Op}
 use Rattle.sv_terms.specs.declared.sort.Sort.{Sort}
 use Rattle.sv_terms.specs.declared.sort.Sort.TheVariants as sort
-use Rattle.sv_terms.specs.declared.term.Term.{Term, roll-Term}
-use Rattle.sv_terms.specs.declared.term.Term.TheVariants as term
+use Rattle.sv_terms.specs.declared.term.Term.{Term}
 use Rattle.sv_terms.specs.declared.term.Term.TheOpen.{Term-F}
-use Rattle.sv_terms.specs.declared.term.Term.TheFolds.{fold-Term, fold-roll-Term, map-Term, ind-Term}
+use Rattle.sv_terms.specs.declared.term.Term.TheFolds.{fold-roll-Term, map-Term, ind-Term}
 use Rattle.sort_check.specs.declared.weight.Weight.{Weight}
 use Rattle.sort_check.specs.Bodies.{term_of, or_constant, put_in, put_in_layer, arguments_for, called}
-use Rattle.sort_check.specs.Drafts.{shown, weight_found, term_found, place_found, at_place, at_places}
+use Rattle.sort_check.specs.Drafts.{shown, weight_found, term_found, at_place, at_places}
 use Rattle.smt_names.specs.Signature.{Name, same_name}
-use Rattle.sort_check.specs.Weights.{weight_of, leaf, as_term, op_weight, in_weight, related_weight, regex_weight, weigh_layer, weighed, or_leaf, place_of, nth_if, argument_weight, call_weight}
+use Rattle.sort_check.specs.Weights.{weight_of, as_term, op_weight, in_weight, related_weight, regex_weight, weigh_layer, weighed, or_leaf, place_of, nth_if, argument_weight, call_weight}
 use Rattle.sort_check.proofs.Layers.{weight-Truth, weight-Number, weight-Text, weight-Constant, weight-Opaque, weight-Apply, weight-InRe, weight-Related}
 
 abbrev term_weight : Term → Weight

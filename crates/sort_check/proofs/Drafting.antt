@@ -1,5 +1,5 @@
 -- Parts of drafts, and what they are.
-use Rattle.std.proofs.Common.{◌≡◌, refl, sym, ap, ◌∙◌, subst, ℕ, zero, suc, ◌+◌, ◌<◌, ◌≤◌, List, [], ◌∷◌, ◌++◌, length, map, get_or, take, Option, Some, None, arith, append_assoc}
+use Rattle.std.proofs.Common.{◌≡◌, refl, sym, ap, ◌∙◌, subst, ℕ, zero, suc, ◌+◌, ◌<◌, ◌≤◌, List, [], ◌∷◌, ◌++◌, length, map, get_or, take, Some, None, arith}
 use Rattle.std.specs.Prelude.{slice_get}
 use Rattle.std.proofs.Math.ListN.{length-append, get_or-append}
 use Rattle.std.proofs.Math.Seq.{get_or-append_seam}
@@ -9,7 +9,7 @@ use Rattle.sort_check.specs.declared.draft.Node.{Node}
 use Rattle.sort_check.specs.declared.draft.Part.{Part}
 use Rattle.sort_check.specs.declared.weight.Weight.{Weight}
 use Rattle.sort_check.specs.Bodies.{opaque}
-use Rattle.sort_check.specs.Drafts.{at_place, at_places, sense, senses, senses_from}
+use Rattle.sort_check.specs.Drafts.{at_place, sense, senses, senses_from}
 use Rattle.sort_check.specs.Weights.{weight_of, opaque_weight}
 use Rattle.sort_check.proofs.Layers.{map-snoc, weight-Opaque}
 

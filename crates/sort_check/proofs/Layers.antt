@@ -1,9 +1,7 @@
 -- Terms layer by layer: their sorts, words and weights.
-use Rattle.std.proofs.Common.{◌≡◌, refl, sym, ap, ◌∙◌, subst, ℕ, zero, suc, ◌+◌, ◌<◌, ◌≤◌, min, max, ℤ, Bool, true, false, ◌&&◌, ◌||◌, List, [], ◌∷◌, ◌++◌, length, map, get_or, drop, take, Option, Some, None, arith, add-one}
+use Rattle.std.proofs.Common.{◌≡◌, refl, sym, ap, ◌∙◌, ℕ, ◌+◌, ◌<◌, ◌≤◌, ℤ, Bool, false, ◌||◌, List, [], ◌∷◌, ◌++◌, length, map, get_or, Option, Some, None, arith}
 use Rattle.std.specs.Prelude.{if◌then◌else◌, nat_le}
 use Rattle.std.proofs.Math.ListN.{length-append}
-use Rattle.std.specs.List.{list_all, list_any}
-use Rattle.std.proofs.lemmas.Grind.{common_steps}
 use Rattle.sv_terms.specs.declared.regex.Regex.{Regex, roll-Regex}
 use Rattle.sv_terms.specs.declared.regex.Regex.TheVariants as re
 use Rattle.sv_terms.specs.declared.regex.Regex.TheOpen.{Regex-F}
@@ -11,7 +9,6 @@ use Rattle.sv_terms.specs.declared.regex.Regex.TheFolds.{fold-Regex, fold-roll-R
 use Rattle.sv_terms.specs.declared.entry.Body.{Body}
 use Rattle.sv_terms.specs.declared.entry.Body.TheVariants as body
 use Rattle.sv_terms.specs.declared.op.Op.{Op}
-use Rattle.sv_terms.specs.declared.op.Op.TheVariants as op
 use Rattle.sv_terms.specs.declared.sort.Sort.{Sort}
 use Rattle.sv_terms.specs.declared.sort.Sort.TheVariants as sort
 use Rattle.sv_terms.specs.declared.term.Term.{Term, roll-Term}
@@ -22,11 +19,11 @@ use Rattle.sv_terms.specs.declared.transducer.Transducer.{Transducer}
 use Rattle.sort_check.specs.declared.weight.Factor.{Factor}
 use Rattle.sort_check.specs.declared.weight.Factor.TheVariants.{Literal, Known, Unknown}
 use Rattle.sort_check.specs.declared.weight.Weight.{Weight}
-use Rattle.sort_check.specs.Bodies.{body_sort, literal, factor, layer_sort, layer_word, layer_factor, op_sort, applied_factor, holds, is_unknown, term_of, regex_of, opaque}
+use Rattle.sort_check.specs.Bodies.{body_sort, literal, factor, layer_sort, layer_word, layer_factor, op_sort, applied_factor, holds, is_unknown, regex_of, opaque}
 use Rattle.sort_check.specs.Meant.{related}
 use Rattle.sort_check.specs.Ranks.{characters, of_one}
-use Rattle.sort_check.specs.Sizes.{total, greatest, one_more, one_deeper, nodes, nesting, term_measure, regex_measure, regex_nodes, regex_nesting}
-use Rattle.sort_check.specs.Weights.{capped, weight_of, leaf, opaque_weight, language, regex_weight, as_term, around, op_weight, in_weight, related_weight, combined_weight, weigh_layer, weighed, or_leaf, tested, ranged, worded}
+use Rattle.sort_check.specs.Sizes.{total, greatest, one_more, one_deeper, term_measure, regex_measure, regex_nodes, regex_nesting}
+use Rattle.sort_check.specs.Weights.{capped, weight_of, leaf, opaque_weight, language, regex_weight, as_term, op_weight, in_weight, related_weight, combined_weight, weigh_layer, weighed, or_leaf, tested, ranged, worded}
 
 -- a fold at a layer
 fold-at : (X : Type 0) (step : Term-F X → X) (t : Term) (x : Term-F Term) → roll-Term x ≡ t → fold-Term X step t ≡ step (map-Term Term X (fold-Term X step) x)

@@ -1,21 +1,19 @@
 -- Steps of the passes over forms.
-use Rattle.std.proofs.Common.{◌≡◌, refl, sym, ap, ◌∙◌, ℕ, zero, suc, ◌+◌, ◌<◌, ◌≤◌, Bool, true, false, ◌&&◌, List, [], ◌∷◌, length, map, get_or, drop, Result, Ok, Err, arith, add-one}
+use Rattle.std.proofs.Common.{◌≡◌, refl, sym, ap, ◌∙◌, ℕ, zero, suc, ◌+◌, ◌<◌, ◌≤◌, Bool, false, List, [], ◌∷◌, length, map, get_or, drop, Result, Ok, Err, arith, add-one}
 use Rattle.sexpr_reader.specs.declared.sexpr.Sexpr.{Sexpr}
 use Rattle.sexpr_reader.specs.declared.sexpr.Sexpr.TheVariants as v
 use Rattle.smt_names.specs.declared.check_fault.CheckFault.{CheckFault}
-use Rattle.smt_names.specs.declared.check_fault.CheckFault.TheVariants as fault
 use Rattle.smt_names.specs.declared.opening.Opening.{Opening}
 use Rattle.smt_names.specs.declared.opening.Opening.TheVariants.{Let, Quantifier, Annotation, Identifier, Application}
 use Rattle.sort_check.specs.declared.pass.Pass.{Pass}
 use Rattle.sort_check.specs.Binders.{are_some, each}
 use Rattle.smt_names.specs.Form.{are_all}
-use Rattle.smt_names.specs.Faults.{Answers, ◌>>◌}
+use Rattle.smt_names.specs.Faults.{◌>>◌}
 use Rattle.smt_names.specs.Form.{Form, Forms, forms, seen, group, end, ◌⨾◌}
 use Rattle.smt_names.specs.Tokens.{chosen}
-use Rattle.sort_check.specs.Passes.{at_numeral, at_identifier, in_list, looked, looked_all, looked_let, looked_values, looked_value, looked_quantifier, looked_annotated}
+use Rattle.sort_check.specs.Passes.{at_identifier, in_list, looked, looked_all, looked_let, looked_values, looked_value, looked_quantifier, looked_annotated}
 use Rattle.smt_names.specs.Tokens.{opening}
 use Rattle.smt_names.specs.Shapes.{seen-List, are-on, are-stop, are-end}
-use Rattle.smt_names.specs.Answering.{answers-same, exact-answers, fault-passes}
 
 -- what is looked for in forms from the left, each by `one`, goes on with the next item
 module _ (one : Form → Result Unit CheckFault) (all : Forms → Result Unit CheckFault) (none : all end ≡ Ok tt) (next : (f : Form) (fs : Forms) → all (f ⨾ fs) ≡ (one f >> all fs)) where

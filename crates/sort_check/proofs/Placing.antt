@@ -1,13 +1,11 @@
 -- Places by names.
-use Rattle.std.proofs.Common.{◌≡◌, refl, sym, ap, ◌∙◌, ℕ, zero, suc, ◌+◌, ◌-◌, ◌<◌, ◌≤◌, Bool, true, false, cond, nat_eq, List, [], ◌∷◌, length, map, get_or, drop, Option, Some, None, arith, add-one, zero-add}
+use Rattle.std.proofs.Common.{◌≡◌, refl, sym, ap, ◌∙◌, ℕ, zero, suc, ◌+◌, ◌<◌, ◌≤◌, Bool, true, false, cond, List, [], ◌∷◌, length, get_or, drop, Option, Some, None, arith, add-one, zero-add}
 use Rattle.std.specs.Prelude.{slice_get}
-use Rattle.std.specs.Option.{option_map, option_copied}
-use Rattle.std.specs.Map.{lookup}
-use Rattle.std.specs.Cmp.Lexicographic.{pointwise}
+use Rattle.std.specs.Option.{option_map}
 use Rattle.std.proofs.lemmas.Cmp.{nat_list_eq_equiv}
 use Rattle.std.proofs.lemmas.Grind.{common_steps}
 use Rattle.sv_terms.specs.declared.sort.Sort.{Sort}
-use Rattle.sort_check.specs.Drafts.{flat, shown}
+use Rattle.sort_check.specs.Drafts.{flat}
 use Rattle.smt_names.specs.Signature.{Name, same_name}
 use Rattle.sort_check.specs.Weights.{place_of, nth_if}
 

@@ -1,20 +1,17 @@
 -- Steps of a walk: what is read one after another.
-use Rattle.std.proofs.Common.{◌≡◌, refl, sym, ap, ◌∙◌, subst, ℕ, zero, suc, ◌+◌, ◌<◌, ◌≤◌, Bool, true, false, ◌||◌, List, [], ◌∷◌, ◌++◌, length, map, get_or, take, drop, Option, Some, None, Result, Ok, Err, arith, append_assoc}
-use Rattle.std.specs.Prelude.{slice_get, not, if◌then◌else◌}
-use Rattle.std.proofs.lemmas.List.{take_more}
+use Rattle.std.proofs.Common.{◌≡◌, refl, sym, ap, ◌∙◌, subst, ℕ, zero, suc, Bool, true, false, ◌||◌, List, [], ◌∷◌, ◌++◌, map, Option, Some, None, Result, Ok, Err, append_assoc}
+use Rattle.std.specs.Prelude.{slice_get, if◌then◌else◌}
 use std.Path.{fun_ext}
-use Rattle.sexpr_reader.specs.declared.sexpr.Sexpr.{Sexpr}
 use Rattle.sv_terms.specs.declared.entry.Body.{Body}
 use Rattle.smt_names.specs.declared.check_fault.CheckFault.{CheckFault}
 use Rattle.smt_names.specs.declared.check_fault.CheckFault.TheVariants as fault
 use Rattle.sort_check.specs.declared.walk.Walk.{Walk}
 use Rattle.smt_names.specs.Faults.{and_then, ◌>>◌, need}
-use Rattle.smt_names.specs.Form.{Form, Forms, forms, seen, end, ◌⨾◌}
+use Rattle.smt_names.specs.Form.{Form, forms}
 use Rattle.sort_check.specs.Meant.{Scope, Names, any_size, latest, or_else, meant, meant_all, meant_values, meant_value}
 use Rattle.smt_names.specs.Signature.{Name, same_name}
 use Rattle.sort_check.specs.Sizes.{fits}
-use Rattle.sort_check.specs.Walks.{Here, Each, Bound, sized, Meaning, Read, Reads}
-use Rattle.sort_check.proofs.Layers.{map-snoc}
+use Rattle.sort_check.specs.Walks.{Each, Bound, sized, Meaning, Read, Reads}
 
 append-none : {A : Type 0} (xs : List A) → xs ++ [] ≡ xs
 append-none [] = refl

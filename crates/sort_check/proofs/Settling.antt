@@ -1,5 +1,5 @@
 -- Applications by the weights of their arguments: which are opaque, and what the others are and weigh.
-use Rattle.std.proofs.Common.{◌≡◌, refl, sym, ap, ◌∙◌, subst, ℕ, zero, suc, Bool, true, false, cond, ◌&&◌, List, [], ◌∷◌, length, map, filter, Option, Some, None}
+use Rattle.std.proofs.Common.{◌≡◌, refl, sym, ap, ◌∙◌, ℕ, suc, Bool, true, false, cond, ◌&&◌, List, [], ◌∷◌, length, map, filter, Option, Some, None}
 use Rattle.std.specs.Prelude.{if◌then◌else◌, not, nat_le}
 use Rattle.std.specs.List.{list_all}
 use Rattle.sv_terms.specs.declared.regex.Regex.{Regex}
@@ -10,7 +10,7 @@ use Rattle.sv_terms.specs.declared.op.Op.{Op}
 use Rattle.sv_terms.specs.declared.op.Op.TheVariants as op
 use Rattle.sv_terms.specs.declared.sort.Sort.{Sort}
 use Rattle.sv_terms.specs.declared.sort.Sort.TheVariants as sort
-use Rattle.sv_terms.specs.declared.term.Term.{Term, roll-Term}
+use Rattle.sv_terms.specs.declared.term.Term.{Term}
 use Rattle.sv_terms.specs.declared.term.Term.TheVariants as term
 use Rattle.sv_terms.specs.declared.term.Term.TheOpen.{Term-F}
 use Rattle.sv_terms.specs.declared.term.Term.TheFolds.{fold-Term, fold-roll-Term, map-Term, ind-Term}
@@ -19,9 +19,8 @@ use Rattle.smt_names.specs.declared.function.Sense.{Sense}
 use Rattle.smt_names.specs.declared.function.Sense.TheVariants as is
 use Rattle.sort_check.specs.declared.weight.Factor.{Factor}
 use Rattle.sort_check.specs.declared.weight.Factor.TheVariants.{Literal, Known, Unknown}
-use Rattle.sort_check.specs.declared.weight.Weight.{Weight}
 use Rattle.sort_check.specs.Bodies.{body_sort, literal, factor, layer_word, layer_factor, is_language, is_unknown, holds, holds_unknown, applied_factor, term_of, regex_of, opaque}
-use Rattle.sort_check.specs.Ranks.{apply, equality, choice, product, replacement, membership, text_of, range_of, characters, combined, of_one, applied_as, unknowns, word_of}
+use Rattle.sort_check.specs.Ranks.{apply, text_of, range_of, characters, combined, of_one, applied_as, unknowns, word_of}
 use Rattle.smt_names.specs.Signature.{is_some}
 use Rattle.sort_check.specs.Weights.{weight_of, as_term, unless, is_literal, opacity, plain, plain_weight, op_weight, in_weight, combined_weight, one_weight, regex_weight, language, of_languages}
 use Rattle.sort_check.proofs.Layers.{weight-Truth, weight-Text, weight-Apply, weight-InRe, weight-Opaque, weight-Empty, weight-All, weight-AnyChar, weight-Word, weight-Range, weight-Concat, weight-Union, weight-Inter, weight-Diff, weight-Star, weight-Plus, weight-Opt, weight-Comp, weight-Loop}

@@ -1,5 +1,5 @@
 -- Forms with the indices that a function takes.
-use Rattle.std.proofs.Common.{◌≡◌, refl, ◌<◌, ◌≤◌, List, [], ◌∷◌, length, map, Result, Ok, Err, arith}
+use Rattle.std.proofs.Common.{◌≡◌, refl, ◌<◌, ◌≤◌, List, [], ◌∷◌, length, map, Err, arith}
 use Rattle.sexpr_reader.specs.declared.sexpr.Sexpr.{Sexpr}
 use Rattle.smt_names.specs.Form.{forms, seen}
 use Rattle.smt_names.specs.Shapes.{none-seen, one-seen, two-seen, first-seen}

@@ -1,8 +1,8 @@
 -- Sums and depths that end at 2^32 - 1, and tests of lists of weights.
-use Rattle.std.proofs.Common.{◌≡◌, refl, sym, ap, ◌∙◌, ℕ, zero, suc, ◌+◌, ◌<◌, ◌≤◌, min, max, Bool, true, false, ◌&&◌, ◌||◌, List, [], ◌∷◌, length, map, get_or, drop, arith, add-one}
+use Rattle.std.proofs.Common.{◌≡◌, refl, ap, ℕ, zero, suc, ◌+◌, ◌<◌, ◌≤◌, max, Bool, ◌&&◌, ◌||◌, List, [], ◌∷◌, length, map, get_or, drop, arith, add-one}
 use Rattle.std.specs.List.{list_all, list_any}
 use Rattle.std.proofs.lemmas.Grind.{common_steps}
-use Rattle.sort_check.specs.Sizes.{total, greatest, one_more, one_deeper}
+use Rattle.sort_check.specs.Sizes.{total, one_deeper}
 use Rattle.sort_check.specs.Weights.{capped}
 
 module _ {A B : Type 0} (g : A → B) (f : B → ℕ) where

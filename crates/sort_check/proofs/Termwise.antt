@@ -1,8 +1,6 @@
 -- Terms by their forms: what the walk reads of each, by what it reads of the parts.
-use Rattle.std.proofs.Common.{◌==◌, ◌≡◌, refl, sym, ap, ◌∙◌, subst, ℕ, zero, suc, ◌+◌, ◌-◌, ◌<◌, ◌≤◌, Bool, true, false, ◌||◌, ◌&&◌, List, [], ◌∷◌, ◌++◌, length, map, get_or, take, drop, Option, Some, None, Result, Ok, Err, arith, append_assoc}
-use Rattle.std.specs.Prelude.{slice_get, not, nat_le, if◌then◌else◌}
-use Rattle.std.specs.Option.{option_map}
-use Rattle.std.specs.List.{list_all}
+use Rattle.std.proofs.Common.{◌==◌, ◌≡◌, refl, sym, ap, ◌∙◌, subst, ℕ, zero, suc, ◌+◌, ◌-◌, ◌<◌, ◌≤◌, Bool, true, false, ◌||◌, ◌&&◌, List, [], ◌∷◌, ◌++◌, length, map, get_or, take, drop, Result, Ok, Err, arith, append_assoc}
+use Rattle.std.specs.Prelude.{nat_le}
 use Rattle.std.proofs.lemmas.List.{take_more}
 use Rattle.std.proofs.Math.Seq.{take-append_seam}
 use Rattle.std.proofs.lemmas.Bool.Decides.{nat_tests}
@@ -11,30 +9,26 @@ use Rattle.sexpr_reader.specs.declared.kind.Kind.{Kind}
 use Rattle.sexpr_reader.specs.declared.sexpr.Sexpr.{Sexpr}
 use Rattle.sexpr_reader.specs.declared.sexpr.Sexpr.TheVariants as v
 use Rattle.sv_terms.specs.declared.entry.Body.{Body}
-use Rattle.sv_terms.specs.declared.entry.Body.TheVariants as body
 use Rattle.sv_terms.specs.declared.sort.Sort.{Sort}
-use Rattle.sv_terms.specs.declared.sort.Sort.TheVariants as sort
-use Rattle.sv_terms.specs.declared.term.Term.TheVariants as term
-use Rattle.sv_terms.specs.Sorting.{same_sort}
 use Rattle.smt_names.specs.declared.check_fault.CheckFault.{CheckFault}
 use Rattle.smt_names.specs.declared.check_fault.CheckFault.TheVariants as fault
 use Rattle.smt_names.specs.declared.opening.Opening.{Opening}
 use Rattle.sort_check.specs.declared.walk.Walk.{Walk}
 use Rattle.sort_check.specs.Binders.{are_some, is_binding, is_variable, variables}
-use Rattle.sort_check.specs.Bodies.{body_sort, parameter_name, opaque}
+use Rattle.sort_check.specs.Bodies.{parameter_name}
 use Rattle.sort_check.specs.Drafts.{at_place, at_places}
-use Rattle.smt_names.specs.Faults.{Answers, and_then, ◌>>◌, need, refuse, or_fault, made_of}
+use Rattle.smt_names.specs.Faults.{Answers, and_then, ◌>>◌, need}
 use Rattle.smt_names.specs.Form.{Form, Forms, forms, seen, token, group, end, ◌⨾◌, count}
-use Rattle.sort_check.specs.Meant.{Scope, Names, Head, any_size, latest, alone, of_theory, identified, head, head_count, in_parentheses, application, meant, meant_all, meant_let, meant_values, meant_value, meant_quantifier, meant_annotated, meant_token, quantified, quantified_over, as_constants, renamed, bind, settled}
+use Rattle.sort_check.specs.Meant.{Scope, Names, Head, any_size, alone, of_theory, identified, head, head_count, in_parentheses, application, meant, meant_all, meant_let, meant_values, meant_value, meant_quantifier, meant_annotated, meant_token, quantified, quantified_over, as_constants, renamed, settled}
 use Rattle.smt_names.specs.Tokens.{chosen}
 use Rattle.smt_names.specs.Signature.{Name}
 use Rattle.sort_check.specs.Sizes.{fits}
 use Rattle.smt_names.specs.Tokens.{symbol, opening}
 use Rattle.sort_check.specs.Walks.{Here, Each, Bound, sized, Meaning, Read, Reads, applied_head, bound_to, fitting}
-use Rattle.sort_check.proofs.Reading.{faulty, alike, fault-first, then-read, then-reads, tested, untested, bound-grow, each-grow, bound-append, each-append, joined, gathered, single, all-gathered, values-gathered, gathered-snoc, gathered-append}
+use Rattle.sort_check.proofs.Reading.{alike, fault-first, then-reads, bound-grow, joined, gathered, single, all-gathered, values-gathered, gathered-snoc, gathered-append}
 use Rattle.sort_check.proofs.Layers.{map-snoc}
 use Rattle.smt_names.specs.Shapes.{seen-Atom, seen-List, two-seen}
-use Rattle.sort_check.proofs.Walking.{answered, each-are, alone-so, fits-so, here-is}
+use Rattle.sort_check.proofs.Walking.{each-are, fits-so}
 use Rattle.sort_check.specs.Weights.{weight_of, weight_fits}
 
 module _ (symbols : Names) (s : Scope) (old new : Walk) (r : Result ℕ CheckFault) where

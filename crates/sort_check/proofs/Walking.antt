@@ -1,18 +1,15 @@
 -- What the functions of a walk read.
 use Rattle.std.proofs.Common.{add-one, append_assoc, ◌≡◌, refl, sym, ap, ◌∙◌, subst, ℕ, ℤ, pos, zero, suc, ◌+◌, ◌^◌, ◌<◌, ◌≤◌, nat_le, Bool, true, false, ◌||◌, ◌&&◌, List, [], ◌∷◌, ◌++◌, length, map, get_or, take, drop, Option, Some, None, Result, Ok, Err, arith}
 use Rattle.std.specs.List.{list_all}
-use Rattle.std.specs.Prelude.{slice_get, not, if◌then◌else◌}
+use Rattle.std.specs.Prelude.{slice_get, not}
 use Rattle.std.proofs.lemmas.Bool.Decides.{nat_tests}
 use Rattle.std.proofs.lemmas.Grind.{common_steps}
 use Rattle.std.proofs.lemmas.List.{take_more}
-use Rattle.sexpr_reader.specs.declared.kind.Kind.{Kind}
 use Rattle.sexpr_reader.specs.declared.kind.Kind.TheVariants.{Numeral, Literal}
-use Rattle.sexpr_reader.specs.declared.sexpr.Sexpr.{Sexpr}
 use Rattle.sv_terms.specs.declared.entry.Body.{Body}
 use Rattle.sv_terms.specs.declared.entry.Body.TheVariants as body
 use Rattle.sv_terms.specs.declared.sort.Sort.{Sort}
 use Rattle.sv_terms.specs.declared.sort.Sort.TheVariants as sort
-use Rattle.sv_terms.specs.declared.term.Term.{Term}
 use Rattle.sv_terms.specs.declared.term.Term.TheVariants as term
 use Rattle.sv_terms.specs.declared.transducer.Transducer.{Transducer}
 use Rattle.sv_terms.specs.Sorting.{same_sort}
@@ -20,19 +17,17 @@ use Rattle.smt_names.specs.declared.check_fault.CheckFault.{CheckFault}
 use Rattle.smt_names.specs.declared.check_fault.CheckFault.TheVariants as fault
 use Rattle.sort_check.specs.declared.weight.Weight.{Weight}
 use Rattle.sort_check.specs.declared.walk.Walk.{Walk}
-use Rattle.sort_check.specs.Bodies.{body_sort, term_of, opaque}
+use Rattle.sort_check.specs.Bodies.{body_sort, term_of}
 use Rattle.sort_check.specs.Drafts.{at_place, at_places}
-use Rattle.smt_names.specs.Faults.{Answers, and_then, ◌>>◌, need, refuse, or_fault}
-use Rattle.smt_names.specs.Form.{Form, Forms, forms, seen, end, ◌⨾◌}
-use Rattle.sort_check.specs.Meant.{Scope, Names, Head, any_size, latest, or_else, variable_or, alone, named, application, head_count, head_sorts, head_applied, meant_name, meant_token, related, quantified, mapped, bind, as_constants}
-use Rattle.smt_names.specs.Signature.{Name, same_name}
+use Rattle.smt_names.specs.Faults.{Answers, ◌>>◌, need, refuse, or_fault}
+use Rattle.sort_check.specs.Meant.{Scope, Names, Head, any_size, latest, variable_or, alone, named, application, head_count, head_sorts, head_applied, meant_name, meant_token, related, mapped, bind, as_constants}
+use Rattle.smt_names.specs.Signature.{Name}
 use Rattle.sort_check.specs.Sizes.{fits, nodes, nesting}
 use Rattle.smt_names.specs.Tokens.{value, literal_word}
 use Rattle.sort_check.specs.Walks.{Here, Each, Bound, sized, Meaning, Read, Reads, applied_head, bound_to, bound_place}
-use Rattle.sort_check.specs.Weights.{weight_of, weight_fits, as_term, opaque_weight, pair_weight, related_weight, capped}
+use Rattle.sort_check.specs.Weights.{weight_of, weight_fits, as_term, pair_weight, related_weight, capped}
 use Rattle.sort_check.proofs.Layers.{weight-Related, weight-Opaque, map-snoc}
-use Rattle.sort_check.proofs.Reading.{faulty, alike, tested, untested, Stands, stands-latest, then-reads, bound-grow, bound-append}
-use Rattle.sort_check.proofs.Settling.{opaque-so}
+use Rattle.sort_check.proofs.Reading.{alike, Stands, stands-latest, bound-grow, bound-append}
 
 get-last : {A : Type 0} (as_ : List A) (a : A) → slice_get (as_ ++ a ∷ []) (length as_) ≡ Some a
 get-last [] a = refl

@@ -1,5 +1,5 @@
 -- The terms of a command have sorts, and what it declares keeps the names well formed.
-use Rattle.std.proofs.Common.{◌≡◌, refl, ap, ◌∙◌, map, Bool, true, false, not, ◌&&◌, ◌||◌, IsTrue, ℕ, List, [], ◌∷◌, ◌++◌, Option, Some, None, Result, codes, if◌then◌else◌}
+use Rattle.std.proofs.Common.{◌≡◌, refl, ap, ◌∙◌, map, Bool, true, false, ◌&&◌, ◌||◌, IsTrue, ℕ, List, [], ◌∷◌, ◌++◌, Option, Some, None, Result, codes, if◌then◌else◌}
 use Rattle.std.specs.List.{list_all, list_any}
 use Rattle.std.specs.Map.{lookup}
 use Rattle.std.specs.Option.{option_to_list}
@@ -17,18 +17,16 @@ use Rattle.smt_names.specs.declared.check_fault.CheckFault.{CheckFault}
 use Rattle.smt_names.specs.declared.check_fault.CheckFault.TheVariants as fault
 use Rattle.sort_check.specs.declared.commands.Command.{Command}
 use Rattle.sort_check.specs.declared.commands.Command.TheVariants as command
-use Rattle.sort_check.specs.declared.pass.Pass.TheVariants as pass
 use Rattle.smt_names.specs.declared.verb.Verb.{Verb}
 use Rattle.smt_names.specs.declared.verb.Verb.TheVariants as verb
 use Rattle.sort_check.specs.Binders.{is_variable, bound_name, bound_names, repeats, variable_of, variable_sort, variables}
 use Rattle.smt_names.specs.Form.{are_all}
 use Rattle.sort_check.specs.Bodies.{body_sort, term_of, parameter_name, is_escaped}
 use Rattle.sort_check.specs.Checking as c
-use Rattle.smt_names.specs.Faults.{◌>>◌, need, refuse, or_fault}
+use Rattle.smt_names.specs.Faults.{◌>>◌, refuse, or_fault}
 use Rattle.smt_names.specs.Form.{Form, Forms, token, group, end, ◌⨾◌, count}
 use Rattle.sort_check.specs.Meant as m
 use Rattle.sort_check.specs.Meant.{Scope, Names, meant_all, any_size, parameters_of}
-use Rattle.sort_check.specs.Passes.{at_variables, looked}
 use Rattle.smt_names.specs.Signature.{Name, same_name, stands_in, is_reserved, is_some}
 use Rattle.sort_check.specs.Sizes.{fits}
 use Rattle.smt_names.specs.Tokens as t
@@ -41,7 +39,7 @@ use Rattle.sv_terms.specs.TransducerSizes.{is_formed}
 use Rattle.transducer_form.specs.Descriptions.{described}
 use Rattle.transducer_form.specs.Formed.{described-gives}
 use Rattle.transducer_form.specs.Written.{DescriptionForm, description_form}
-use Rattle.smt_names.specs.Giving.{Gives, Maybe, need-gives, refuse-gives, after-gives, or-gives, some-maybe, maybe-some, then-gives}
+use Rattle.smt_names.specs.Giving.{Gives, need-gives, refuse-gives, after-gives, then-gives}
 use Rattle.sort_check.proofs.WellSteps.{each-both}
 use Rattle.sort_check.proofs.WellTerms.{both, both-make, Each}
 

@@ -1,5 +1,5 @@
 -- The command that an item is, or its first fault (SMT-LIB 2.6, section 3.9). What is looked for stands in this order, each over the whole item: its written form; declared names; sorts; numerals; the walk over its terms; the size of the terms; their sorts; the description of a transducer.
-use Rattle.std.specs.Prelude.{ℕ, Bool, true, false, ◌&&◌, not, List, [], ◌∷◌, ◌++◌, map, Option, Some, None, Result, Ok, Err, codes, if◌then◌else◌}
+use Rattle.std.specs.Prelude.{ℕ, Bool, true, false, ◌&&◌, not, List, [], ◌∷◌, map, Option, Some, None, Result, Ok, Err, codes, if◌then◌else◌}
 use Rattle.std.specs.List.{list_all}
 use Rattle.std.specs.Map.{lookup}
 use Rattle.sexpr_reader.specs.declared.sexpr.Sexpr.{Sexpr}
@@ -16,7 +16,7 @@ use Rattle.sort_check.specs.declared.commands.Command.TheVariants as command
 use Rattle.sort_check.specs.declared.pass.Pass.TheVariants as pass
 use Rattle.smt_names.specs.declared.verb.Verb.{Verb}
 use Rattle.smt_names.specs.declared.verb.Verb.TheVariants as verb
-use Rattle.sort_check.specs.Binders.{is_variable, bound_names, repeats, variables, is_language_sort}
+use Rattle.sort_check.specs.Binders.{is_variable, bound_names, repeats, variables}
 use Rattle.smt_names.specs.Form.{are_all}
 use Rattle.sort_check.specs.Bodies.{body_sort, term_of, parameter_name, is_escaped}
 use Rattle.smt_names.specs.Faults.{and_then, ◌>>◌, need, refuse, or_fault}

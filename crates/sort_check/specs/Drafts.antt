@@ -1,10 +1,8 @@
 -- What the parts of a draft are, with everything put in.
-use Rattle.std.specs.Prelude.{ℕ, Bool, zero, suc, List, [], ◌∷◌, ◌++◌, map, get_or, Option, Some, None, slice_get, cond}
+use Rattle.std.specs.Prelude.{ℕ, List, [], ◌∷◌, ◌++◌, map, get_or, Option, Some, None}
 use Rattle.std.specs.Map.{lookup}
 use Rattle.std.specs.Option.{option_map}
 use Rattle.sv_terms.specs.declared.entry.Body.{Body}
-use Rattle.sv_terms.specs.declared.entry.Body.TheVariants as body
-use Rattle.sv_terms.specs.declared.sort.Sort.{Sort}
 use Rattle.sv_terms.specs.declared.sort.Sort.TheVariants as sort
 use Rattle.sv_terms.specs.declared.term.Term.{Term}
 use Rattle.sort_check.specs.declared.draft.Node.{Node}

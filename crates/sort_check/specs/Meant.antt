@@ -12,7 +12,6 @@ use Rattle.sv_terms.specs.declared.entry.Entry.{Entry}
 use Rattle.sv_terms.specs.declared.entry.Entry.TheVariants as entry
 use Rattle.sv_terms.specs.declared.sort.Sort.{Sort}
 use Rattle.sv_terms.specs.declared.sort.Sort.TheVariants as sort
-use Rattle.sv_terms.specs.declared.term.Term.{Term}
 use Rattle.sv_terms.specs.declared.term.Term.TheVariants as term
 use Rattle.sv_terms.specs.declared.transducer.Transducer.{Transducer}
 use Rattle.sv_terms.specs.declared.limits.TheConstants.{MOST_TIMES}
@@ -20,7 +19,7 @@ use Rattle.smt_names.specs.declared.check_fault.CheckFault.{CheckFault}
 use Rattle.smt_names.specs.declared.check_fault.CheckFault.TheVariants as fault
 use Rattle.smt_names.specs.declared.function.Function.{Function}
 use Rattle.smt_names.specs.declared.function.Takes.TheVariants.{Nothing, Two}
-use Rattle.sort_check.specs.Binders.{is_binding, is_variable, are_some, bound_name, variables}
+use Rattle.sort_check.specs.Binders.{is_binding, is_variable, are_some, variables}
 use Rattle.sort_check.specs.Bodies.{body_sort, term_of, opaque, called, parameter_name}
 use Rattle.smt_names.specs.Faults.{and_then, ◌>>◌, need, refuse, or_fault}
 use Rattle.smt_names.specs.Form.{Form, Forms, token, group, end, ◌⨾◌, count}

@@ -1,11 +1,7 @@
 -- What is looked for in the whole of a term before it is walked: names that stand twice in a `let`, sorts that aren't known, variables of sort RegLan, numerals that are too large.
-use Rattle.std.specs.Prelude.{ℕ, List, [], ◌∷◌, Option, Some, None, Result, Ok, Err, if◌then◌else◌}
-use Rattle.sexpr_reader.specs.declared.kind.Kind.{Kind}
-use Rattle.sexpr_reader.specs.declared.kind.Kind.TheVariants.{Numeral}
+use Rattle.std.specs.Prelude.{ℕ, List, Option, Some, None, Result, Ok, if◌then◌else◌}
 use Rattle.smt_names.specs.declared.check_fault.CheckFault.{CheckFault}
 use Rattle.smt_names.specs.declared.check_fault.CheckFault.TheVariants as fault
-use Rattle.smt_names.specs.declared.opening.Opening.{Opening}
-use Rattle.smt_names.specs.declared.opening.Opening.TheVariants.{Let, Quantifier, Annotation, Identifier, Application}
 use Rattle.sort_check.specs.declared.pass.Pass.{Pass}
 use Rattle.sort_check.specs.declared.pass.Pass.TheVariants.{Names, Sorts, Languages, Numbers}
 use Rattle.sort_check.specs.Binders.{is_binding, is_variable, are_some, bound_names, repeats, known_sort, no_language, each}

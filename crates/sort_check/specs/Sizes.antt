@@ -6,7 +6,6 @@ use Rattle.sv_terms.specs.declared.regex.Regex.TheOpen.{Regex-F}
 use Rattle.sv_terms.specs.declared.entry.Body.{Body}
 use Rattle.sv_terms.specs.declared.limits.TheConstants.{MOST_NODES, MOST_NESTING}
 use Rattle.sv_terms.specs.declared.entry.Body.TheVariants as body
-use Rattle.sv_terms.specs.declared.term.Term.{Term}
 use Rattle.sv_terms.specs.declared.term.Term.TheOpen.{Term-F}
 use Rattle.sv_terms.specs.declared.term.Term.TheFolds.{fold-Term}
 

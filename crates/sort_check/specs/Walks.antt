@@ -1,5 +1,5 @@
 -- What a walk over terms has read: places of what they mean.
-use Rattle.std.specs.Prelude.{◌≡◌, ℕ, Bool, true, false, not, ◌||◌, List, [], ◌∷◌, ◌++◌, map, slice_get, Option, Some, None, Result, Ok, Err}
+use Rattle.std.specs.Prelude.{◌≡◌, ℕ, Bool, not, ◌||◌, List, [], ◌∷◌, ◌++◌, map, slice_get, Option, Some, None, Result, Ok, Err}
 use Rattle.std.specs.List.{list_all}
 use Rattle.sv_terms.specs.declared.entry.Body.{Body}
 use Rattle.smt_names.specs.declared.check_fault.CheckFault.{CheckFault}

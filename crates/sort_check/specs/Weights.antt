@@ -1,5 +1,5 @@
 -- What is known of a term or regular expression before it is built: its weight. Its numbers end at 2^32 - 1, which stands for all that are larger.
-use Rattle.std.specs.Prelude.{ℕ, zero, suc, ◌+◌, min, slice_get, cond, Bool, true, false, nat_le, ◌&&◌, ◌||◌, not, List, [], ◌∷◌, length, map, get_or, filter, Option, Some, None, if◌then◌else◌}
+use Rattle.std.specs.Prelude.{ℕ, suc, min, slice_get, cond, Bool, true, false, nat_le, ◌&&◌, ◌||◌, not, List, [], ◌∷◌, length, map, filter, Option, Some, None, if◌then◌else◌}
 use Rattle.std.specs.List.{list_all}
 use Rattle.std.specs.Option.{option_map}
 use Rattle.sv_terms.specs.declared.regex.Regex.{Regex}

@@ -1,11 +1,10 @@
 -- The names of states, one after another.
-use Rattle.std.proofs.Common.{◌≡◌, refl, sym, ap, ◌∙◌, ℕ, zero, suc, ◌+◌, ◌<◌, ◌≤◌, Bool, true, false, List, [], ◌∷◌, ◌++◌, length, map, get_or, drop, Option, Some, None, Result, Ok, Err, arith, add-one}
-use Rattle.std.specs.Prelude.{not}
+use Rattle.std.proofs.Common.{◌≡◌, refl, sym, ap, ◌∙◌, ℕ, zero, suc, ◌+◌, ◌<◌, ◌≤◌, true, false, List, [], ◌∷◌, ◌++◌, length, map, get_or, drop, Some, None, Result, Ok, Err, arith, add-one}
 use Rattle.sexpr_reader.specs.declared.sexpr.Sexpr.{Sexpr}
 use Rattle.smt_names.specs.declared.check_fault.CheckFault.{CheckFault}
 use Rattle.smt_names.specs.declared.check_fault.CheckFault.TheVariants as fault
 use Rattle.smt_names.specs.Faults.{and_then, ◌>>◌, refuse}
-use Rattle.smt_names.specs.Form.{Form, Forms, forms, seen, end, ◌⨾◌, count}
+use Rattle.smt_names.specs.Form.{forms, seen}
 use Rattle.smt_names.specs.Signature.{Name, stands_in}
 use Rattle.smt_names.specs.Tokens.{symbol}
 use Rattle.transducer_form.specs.Descriptions.{state_behind, states_behind}

@@ -1,5 +1,5 @@
 -- What is described is formed.
-use Rattle.std.proofs.Common.{◌≡◌, refl, sym, ap, ◌∙◌, subst, ℕ, zero, suc, ◌+◌, ◌<◌, Bool, true, false, ◌&&◌, IsTrue, nat_le, cond, List, [], ◌∷◌, ◌++◌, length, Option, Some, None, Result, Ok, Err, arith}
+use Rattle.std.proofs.Common.{◌≡◌, refl, ap, ◌∙◌, subst, ℕ, suc, ◌+◌, Bool, true, false, ◌&&◌, IsTrue, nat_le, cond, List, [], ◌∷◌, ◌++◌, length, Option, Some, None, Result, Ok, Err, arith}
 use Rattle.std.specs.Prelude.{nat_lt, position}
 use Rattle.std.specs.List.{list_all, position_or_len}
 use Rattle.sv_word.specs.Words.{greatest_character}
@@ -18,7 +18,7 @@ use Rattle.smt_names.specs.Giving.{Gives, Maybe, need-gives, refuse-gives, after
 use Rattle.smt_names.specs.Signature.{Name, same_name, stands_in}
 use Rattle.smt_names.specs.Tokens.{symbol, digits, value, literal_text, literal_word, listed}
 use Rattle.transducer_form.specs.Written.{EdgeForm, edge_form, DescriptionForm}
-use Rattle.transducer_form.specs.Descriptions.{state_behind, states_behind, state_at, word_at, one_character, character_at, shifted, shifted_down, shift_by, shift_of, item_by, item_of, list_behind, each_joined, each, items_of, edge_between, edge_by, edge_of, words_joined, joined_if, end_by, end_of, at_most, described_over, described}
+use Rattle.transducer_form.specs.Descriptions.{state_behind, states_behind, state_at, word_at, one_character, character_at, shifted, shifted_down, shift_by, item_by, item_of, list_behind, each_joined, each, items_of, edge_between, edge_by, edge_of, joined_if, end_by, end_of, at_most, described_over, described}
 use Rattle.transducer_form.specs.LiteralWords.{both-make, MayBeWord, literal-word}
 
 both : (a b : Bool) → IsTrue (a && b) → IsTrue a × IsTrue b

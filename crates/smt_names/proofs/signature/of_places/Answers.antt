@@ -1,4 +1,4 @@
-use Rattle.std.proofs.Common.{◌≡◌, sym, ◌∙◌, ◌++◌}
+use Rattle.std.proofs.Common.{sym, ◌∙◌, ◌++◌}
 use Rattle.smt_names.specs.Signature as s
 use Rattle.smt_names.specs.Lookups.{lookup-here, lookup-there}
 use Rattle.smt_names.proofs.signature.of_places.Goals as goal

@@ -1,4 +1,4 @@
-use Rattle.std.proofs.Common.{◌≡◌, refl, ◌<◌, length, arith}
+use Rattle.std.proofs.Common.{refl, ◌<◌, length, arith}
 use Rattle.std.specs.Char.{is_ascii_hexdigit}
 use Rattle.std.proofs.lemmas.List.Folds.{list_all_more}
 use Rattle.smt_names.proofs.Values.{hex-fits, hex-more, hex-next}

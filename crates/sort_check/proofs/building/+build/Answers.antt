@@ -1,4 +1,4 @@
-use Rattle.std.proofs.Common.{rules, length, sym, ap, subst, ◌∙◌, ◌+◌, ◌<◌, take, map, arith}
+use Rattle.std.proofs.Common.{rules, length, sym, subst, ◌+◌, ◌<◌, take, map, arith}
 use Rattle.sv_terms.specs.declared.term.Term.{Term}
 use Rattle.sort_check.specs.declared.draft.Part.{Part}
 use Rattle.sort_check.specs.Bodies.{put_in}

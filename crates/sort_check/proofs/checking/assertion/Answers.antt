@@ -1,4 +1,4 @@
-use Rattle.std.proofs.Common.{rules, sym, arith}
+use Rattle.std.proofs.Common.{rules}
 use Rattle.sort_check.proofs.Counted.{assertion-few, assertion-many}
 use Rattle.sort_check.proofs.checking.assertion.Goals as goal
 use Rattle.sort_check.proofs.checking.assertion.Goals.{in_default-via-then-parts-lt1, in_default-via-else-parts-lt1+else-parts-lt2}

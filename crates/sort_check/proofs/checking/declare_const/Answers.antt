@@ -1,4 +1,4 @@
-use Rattle.std.proofs.Common.{rules, sym, arith}
+use Rattle.std.proofs.Common.{rules}
 use Rattle.sort_check.proofs.Counted.{declare_const-few, declare_const-many}
 use Rattle.sort_check.proofs.checking.declare_const.Goals as goal
 use Rattle.sort_check.proofs.checking.declare_const.Goals.{in_default-via-then-parts-lt2, in_default-via-else-parts-lt2+else-parts-lt3}

@@ -1,4 +1,4 @@
-use Rattle.std.proofs.Common.{rules, sym, arith}
+use Rattle.std.proofs.Common.{rules}
 use Rattle.sort_check.proofs.Counted.{declare_fun-few, declare_fun-many}
 use Rattle.sort_check.proofs.checking.declare_fun.Goals as goal
 use Rattle.sort_check.proofs.checking.declare_fun.Goals.{in_default-via-then-parts-lt3, in_default-via-else-parts-lt3+else-parts-lt4}

@@ -1,4 +1,4 @@
-use Rattle.std.proofs.Common.{rules, sym, arith}
+use Rattle.std.proofs.Common.{rules}
 use Rattle.sort_check.proofs.Counted.{define_fun-few, define_fun-many}
 use Rattle.sort_check.proofs.checking.define_fun.Goals as goal
 use Rattle.sort_check.proofs.checking.define_fun.Goals.{in_default-via-then-parts-lt4, in_default-via-else-parts-lt4+else-parts-lt5}

@@ -1,4 +1,4 @@
-use Rattle.std.proofs.Common.{rules, sym, arith}
+use Rattle.std.proofs.Common.{rules}
 use Rattle.sort_check.proofs.Counted.{define_transducer-few, define_transducer-many}
 use Rattle.sort_check.proofs.checking.define_transducer.Goals as goal
 use Rattle.sort_check.proofs.checking.define_transducer.Goals.{in_default-via-then-parts-lt5, in_default-via-else-parts-lt5+else-parts-lt6}

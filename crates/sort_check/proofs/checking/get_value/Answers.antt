@@ -1,4 +1,4 @@
-use Rattle.std.proofs.Common.{rules, sym, arith}
+use Rattle.std.proofs.Common.{rules}
 use Rattle.sort_check.proofs.Counted.{get_value-few, get_value-many}
 use Rattle.sort_check.proofs.checking.get_value.Goals as goal
 use Rattle.sort_check.proofs.checking.get_value.Goals.{in_default-via-then-parts-lt1, in_default-via-else-parts-lt1+else-parts-lt2}

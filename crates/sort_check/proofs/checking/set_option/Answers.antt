@@ -1,4 +1,4 @@
-use Rattle.std.proofs.Common.{rules, sym, arith}
+use Rattle.std.proofs.Common.{rules, sym}
 use Rattle.sort_check.proofs.Counted.{set_option-few, set_option-many}
 use Rattle.sort_check.proofs.checking.set_option.Goals as goal
 use Rattle.sort_check.proofs.checking.set_option.Goals.{in_default-via-then-parts-lt2, in_default-via-else-parts-lt2+else-parts-lt3}

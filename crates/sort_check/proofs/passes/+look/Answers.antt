@@ -1,4 +1,4 @@
-use Rattle.std.proofs.Common.{◌≡◌, sym, ap, ◌∙◌, map, Err}
+use Rattle.std.proofs.Common.{sym, ap, ◌∙◌, map, Err}
 use Rattle.sexpr_reader.specs.declared.sexpr.Sexpr.TheVariants as v
 use Rattle.sort_check.proofs.Bound.{let-value, let-body, quantifier-variable, quantifier-body, value-two, value-few, value-many}
 use Rattle.smt_names.specs.Form.{forms, seen}

@@ -1,18 +1,16 @@
-use Rattle.std.proofs.Common.{◌≡◌, refl, sym, ap, subst, ◌∙◌, ◌-◌, ◌+◌, ◌∷◌, [], ◌++◌, take, drop, map, length, get_or, Ok, Err, true, false, List, ℕ, Result, arith}
-use Rattle.std.specs.Prelude.{nat_le}
+use Rattle.std.proofs.Common.{◌≡◌, refl, sym, ap, subst, ◌∙◌, ◌-◌, ◌+◌, ◌∷◌, [], ◌++◌, take, drop, map, length, Ok, Err, List, ℕ, Result, arith}
 use Rattle.std.proofs.lemmas.Grind.{common_steps}
-use Rattle.sexpr_reader.specs.declared.sexpr.Sexpr.{Sexpr}
 use Rattle.sexpr_reader.specs.declared.sexpr.Sexpr.TheVariants as v
 use Rattle.smt_names.specs.declared.opening.Opening.TheVariants as o
-use Rattle.smt_names.specs.Form.{forms, seen, group, end, ◌⨾◌}
-use Rattle.sort_check.specs.Meant.{Scope, Head, any_size, head, in_parentheses, meant, meant_all, meant_quantifier, meant_value}
+use Rattle.smt_names.specs.Form.{forms, seen, end, ◌⨾◌}
+use Rattle.sort_check.specs.Meant.{Head, any_size, head, in_parentheses, meant, meant_all, meant_quantifier, meant_value}
 use Rattle.sort_check.specs.Heads.{kept}
 use Rattle.smt_names.specs.declared.check_fault.CheckFault.{CheckFault}
 use Rattle.smt_names.specs.Signature.{Name}
 use Rattle.sort_check.specs.Walks.{Each, Bound, Read, Here, Reads}
 use Rattle.sort_check.proofs.Reading.{fault-first, gathered, single, each-grow, each-append, bound-grow, bound-append}
-use Rattle.smt_names.specs.Shapes.{first-seen, two-seen, seen-List, seen-Atom}
-use Rattle.sort_check.proofs.Termwise.{atom-read, list-read, arm-read, annotated-read, count-seen, application-read, application-fault, go-on, gather-none, gather-next, gather-fault, gather-end, single-read, single-fault, all-read, values-read, rest-seen, within-read, quantifier-read, quantifier-fault, quantifier-shape, let-few, let-many, quantifier-few, quantifier-many, empty-shape, binding-seen, value-read, value-fault, value-few, value-many, let-read, let-fault, at-least}
+use Rattle.smt_names.specs.Shapes.{two-seen, seen-List, seen-Atom}
+use Rattle.sort_check.proofs.Termwise.{atom-read, list-read, arm-read, annotated-read, count-seen, application-read, application-fault, go-on, gather-none, gather-next, gather-fault, gather-end, single-read, single-fault, all-read, values-read, rest-seen, within-read, quantifier-read, quantifier-fault, let-few, let-many, quantifier-few, quantifier-many, empty-shape, binding-seen, value-read, value-fault, value-few, value-many, let-read, let-fault, at-least}
 use Rattle.sort_check.proofs.walk.+read.Goals as goal
 
 pub read-returns-in-Atom : goal.read-returns-in-Atom

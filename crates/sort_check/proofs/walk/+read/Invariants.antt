@@ -1,4 +1,4 @@
-use Rattle.std.proofs.Common.{◌≡◌, map, take}
+use Rattle.std.proofs.Common.{map, take}
 use Rattle.smt_names.specs.Form.{seen}
 use Rattle.sort_check.specs.Meant.{Scope, meant, meant_value}
 use Rattle.sort_check.specs.Walks.{Each, Bound, Read}

@@ -1,4 +1,4 @@
-use Rattle.std.proofs.Common.{sym, ap, subst, ◌∙◌, List, ℕ}
+use Rattle.std.proofs.Common.{sym, subst, ◌∙◌, List, ℕ}
 use Rattle.sort_check.specs.Drafts.{at_places}
 use Rattle.sort_check.specs.Heads.{kept}
 use Rattle.sort_check.specs.Walks.{Reads, Here, applied_head}

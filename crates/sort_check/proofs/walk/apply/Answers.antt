@@ -1,7 +1,7 @@
-use Rattle.std.proofs.Common.{sym, ap, ◌∙◌, refl, map}
+use Rattle.std.proofs.Common.{sym, ap, ◌∙◌, map}
 use Rattle.sv_terms.specs.declared.entry.Body.TheVariants as body
 use Rattle.sv_terms.specs.declared.term.Term.TheVariants as term
-use Rattle.sort_check.specs.Bodies.{body_sort, called}
+use Rattle.sort_check.specs.Bodies.{called}
 use Rattle.sort_check.specs.Drafts.{at_places}
 use Rattle.sort_check.specs.Heads.{kept}
 use Rattle.sort_check.specs.Meant.{head_applied, related}

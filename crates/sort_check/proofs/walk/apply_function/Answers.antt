@@ -1,9 +1,9 @@
-use Rattle.std.proofs.Common.{sym, ap, ◌∙◌, Ok, map}
+use Rattle.std.proofs.Common.{sym, ap, ◌∙◌, Ok}
 use Rattle.sort_check.specs.Bodies.{opaque}
 use Rattle.sort_check.specs.Drafts.{at_places}
 use Rattle.sort_check.specs.Ranks.{applied}
 use Rattle.sort_check.specs.Walks.{Here}
-use Rattle.sort_check.specs.Weights.{opacity, plain, plain_weight, weight_of}
+use Rattle.sort_check.specs.Weights.{opacity, plain, plain_weight}
 use Rattle.sort_check.proofs.Reading.{alike}
 use Rattle.sort_check.proofs.Settling.{opaque-so, plain-so, plain-weighs}
 use Rattle.sort_check.proofs.walk.apply_function.Goals as goal

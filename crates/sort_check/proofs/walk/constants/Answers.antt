@@ -1,4 +1,4 @@
-use Rattle.std.proofs.Common.{◌+◌, sym, ap, subst, ◌∙◌, take, Ok, Err, List, ℕ, arith, length, ◌≤◌}
+use Rattle.std.proofs.Common.{◌+◌, sym, subst, take, Ok, List, ℕ, arith}
 use Rattle.sv_terms.specs.declared.entry.Body.TheVariants as body
 use Rattle.sv_terms.specs.declared.term.Term.TheVariants as term
 use Rattle.sort_check.specs.Meant.{as_constants, renamed}

@@ -5,7 +5,7 @@ use Rattle.smt_names.specs.declared.check_fault.CheckFault.TheVariants as fault
 use Rattle.sort_check.specs.Bodies.{body_sort, opaque}
 use Rattle.smt_names.specs.Faults.{need, ◌>>◌}
 use Rattle.sort_check.specs.Walks.{Here}
-use Rattle.sort_check.proofs.Reading.{tested, faulty}
+use Rattle.sort_check.proofs.Reading.{tested}
 use Rattle.sort_check.proofs.Walking.{quantified-so}
 use Rattle.sort_check.proofs.walk.quantified.Goals as goal
 

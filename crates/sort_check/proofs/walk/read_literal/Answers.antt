@@ -1,4 +1,4 @@
-use Rattle.std.proofs.Common.{sym, ap, ◌∙◌}
+use Rattle.std.proofs.Common.{sym, ◌∙◌}
 use Rattle.sort_check.proofs.Walking.{literal-read, literal-none}
 use Rattle.sort_check.proofs.walk.read_literal.Goals as goal
 

@@ -1,4 +1,3 @@
-use Rattle.std.proofs.Common.{sym, ap, ◌∙◌}
 use Rattle.sv_terms.specs.Names.{symbol_name}
 use Rattle.sort_check.specs.Heads.{kept}
 use Rattle.sort_check.proofs.Walking.{name-read, name-alone, name-fault}

@@ -1,6 +1,4 @@
-use Rattle.std.proofs.Common.{refl, sym, ap, subst, ◌∙◌, ◌++◌, map, true, false, Result, List, ℕ}
-use Rattle.sv_terms.specs.declared.entry.Body.{Body}
-use Rattle.smt_names.specs.declared.check_fault.CheckFault.{CheckFault}
+use Rattle.std.proofs.Common.{refl, ap, subst, ◌∙◌, ◌++◌, map, false, List, ℕ}
 use Rattle.sort_check.specs.declared.walk.Walk.{Walk}
 use Rattle.sort_check.specs.Bodies.{parameter_name}
 use Rattle.sort_check.specs.Drafts.{at_places}
@@ -8,7 +6,7 @@ use Rattle.smt_names.specs.Faults.{Answers}
 use Rattle.smt_names.specs.Form.{forms, seen}
 use Rattle.sort_check.specs.Meant.{as_constants}
 use Rattle.sort_check.specs.Walks.{fitting}
-use Rattle.sort_check.proofs.Termwise.{begin-bound, begin-past, settled-places, settled-size, settled-err}
+use Rattle.sort_check.proofs.Termwise.{begin-bound, begin-past, settled-places}
 use Rattle.sort_check.proofs.walk.settled.Goals as goal
 
 pub returns-in-Ok : goal.returns-in-Ok

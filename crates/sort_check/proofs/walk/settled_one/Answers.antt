@@ -1,10 +1,10 @@
-use Rattle.std.proofs.Common.{refl, sym, ap, ◌∙◌, ◌++◌, true, false}
+use Rattle.std.proofs.Common.{refl, sym, ap, ◌∙◌, ◌++◌, false}
 use Rattle.sort_check.specs.declared.walk.Walk.{Walk}
 use Rattle.sort_check.specs.Bodies.{parameter_name}
 use Rattle.smt_names.specs.Form.{seen}
 use Rattle.sort_check.specs.Meant.{as_constants}
 use Rattle.sort_check.specs.Weights.{weight_fits}
-use Rattle.sort_check.proofs.Termwise.{begin-bound, begin-past, one-settled, one-unfit, one-past, one-err}
+use Rattle.sort_check.proofs.Termwise.{begin-bound, begin-past, one-settled, one-unfit, one-past}
 use Rattle.sort_check.proofs.walk.settled_one.Goals as goal
 
 pub returns-then-walk : goal.returns-then-walk

@@ -1,8 +1,7 @@
 use Rattle.std.proofs.Common.{refl, ◌∙◌, ap, false}
 use Rattle.sort_check.specs.declared.weight.Factor.TheVariants.{Known}
 use Rattle.sv_terms.specs.declared.sort.Sort.TheVariants.{RegLan}
-use Rattle.sort_check.specs.declared.weight.Weight.{Weight}
-use Rattle.std.proofs.Common.{true, List}
+use Rattle.std.proofs.Common.{true}
 use Rattle.sort_check.specs.Weights.{around, counted}
 use Rattle.sort_check.proofs.Sums.{map-as-it-is}
 use Rattle.sort_check.proofs.weight.combined_weight.Goals as goal

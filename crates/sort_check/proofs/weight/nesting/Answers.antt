@@ -1,6 +1,5 @@
-use Rattle.std.proofs.Common.{arith, map, length, ◌≤◌}
-use Rattle.sort_check.specs.Sizes.{one_deeper}
-use Rattle.sort_check.specs.Weights.{capped, counted}
+use Rattle.std.proofs.Common.{arith}
+use Rattle.sort_check.specs.Weights.{counted}
 use Rattle.sort_check.proofs.Sums.{deepest-end}
 use Rattle.sort_check.proofs.weight.nesting.Goals as goal
 

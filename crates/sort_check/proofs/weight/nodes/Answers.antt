@@ -1,6 +1,5 @@
-use Rattle.std.proofs.Common.{arith, map, length, ◌≤◌}
-use Rattle.sort_check.specs.Sizes.{one_more}
-use Rattle.sort_check.specs.Weights.{capped, counted}
+use Rattle.std.proofs.Common.{arith}
+use Rattle.sort_check.specs.Weights.{counted}
 use Rattle.sort_check.proofs.Sums.{total-end}
 use Rattle.sort_check.proofs.weight.nodes.Goals as goal
 

@@ -1,4 +1,4 @@
-use Rattle.std.proofs.Common.{rules, refl, arith}
+use Rattle.std.proofs.Common.{rules, refl}
 use Rattle.transducer_form.specs.Written as w
 use Rattle.transducer_form.proofs.Limits.{states-past, edges-past, ends-past, names-few, names-fault, described-is}
 use Rattle.transducer_form.proofs.reading.described.Goals as goal
