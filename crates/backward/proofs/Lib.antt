@@ -16,3 +16,4 @@ pub mod CutBackLemmas
 pub mod OrderLemmas
 pub mod StateLemmas
 pub mod StepLemmas
+pub mod FirstLemmas

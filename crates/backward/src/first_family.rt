@@ -1,16 +1,20 @@
 //! The first family of a flat cube.
-ghost use Rattle.std.specs.Prelude.{◌≡◌, ℕ, map, length, IfOk, Some, Contains};
+ghost use Rattle.std.specs.Prelude.{◌≡◌, ◌≤◌, ℕ, cond, nat_eq, map, length, IfOk, Some, Contains};
 ghost use Rattle.machine_core.specs.declared.graph.Graph.{Graph};
-ghost use Rattle.straight_line.specs.Straight.{IsStraight};
-ghost use Rattle.straight_line.specs.declared.flat.Flat.{Flat};
+ghost use Rattle.straight_line.specs.Bounds.{states};
+ghost use Rattle.straight_line.specs.Straight.{HasFormed, IsStraight};
+ghost use Rattle.straight_line.specs.declared.flat.Flat.{Flat as AnyFlat};
 ghost use Rattle.backward.specs.Chains.{width};
 ghost use Rattle.backward.specs.States.{AreOwnMachines, IsState};
 
 use crate::leaf_state::{LeafState, Made};
-use machine_core::Explicit;
+use lang_pool::Pool;
+use machine_core::{Cost, Explicit};
+use part_machines::{Keep, MOST_STATES, bounds_some, own_machine};
 use std::alloc::{AllocError, Global};
-use straight_line::growth_solved;
+use straight_line::{Flat, growth_solved, states_solved};
 use sv_list::Items;
+use sv_terms::Regex;
 
 impl LeafState {
     /// The family of these machines, one per variable in their order. They have the same number of
@@ -26,7 +30,7 @@ impl LeafState {
         requires { (m : Graph) → Contains machines m → m.registers ≡ registers }
         ensures registers { IfOk result (λ s. s.registers ≡ registers) }
         ensures machines { IfOk result (λ s. s.machines ≡ map Some machines) }
-        ensures first { IfOk result (λ s. (flat : Flat) → IsStraight flat → registers ≡ width flat → AreOwnMachines flat machines → IsState flat (length flat.definitions) s) }
+        ensures first { IfOk result (λ s. (flat : AnyFlat) → IsStraight flat → registers ≡ width flat → AreOwnMachines flat machines → IsState flat (length flat.definitions) s) }
     {
         growth_solved();
         let machines = all_some(alloc, machines)?;
@@ -47,4 +51,47 @@ fn all_some(alloc: Global, machines: Items<Explicit>) -> Result<Items<Option<Exp
         all.push(Some(machine))?;
     }
     Ok(all)
+}
+
+// What a character of the variable costs: one at each of its registers, and nothing at the others.
+fn character_cost(alloc: Global, registers: &[u32], v: usize) -> Result<Cost, AllocError>
+    ensures { IfOk result (λ k. k ≡ map (λ z. cond (nat_eq z v) 1 0) registers.now) }
+{
+    let mut cost = Cost::new(alloc);
+    for register in registers {
+        let counts = *register as usize == v;
+        cost.push(u64::from(counts))?;
+    }
+    Ok(cost)
+}
+
+/// The first family of a flat cube: each variable's machine reads exactly the words that meet its parts,
+/// each with its length at the registers of the variable. Its transducers are formed, and its machines have
+/// at most [`MOST_STATES`](part_machines::MOST_STATES) states by its text, so that only memory may be wanting.
+/// Each machine is made as [`own_machine`](part_machines::own_machine) says. The pool, with one cell
+/// for each regular expression of `_cells`, isn't asked yet: every expression is built.
+pub fn first_state(
+    alloc: Global,
+    flat: &Flat,
+    _pool: &Pool<Regex, Keep>,
+    _cells: &[Regex],
+) -> Result<LeafState, AllocError>
+    requires cells { length _pool.now ≡ length _cells.now }
+    requires straight { IsStraight flat.now }
+    requires formed { HasFormed flat.now }
+    requires few { states flat.now ≤ MOST_STATES }
+    ensures state { IfOk result (λ s. IsState flat.now (length flat.now.definitions) s) }
+{
+    states_solved();
+    bounds_some();
+    let registers = flat.registers.as_slice();
+    let variables = flat.variables.as_slice();
+    let mut machines = Items::new(alloc);
+    for v in 0..variables.len() {
+        let each = character_cost(alloc, registers, v)?;
+        let machine = own_machine(alloc, variables[v].parts.as_slice(), &each)?;
+        machines.push(machine)?;
+    }
+    let state = LeafState::of(alloc, registers.len(), machines)?;
+    Ok(state)
 }

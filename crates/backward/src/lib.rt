@@ -5,7 +5,8 @@
 //! family with the defined variable put to a word that the definition allows**. For a concatenation
 //! that holds of all lists of cuts together, each of which gives a family of its own.
 //!
-//! - [`LeafState`] is a family: one machine for each variable that isn't carried yet.
+//! - [`LeafState`] is a family: one machine for each variable that isn't carried yet. [`first_state`] is the
+//!   first family of a flat cube, made of the machines of its variables' own parts.
 //! - [`carry_concat`] and [`carry_through`] carry one definition. Each meeting is explored at once, and has
 //!   at most the product of its parts' numbers of states.
 //! - [`lift_cut`] and [`lift_through`] take runs of a family back over such a step.
@@ -35,6 +36,7 @@ mod through;
 
 pub use carrying::carry_concat;
 pub use cut_lifting::lift_cut;
+pub use first_family::first_state;
 pub use laws::{costs_fit, cuts_are_exact, growth_is_kept, next_can_be_carried};
 pub use leaf_state::{LeafState, Made};
 pub use lifting::lift_through;

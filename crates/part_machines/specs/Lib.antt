@@ -2,3 +2,4 @@ pub mod Tables
 pub mod Chains
 pub mod Patterns
 pub mod Parts
+pub mod Kept

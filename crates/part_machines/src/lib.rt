@@ -20,6 +20,7 @@
 #![tactic(auto)]
 
 mod chains;
+mod keep;
 mod laws;
 mod own;
 mod part;
@@ -29,6 +30,7 @@ mod table;
 #[cfg(test)]
 mod tests;
 
+pub use keep::Keep;
 pub use laws::bounds_some;
 pub use own::own_machine;
 pub use part::{MOST_STATES, part_machine};
