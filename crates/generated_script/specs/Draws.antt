@@ -1,5 +1,5 @@
 -- The numbers that a generated script is drawn from: a linear congruence modulo 65,537.
-use Rattle.std.specs.Prelude.{ℕ, suc, ◌+◌, ◌*◌, ◌%◌}
+use Rattle.std.specs.Prelude.{ℕ, ◌+◌, ◌*◌, ◌%◌}
 
 -- the number behind this one
 abbrev pub drawn : ℕ → ℕ
