@@ -17,3 +17,4 @@ pub mod OrderLemmas
 pub mod StateLemmas
 pub mod StepLemmas
 pub mod FirstLemmas
+pub mod LeafLemmas

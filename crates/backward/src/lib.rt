@@ -37,7 +37,9 @@ mod through;
 pub use carrying::carry_concat;
 pub use cut_lifting::lift_cut;
 pub use first_family::first_state;
-pub use laws::{costs_fit, cuts_are_exact, growth_is_kept, next_can_be_carried};
+pub use laws::{
+    costs_fit, cuts_are_exact, families_become_leaves, growth_is_kept, next_can_be_carried,
+};
 pub use leaf_state::{LeafState, Made};
 pub use lifting::lift_through;
 pub use meeting::Meeting;
