@@ -8,13 +8,11 @@ ghost use Rattle.backward.specs.Chains.{width};
 ghost use Rattle.backward.specs.States.{AreOwnMachines, IsState};
 
 use crate::leaf_state::{LeafState, Made};
-use lang_pool::Pool;
 use machine_core::{Cost, Explicit};
-use part_machines::{Keep, MOST_STATES, bounds_some, own_machine};
+use part_machines::{MOST_STATES, bounds_some, own_machine};
 use std::alloc::{AllocError, Global};
 use straight_line::{Flat, growth_solved, states_solved};
 use sv_list::Items;
-use sv_terms::Regex;
 
 impl LeafState {
     /// The family of these machines, one per variable in their order. They have the same number of
@@ -68,15 +66,8 @@ fn character_cost(alloc: Global, registers: &[u32], v: usize) -> Result<Cost, Al
 /// The first family of a flat cube: each variable's machine reads exactly the words that meet its parts,
 /// each with its length at the registers of the variable. Its transducers are formed, and its machines have
 /// at most [`MOST_STATES`](part_machines::MOST_STATES) states by its text, so that only memory may be wanting.
-/// Each machine is made as [`own_machine`](part_machines::own_machine) says. The pool, with one cell
-/// for each regular expression of `_cells`, isn't asked yet: every expression is built.
-pub fn first_state(
-    alloc: Global,
-    flat: &Flat,
-    _pool: &Pool<Regex, Keep>,
-    _cells: &[Regex],
-) -> Result<LeafState, AllocError>
-    requires cells { length _pool.now ≡ length _cells.now }
+/// Each machine is made as [`own_machine`](part_machines::own_machine) says.
+pub fn first_state(alloc: Global, flat: &Flat) -> Result<LeafState, AllocError>
     requires straight { IsStraight flat.now }
     requires formed { HasFormed flat.now }
     requires few { states flat.now ≤ MOST_STATES }
