@@ -9,7 +9,7 @@ ghost use Rattle.backward.specs.States.{AreOwnMachines, IsState};
 
 use crate::leaf_state::{LeafState, Made};
 use machine_core::{Cost, Explicit};
-use part_machines::{MOST_STATES, bounds_some, own_machine};
+use part_machines::{MOST_STATES, Machines, bounds_some, own_machine};
 use std::alloc::{AllocError, Global};
 use straight_line::{Flat, growth_solved, states_solved};
 use sv_list::Items;
@@ -66,8 +66,9 @@ fn character_cost(alloc: Global, registers: &[u32], v: usize) -> Result<Cost, Al
 /// The first family of a flat cube: each variable's machine reads exactly the words that meet its parts,
 /// each with its length at the registers of the variable. Its transducers are formed, and its machines have
 /// at most [`MOST_STATES`](part_machines::MOST_STATES) states by its text, so that only memory may be wanting.
-/// Each machine is made as [`own_machine`](part_machines::own_machine) says.
-pub fn first_state(alloc: Global, flat: &Flat) -> Result<LeafState, AllocError>
+/// Each machine is made as [`own_machine`](part_machines::own_machine) says, and those of regular expressions
+/// are asked of `kept`.
+pub fn first_state(alloc: Global, flat: &Flat, kept: &Machines) -> Result<LeafState, AllocError>
     requires straight { IsStraight flat.now }
     requires formed { HasFormed flat.now }
     requires few { states flat.now ≤ MOST_STATES }
@@ -80,7 +81,7 @@ pub fn first_state(alloc: Global, flat: &Flat) -> Result<LeafState, AllocError>
     let mut machines = Items::new(alloc);
     for v in 0..variables.len() {
         let each = character_cost(alloc, registers, v)?;
-        let machine = own_machine(alloc, variables[v].parts.as_slice(), &each)?;
+        let machine = own_machine(alloc, variables[v].parts.as_slice(), &each, kept)?;
         machines.push(machine)?;
     }
     let state = LeafState::of(alloc, registers.len(), machines)?;

@@ -177,6 +177,10 @@ others-part r m n words few reads size_of = record {
   few = (let x = power-more m.states (size r) few in omega (arith, x, size_of));
 }
 
+-- the same, by a machine of the expression
+pub others-of : (r : Regex) (m n : Graph) → ((w : Word) → In r w → IsWord w) → IsOfPart (own.InRe r, true) m → Reads (λ w. IsWord w × (WordsOf m w → ⊥)) n → n.states ≤ 2 ^ m.states → IsOfPart (own.InRe r, false) n
+others-of r m n only is = others-part r m n (λ w. (λ h. ((is.reads.words w).0 h).1, λ i. (is.reads.words w).1 (only w i, i))) is.few
+
 pub language-part : (r : Regex) (m : Graph) → ((w : Word) → In r w → IsWord w) → m.registers ≡ 0 → ((w : Word) → WordsOf m w ↔ In r w) → m.states ≤ size r → IsOfPart (own.InRe r, true) m
 language-part r m only plain words few = record {
   reads = record {

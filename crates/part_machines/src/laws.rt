@@ -2,8 +2,25 @@
 ghost use Rattle.std.specs.Prelude.{ℕ, ◌≤◌, List, Bool};
 ghost use Rattle.straight_line.specs.Bounds.{part_bound, product_by};
 ghost use Rattle.straight_line.specs.declared.variable.Own.{Own as AnyOwn};
+ghost use denote.Param.Send.{IsSend, IsSync};
+ghost use Rattle.part_machines.specs.contracts.machines.Machines.{the_row as machines_row};
+
+use crate::machines::Machines;
 
 /// The bounds of parts, multiplied, are at least 1.
 pub fn bounds_some()
     ensures { (parts : List (AnyOwn × Bool)) → 1 ≤ product_by part_bound parts }
 {}
+
+fn crosses<T: Send + Sync>()
+    ensures send { IsSend T.row }
+    ensures sync { IsSync T.row }
+{}
+
+/// Machines may go to another thread, and threads may share them.
+pub fn machines_cross()
+    ensures send { IsSend machines_row }
+    ensures sync { IsSync machines_row }
+{
+    crosses::<Machines>()
+}

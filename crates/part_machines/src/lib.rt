@@ -5,7 +5,8 @@
 //! isn't. [`own_machine`] joins the machines of all parts of a variable, and lets each character cost what
 //! the registers of the variable count.
 //!
-//! A regular expression is built, and its complement made by the subset construction. All other parts come
+//! A regular expression is built once for all threads that share [`Machines`], and its complement made by the
+//! subset construction. All other parts come
 //! by a table that says where each state leads on each character: a word, a prefix and a digit by a chain
 //! along their characters, what occurs and what ends a word by the failure automaton of Knuth, Morris and
 //! Pratt (Fast pattern matching in strings, 1977). A table is complete, so that a part that isn't to hold has
@@ -15,13 +16,16 @@
 //! ```
 //! // The words that contain "ab" and don't end with "b", each with its length at one register.
 //! let one = Cost::from_slice(alloc, &[1])?;
-//! let machine = own_machine(alloc, &parts, &one)?;
+//! let kept = Machines::new(alloc, Vec::new(alloc))?;
+//! let machine = own_machine(alloc, &parts, &one, &kept)?;
 //! ```
 #![tactic(auto)]
 
 mod chains;
+mod digests;
 mod keep;
 mod laws;
+mod machines;
 mod own;
 mod part;
 mod pattern;
@@ -30,8 +34,10 @@ mod table;
 #[cfg(test)]
 mod tests;
 
+pub use digests::digest;
 pub use keep::Keep;
-pub use laws::bounds_some;
+pub use laws::{bounds_some, machines_cross};
+pub use machines::Machines;
 pub use own::own_machine;
 pub use part::{MOST_STATES, part_machine};
 pub use pricing::price;

@@ -3,6 +3,7 @@ ghost use Rattle.std.specs.Prelude.{◌≡◌, ℕ, ◌≤◌, ◌<◌, IfOk};
 ghost use Rattle.straight_line.specs.Bounds.{part_bound, product_by};
 ghost use Rattle.part_machines.specs.Parts.{AreOfParts, IsOfParts, ReadsParts};
 
+use crate::machines::Machines;
 use crate::part::{MOST_STATES, allowed, part_machine};
 use crate::pricing::price;
 use machine_core::{Cost, Explicit};
@@ -12,28 +13,36 @@ use straight_line::Own;
 use sv_list::Items;
 
 // The machine of each part.
-fn part_machines(alloc: Global, parts: &[(Own, bool)]) -> Result<Items<Explicit>, AllocError>
+fn part_machines(
+    alloc: Global,
+    parts: &[(Own, bool)],
+    kept: &Machines,
+) -> Result<Items<Explicit>, AllocError>
     requires { product_by part_bound parts.now ≤ MOST_STATES }
     ensures { IfOk result (AreOfParts parts.now) }
 {
     let mut machines = Items::new(alloc);
     for part in parts {
-        let machine = part_machine(alloc, part)?;
+        let machine = part_machine(alloc, part, kept)?;
         machines.push(machine)?;
     }
     Ok(machines)
 }
 
 // The words that meet all parts.
-fn joint_machine(alloc: Global, parts: &[(Own, bool)]) -> Result<Explicit, AllocError>
+fn joint_machine(
+    alloc: Global,
+    parts: &[(Own, bool)],
+    kept: &Machines,
+) -> Result<Explicit, AllocError>
     requires { product_by part_bound parts.now ≤ MOST_STATES }
     ensures { IfOk result (ReadsParts parts.now) }
 {
     if parts.len() == 1 {
-        let machine = part_machine(alloc, &parts[0])?;
+        let machine = part_machine(alloc, &parts[0], kept)?;
         return Ok(machine);
     }
-    let machines = part_machines(alloc, parts)?;
+    let machines = part_machines(alloc, parts, kept)?;
     let machine = allowed(all_of(alloc, machines.as_slice(), MOST_STATES))?;
     Ok(machine)
 }
@@ -42,16 +51,17 @@ fn joint_machine(alloc: Global, parts: &[(Own, bool)]) -> Result<Explicit, Alloc
 /// at the cost `each`, which has a number for each register. It has at most as many states as the parts'
 /// bounds make multiplied, which is within [`MOST_STATES`]. Only memory may be wanting.
 ///
-/// A single part takes no product.
+/// A single part takes no product. Machines of regular expressions are asked of `kept`.
 pub fn own_machine(
     alloc: Global,
     parts: &[(Own, bool)],
     each: &Cost,
+    kept: &Machines,
 ) -> Result<Explicit, AllocError>
     requires { product_by part_bound parts.now ≤ MOST_STATES }
     ensures { IfOk result (IsOfParts parts.now each.now) }
 {
-    let machine = joint_machine(alloc, parts)?;
+    let machine = joint_machine(alloc, parts, kept)?;
     let priced = price(alloc, &machine, each)?;
     Ok(priced)
 }

@@ -6,11 +6,13 @@ ghost use Rattle.straight_line.specs.declared.variable.Own.TheVariants.{InRe};
 ghost use Rattle.part_machines.specs.Parts.{IsOfPart};
 
 use crate::chains::{chain, ranges_of};
+use crate::machines::Machines;
 use crate::pattern::pattern_machine;
 use machine_core::Explicit;
-use regex_machine::{build, complement};
+use regex_machine::complement;
 use std::alloc::{AllocError, Global};
 use straight_line::Own;
+use sv_list::Copied;
 use sv_terms::{Regex, words_only};
 use trim_search::BuildFault;
 
@@ -30,16 +32,23 @@ pub fn allowed(built: Result<Explicit, BuildFault>) -> Result<Explicit, AllocErr
 }
 
 // The words of the expression, or without `holds` all others.
-fn language(alloc: Global, regex: &Regex, holds: bool) -> Result<Explicit, AllocError>
+fn language(
+    alloc: Global,
+    regex: &Regex,
+    holds: bool,
+    machines: &Machines,
+) -> Result<Explicit, AllocError>
     requires { part_bound (InRe regex.now, holds) ≤ MOST_STATES }
     ensures { IfOk result (IsOfPart (InRe regex.now, holds)) }
 {
     words_only();
-    let machine = allowed(build(alloc, regex, MOST_STATES))?;
+    let found = machines.machine(alloc, regex)?;
+    let machine = found.value().machine();
     if holds {
-        return Ok(machine);
+        let copy = machine.copy(alloc)?;
+        return Ok(copy);
     }
-    let others = allowed(complement(alloc, &machine, MOST_STATES))?;
+    let others = allowed(complement(alloc, machine, MOST_STATES))?;
     Ok(others)
 }
 
@@ -47,8 +56,13 @@ fn language(alloc: Global, regex: &Regex, holds: bool) -> Result<Explicit, Alloc
 /// as many states as its bound, which is within [`MOST_STATES`]. Only memory may be wanting.
 ///
 /// All but a regular expression takes time linear in the part's word, but for a factor logarithmic in it
-/// where the word is sought; a regular expression takes that of its exploration.
-pub fn part_machine(alloc: Global, part: &(Own, bool)) -> Result<Explicit, AllocError>
+/// where the word is sought; a regular expression takes that of its exploration where `machines` has no machine
+/// of it yet, and of a copy of it.
+pub fn part_machine(
+    alloc: Global,
+    part: &(Own, bool),
+    machines: &Machines,
+) -> Result<Explicit, AllocError>
     requires { part_bound part.now ≤ MOST_STATES }
     ensures { IfOk result (IsOfPart part.now) }
 {
@@ -77,7 +91,7 @@ pub fn part_machine(alloc: Global, part: &(Own, bool)) -> Result<Explicit, Alloc
             Ok(machine)
         }
         Own::InRe(regex) => {
-            let machine = language(alloc, regex, holds)?;
+            let machine = language(alloc, regex, holds, machines)?;
             Ok(machine)
         }
     }

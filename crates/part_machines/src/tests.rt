@@ -1,11 +1,14 @@
 //! Parts at concrete words, to hold and not to hold.
 ghost use Rattle.std.specs.Prelude.{◌≡◌, ◌≤◌, ◌∷◌, [], IfOk};
+ghost use Rattle.sv_terms.specs.Bounds.{size};
 ghost use Rattle.straight_line.specs.Bounds.{part_bound};
 
-use crate::{MOST_STATES, part_machine};
+use crate::{MOST_STATES, Machines, digest, part_machine};
+use lang_pool::Found;
 use machine_core::Explicit;
 use std::alloc::{AllocError, Global};
 use straight_line::Own;
+use sv_terms::Regex;
 use sv_word::Word;
 
 // The word "a".
@@ -53,7 +56,8 @@ fn tells(alloc: Global, own: Own, holds: bool, yes: &str, no: &str) -> Result<bo
     requires { part_bound (own, holds) ≤ MOST_STATES }
 {
     let part = (own, holds);
-    let machine = part_machine(alloc, &part)?;
+    let kept = Machines::new(alloc, Vec::new(alloc))?;
+    let machine = part_machine(alloc, &part, &kept)?;
     let first = reads(&machine, yes);
     let second = reads(&machine, no);
     Ok(first && !second)
@@ -73,5 +77,27 @@ fn patterns(rt: HostRuntime) -> Result<(), AllocError> {
     assert!(rt; tells(alloc, Own::Contains(letter(alloc)?), true, "bab", "bb")?);
     assert!(rt; tells(alloc, Own::Suffix(letter(alloc)?), false, "ab", "ba")?);
     assert!(rt; tells(alloc, Own::Prefix(letter(alloc)?), true, "ab", "ba")?);
+    Ok(())
+}
+
+// Whether the machine of the expression is kept.
+fn is_kept(alloc: Global, kept: &Machines, expression: &Regex) -> Result<bool, AllocError>
+    requires { size expression.now ≤ MOST_STATES }
+{
+    let found = kept.machine(alloc, expression)?;
+    Ok(matches!(found, Found::Shared(_)))
+}
+
+#[test]
+fn machines_are_kept_where_they_have_a_place(rt: HostRuntime) -> Result<(), AllocError> {
+    let alloc = rt.alloc();
+    let mut digests = Vec::new(alloc);
+    digests.push(digest(&Regex::All))?;
+    digests.push(digest(&Regex::All))?;
+    let kept = Machines::new(alloc, digests)?;
+    let part = (Own::InRe(Regex::All), true);
+    part_machine(alloc, &part, &kept)?;
+    assert!(rt; is_kept(alloc, &kept, &Regex::All)?);
+    assert!(rt; !is_kept(alloc, &kept, &Regex::AnyChar)?);
     Ok(())
 }

@@ -1,8 +1,5 @@
-use Rattle.std.proofs.Common.{arith, List, [], ℕ, ◌≡◌, ◌≤◌, ◌↔◌}
-use Rattle.machine_core.specs.Graphs.{Accepts}
-use Rattle.sv_terms.specs.Bounds.{bound_of}
-use Rattle.sv_terms.specs.Language.{In}
-use Rattle.part_machines.proofs.PartLemmas.{at-ok, language-part, not-cut}
+use Rattle.std.proofs.Common.{arith}
+use Rattle.part_machines.proofs.PartLemmas.{not-cut}
 use Rattle.part_machines.proofs.keep.Keep.of.Goals as goal
 
 pub allowed-requires : goal.allowed-requires

@@ -1,0 +1,127 @@
+use Rattle.std.proofs.Common.{◌≡◌, ℕ, suc, ◌+◌, ◌-◌, ◌<◌, List, [], ◌∷◌, ◌++◌, length, Some, None, slice_get, arith, refl, sym, ap, ◌∙◌, subst, Ok, IfOk, IfSome, OnOk, MatchOption, add-one, length-append, inr}
+use Rattle.backward.specs.States.{IsState}
+use Rattle.backward.specs.Steps.{CanPassAt}
+use Rattle.cube_search.specs.Searches.{IsFound}
+use Rattle.cube_search.specs.Steps.{IsCutting}
+use Rattle.cube_search.specs.Tallies.{AreCoveredFrom, IsTally, Keeps}
+use Rattle.cube_search.proofs.CoverLemmas.{keeps-same, keeps-more}
+use Rattle.cube_search.proofs.Measures.{weight}
+use Rattle.cube_search.proofs.SearchLemmas.{all-arm, concat-arm, covered-next, cutting-below, cutting-machine, more-cuts, none-of, step-below, through-arm, weight-next, weight-pieces, whole-arm, whole-can}
+use Rattle.cube_search.proofs.searching.+search.Goals as goal
+
+pub descend-try_cuts-requires : goal.descend-try_cuts-requires
+descend-try_cuts-requires t c =
+    let flat = c.args.search.now.flat.now in
+    let ms = c.args.state.now.machines in
+    let ne = c.if-left-eq0.false in
+    let after : c.args.left ≡ suc (c.args.left - 1) = omega arith in
+    let back : c.args.left ≡ c.args.left - 1 + 1 = omega arith in
+    let cutting = subst (λ o. MatchOption o (CanPassAt flat (c.args.left - 1) ms) (λ pieces. IsCutting flat (c.args.left - 1) pieces.now ms [])) c.in-Some.is c.pieces_at.ensures.step in
+    let w = weight-next flat.definitions c.args.left (c.args.left - 1) after in
+    let p = weight-pieces flat (c.args.left - 1) c.in-Some.pieces.now ms [] cutting in
+    let dec = c.decreases in
+    let lt : suc (weight flat.definitions (c.args.left - 1) + (length c.in-Some.pieces.now - 0)) < t = omega arith in
+    (lt, (c.requires.search, (subst (λ n. IsState flat n c.args.state.now) back c.requires.state, (cutting, c.requires.tally))))
+
+pub descend-below-requires : goal.descend-below-requires
+descend-below-requires t c =
+    let flat = c.args.search.now.flat.now in
+    let ms = c.args.state.now.machines in
+    let ne = c.if-left-eq0.false in
+    let after : c.args.left ≡ suc (c.args.left - 1) = omega arith in
+    let back : c.args.left ≡ c.args.left - 1 + 1 = omega arith in
+    let can = subst (λ o. MatchOption o (CanPassAt flat (c.args.left - 1) ms) (λ pieces. IsCutting flat (c.args.left - 1) pieces.now ms [])) c.in-None.is c.pieces_at.ensures.step in
+    let w = weight-next flat.definitions c.args.left (c.args.left - 1) after in
+    let dec = c.decreases in
+    let lt : suc (weight flat.definitions (c.args.left - 1)) < t = omega arith in
+    (lt, (c.requires.search, (subst (λ n. IsState flat n c.args.state.now) back c.requires.state, (inr can, c.requires.tally))))
+
+pub try_cuts-try_cuts-requires : goal.try_cuts-try_cuts-requires
+try_cuts-try_cuts-requires t c =
+    let flat = c.args.search.now.flat.now in
+    let pieces = c.args.pieces.now in
+    let ms = c.args.state.now.machines in
+    let dec = c.decreases in
+    let few = c.requires.cuts.fewer in
+    let ne = c.if-cuts-pieces.false in
+    let same : c.as_slice.result.now ≡ c.args.cuts.now ++ c.loop-s.s ∷ [] = c.as_slice.ensures ∙ c.in_ok-more.ensures in
+    let size : length c.as_slice.result.now ≡ length c.args.cuts.now + 1 = ap length same ∙ length-append c.args.cuts.now (c.loop-s.s ∷ []) in
+    let lt : suc (weight flat.definitions c.args.at + (length pieces - length c.as_slice.result.now)) < t = omega arith in
+    let first = more-cuts flat c.args.at pieces ms c.args.cuts.now c.loop-s.s c.states_at-s-end.result c.requires.cuts ne c.states_at-s-end.ensures (omega arith) in
+    (lt, (c.requires.search, (c.requires.state, (subst (IsCutting flat c.args.at pieces ms) (sym same) first, c.loop-s.invariant.tally))))
+
+pub try_cuts-loop-s-preserved : goal.try_cuts-loop-s-preserved
+try_cuts-loop-s-preserved t c =
+    let flat = c.args.search.now.flat.now in
+    let pieces = c.args.pieces.now in
+    let ms = c.args.state.now.machines in
+    record {
+      tally = c.in_ok-found.ensures.tally;
+      kept = keeps-more c.args.tally.now c.loop-s.tally c.try_cuts.new.tally c.loop-s.invariant.kept c.in_ok-found.ensures.kept;
+      covered = covered-next flat c.args.search.now.region c.args.at pieces ms c.args.cuts.now c.loop-s.tally c.try_cuts.new.tally c.loop-s.s
+          c.in_ok-found.ensures.kept c.loop-s.invariant.covered
+          (subst (λ l. AreCoveredFrom flat c.args.search.now.region c.args.at pieces ms l c.try_cuts.new.tally) (c.as_slice.ensures ∙ c.in_ok-more.ensures)
+          (c.try_cuts.ensures.covered (c.in_ok-found.was ∙ ap (λ o. Ok o) (none-of c.in_ok-found.field-0 c.in_default.not-Some))));
+    }
+
+pub try_cuts-returns-clause-covered : goal.try_cuts-returns-clause-covered
+try_cuts-returns-clause-covered t c = λ none.
+    let ne = c.if-cuts-pieces.false in
+    all-arm c.args.search.now.flat.now c.args.search.now.region c.args.at c.args.pieces.now c.args.cuts.now c.args.state.now.machines c.loop-s.tally c.states_at-s-end.result
+    c.states_at-s-end.ensures ne (λ s lt. c.loop-s.invariant.covered s (omega arith))
+
+pub below-descend-found-requires : goal.below-descend-found-requires
+below-descend-found-requires t c =
+    let flat = c.args.search.now.flat.now in
+    let dec = c.decreases in
+    let lt : weight flat.definitions c.args.at < t = omega arith in
+    let at = step-below flat c.args.at c.args.state.now.machines c.args.cuts.now c.requires.step in
+    (lt, (c.requires.search, (c.in_ok-next.ensures.state c.requires.search.straight c.requires.state, (omega (arith, at), c.requires.tally))))
+
+pub below-leave-requires-clause-at : goal.below-leave-requires-clause-at
+below-leave-requires-clause-at t c = step-below c.args.search.now.flat.now c.args.at c.args.state.now.machines c.args.cuts.now c.requires.step
+
+pub below-returns-clause-covered : goal.below-returns-clause-covered
+below-returns-clause-covered t c = λ e. (c.in_ok-next.next, c.in_ok-next.ensures.next, c.descend-found.ensures.covered (c.leave.ensures.none (c.in_ok-lifted.was ∙ e)))
+
+pub below-returns-clause-tally : goal.below-returns-clause-tally
+below-returns-clause-tally t c = subst (λ r. OnOk r (IsTally c.args.search.now.flat.now c.descend-found.new.tally)) c.in_ok-lifted.ensures.taken.1 c.descend-found.ensures.tally
+
+pub below-returns-clause-kept : goal.below-returns-clause-kept
+below-returns-clause-kept t c = subst (λ r. OnOk r (Keeps c.args.tally.now c.descend-found.new.tally)) c.in_ok-lifted.ensures.taken.1 c.descend-found.ensures.kept
+
+pub descend-returns-in-Some-clause-covered : goal.descend-returns-in-Some-clause-covered
+descend-returns-in-Some-clause-covered t c = λ none.
+    let flat = c.args.search.now.flat.now in
+    let ms = c.args.state.now.machines in
+    let ne = c.if-left-eq0.false in
+    let after : c.args.left ≡ suc (c.args.left - 1) = omega arith in
+    let cutting = subst (λ o. MatchOption o (CanPassAt flat (c.args.left - 1) ms) (λ pieces. IsCutting flat (c.args.left - 1) pieces.now ms [])) c.in-Some.is c.pieces_at.ensures.step in
+    concat-arm flat c.args.search.now.region c.args.left (c.args.left - 1) c.in-Some.pieces.now c.args.state.now c.try_cuts.new.tally after c.requires.search.straight c.requires.state.registers c.pieces_at.ensures.exact cutting
+    (c.try_cuts.ensures.covered none)
+
+pub descend-returns-in-None-clause-covered : goal.descend-returns-in-None-clause-covered
+descend-returns-in-None-clause-covered t c = λ none.
+    let flat = c.args.search.now.flat.now in
+    let ms = c.args.state.now.machines in
+    let ne = c.if-left-eq0.false in
+    let after : c.args.left ≡ suc (c.args.left - 1) = omega arith in
+    let can = subst (λ o. MatchOption o (CanPassAt flat (c.args.left - 1) ms) (λ pieces. IsCutting flat (c.args.left - 1) pieces.now ms [])) c.in-None.is c.pieces_at.ensures.step in
+    through-arm flat c.args.search.now.region c.args.left (c.args.left - 1) c.args.state.now c.below.new.tally after c.requires.state.registers can (c.below.ensures.covered none)
+
+pub descend-returns-in-None-clause-found : goal.descend-returns-in-None-clause-found
+descend-returns-in-None-clause-found t c =
+    let ne = c.if-left-eq0.false in
+    let back : c.args.left - 1 + 1 ≡ c.args.left = omega arith in
+    subst (λ n. IfOk c.below.result (λ o. IfSome o (IsFound c.args.search.now.flat.now n c.args.state.now.machines))) back c.below.ensures.found
+
+pub try_cuts-returns-then-cuts-pieces-clause-covered : goal.try_cuts-returns-then-cuts-pieces-clause-covered
+try_cuts-returns-then-cuts-pieces-clause-covered t c = λ none.
+    whole-arm c.args.search.now.flat.now c.args.search.now.region c.args.at c.args.pieces.now c.args.cuts.now c.args.state.now c.below.new.tally c.requires.state.registers c.if-cuts-pieces.true
+    (c.below.ensures.covered none)
+
+pub try_cuts-states_at-s-end-requires-clause-at : goal.try_cuts-states_at-s-end-requires-clause-at
+try_cuts-states_at-s-end-requires-clause-at t c = cutting-below c.args.search.now.flat.now c.args.at c.args.pieces.now c.args.state.now.machines c.args.cuts.now c.requires.cuts
+
+pub try_cuts-states_at-s-end-requires-clause-machine : goal.try_cuts-states_at-s-end-requires-clause-machine
+try_cuts-states_at-s-end-requires-clause-machine t c = cutting-machine c.args.search.now.flat.now c.args.at c.args.pieces.now c.args.state.now.machines c.args.cuts.now c.requires.cuts

@@ -1,0 +1,11 @@
+pub mod Limits
+pub mod Regions
+pub mod Bounding
+pub mod Entries
+pub mod Causes
+pub mod Answers
+pub mod Models
+pub mod Searches
+pub mod Steps
+pub mod Leaves
+pub mod Tallies

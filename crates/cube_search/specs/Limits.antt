@@ -1,0 +1,26 @@
+-- The limits on the numbers of a flat cube's text, and where it must be decided.
+use Rattle.std.specs.Prelude.{◌≡◌, ℕ, pos, ◌*◌, ◌≤◌, ◌≤ℤ◌, ◌⊎◌, []}
+use Rattle.straight_line.specs.Bounds.{states, splits, sources}
+use Rattle.straight_line.specs.Growth.{growth, reach, longest_word}
+use Rattle.straight_line.specs.Sides.{IsSmall}
+use Rattle.straight_line.specs.declared.flat.Flat.{Flat}
+
+-- no machine of a variable has more states
+abbrev pub most_states : ℕ
+most_states = 262144
+
+-- there are no more ways to cut the machines of all concatenations
+abbrev pub most_splits : ℕ
+most_splits = 1048576
+
+-- no number of the text is past its limit; growth counts where there are rows
+pub record IsWithinLimits (flat : Flat) : Type 0 where
+  pub few_states : states flat ≤ most_states
+  pub few_splits : splits flat ≤ most_splits
+  pub little_growth : (flat.rows ≡ []) ⊎ (growth flat ≤ longest_word)
+
+-- the numbers of the text within which a cube must be decided
+pub record MustDecideFlat (flat : Flat) : Type 0 where
+  pub few_states : states flat ≤ most_states
+  pub few_splits : splits flat ≤ most_splits
+  pub search : IsSmall flat ⊎ ((flat.rows ≡ []) × (pos (states flat * sources flat) ≤ℤ reach flat))

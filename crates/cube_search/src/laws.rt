@@ -1,0 +1,10 @@
+//! A law of flat cubes, stated by a function that does nothing.
+ghost use Rattle.std.specs.Prelude.{◌≡◌, List, []};
+ghost use Rattle.bool_cubes.specs.declared.literal.Literal.{Literal};
+ghost use Rattle.straight_line.specs.Flattening.{IsFlattening};
+ghost use Rattle.straight_line.specs.declared.flat.Flat.{Flat};
+
+/// A flat cube without rows has no registers: what [`cube_answer`](crate::cube_answer) asks of it.
+pub fn rows_count()
+    ensures { (ls : List Literal) (flat : Flat) → IsFlattening ls flat → flat.rows ≡ [] → flat.registers ≡ [] }
+{}

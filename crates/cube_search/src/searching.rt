@@ -1,0 +1,120 @@
+ghost use Rattle.std.specs.Prelude.{◌≡◌, ◌+◌, ◌++◌, ◌∷◌, ◌≤◌, [], Ok, None, IfOk, IfSome, OnOk, length};
+ghost use Rattle.backward.specs.States.{IsState};
+ghost use Rattle.cube_search.specs.Searches.{IsFound, IsSearch};
+ghost use Rattle.cube_search.specs.Steps.{CanStep, IsCutting};
+ghost use Rattle.cube_search.specs.Tallies.{IsTally, Keeps, IsCovered, AreCoveredFrom, IsCoveredBelow};
+
+use crate::found::Found;
+use crate::leaves::answer_leaf;
+use crate::stepping::{leave, pieces_at, states_at, step};
+use crate::tally::Tally;
+use backward::LeafState;
+use box_search::Region;
+use std::alloc::{AllocError, Global};
+use straight_line::Flat;
+use sv_list::Items;
+
+/// A flat cube and how its leaves are answered.
+#[derive(Drop)]
+pub struct Search<'a> {
+    pub flat: &'a Flat,
+    pub region: Region,
+    pub small: bool,
+    pub reach: i64,
+}
+
+/// Answers all leaves below a family in which `left` definitions are still to be carried. The first
+/// runs that satisfy the cube end it.
+#[cycle(search)]
+pub fn descend(
+    search: &Search,
+    alloc: Global,
+    state: &LeafState,
+    left: u32,
+    tally: &mut Tally,
+) -> Result<Option<Found>, AllocError>
+    requires search { IsSearch search.now }
+    requires state { IsState search.now.flat.now left state.now }
+    requires left { left ≤ length search.now.flat.now.definitions }
+    requires tally { IsTally search.now.flat.now tally.old }
+    ensures tally { OnOk result (IsTally search.now.flat.now tally.new) }
+    ensures kept { OnOk result (Keeps tally.old tally.new) }
+    ensures covered { result ≡ Ok None → IsCovered search.now.flat.now search.now.region left state.now.machines tally.new }
+    ensures found { IfOk result (λ o. IfSome o (IsFound search.now.flat.now left state.now.machines)) }
+{
+    if left == 0 {
+        return answer_leaf(search, alloc, state, tally);
+    }
+    let at = left - 1;
+    match pieces_at(search, state, at) {
+        Some(pieces) => try_cuts(search, alloc, state, at, pieces, &[], tally),
+        None => below(search, alloc, state, at, &[], tally),
+    }
+}
+
+/// The same, where the definition at `at` is the concatenation of the pieces and its machine is cut at
+/// these states first: for all lists of cuts that begin with them, one after another.
+#[cycle(search)]
+fn try_cuts(
+    search: &Search,
+    alloc: Global,
+    state: &LeafState,
+    at: u32,
+    pieces: &[u32],
+    cuts: &[u32],
+    tally: &mut Tally,
+) -> Result<Option<Found>, AllocError>
+    requires search { IsSearch search.now }
+    requires state { IsState search.now.flat.now (at + 1) state.now }
+    requires cuts { IsCutting search.now.flat.now at pieces.now state.now.machines cuts.now }
+    requires tally { IsTally search.now.flat.now tally.old }
+    ensures tally { OnOk result (IsTally search.now.flat.now tally.new) }
+    ensures kept { OnOk result (Keeps tally.old tally.new) }
+    ensures covered { result ≡ Ok None → AreCoveredFrom search.now.flat.now search.now.region at pieces.now state.now.machines cuts.now tally.new }
+    ensures found { IfOk result (λ o. IfSome o (IsFound search.now.flat.now (at + 1) state.now.machines)) }
+{
+    if cuts.len() + 1 == pieces.len() {
+        return below(search, alloc, state, at, cuts, tally);
+    }
+    for s in 0..states_at(search.flat, state, at) {
+        let more = with_cut(alloc, cuts, s)?;
+        if let Some(found) = try_cuts(search, alloc, state, at, pieces, more.as_slice(), tally)? {
+            return Ok(Some(found));
+        }
+    }
+    Ok(None)
+}
+
+/// The same, where the definition at `at` is carried, at all these cuts where it is a concatenation.
+#[cycle(search)]
+fn below(
+    search: &Search,
+    alloc: Global,
+    state: &LeafState,
+    at: u32,
+    cuts: &[u32],
+    tally: &mut Tally,
+) -> Result<Option<Found>, AllocError>
+    requires search { IsSearch search.now }
+    requires state { IsState search.now.flat.now (at + 1) state.now }
+    requires step { CanStep search.now.flat.now at state.now.machines cuts.now }
+    requires tally { IsTally search.now.flat.now tally.old }
+    ensures tally { OnOk result (IsTally search.now.flat.now tally.new) }
+    ensures kept { OnOk result (Keeps tally.old tally.new) }
+    ensures covered { result ≡ Ok None → IsCoveredBelow search.now.flat.now search.now.region at cuts.now state.now tally.new }
+    ensures found { IfOk result (λ o. IfSome o (IsFound search.now.flat.now (at + 1) state.now.machines)) }
+{
+    let next = step(alloc, search.flat, state, at, cuts)?;
+    let found = descend(search, alloc, &next, at, tally);
+    let lifted = leave(alloc, search.flat, state, at, cuts, next, found)?;
+    Ok(lifted)
+}
+
+/// One cut more.
+fn with_cut(alloc: Global, cuts: &[u32], state: u32) -> Result<Items<u32>, AllocError>
+    ensures { IfOk result (λ more. more ≡ cuts.now ++ state ∷ []) }
+{
+    let mut more = Items::from_slice(alloc, cuts)?;
+    more.push(state)?;
+    Ok(more)
+}

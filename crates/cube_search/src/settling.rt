@@ -1,0 +1,74 @@
+//! The answers for leaves, put to the tally.
+ghost use Rattle.std.specs.Prelude.{◌≡◌};
+ghost use Rattle.cube_search.specs.Tallies.{first_some, hit_of, one_more, settled};
+
+use crate::tally::{Given, Tally, TooLong};
+use box_search::Hit;
+use leaf_solve::{Closing, LeafAnswer, LongShown};
+use machine_core::Explicit;
+use sv_list::Items;
+
+/// The tally with the answer for a leaf of these machines, unless that is a hit. The first leaf that is
+/// too long is kept, the first on which the solver gave up, and how many are closed.
+pub fn settle(tally: &mut Tally, machines: Items<Explicit>, answer: LeafAnswer) -> Option<Hit>
+    ensures hit { result ≡ hit_of answer }
+    ensures given { tally.new.given ≡ (settled machines answer tally.old).given }
+    ensures long { tally.new.long ≡ (settled machines answer tally.old).long }
+    ensures closed { tally.new.closed ≡ (settled machines answer tally.old).closed }
+{
+    match answer {
+        LeafAnswer::Sat(hit) => Some(hit),
+        LeafAnswer::Closed(closing) => {
+            close(tally, &closing);
+            None
+        }
+        LeafAnswer::Long(shown) => {
+            keep_long(tally, machines, shown);
+            None
+        }
+        LeafAnswer::Open(system, evidence) => {
+            let given = Given {
+                machines,
+                system,
+                evidence,
+            };
+            keep_given(tally, given);
+            None
+        }
+    }
+}
+
+// Keeps a leaf that is too long, if it is the first.
+fn keep_long(tally: &mut Tally, machines: Items<Explicit>, shown: LongShown)
+    ensures given { tally.new.given ≡ tally.old.given }
+    ensures long { tally.new.long ≡ first_some tally.old.long (record { machines = machines; shown = shown }) }
+    ensures closed { tally.new.closed ≡ tally.old.closed }
+{
+    if tally.long.is_none() {
+        tally.long = Some(TooLong { machines, shown });
+    }
+}
+
+// Keeps a leaf on which the solver gave up, if it is the first.
+fn keep_given(tally: &mut Tally, given: Given)
+    ensures given { tally.new.given ≡ first_some tally.old.given given }
+    ensures long { tally.new.long ≡ tally.old.long }
+    ensures closed { tally.new.closed ≡ tally.old.closed }
+{
+    if tally.given.is_none() {
+        tally.given = Some(given);
+    }
+}
+
+// Counts a closed leaf.
+fn close(tally: &mut Tally, closing: &Closing)
+    ensures given { tally.new.given ≡ tally.old.given }
+    ensures long { tally.new.long ≡ tally.old.long }
+    ensures closed { tally.new.closed ≡ one_more closing.now tally.old.closed }
+{
+    match closing {
+        Closing::Empty(_) => tally.closed.empty = tally.closed.empty.saturating_add(1),
+        Closing::Tree(_, _) => tally.closed.trees = tally.closed.trees.saturating_add(1),
+        Closing::Box => tally.closed.boxes = tally.closed.boxes.saturating_add(1),
+    }
+}

@@ -1,0 +1,54 @@
+//! A digest of how a regular expression is written, by which its place is found.
+
+use sv_terms::Regex;
+
+// One more number goes into the digest, as in the hash FNV-1a, with eight bytes at once.
+fn mixed(digest: u64, number: u64) -> u64 {
+    (digest ^ number).wrapping_mul(0x100_0000_01b3)
+}
+
+fn of_word(word: &[u32], seed: u64) -> u64 {
+    let mut digest = seed;
+    for character in word {
+        digest = mixed(digest, u64::from(*character));
+    }
+    digest
+}
+
+#[cycle(digest)]
+fn of_all(expressions: &[Regex], seed: u64) -> u64 {
+    let mut digest = mixed(seed, expressions.len() as u64);
+    for expression in expressions {
+        digest = of(expression, digest);
+    }
+    digest
+}
+
+#[cycle(digest)]
+fn of(expression: &Regex, seed: u64) -> u64 {
+    match expression {
+        Regex::Empty => mixed(seed, 1),
+        Regex::All => mixed(seed, 2),
+        Regex::AnyChar => mixed(seed, 3),
+        Regex::Text(word) => of_word(word.as_slice(), mixed(seed, 4)),
+        Regex::Range(low, high) => mixed(mixed(mixed(seed, 5), u64::from(*low)), u64::from(*high)),
+        Regex::Concat(parts) => of_all(parts.as_slice(), mixed(seed, 6)),
+        Regex::Union(parts) => of_all(parts.as_slice(), mixed(seed, 7)),
+        Regex::Inter(parts) => of_all(parts.as_slice(), mixed(seed, 8)),
+        Regex::Diff(parts) => of_all(parts.as_slice(), mixed(seed, 9)),
+        Regex::Star(part) => of(part.get(), mixed(seed, 10)),
+        Regex::Plus(part) => of(part.get(), mixed(seed, 11)),
+        Regex::Opt(part) => of(part.get(), mixed(seed, 12)),
+        Regex::Comp(part) => of(part.get(), mixed(seed, 13)),
+        Regex::Loop(part, least, most) => {
+            let bounds = mixed(mixed(mixed(seed, 14), u64::from(*least)), u64::from(*most));
+            of(part.get(), bounds)
+        }
+    }
+}
+
+/// A number for how the regular expression is written: two that are written the same have the same one, and
+/// others rarely do. Linear in the expression.
+pub fn digest(expression: &Regex) -> u64 {
+    of(expression, 0xcbf2_9ce4_8422_2325)
+}
