@@ -1,0 +1,195 @@
+-- One batch more.
+use Rattle.std.proofs.Common.{◌≡◌, ◌≢◌, ℕ, zero, suc, ◌+◌, ◌*◌, ◌^◌, ◌<◌, ◌≤◌, ◌⊎◌, Bool, true, false, ◌||◌, nat_lt, List, [], ◌∷◌, ◌++◌, length, map, Option, Some, None, MatchOption, Result, Ok, Err, IfOk, refl, sym, ap, ◌∙◌, subst, arith, length-append, append_assoc, inl, inr}
+use Rattle.std.specs.List.{AllByRecursion, AllZip}
+use Rattle.std.proofs.lemmas.List.{map-append}
+use Rattle.std.specs.declared.alloc.AllocError.{AllocError}
+use Rattle.std.specs.Option.{is_some}
+use Rattle.std.proofs.lemmas.Bool.{ltb-true, ltb-false}
+use Rattle.sv_terms.specs.Meaning.{Named}
+use Rattle.sv_terms.specs.declared.term.Term.{Term}
+use Rattle.bool_cubes.specs.declared.literal.Cube.{Cube}
+use Rattle.cube_search.specs.declared.answer.CubeAnswer.{CubeAnswer}
+use Rattle.sv_terms.specs.Truth.{opaque_of}
+use Rattle.decide.specs.Folds.{found, fold, with_first, without_sat, opens_from, refuted_from, refutation}
+use Rattle.decide.specs.Jobs.{IsAsked, IsOutcome, IsTallyOf, AreWhole, EndsWithBatch, IsFoldOf, IsUnderWay, batch, verdict_of}
+use Rattle.decide.specs.Batches.{AreJobsOf, Yields}
+use Rattle.decide.specs.declared.tally.Tally.{Tally}
+
+-- a job, as contracts see it
+abbrev Job : Type 0
+Job = List Term × Cube
+
+-- a job for one cube more
+pub one-more-job : (terms : List Term) (jobs : List Job) (job : Job) (cube : Cube) (old mid new : List Cube) → AreJobsOf terms jobs old mid → mid ≡ cube ∷ new → job.0 ≡ terms → job.1 ≡ cube → AreJobsOf terms (jobs ++ job ∷ []) old new
+one-more-job terms [] job cube old mid new h e t c = subst (λ o. AreJobsOf terms (job ∷ []) o new) (sym (h ∙ e)) (t, c, refl)
+one-more-job terms (j ∷ jobs) job cube [] mid new h e t c = absurd h
+one-more-job terms (j ∷ jobs) job cube (d ∷ old) mid new h e t c = (h.0, h.1, one-more-job terms jobs job cube old mid new h.2 e t c)
+
+-- what the next cube says of those that are left
+abbrev pub LeftBy : List Cube → List Cube → Option Cube → Type 0
+LeftBy old new o = MatchOption o ((old ≡ []) × (new ≡ [])) (λ c. old ≡ c ∷ new)
+
+pub is-none : (old new : List Cube) (o : Option Cube) → o ≡ None → LeftBy old new o → (old ≡ []) × (new ≡ [])
+is-none old new o e h = subst (LeftBy old new) e h
+
+pub is-some : (old new : List Cube) (o : Option Cube) (c : Cube) → o ≡ Some c → LeftBy old new o → old ≡ c ∷ new
+is-some old new o c e h = subst (LeftBy old new) e h
+
+zip-append : {J T : Type 0} (R : J → T → Type 0) (js ks : List J) (xs ys : List T) → AllZip R js xs → AllZip R ks ys → AllZip R (js ++ ks) (xs ++ ys)
+zip-append R [] ks [] ys h k = k
+zip-append R [] ks (x ∷ xs) ys h k = absurd h
+zip-append R (j ∷ js) ks [] ys h k = absurd h
+zip-append R (j ∷ js) ks (x ∷ xs) ys h k = (h.0, zip-append R js ks xs ys h.1 k)
+
+zip-length : {J T : Type 0} (R : J → T → Type 0) (js : List J) (xs : List T) → AllZip R js xs → length js ≡ length xs
+zip-length R [] [] h = refl
+zip-length R [] (x ∷ xs) h = absurd h
+zip-length R (j ∷ js) [] h = absurd h
+zip-length R (j ∷ js) (x ∷ xs) h = ap suc (zip-length R js xs h.1)
+
+-- the cubes of the jobs, with an answer for each
+record AreAnswered (terms : List Term) (old new : List Cube) (answers : List CubeAnswer) : Type 0 where
+  cubes : List Cube
+  both : old ≡ cubes ++ new
+  each : AllZip (IsOutcome terms) cubes answers
+
+answered : (terms : List Term) (jobs : List Job) (outcomes : List (Result CubeAnswer AllocError)) (answers : List CubeAnswer) (old new : List Cube) → AreJobsOf terms jobs old new → AllZip Yields jobs outcomes → outcomes ≡ map Ok answers → AreAnswered terms old new answers
+answered terms [] [] [] old new a z e = record { cubes = []; both = a; each = tt }
+answered terms [] [] (x ∷ answers) old new a z e = absurd cc
+answered terms [] (o ∷ outcomes) answers old new a z e = absurd z
+answered terms (j ∷ jobs) [] answers old new a z e = absurd z
+answered terms (j ∷ jobs) (o ∷ outcomes) [] old new a z e = absurd cc
+answered terms (j ∷ jobs) (o ∷ outcomes) (x ∷ answers) [] new a z e = absurd a
+answered terms (j ∷ jobs) (o ∷ outcomes) (x ∷ answers) (c ∷ old) new a z e =
+    let is : o ≡ Ok x = cc in
+    let rest : outcomes ≡ map Ok answers = cc in
+    let r = answered terms jobs outcomes answers old new a.2 z.1 rest in
+    let own : IsOutcome j.0 j.1 x = subst (λ q. IfOk q (IsOutcome j.0 j.1)) is z.0 in
+    record { cubes = c ∷ r.cubes; both = ap (λ l. c ∷ l) r.both; each = (subst (λ d. IsOutcome terms d x) a.1 (subst (λ l. IsOutcome l j.1 x) a.0 own), r.each) }
+
+pub jobs-length : (terms : List Term) (jobs : List Job) (old new : List Cube) → AreJobsOf terms jobs old new → length old ≡ length jobs + length new
+jobs-length terms [] old new a = omega (arith, ap length a)
+jobs-length terms (j ∷ jobs) [] new a = absurd a
+jobs-length terms (j ∷ jobs) (c ∷ old) new a = omega (arith, jobs-length terms jobs old new a.2)
+
+-- what is left may be asked, as all may
+pub asked-left : (terms : List Term) (jobs : List Job) (old new : List Cube) → AreJobsOf terms jobs old new → AllByRecursion (IsAsked terms) old → AllByRecursion (IsAsked terms) new
+asked-left terms [] old new a h = subst (AllByRecursion (IsAsked terms)) a h
+asked-left terms (j ∷ jobs) [] new a h = absurd a
+asked-left terms (j ∷ jobs) (c ∷ old) new a h = asked-left terms jobs old new a.2 h.1
+
+pub start : (terms : List Term) (cubes : List Cube) (tally : Tally) → IsTallyOf (opaque_of terms) [] tally → IsUnderWay terms cubes cubes tally
+start terms cubes tally t = record {
+  done = [];
+  answers = [];
+  parts = refl;
+  outcomes = tt;
+  tallied = t;
+  whole = record { batches = 0; whole = refl; goes_on = nothing (opaque_of terms) };
+}
+  where
+    nothing : (opaque : List Term) → found opaque [] ≡ None
+    nothing [] = refl
+    nothing (t ∷ ts) = refl
+
+-- the numbers that bound the tally
+pub counted : (terms : List Term) (cubes left : List Cube) (tally : Tally) → IsUnderWay terms cubes left tally → tally.count + length left ≡ length cubes
+counted terms cubes left tally u =
+    let a = zip-length (IsOutcome terms) u.done u.answers u.outcomes in
+    let b = ap length u.parts ∙ length-append u.done left in
+    omega (arith, a, b, u.tallied.count)
+
+module _ (terms : List Term) (cubes old new : List Cube) (jobs : List Job) (outcomes : List (Result CubeAnswer AllocError)) (before after : Tally) (u : IsUnderWay terms cubes old before)
+    (taken : AreJobsOf terms jobs old new) (yielded : AllZip Yields jobs outcomes) (last : List CubeAnswer) (is : outcomes ≡ map Ok last)
+    (more : (opaque : List Term) (xs : List CubeAnswer) → IsTallyOf opaque xs before → IsTallyOf opaque (xs ++ last) after) where
+  pub as-many : length last ≡ length jobs
+  as-many = let r = answered terms jobs outcomes last old new taken yielded is in
+      omega (arith, zip-length (IsOutcome terms) r.cubes last r.each, jobs-length terms jobs old new taken, ap length r.both ∙ length-append r.cubes new)
+
+  tallied : IsTallyOf (opaque_of terms) (u.answers ++ last) after
+  tallied = more (opaque_of terms) u.answers u.tallied
+
+  -- the search goes on
+  pub step : length jobs ≡ batch → after.model ≡ None → IsUnderWay terms cubes new after
+  step size none =
+      let r = answered terms jobs outcomes last old new taken yielded is in record {
+        done = u.done ++ r.cubes;
+        answers = u.answers ++ last;
+        parts = u.parts ∙ ap (λ l. u.done ++ l) r.both ∙ sym (append_assoc u.done r.cubes new);
+        outcomes = zip-append (IsOutcome terms) u.done r.cubes u.answers last u.outcomes r.each;
+        tallied = tallied;
+        whole = record {
+          batches = suc u.whole.batches;
+          whole = length-append u.answers last ∙ (let n = as-many in omega (arith, u.whole.whole, n, size));
+          goes_on = sym tallied.model ∙ none;
+        };
+      }
+
+  -- the search ends
+  pub finish : (length jobs ≡ batch) ⊎ ((new ≡ []) × (length jobs ≤ batch)) → (new ≡ []) ⊎ (after.model ≢ None) → IsFoldOf terms cubes (verdict_of after)
+  finish size stops =
+      let r = answered terms jobs outcomes last old new taken yielded is in record {
+        done = u.done ++ r.cubes;
+        left = new;
+        answers = u.answers ++ last;
+        parts = u.parts ∙ ap (λ l. u.done ++ l) r.both ∙ sym (append_assoc u.done r.cubes new);
+        outcomes = zip-append (IsOutcome terms) u.done r.cubes u.answers last u.outcomes r.each;
+        folded = λ i. with_first (tallied.model i) (without_sat (tallied.open_cubes i) (tallied.refuted i));
+        ended = record {
+          before = u.answers;
+          last = last;
+          both = refl;
+          earlier = u.whole;
+          size = elim size [ inl e ↦ inl (as-many ∙ e) | inr p ↦ inr (p.0, subst (λ n. n ≤ batch) (sym as-many) p.1) ];
+          stops = elim stops [ inl e ↦ inl e | inr n ↦ inr (λ e. n (tallied.model ∙ e)) ];
+        };
+      }
+
+-- a batch's answers leave the tally's number below 2^64
+pub room : (terms : List Term) (cubes old new : List Cube) (jobs : List Job) (outcomes : List (Result CubeAnswer AllocError)) (tally : Tally) → IsUnderWay terms cubes old tally → AreJobsOf terms jobs old new → AllZip Yields jobs outcomes → length cubes ≤ 1048576 → tally.count + length outcomes < 2 ^ 64
+room terms cubes old new jobs outcomes tally u taken yielded few =
+    let a = counted terms cubes old tally u in
+    let b = jobs-length terms jobs old new taken in
+    let d = zip-length Yields jobs outcomes yielded in
+    omega (arith, a, b, d, few)
+
+-- where a whole batch was taken, fewer cubes are left
+pub fewer : (terms : List Term) (jobs : List Job) (old new : List Cube) → AreJobsOf terms jobs old new → length jobs ≡ batch → length new < length old
+fewer terms jobs old new taken size = let b = jobs-length terms jobs old new taken in omega (arith, b, size)
+
+-- one answer more, and what is still to come
+module _ (all done rest more : List (Result CubeAnswer AllocError)) (x : Result CubeAnswer AllocError) (split : all ≡ done ++ rest) (front : rest ≡ x ∷ more) where
+  pub split-on : all ≡ (done ++ x ∷ []) ++ more
+  split-on = split ∙ ap (λ l. done ++ l) front ∙ sym (append_assoc done (x ∷ []) more)
+
+pub more-answers : (done : List (Result CubeAnswer AllocError)) (answers : List CubeAnswer) (x : Result CubeAnswer AllocError) (a : CubeAnswer) → done ≡ map Ok answers → x ≡ Ok a → done ++ x ∷ [] ≡ map Ok (answers ++ a ∷ [])
+more-answers done answers x a e is = (λ i. e i ++ is i ∷ []) ∙ sym (map-append Ok answers (a ∷ []))
+
+pub tallied-on : (opaque : List Term) (before answers : List CubeAnswer) (a : CubeAnswer) (tally : Tally) → IsTallyOf opaque ((before ++ answers) ++ a ∷ []) tally → IsTallyOf opaque (before ++ (answers ++ a ∷ [])) tally
+tallied-on opaque before answers a tally h = subst (λ l. IsTallyOf opaque l tally) (append_assoc before answers (a ∷ [])) h
+
+module _ (new : List Cube) (jobs : List Job) (size : (length jobs ≡ batch) ⊎ ((new ≡ []) × (length jobs ≤ batch))) where
+  -- a short batch is the last
+  pub no-more : length jobs < batch → new ≡ []
+  no-more short = elim size [ inl e ↦ absurd (omega (arith, short, e)) | inr p ↦ p.0 ]
+
+  -- and one that isn't short is whole
+  pub whole-size : batch ≤ length jobs → length jobs ≡ batch
+  whole-size long = elim size [ inl e ↦ e | inr p ↦ omega (arith, p.1, long) ]
+
+  -- whether it goes on
+  pub stops-of : (m : Option Named) → (nat_lt (length jobs) batch || is_some m) ≡ true → (new ≡ []) ⊎ (m ≢ None)
+  stops-of m e = by (nat_lt (length jobs) batch) refl m e
+    where
+      by : (b : Bool) → nat_lt (length jobs) batch ≡ b → (m : Option Named) → (b || is_some m) ≡ true → (new ≡ []) ⊎ (m ≢ None)
+      by true h m e = inl (no-more (ltb-true (length jobs) batch h))
+      by false h None e = absurd cc
+      by false h (Some x) e = inr (λ n. cc)
+
+  pub goes-on : (m : Option Named) → (nat_lt (length jobs) batch || is_some m) ≡ false → (length jobs ≡ batch) × (m ≡ None)
+  goes-on m e = by (nat_lt (length jobs) batch) refl m e
+    where
+      by : (b : Bool) → nat_lt (length jobs) batch ≡ b → (m : Option Named) → (b || is_some m) ≡ false → (length jobs ≡ batch) × (m ≡ None)
+      by true h m e = absurd cc
+      by false h None e = (whole-size (ltb-false (length jobs) batch h), refl)
+      by false h (Some x) e = absurd cc

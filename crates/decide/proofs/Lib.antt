@@ -1,0 +1,12 @@
+pub mod Assertions
+pub mod Crossing
+pub mod Fillings
+pub mod Firsts
+pub mod Folding
+pub mod Going
+pub mod Listed
+pub mod Models
+pub mod Rightness
+pub mod Sorts
+pub mod Tallying
+pub mod Terms

@@ -1,0 +1,157 @@
+-- Values of a flat cube as values of its cube, and the other way round.
+use Rattle.std.proofs.Common.{◌≡◌, ◌↔◌, refl, sym, ap, ◌∙◌, subst, ℕ, ℤ, cond, map, filter, Bool, true, false, IsTrue, List, [], ◌∷◌, ◌++◌, Option, Some, None, Err, nat_eq}
+use Rattle.std.specs.List.{AllByRecursion, AllZip}
+use Rattle.sv_terms.specs.Language.{Word}
+use Rattle.sv_terms.specs.Meaning.{Named}
+use Rattle.sv_terms.specs.Sorting.{is_valued, kind, same_sort}
+use Rattle.sv_terms.specs.Truth.{AreValued, AreWorded, clear_of}
+use Rattle.sv_terms.specs.declared.sort.Sort.{Sort}
+use Rattle.sv_terms.specs.declared.sort.Sort.TheVariants as sort
+use Rattle.sv_terms.specs.declared.term.Term.{Term}
+use Rattle.sv_terms.specs.declared.value.Value.{Value}
+use Rattle.sv_terms.specs.declared.value.Value.TheVariants as value
+use Rattle.bool_cubes.specs.Laws.{IsValuedCube}
+use Rattle.bool_cubes.specs.Linear.{length_of}
+use Rattle.bool_cubes.specs.Shapes.{Shape, seen}
+use Rattle.bool_cubes.specs.declared.literal.Literal.{Literal}
+use Rattle.bool_cubes.specs.declared.literal.Cube.{Cube}
+use Rattle.straight_line.specs.Flattening.{Bounded, HaveOneSort as LiteralsHaveOneSort, IsFlattened, IsFlattening, IsSortedBy, IsRowFor, all_bounded, has_column, registers_of, unknowns_of, variable_of}
+use Rattle.straight_line.specs.Met.{met}
+use Rattle.straight_line.specs.FormLaws.{AreNamesSorted, NamesAreSorted}
+use Rattle.straight_line.specs.Laws.{FlatIsExact, FlatIsOne, IsGood, IsRefusal, IsSpelled, RefusedHasNone}
+use Rattle.straight_line.specs.Satisfying.{Extends, HasValue, IsOf, NamesHave, Satisfies}
+use Rattle.straight_line.specs.Straight.{string_names}
+use Rattle.straight_line.specs.declared.fault.FlatFault.{FlatFault}
+use Rattle.straight_line.specs.declared.flat.Flat.{Flat}
+use Rattle.straight_line.specs.declared.variable.Variable.{Variable}
+use Rattle.cube_search.specs.Answers.{IsCubeAnswer, IsDecided, IsModelOf}
+use Rattle.cube_search.specs.Causes.{EachSolution, IsCauseOf}
+use Rattle.cube_search.specs.Limits.{MustDecideFlat}
+use Rattle.cube_search.specs.declared.answer.CubeAnswer.{CubeAnswer}
+use Rattle.cube_search.specs.declared.answer.CubeAnswer.TheVariants as answer
+use Rattle.cube_search.specs.declared.reason.Reason.{Reason}
+use Rattle.cube_search.specs.declared.reason.Reason.TheVariants as reason
+use Rattle.decide.specs.Causes.{AreTrueAtCube, CubeHasNoValues, IsCause}
+use Rattle.decide.specs.Completeness.{MustDecideCube}
+use Rattle.decide.specs.Constants.{HaveOneSort}
+use Rattle.decide.specs.Filling.{AreChosen, IsFilledFrom, default, or_default, value_of}
+use Rattle.decide.specs.Jobs.{IsAsked, IsOutcome, IsSatOf}
+use Rattle.decide.proofs.Sorts.{same-self, sort_at, sorted-by, sorts_by}
+
+abbrev Name : Type 0
+Name = List ℕ
+
+-- the literals of a cube that may be asked
+each-sorted : (values : Named) (ls : List Literal) → AllByRecursion (λ (l : Literal). IsTrue (is_valued values l.atom)) ls → AllByRecursion (λ (l : Literal). IsSortedBy (sorts_by values) (seen l.atom)) ls
+each-sorted values [] h = tt
+each-sorted values (l ∷ ls) h = (sorted-by values l.atom h.0, each-sorted values ls h.1)
+
+each-good : (values : Named) (ls : List Literal) → AllByRecursion (λ (l : Literal). IsTrue (is_valued values l.atom)) ls → AllByRecursion (λ (l : Literal). IsSpelled (seen l.atom)) ls → AllByRecursion (IsGood values) ls
+each-good values [] h k = tt
+each-good values (l ∷ ls) h k = (record { valued = h.0; spelled = k.0 }, each-good values ls h.1 k.1)
+
+-- each name of the literals has one sort
+pub literals-sorted : (terms : List Term) (cube : Cube) → IsAsked terms cube → LiteralsHaveOneSort cube.literals
+literals-sorted terms cube a = (sorts_by a.one_sort.0, each-sorted a.one_sort.0 cube.literals (a.valued a.one_sort.0 a.one_sort.1))
+
+-- a value of the flat cube's sort is the one that is chosen
+module _ (given full : Named) (chosen : AreChosen given full) where
+  stays : (s : Sort) (n : Name) (x : Value) → kind x ≡ s → (s ≡ sort.RegLan → ⊥) → value_of given n ≡ Some x → sorts_by full n ≡ s → value_of full n ≡ Some x
+  stays s n x k f e t = by (value_of full n) refl
+    where
+      by : (o : Option Value) → value_of full n ≡ o → value_of full n ≡ Some x
+      by None g = absurd (f (sym t ∙ ap sort_at g))
+      by (Some y) g =
+          let ky : kind y ≡ s = sym (ap sort_at g) ∙ t in
+          let test : same_sort (kind y) (kind x) ≡ true = subst (λ z. same_sort (kind y) z ≡ true) (ky ∙ sym k) (same-self (kind y)) in
+          let is : y ≡ x = chosen n y g ∙ ap (or_default (kind y)) e ∙ ap (λ b. cond b x (default (kind y))) test in
+          g ∙ ap Some is
+
+  names-stay : (w : Word) (ns : List Name) → AllByRecursion (HasValue given (value.Text w)) ns → AllByRecursion (λ n. sorts_by full n ≡ sort.String) ns → AllByRecursion (HasValue full (value.Text w)) ns
+  names-stay w [] h s = tt
+  names-stay w (n ∷ ns) h s = (stays sort.String n (value.Text w) refl (λ e. cc) h.0 s.0, names-stay w ns h.1 s.1)
+
+  first-part : {X : Type 0} (P : X → Type 0) (xs ys : List X) → AllByRecursion P (xs ++ ys) → AllByRecursion P xs × AllByRecursion P ys
+  first-part P [] ys h = (tt, h)
+  first-part P (x ∷ xs) ys h = let r = first-part P xs ys h.1 in ((h.0, r.0), r.1)
+
+  texts-stay : (vs : List Variable) (ws : List Word) → AllZip (NamesHave given) vs ws → AllByRecursion (λ n. sorts_by full n ≡ sort.String) (string_names vs) → AllZip (NamesHave full) vs ws
+  texts-stay [] [] h s = tt
+  texts-stay [] (w ∷ ws) h s = h
+  texts-stay (v ∷ vs) [] h s = h
+  texts-stay (v ∷ vs) (w ∷ ws) h s = let p = first-part (λ n. sorts_by full n ≡ sort.String) v.names (string_names vs) s in (names-stay w v.names h.0 p.0, texts-stay vs ws h.1 p.1)
+
+  numbers-stay : (ns : List Name) (zs : List ℤ) → AllZip (λ n z. HasValue given (value.Number z) n) ns zs → AllByRecursion (λ n. sorts_by full n ≡ sort.Int) ns → AllZip (λ n z. HasValue full (value.Number z) n) ns zs
+  numbers-stay [] [] h s = tt
+  numbers-stay [] (z ∷ zs) h s = h
+  numbers-stay (n ∷ ns) [] h s = h
+  numbers-stay (n ∷ ns) (z ∷ zs) h s = (stays sort.Int n (value.Number z) refl (λ e. cc) h.0 s.0, numbers-stay ns zs h.1 s.1)
+
+  truths-stay : (ts : List (Name × Bool)) → AllByRecursion (λ (t : Name × Bool). HasValue given (value.Truth t.1) t.0) ts → AllByRecursion (λ n. sorts_by full n ≡ sort.Bool) (map (λ (t : Name × Bool). t.0) ts) → AllByRecursion (λ (t : Name × Bool). HasValue full (value.Truth t.1) t.0) ts
+  truths-stay [] h s = tt
+  truths-stay (t ∷ ts) h s = (stays sort.Bool t.0 (value.Truth t.1) refl (λ e. cc) h.0 s.0, truths-stay ts h.1 s.1)
+
+  of-stays : (flat : Flat) (ws : List Word) (zs : List ℤ) → IsOf flat ws zs given → AreNamesSorted (sorts_by full) flat → IsOf flat ws zs full
+  of-stays flat ws zs o s = record {
+    names = texts-stay flat.variables ws o.names s.strings;
+    integers = numbers-stay flat.integers zs o.integers s.integers;
+    truths = truths-stay flat.truths o.truths s.truths;
+  }
+
+module _ (terms : List Term) (cube : Cube) (flat : Flat) (asked : IsAsked terms cube) (flattening : IsFlattening cube.literals flat) (exact : FlatIsExact) where
+  good : (values : Named) → IsValuedCube values cube → AllByRecursion (IsGood values) cube.literals
+  good values v = each-good values cube.literals v asked.spelled
+
+  -- a model of the flat cube, with a value for each constant
+  pub sat-of : NamesAreSorted → (given full : Named) → IsModelOf flat given → IsFilledFrom given (clear_of terms) full → IsSatOf terms cube full
+  sat-of sorted given full m f =
+      let v = asked.valued full f.just.valued in
+      let names = sorted (sorts_by full) cube.literals flat (each-sorted full cube.literals v) flattening in
+      let o = of-stays given full f.chosen flat m.words m.numbers m.of names in
+      let w = f.worded m.worded in
+      let e : Extends flat full = record { words = m.words; numbers = m.numbers; of = o; satisfied = m.satisfies } in
+      record {
+        holds = record { worded = w; valued = v; holds = (exact full cube.literals flat w (good full v) flattening).1 e };
+        just = f.just;
+        within = (flat, flattening, record { words = m.words; numbers = m.numbers; worded = w; of = o; satisfies = m.satisfies; within = m.within });
+      }
+
+  -- where nothing satisfies the flat cube, the cube has no values
+  pub none-of : EachSolution flat (λ ws ints. ⊥) → CubeHasNoValues cube
+  none-of h values t =
+      let e = (exact values cube.literals flat t.worded (good values t.valued) flattening).0 t.holds in
+      h e.words e.numbers e.satisfied
+
+  -- a reason of the flat cube is one of the cube
+  pub cause-of : (r : Reason) → IsCauseOf flat r → IsCause terms cube r
+  cause-of (reason.Fragment s) h = absurd h
+  cause-of (reason.Wide n) h = absurd h
+  cause-of (reason.States n) h = (flat, flattening, h)
+  cause-of (reason.Splits n) h = (flat, flattening, h)
+  cause-of (reason.Growth n) h = (flat, flattening, h)
+  cause-of (reason.Length ms s) h = (flat, flattening, h)
+  cause-of (reason.Arithmetic ms s e) h = (flat, flattening, h)
+
+-- the flat cube must be decided where the cube must
+pub must-of : FlatIsOne → (cube : Cube) (flat : Flat) → IsFlattening cube.literals flat → MustDecideCube cube → MustDecideFlat flat
+must-of one cube flat f m = subst MustDecideFlat (one cube.literals m.0 flat m.1 f) m.2
+
+-- a cube that is refused need not be decided
+pub refused-of : RefusedHasNone → (cube : Cube) (f : FlatFault) → IsRefusal f → IsFlattened cube.literals (Err f) → MustDecideCube cube → ⊥
+refused-of none cube f r refused must = none cube.literals f r refused record { flat = must.0; flattening = must.1 }
+
+-- without rows there are no registers
+no-columns : (rs : List (Shape × ℕ)) (bs : List Bounded) → bs ≡ [] → filter (λ (r : Shape × ℕ). has_column bs (length_of r.0)) rs ≡ []
+no-columns [] bs e = refl
+no-columns (r ∷ rs) bs e = ap (λ b. cond b (r ∷ filter (λ (q : Shape × ℕ). has_column bs (length_of q.0)) rs) (filter (λ (q : Shape × ℕ). has_column bs (length_of q.0)) rs)) (ap (λ l. has_column l (length_of r.0)) e) ∙ no-columns rs bs e
+
+none-zipped : {A B : Type 0} (R : A → B → Type 0) (xs : List A) (ys : List B) → AllZip R xs ys → ys ≡ [] → xs ≡ []
+none-zipped R [] ys z e = refl
+none-zipped R (x ∷ xs) [] z e = absurd z
+none-zipped R (x ∷ xs) (y ∷ ys) z e = absurd cc
+
+pub bare : (cube : Cube) (flat : Flat) → IsFlattening cube.literals flat → flat.rows ≡ [] → flat.registers ≡ []
+bare cube flat f e =
+    let d = met cube.literals in
+    let none = none-zipped (IsRowFor (unknowns_of d)) (all_bounded d) flat.rows f.of.rows e in
+    f.of.registers ∙ ap (map (λ (r : Shape × ℕ). variable_of d r.1)) (no-columns d.registers (all_bounded d) none)

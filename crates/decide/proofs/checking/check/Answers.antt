@@ -1,0 +1,54 @@
+use Rattle.std.proofs.Common.{◌≡◌, IsTrue, IfOk, List, Err, sym, ap, ◌∙◌, subst}
+use Rattle.std.specs.List.{AllByRecursion, list_all}
+use Rattle.bool_cubes.specs.Cubes.{cubes_of}
+use Rattle.bool_cubes.specs.Laws.{IsSorted}
+use Rattle.bool_cubes.specs.Past.{HasNoPast}
+use Rattle.decide.specs.Constants.{has_words}
+use Rattle.decide.specs.Verdicts.{RightVerdict, HasOnly}
+use Rattle.decide.specs.Completeness.{IsComplete}
+use Rattle.bool_cubes.specs.declared.literal.Cube.{Cube}
+use Rattle.decide.specs.Jobs.{IsAsked, IsFolded}
+use Rattle.decide.proofs.Assertions.{all-asked, clear-sorted, laws-of, refused-at, refused-complete, refused-folded, refused-only, refused-right}
+use Rattle.decide.proofs.Rightness.{right-of, complete-of, only-of, when-fold}
+use Rattle.decide.proofs.checking.check.Goals as goal
+
+pub new-requires : goal.new-requires
+new-requires g c = subst (AllByRecursion IsSorted) (sym (c.as_slice-2.ensures ∙ c.in_ok-clear.ensures)) (clear-sorted c.args.terms.now c.requires.sorted)
+
+pub answer_all-requires-clause-asked : goal.answer_all-requires-clause-asked
+answer_all-requires-clause-asked g c κs within =
+    let first = c.as_slice.ensures ∙ c.in_ok-clear.ensures in
+    let again = c.as_slice-2.ensures ∙ c.in_ok-clear.ensures in
+    subst (AllByRecursion (IsAsked c.args.terms.now)) (sym (c.in-Ok.ensures.cubes ∙ ap cubes_of again))
+    (all-asked c.literals_fit.ensures c.literals_pass.ensures c.literals_valued.ensures c.transducers.ensures.formed c.args.terms.now c.requires.sorted c.requires.formed c.requires.sorts
+    (subst (λ ts. IsTrue (list_all has_words ts)) first c.all_words.ensures) (subst HasNoPast again c.in-Ok.ensures.refused.0))
+
+pub returns-in-Ok-clause-right : goal.returns-in-Ok-clause-right
+returns-in-Ok-clause-right g c =
+    when-fold (RightVerdict c.args.terms.now) c.args.terms.now c.in-Ok.cubes c.answer_all.result (c.in-Ok.ensures.cubes ∙ ap cubes_of (c.as_slice-2.ensures ∙ c.in_ok-clear.ensures))
+    (right-of c.args.terms.now (laws-of c.cubes_exact.ensures c.literals_valued.ensures c.args.terms.now c.requires.sorted)) c.answer_all.ensures
+
+pub returns-in-Ok-clause-complete : goal.returns-in-Ok-clause-complete
+returns-in-Ok-clause-complete g c = λ must.
+    when-fold (IsComplete c.args.terms.now) c.args.terms.now c.in-Ok.cubes c.answer_all.result (c.in-Ok.ensures.cubes ∙ ap cubes_of (c.as_slice-2.ensures ∙ c.in_ok-clear.ensures))
+    (λ v. complete-of c.args.terms.now (laws-of c.cubes_exact.ensures c.literals_valued.ensures c.args.terms.now c.requires.sorted) v must) c.answer_all.ensures
+
+pub returns-in-Ok-clause-only : goal.returns-in-Ok-clause-only
+returns-in-Ok-clause-only g c =
+    when-fold (HasOnly c.args.terms.now) c.args.terms.now c.in-Ok.cubes c.answer_all.result (c.in-Ok.ensures.cubes ∙ ap cubes_of (c.as_slice-2.ensures ∙ c.in_ok-clear.ensures)) (only-of c.args.terms.now) c.answer_all.ensures
+
+pub returns-clause-right : goal.returns-clause-right
+returns-clause-right g c =
+    let own = refused-at (List Cube) c.args.terms.now c.as_slice-2.result.now c.new.result c.in-Err.fault (c.as_slice-2.ensures ∙ c.in_ok-clear.ensures) c.in-Err.is c.new.ensures.refused in
+    subst (λ r. IfOk r (RightVerdict c.args.terms.now)) (sym c.refused.ensures) (refused-right (List Cube) c.args.terms.now c.in-Err.fault own)
+
+pub returns-clause-complete : goal.returns-clause-complete
+returns-clause-complete g c = λ must.
+    let own = refused-at (List Cube) c.args.terms.now c.as_slice-2.result.now c.new.result c.in-Err.fault (c.as_slice-2.ensures ∙ c.in_ok-clear.ensures) c.in-Err.is c.new.ensures.refused in
+    subst (λ r. IfOk r (IsComplete c.args.terms.now)) (sym c.refused.ensures) (refused-complete (List Cube) c.args.terms.now c.in-Err.fault own must)
+
+pub returns-clause-only : goal.returns-clause-only
+returns-clause-only g c = subst (λ r. IfOk r (HasOnly c.args.terms.now)) (sym c.refused.ensures) (refused-only c.args.terms.now c.in-Err.fault)
+
+pub returns-clause-folded : goal.returns-clause-folded
+returns-clause-folded g c = subst (λ r. IfOk r (IsFolded c.args.terms.now)) (sym c.refused.ensures) (refused-folded c.args.terms.now c.in-Err.fault)

@@ -1,0 +1,56 @@
+-- Why a cube of some assertions is left open.
+use Rattle.std.specs.Prelude.{Contains, Err, List}
+use Rattle.sv_terms.specs.Meaning.{Named}
+use Rattle.sv_terms.specs.Truth.{AreWorded, opaque_of}
+use Rattle.sv_terms.specs.declared.term.Term.{Term}
+use Rattle.bool_cubes.specs.Cubes.{CubeTrue}
+use Rattle.bool_cubes.specs.Laws.{IsValuedCube}
+use Rattle.bool_cubes.specs.declared.literal.Cube.{Cube}
+use Rattle.straight_line.specs.Flattening.{IsFlattened, IsFlattening}
+use Rattle.straight_line.specs.declared.fault.FlatFault.{FlatFault}
+use Rattle.straight_line.specs.declared.fault.FlatFault.TheVariants as fault
+use Rattle.straight_line.specs.declared.flat.Flat.{Flat}
+use Rattle.cube_search.specs.Causes.{IsCauseOf}
+use Rattle.cube_search.specs.declared.reason.Reason.{Reason}
+use Rattle.cube_search.specs.declared.reason.Reason.TheVariants.{Fragment, Wide, States, Splits, Growth, Length, Arithmetic}
+use Rattle.cube_search.specs.declared.reason.Shown.{Shown}
+use Rattle.cube_search.specs.declared.reason.Shown.TheVariants.{Outside, Twice, Cycle, Opaque}
+
+-- truth values, numbers and words, each of its constant's sort, that make each literal true
+pub record AreTrueAtCube (values : Named) (cube : Cube) : Type 0 where
+  pub worded : AreWorded values
+  pub valued : IsValuedCube values cube
+  pub holds : CubeTrue values cube
+
+-- there are such values
+abbrev pub CubeHasValues : Cube → Type 0
+CubeHasValues cube = (values : Named) × AreTrueAtCube values cube
+
+-- there are none
+abbrev pub CubeHasNoValues : Cube → Type 0
+CubeHasNoValues cube = (values : Named) → AreTrueAtCube values cube → ⊥
+
+-- the first thing for which the cube isn't straight
+abbrev pub IsRefusedBy : Cube → FlatFault → Type 0
+IsRefusedBy cube f = IsFlattened cube.literals (Err f)
+
+-- what stands outside the fragment: a literal, a variable with two definitions, a cycle of them; or, where the cube has values, an assertion with an opaque part
+abbrev pub IsShown : List Term → Cube → Shown → Type 0
+IsShown terms cube (Outside l) = IsRefusedBy cube (fault.Outside l)
+IsShown terms cube (Twice v) = IsRefusedBy cube (fault.Twice v)
+IsShown terms cube (Cycle vs) = IsRefusedBy cube (fault.Cycle vs)
+IsShown terms cube (Opaque t) = Contains (opaque_of terms) t × CubeHasValues cube
+
+-- the cube is straight, and the reason is that of its flat cube
+abbrev pub IsFlatCause : Cube → Reason → Type 0
+IsFlatCause cube reason = (flat : Flat) × IsFlattening cube.literals flat × IsCauseOf flat reason
+
+-- the reason holds of the cube of these assertions
+abbrev pub IsCause : List Term → Cube → Reason → Type 0
+IsCause terms cube (Fragment shown) = IsShown terms cube shown
+IsCause terms cube (Wide n) = IsRefusedBy cube (fault.Wide n)
+IsCause terms cube (States n) = IsFlatCause cube (States n)
+IsCause terms cube (Splits n) = IsFlatCause cube (Splits n)
+IsCause terms cube (Growth n) = IsFlatCause cube (Growth n)
+IsCause terms cube (Length machines shown) = IsFlatCause cube (Length machines shown)
+IsCause terms cube (Arithmetic machines system evidence) = IsFlatCause cube (Arithmetic machines system evidence)

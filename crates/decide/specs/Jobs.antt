@@ -1,0 +1,116 @@
+-- What the answer for one cube of some assertions is, and what a tally of answers holds.
+use Rattle.std.specs.Prelude.{◌≡◌, ◌≢◌, ℕ, ◌*◌, ◌≤◌, List, [], ◌∷◌, ◌++◌, length, Option, Some, None, ◌⊎◌, ⊤}
+use Rattle.std.specs.List.{AllByRecursion, AllZip}
+use Rattle.sv_terms.specs.Meaning.{Named}
+use Rattle.sv_terms.specs.Truth.{AreValued, clear_of, opaque_of}
+use Rattle.sv_terms.specs.declared.term.Term.{Term}
+use Rattle.bool_cubes.specs.Cubes.{cubes_of}
+use Rattle.bool_cubes.specs.Laws.{IsFittingCube, IsValuedCube}
+use Rattle.bool_cubes.specs.Shapes.{seen}
+use Rattle.bool_cubes.specs.declared.literal.Literal.{Literal}
+use Rattle.bool_cubes.specs.declared.literal.Cube.{Cube}
+use Rattle.straight_line.specs.Flattening.{IsFlattening}
+use Rattle.straight_line.specs.Laws.{IsSpelled}
+use Rattle.straight_line.specs.declared.flat.Flat.{Flat}
+use Rattle.cube_search.specs.Answers.{IsDecided, IsModelOf}
+use Rattle.cube_search.specs.declared.answer.CubeAnswer.{CubeAnswer}
+use Rattle.cube_search.specs.declared.answer.CubeAnswer.TheVariants as answer
+use Rattle.decide.specs.Causes.{AreTrueAtCube, CubeHasNoValues, IsCause}
+use Rattle.decide.specs.Completeness.{MustDecideCube}
+use Rattle.decide.specs.Constants.{AreValuesOf, HaveOneSort}
+use Rattle.decide.specs.Folds.{found, opens_from, refuted_from, refutation, with_first, without_sat, fold}
+use Rattle.decide.specs.declared.tally.Tally.{Tally}
+use Rattle.decide.specs.declared.verdict.Open.TheVariants.{TooManyCubes, PastForm, Cubes}
+use Rattle.decide.specs.declared.verdict.Verdict.{Verdict}
+use Rattle.decide.specs.declared.verdict.Verdict.TheVariants.{Sat, Unsat, Unknown}
+
+-- a cube of assertions that may be asked: no step of its literals leaves 128 bits, their words are words and their transducers formed, and values of the assertions' constants, of which some are, are values of its own
+pub record IsAsked (terms : List Term) (cube : Cube) : Type 0 where
+  pub fits : IsFittingCube cube
+  pub spelled : AllByRecursion (λ (l : Literal). IsSpelled (seen l.atom)) cube.literals
+  pub valued : (values : Named) → AreValued values (clear_of terms) → IsValuedCube values cube
+  pub one_sort : HaveOneSort (clear_of terms)
+
+-- the values extend to words and numbers that satisfy the flat cube, within its reach
+abbrev pub IsModelOfFlat : Cube → Named → Type 0
+IsModelOfFlat cube values = (flat : Flat) × IsFlattening cube.literals flat × IsModelOf flat values
+
+-- values that make the cube true, one for each constant of the assertions without opaque parts and for no other name
+pub record IsSatOf (terms : List Term) (cube : Cube) (values : Named) : Type 0 where
+  pub holds : AreTrueAtCube values cube
+  pub just : AreValuesOf values (clear_of terms)
+  pub within : IsModelOfFlat cube values
+
+-- such values; there are none; or a reason that holds of the cube
+abbrev pub IsRightAnswer : List Term → Cube → CubeAnswer → Type 0
+IsRightAnswer terms cube (answer.Sat values) = IsSatOf terms cube values
+IsRightAnswer terms cube (answer.Unsat r) = CubeHasNoValues cube
+IsRightAnswer terms cube (answer.Open reason) = IsCause terms cube reason
+
+-- and it decides, where that is owed
+pub record IsOutcome (terms : List Term) (cube : Cube) (answer : CubeAnswer) : Type 0 where
+  pub right : IsRightAnswer terms cube answer
+  pub decided : MustDecideCube cube → IsDecided answer
+
+-- the first of a list, if it has one
+abbrev pub first_of : {X : Type 0} → List X → Option X
+first_of [] = None
+first_of (x ∷ xs) = Some x
+
+-- the tally of these answers: their number, the model that ends the search, the open cubes among them, and the counts of those refuted
+pub record IsTallyOf (opaque : List Term) (answers : List CubeAnswer) (tally : Tally) : Type 0 where
+  pub first : tally.opaque ≡ first_of opaque
+  pub count : tally.count ≡ length answers
+  pub model : tally.model ≡ found opaque answers
+  pub open_cubes : tally.open_cubes ≡ opens_from 0 opaque answers
+  pub refuted : tally.refuted ≡ refuted_from (refutation 0 0 0) answers
+
+-- the verdict that a tally comes to
+abbrev pub verdict_of : Tally → Verdict
+verdict_of tally = with_first tally.model (without_sat tally.open_cubes tally.refuted)
+
+-- so many cubes are done at once
+abbrev pub batch : ℕ
+batch = 64
+
+-- whole batches without a model that ends the search
+pub record AreWhole (opaque : List Term) (answers : List CubeAnswer) : Type 0 where
+  pub batches : ℕ
+  pub whole : length answers ≡ batches * batch
+  pub goes_on : found opaque answers ≡ None
+
+-- the answers of whole batches without a model that ends the search, and then those of one batch more, which is shorter only where no cubes are left; cubes are left only where it has such a model
+pub record EndsWithBatch (opaque : List Term) (left : List Cube) (answers : List CubeAnswer) : Type 0 where
+  pub before : List CubeAnswer
+  pub last : List CubeAnswer
+  pub both : answers ≡ before ++ last
+  pub earlier : AreWhole opaque before
+  pub size : (length last ≡ batch) ⊎ ((left ≡ []) × (length last ≤ batch))
+  pub stops : (left ≡ []) ⊎ (found opaque answers ≢ None)
+
+-- the verdict is the fold of answers for the first cubes, one for each in their order, up to the end of the first batch that holds a model which ends the search
+pub record IsFoldOf (terms : List Term) (cubes : List Cube) (verdict : Verdict) : Type 0 where
+  pub done : List Cube
+  pub left : List Cube
+  pub answers : List CubeAnswer
+  pub parts : cubes ≡ done ++ left
+  pub outcomes : AllZip (IsOutcome terms) done answers
+  pub folded : verdict ≡ fold (opaque_of terms) answers
+  pub ended : EndsWithBatch (opaque_of terms) left answers
+
+-- the state between two batches
+pub record IsUnderWay (terms : List Term) (cubes left : List Cube) (tally : Tally) : Type 0 where
+  pub done : List Cube
+  pub answers : List CubeAnswer
+  pub parts : cubes ≡ done ++ left
+  pub outcomes : AllZip (IsOutcome terms) done answers
+  pub tallied : IsTallyOf (opaque_of terms) answers tally
+  pub whole : AreWhole (opaque_of terms) answers
+
+-- so it is, unless there are too many cubes or a form leaves 128 bits
+abbrev pub IsFolded : List Term → Verdict → Type 0
+IsFolded terms (Sat values) = IsFoldOf terms (cubes_of (clear_of terms)) (Sat values)
+IsFolded terms (Unsat r) = IsFoldOf terms (cubes_of (clear_of terms)) (Unsat r)
+IsFolded terms (Unknown (TooManyCubes n)) = ⊤
+IsFolded terms (Unknown (PastForm left right)) = ⊤
+IsFolded terms (Unknown (Cubes list)) = IsFoldOf terms (cubes_of (clear_of terms)) (Unknown (Cubes list))

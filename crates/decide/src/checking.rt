@@ -1,0 +1,125 @@
+//! The verdict on assertions.
+ghost use Rattle.std.specs.Prelude.{◌≡◌, ◌≤◌, ◌+◌, ◌<◌, ◌^◌, ◌++◌, List, map, length, IsTrue, IfOk, OnOk, Ok, Some};
+ghost use Rattle.std.specs.List.{AllByRecursion};
+ghost use Rattle.sv_terms.specs.Sorting.{sort_of};
+ghost use Rattle.sv_terms.specs.declared.sort.Sort.TheVariants as sort;
+ghost use Rattle.sv_terms.specs.declared.term.Term.{Term as AnyTerm};
+ghost use Rattle.bool_cubes.specs.Refusing.{most_cubes};
+ghost use Rattle.cube_search.specs.declared.answer.CubeAnswer.{CubeAnswer as AnyAnswer};
+ghost use Rattle.decide.specs.Completeness.{MustDecide, IsComplete};
+ghost use Rattle.decide.specs.Constants.{HaveOneSort, has_formed};
+ghost use Rattle.decide.specs.Jobs.{IsAsked, IsFolded, IsFoldOf, IsTallyOf};
+ghost use Rattle.decide.specs.Verdicts.{HasOnly, RightVerdict, refused_as};
+
+use crate::batch::{answers, next_batch};
+use crate::cube_job::Shared;
+use crate::machines::machines_for;
+use crate::spelling::all_words;
+use crate::splitting::{clear_terms, first_opaque};
+use crate::tally::Tally;
+use crate::verdict::{Open, Verdict};
+use bool_cubes::{
+    CubeFault, Cubes, cubes_counted, cubes_exact, literals_fit, literals_pass, literals_valued,
+};
+use cube_search::CubeAnswer;
+use par_phase::Gate;
+use part_machines::Machines;
+use std::alloc::{AllocError, Global};
+use std::thread::Threads;
+use sv_terms::{Term, transducers};
+
+/// The verdict on assertions: terms of sort Bool whose transducers are formed, and in which each name has
+/// one sort, as `sort_check` answers them.
+///
+/// `workers` is how many shares the cubes of a batch are cut into at the most, each done by one thread.
+/// Each cube is announced at `gate` before it is done, by its place in its batch.
+///
+/// Time is linear in the assertions, plus what each cube costs: as many as there are, up to the end of the
+/// first batch that ends the search. Memory is that of the assertions' cubes as a tree, of a batch of 64
+/// cubes with their answers, of the reasons of all open cubes, and of a machine for each regular expression
+/// in the assertions. The only error is want of memory.
+pub fn check<R: Threads + Sync, G: Gate + Sync>(
+    rt: &R,
+    alloc: Global,
+    terms: &[Term],
+    workers: u32,
+    gate: &G,
+) -> Result<Verdict, AllocError>
+    requires workers { 1 ≤ workers }
+    requires sorted { AllByRecursion (λ t. sort_of t ≡ Some sort.Bool) terms.now }
+    requires formed { AllByRecursion (λ t. IsTrue (has_formed t)) terms.now }
+    requires sorts { HaveOneSort terms.now }
+    ensures right { IfOk result (RightVerdict terms.now) }
+    ensures complete { MustDecide terms.now → IfOk result (IsComplete terms.now) }
+    ensures only { IfOk result (HasOnly terms.now) }
+    ensures folded { IfOk result (IsFolded terms.now) }
+{
+    cubes_counted();
+    cubes_exact();
+    literals_fit();
+    literals_pass();
+    literals_valued();
+    transducers();
+    let clear = clear_terms(alloc, terms)?;
+    all_words(clear.as_slice());
+    match Cubes::new(alloc, clear.as_slice()) {
+        Ok(cubes) => {
+            let kept = machines_for(alloc, clear.as_slice())?;
+            answer_all(rt, alloc, terms, &kept, cubes, workers, gate)
+        }
+        Err(fault) => refused(fault),
+    }
+}
+
+/// The verdict where there is no list of cubes.
+fn refused(fault: CubeFault) -> Result<Verdict, AllocError>
+    ensures { result ≡ refused_as fault }
+{
+    match fault {
+        CubeFault::Past { left, right } => Ok(Verdict::Unknown(Open::PastForm { left, right })),
+        CubeFault::TooMany(count) => Ok(Verdict::Unknown(Open::TooManyCubes(count))),
+        CubeFault::Memory(error) => Err(error),
+    }
+}
+
+/// The answers for all cubes, a batch after another, up to the first batch that ends the search.
+fn answer_all<R: Threads + Sync, G: Gate + Sync>(
+    rt: &R,
+    alloc: Global,
+    terms: &[Term],
+    kept: &Machines,
+    mut cubes: Cubes,
+    workers: u32,
+    gate: &G,
+) -> Result<Verdict, AllocError>
+    requires workers { 1 ≤ workers }
+    requires few { length cubes ≤ most_cubes }
+    requires asked { AllByRecursion (IsAsked terms.now) cubes }
+    ensures { IfOk result (IsFoldOf terms.now cubes) }
+{
+    let mut tally = Tally::new(alloc, first_opaque(alloc, terms)?);
+    let shared = Shared { alloc, terms, kept };
+    loop {
+        let jobs = next_batch(alloc, &shared, &mut cubes)?;
+        let outcomes = answers(rt, alloc, jobs.as_slice(), workers, gate)?;
+        tally_all(alloc, &mut tally, outcomes)?;
+        if tally.ends(jobs.len()) {
+            return Ok(tally.into_verdict());
+        }
+    }
+}
+
+/// Puts the answers to the tally, in their order.
+fn tally_all(
+    alloc: Global,
+    tally: &mut Tally,
+    outcomes: Vec<Result<CubeAnswer, AllocError>>,
+) -> Result<(), AllocError>
+    requires { tally.old.count + length outcomes.items < 2 ^ 64 }
+    ensures { OnOk result ((answers : List AnyAnswer) × (outcomes.items ≡ map Ok answers) × ((opaque : List AnyTerm) (before : List AnyAnswer) → IsTallyOf opaque before tally.old → IsTallyOf opaque (before ++ answers) tally.new)) }
+{
+    for outcome in outcomes {
+        tally.add(alloc, outcome?)?;
+    }
+    Ok(())
+}

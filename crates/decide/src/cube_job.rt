@@ -1,0 +1,114 @@
+//! One cube of some assertions, as a job.
+ghost use Rattle.std.specs.Prelude.{◌≡◌, ◌<◌, ◌^◌, length, IfOk};
+ghost use Rattle.straight_line.specs.Flattening.{IsFlattening};
+ghost use Rattle.straight_line.specs.Straight.{AreNamesApart};
+ghost use Rattle.cube_search.specs.declared.answer.CubeAnswer.TheVariants.{Open};
+ghost use Rattle.cube_search.specs.declared.reason.Reason.TheVariants.{Fragment};
+ghost use Rattle.decide.specs.Jobs.{IsAsked, IsOutcome};
+
+use crate::completing::complete;
+use bool_cubes::Cube;
+use cube_search::{CubeAnswer, Reason, Shown, cube_answer};
+use par_phase::Job;
+use part_machines::Machines;
+use std::alloc::{AllocError, Global};
+use std::marker::Model;
+use straight_line::{
+    Flat, FlatFault, flat_exact, flat_one, flatten, names_sorted, numbers, refused_none,
+    transducers_formed,
+};
+use sv_terms::{Regex, Term};
+
+/// What all jobs of some assertions have.
+#[derive(Drop)]
+pub struct Shared<'a> {
+    pub alloc: Global,
+    pub terms: &'a [Term],
+    /// The machines that all jobs share.
+    pub kept: &'a Machines,
+}
+
+/// A cube of some assertions, to be answered.
+///
+/// Contracts see the assertions and the cube.
+#[derive(Drop)]
+pub struct CubeJob<'a> {
+    pub shared: &'a Shared<'a>,
+    pub cube: Cube,
+}
+
+impl<'a> Model for CubeJob<'a> {
+    ghost use Rattle.std.specs.Prelude.{List};
+    ghost use Rattle.std.specs.Coded.{codes};
+    ghost use Rattle.sv_terms.specs.contracts.regex.Regex as regex;
+    ghost use Rattle.sv_terms.specs.contracts.term.Term as term;
+    ghost use Rattle.sv_terms.specs.declared.term.Term.{Term as AnyTerm};
+    ghost use Rattle.bool_cubes.specs.declared.literal.Cube.{Cube as AnyCube};
+    ghost use Rattle.decide.specs.Jobs.{IsAsked};
+
+    ghost Value = { List AnyTerm × AnyCube };
+
+    ghost coded = { Prim.hlevel (codes, regex.the_row.coded, term.the_row.coded) };
+
+    ghost view = { λ job. (job.shared.now.terms.now, job.cube) };
+
+    ghost invariant = { λ job. IsAsked job.shared.now.terms.now job.cube };
+}
+
+impl Job for CubeJob<'_> {
+    type Out = Result<CubeAnswer, AllocError>;
+
+    ghost use Rattle.std.specs.Prelude.{IfOk};
+    ghost use Rattle.decide.specs.Jobs.{IsOutcome};
+
+    ghost Yields = { λ job outcome. IfOk outcome (IsOutcome job.0 job.1) };
+
+    fn work(&self) -> Result<CubeAnswer, AllocError> {
+        answer_for(self.shared, &self.cube)
+    }
+}
+
+/// The answer for a cube of the terms: of its flat cube, or why it has none.
+fn answer_for(shared: &Shared<'_>, cube: &Cube) -> Result<CubeAnswer, AllocError>
+    requires asked { IsAsked shared.now.terms.now cube.now }
+    ensures { IfOk result (IsOutcome shared.now.terms.now cube.now) }
+{
+    refused_none();
+    match flatten(shared.alloc, cube) {
+        Ok(flat) => flat_answer(shared, cube, &flat),
+        Err(FlatFault::Outside(literal)) => Ok(fragment(Shown::Outside(literal))),
+        Err(FlatFault::Twice(variable)) => Ok(fragment(Shown::Twice(variable))),
+        Err(FlatFault::Cycle(variables)) => Ok(fragment(Shown::Cycle(variables))),
+        Err(FlatFault::Wide(number)) => Ok(CubeAnswer::Open(Reason::Wide(number))),
+        Err(FlatFault::Memory(error)) => Err(error),
+    }
+}
+
+fn fragment(shown: Shown) -> CubeAnswer
+    ensures { result ≡ Open (Fragment shown) }
+{
+    CubeAnswer::Open(Reason::Fragment(shown))
+}
+
+/// The answer for a cube by its flat cube.
+fn flat_answer(shared: &Shared<'_>, cube: &Cube, flat: &Flat) -> Result<CubeAnswer, AllocError>
+    requires asked { IsAsked shared.now.terms.now cube.now }
+    requires flattening { IsFlattening cube.now.literals flat.now }
+    requires apart { AreNamesApart flat.now }
+    requires few { length flat.now.variables < 2 ^ 32 }
+    ensures { IfOk result (IsOutcome shared.now.terms.now cube.now) }
+{
+    flat_exact();
+    flat_one();
+    names_sorted();
+    transducers_formed();
+    let numbers = numbers(shared.alloc, flat)?;
+    match cube_answer(shared.alloc, flat, &numbers, shared.kept)? {
+        CubeAnswer::Sat(model) => {
+            let full = complete(shared.alloc, &model, shared.terms)?;
+            Ok(CubeAnswer::Sat(full))
+        }
+        CubeAnswer::Unsat(refutation) => Ok(CubeAnswer::Unsat(refutation)),
+        CubeAnswer::Open(reason) => Ok(CubeAnswer::Open(reason)),
+    }
+}
