@@ -1,31 +1,32 @@
--- The model that is made of the words, over the declared symbols.
-use Rattle.std.proofs.Common.{◌≡◌, refl, sym, ap, ◌∙◌, subst, ℕ, Bool, true, false, not, ◌&&◌, ◌||◌, List, [], ◌∷◌, ◌++◌, map, Option, Some, None, IsTrue, zero, suc, ◌+◌, ◌<◌, length, take, drop, arith, get_or, append_assoc, append-nil}
-use Rattle.std.specs.Prelude.{All, slice_get}
+-- The model that is made of the values of a verdict, over the declared symbols.
+use Rattle.std.proofs.Common.{◌≡◌, refl, sym, ap, ◌∙◌, subst, ℕ, Bool, true, false, not, ◌&&◌, List, [], ◌∷◌, ◌++◌, Option, Some, None, IsTrue, zero, suc, ◌+◌, ◌<◌, length, take, drop, arith, get_or, append_assoc, append-nil}
+use Rattle.std.specs.Prelude.{All, slice_get, if◌then◌else◌}
 use Rattle.std.proofs.lemmas.Option.{slice_get_within, get_or_from_slice_get}
-use Rattle.std.specs.List.{AllByRecursion, list_any}
-use Rattle.std.specs.Map.{lookup, keys_of}
-use Rattle.std.specs.Option.{is_some as has_some}
+use Rattle.std.specs.List.{AllByRecursion}
+use Rattle.std.specs.Map.{lookup}
 use Rattle.std.proofs.lemmas.Bool.{true≢false}
-use Rattle.std.proofs.lemmas.Map.Made.{is_some-lookup}
 use Rattle.assert_stack.specs.Levels.{Symbol}
+use Rattle.decide.specs.Constants.{AreOnly, HaveOneSort}
+use Rattle.decide.specs.Filling.{default, or_default}
+use Rattle.decide.specs.Completeness.{IsComplete}
+use Rattle.decide.specs.Verdicts.{RightVerdict}
+use Rattle.decide.specs.declared.verdict.Verdict.TheVariants.{Sat}
 use Rattle.sort_check.specs.Bodies.{is_escaped}
 use Rattle.smt_names.specs.Signature.{is_some}
 use Rattle.sort_check.specs.WellFormed.{is_constant_of, is_declared, constants_known, is_entry, is_new, follow, is_well_formed, is_given, AreGiven}
-use Rattle.sv_terms.specs.Matches.{matches}
-use Rattle.sv_terms.specs.Meaning.{Named, tested, val}
+use Rattle.sv_terms.specs.Meaning.{Named}
 use Rattle.sv_terms.specs.Sorting.{kind, same_sort, is_of, is_valued}
-use Rattle.sv_terms.specs.Truth.{IsWorded, AreTrueAt}
+use Rattle.sv_terms.specs.Truth.{AreTrueAt, AreValued, IsWorded}
 use Rattle.sv_terms.specs.declared.entry.Entry.{Entry}
 use Rattle.sv_terms.specs.declared.entry.Entry.TheVariants as entry
 use Rattle.sv_terms.specs.declared.sort.Sort.{Sort}
 use Rattle.sv_terms.specs.declared.sort.Sort.TheVariants as sort
 use Rattle.sv_terms.specs.declared.term.Term.{Term}
 use Rattle.sv_terms.specs.declared.value.Value.{Value}
-use Rattle.sv_terms.specs.declared.value.Value.TheVariants as value
-use Rattle.smt_session.specs.Verdicts.{Name, IsRightModel, constants_of, kinds_of, default, in_re, mentions}
-use Rattle.smt_session.specs.Search.{HasWord, IsText, IsFound, or_default, model_of}
+use Rattle.smt_session.specs.Verdicts.{Name, IsModelFor, constants_of, kinds_of}
+use Rattle.smt_session.specs.Models.{model_of}
+use Rattle.smt_session.proofs.Agreeing.{agrees}
 use Rattle.smt_session.proofs.Names.{same, one, one-more, parted, by-index, skip, cases, found-has}
-use Rattle.smt_session.proofs.Memberships.{Membership, Decided, val-is, valued-is, known-is, mentions-is}
 use mathlib.Core.Bool.{cond}
 
 pub model-joined : (words : Named) (xs ys : List Symbol) → model_of words (xs ++ ys) ≡ model_of words xs ++ model_of words ys
@@ -116,26 +117,36 @@ in-model words n s ((m, entry.Constant t) ∷ xs) h =
 in-model words n s ((m, entry.Macro ps b) ∷ xs) h = in-model words n s xs h
 in-model words n s ((m, entry.Machine t) ∷ xs) h = in-model words n s xs h
 
-same-string : (s : Sort) → same_sort sort.String s ≡ true → s ≡ sort.String
-same-string sort.Bool h = absurd (cc)
-same-string sort.Int h = absurd (cc)
-same-string sort.String h = refl
-same-string sort.RegLan h = absurd (cc)
+-- sorts that are the same
+same-is : (s t : Sort) → same_sort s t ≡ true → s ≡ t
+same-is sort.Bool sort.Bool h = refl
+same-is sort.Bool sort.Int h = absurd (cc)
+same-is sort.Bool sort.String h = absurd (cc)
+same-is sort.Bool sort.RegLan h = absurd (cc)
+same-is sort.Int sort.Bool h = absurd (cc)
+same-is sort.Int sort.Int h = refl
+same-is sort.Int sort.String h = absurd (cc)
+same-is sort.Int sort.RegLan h = absurd (cc)
+same-is sort.String sort.Bool h = absurd (cc)
+same-is sort.String sort.Int h = absurd (cc)
+same-is sort.String sort.String h = refl
+same-is sort.String sort.RegLan h = absurd (cc)
+same-is sort.RegLan sort.Bool h = absurd (cc)
+same-is sort.RegLan sort.Int h = absurd (cc)
+same-is sort.RegLan sort.String h = absurd (cc)
+same-is sort.RegLan sort.RegLan h = refl
 
-declared-string : (o : Option Entry) → is_constant_of sort.String o ≡ true → o ≡ Some (entry.Constant sort.String)
-declared-string None h = absurd (cc)
-declared-string (Some (entry.Constant s)) h = ap (λ z. Some (entry.Constant z)) (same-string s h)
-declared-string (Some (entry.Macro ps b)) h = absurd (cc)
-declared-string (Some (entry.Machine t)) h = absurd (cc)
+declared-constant : (s : Sort) (o : Option Entry) → is_constant_of s o ≡ true → o ≡ Some (entry.Constant s)
+declared-constant s None h = absurd (cc)
+declared-constant s (Some (entry.Constant t)) h = ap (λ z. Some (entry.Constant z)) (sym (same-is s t h))
+declared-constant s (Some (entry.Macro ps b)) h = absurd (cc)
+declared-constant s (Some (entry.Machine t)) h = absurd (cc)
 
 -- the sorts of the values
-abbrev IsDeclaredString : List Symbol → Name → Type 0
-IsDeclaredString symbols n = is_declared symbols n sort.String ≡ true
-
 abbrev Suits : Named → Symbol → Type 0
-Suits words (n, entry.Constant s) = kind (or_default s (lookup (same n) words)) ≡ s
-Suits words (n, entry.Macro ps b) = Unit {0}
-Suits words (n, entry.Machine t) = Unit {0}
+Suits values (n, entry.Constant s) = kind (or_default s (lookup (same n) values)) ≡ s
+Suits values (n, entry.Macro ps b) = Unit {0}
+Suits values (n, entry.Machine t) = Unit {0}
 
 kind-default : (s : Sort) → same_sort sort.RegLan s ≡ false → kind (default s) ≡ s
 kind-default sort.Bool h = refl
@@ -143,9 +154,13 @@ kind-default sort.Int h = refl
 kind-default sort.String h = refl
 kind-default sort.RegLan h = absurd (cc)
 
-kind-or : (s : Sort) (o : Option Value) → same_sort sort.RegLan s ≡ false → ((v : Value) → o ≡ Some v → IsText v × (s ≡ sort.String)) → kind (or_default s o) ≡ s
-kind-or s None h f = kind-default s h
-kind-or s (Some v) h f = let g = f v refl in ap kind g.0.is ∙ sym g.1
+kind-if : (s : Sort) (v : Value) (b : Bool) → same_sort s (kind v) ≡ b → same_sort sort.RegLan s ≡ false → kind (if b then v else default s) ≡ s
+kind-if s v true e h = sym (same-is s (kind v) e)
+kind-if s v false e h = kind-default s h
+
+kind-or : (s : Sort) (o : Option Value) → same_sort sort.RegLan s ≡ false → kind (or_default s o) ≡ s
+kind-or s None h = kind-default s h
+kind-or s (Some v) h = kind-if s v (same_sort s (kind v)) refl h
 
 not-language : (s : Sort) → (not (same_sort sort.RegLan s)) ≡ true → same_sort sort.RegLan s ≡ false
 not-language sort.Bool h = refl
@@ -153,101 +168,55 @@ not-language sort.Int h = refl
 not-language sort.String h = refl
 not-language sort.RegLan h = absurd (cc)
 
-suits : (words : Named) (symbols : List Symbol) (e : Symbol) → ((n : Name) (v : Value) → lookup (same n) words ≡ Some v → IsText v × IsDeclaredString symbols n) → IsTrue (is_entry symbols e.1) → lookup (same e.0) symbols ≡ Some e.1 → Suits words e
-suits words symbols (n, entry.Constant s) f allowed found =
-    kind-or s (lookup (same n) words) (not-language s allowed)
-    (λ v h. let g = f n v h in (g.0, same-string s (sym (ap (is_constant_of sort.String) found) ∙ g.1)))
-suits words symbols (n, entry.Macro ps b) f allowed found = tt
-suits words symbols (n, entry.Machine t) f allowed found = tt
+suits : (values : Named) (symbols : List Symbol) (e : Symbol) → IsTrue (is_entry symbols e.1) → Suits values e
+suits values symbols (n, entry.Constant s) allowed = kind-or s (lookup (same n) values) (not-language s allowed)
+suits values symbols (n, entry.Macro ps b) allowed = tt
+suits values symbols (n, entry.Machine t) allowed = tt
 
-all-suit : (words : Named) (symbols xs : List Symbol) → ((n : Name) (v : Value) → lookup (same n) words ≡ Some v → IsText v × IsDeclaredString symbols n) → AllByRecursion (λ (e : Symbol). IsTrue (is_entry symbols e.1)) xs → AllByRecursion (λ (e : Symbol). lookup (same e.0) symbols ≡ Some e.1) xs → AllByRecursion (Suits words) xs
-all-suit words symbols [] f a l = tt
-all-suit words symbols (x ∷ xs) f a l = (suits words symbols x f a.0 l.0, all-suit words symbols xs f a.1 l.1)
+all-suit : (values : Named) (symbols xs : List Symbol) → AllByRecursion (λ (e : Symbol). IsTrue (is_entry symbols e.1)) xs → AllByRecursion (Suits values) xs
+all-suit values symbols [] a = tt
+all-suit values symbols (x ∷ xs) a = (suits values symbols x a.0, all-suit values symbols xs a.1)
 
-kinds-cover : (words : Named) (xs : List Symbol) → AllByRecursion (Suits words) xs → kinds_of (model_of words xs) ≡ constants_of xs
-kinds-cover words [] h = refl
-kinds-cover words ((n, entry.Constant s) ∷ xs) h = λ i. (n, h.0 i) ∷ kinds-cover words xs h.1 i
-kinds-cover words ((n, entry.Macro ps b) ∷ xs) h = kinds-cover words xs h.1
-kinds-cover words ((n, entry.Machine t) ∷ xs) h = kinds-cover words xs h.1
+kinds-cover : (values : Named) (xs : List Symbol) → AllByRecursion (Suits values) xs → kinds_of (model_of values xs) ≡ constants_of xs
+kinds-cover values [] h = refl
+kinds-cover values ((n, entry.Constant s) ∷ xs) h = λ i. (n, h.0 i) ∷ kinds-cover values xs h.1 i
+kinds-cover values ((n, entry.Macro ps b) ∷ xs) h = kinds-cover values xs h.1
+kinds-cover values ((n, entry.Machine t) ∷ xs) h = kinds-cover values xs h.1
 
--- what the search knows of its constants
-declared-members : (symbols : List Symbol) (ms : List Membership) → AllByRecursion (λ t. IsTrue (constants_known symbols t)) (map in_re ms) → AllByRecursion (λ (m : Membership). IsDeclaredString symbols m.0) ms
-declared-members symbols [] h = tt
-declared-members symbols (m ∷ ms) h = (sym (known-is symbols m) ∙ h.0, declared-members symbols ms h.1)
-
-to-keys : {V : Type 0} (P : Name → Type 0) (es : List (Name × V)) → AllByRecursion (λ (e : Name × V). P e.0) es → AllByRecursion P (keys_of es)
-to-keys P [] h = tt
-to-keys P (e ∷ es) h = (h.0, to-keys P es h.1)
-
-of-keys : {V : Type 0} (P : Name → Type 0) (es : List (Name × V)) → AllByRecursion P (keys_of es) → AllByRecursion (λ (e : Name × V). P e.0) es
-of-keys P [] h = tt
-of-keys P (e ∷ es) h = (h.0, of-keys P es h.1)
-
-words-placed : (symbols : List Symbol) (live : List Term) (words : Named) (all : Bool) → IsFound live words all → AllByRecursion (λ t. IsTrue (constants_known symbols t)) live → (n : Name) (v : Value) → lookup (same n) words ≡ Some v → IsText v × IsDeclaredString symbols n
-words-placed symbols live words all f known n v h =
-    let members = declared-members symbols f.memberships (subst (AllByRecursion (λ t. IsTrue (constants_known symbols t))) f.are known) in
-    let names = subst (AllByRecursion (IsDeclaredString symbols)) (sym f.names) (to-keys (IsDeclaredString symbols) f.memberships members) in (
-      found-has (λ _ w. IsText w) words n v f.texts h,
-      found-has (λ m _. IsDeclaredString symbols m) words n v (of-keys (IsDeclaredString symbols) words names) h,
-    )
-
--- the values are words where they are texts
+-- texts stay words
 worded-default : (s : Sort) → IsWorded (default s)
 worded-default sort.Bool = tt
 worded-default sort.Int = tt
 worded-default sort.String = tt
 worded-default sort.RegLan = tt
 
-worded-or : (s : Sort) (o : Option Value) → ((v : Value) → o ≡ Some v → IsText v) → IsWorded (or_default s o)
+worded-if : (s : Sort) (v : Value) (b : Bool) → IsWorded v → IsWorded (if b then v else default s)
+worded-if s v true w = w
+worded-if s v false w = worded-default s
+
+worded-or : (s : Sort) (o : Option Value) → ((v : Value) → o ≡ Some v → IsWorded v) → IsWorded (or_default s o)
 worded-or s None f = worded-default s
-worded-or s (Some v) f = let t = f v refl in subst IsWorded (sym t.is) t.is_word
+worded-or s (Some v) f = worded-if s v (same_sort s (kind v)) (f v refl)
 
-all-worded : (words : Named) (xs : List Symbol) → AllByRecursion (λ (e : Name × Value). IsText e.1) words → AllByRecursion (λ (e : Name × Value). IsWorded e.1) (model_of words xs)
-all-worded words [] h = tt
-all-worded words ((n, entry.Constant s) ∷ xs) h = (worded-or s (lookup (same n) words) (λ v e. found-has (λ _ w. IsText w) words n v h e), all-worded words xs h)
-all-worded words ((n, entry.Macro ps b) ∷ xs) h = all-worded words xs h
-all-worded words ((n, entry.Machine t) ∷ xs) h = all-worded words xs h
+worded-each : (values : Named) (xs : List Symbol) → AllByRecursion (λ (e : Name × Value). IsWorded e.1) values → AllByRecursion (λ (e : Name × Value). IsWorded e.1) (model_of values xs)
+worded-each values [] w = tt
+worded-each values ((n, entry.Constant s) ∷ xs) w = (worded-or s (lookup (same n) values) (λ v h. found-has (λ _ u. IsWorded u) values n v w h), worded-each values xs w)
+worded-each values ((n, entry.Macro ps b) ∷ xs) w = worded-each values xs w
+worded-each values ((n, entry.Machine t) ∷ xs) w = worded-each values xs w
 
--- the assertions are true at the model, and their constants have values of sort String
-placed-word : (words : Named) (symbols : List Symbol) (m : Membership) (h : HasWord words m) → IsDeclaredString symbols m.0 → lookup (same m.0) (model_of words symbols) ≡ Some (value.Text h.word)
-placed-word words symbols m h k =
-    let placed = as-constant m.0 sort.String symbols (declared-string (lookup (same m.0) symbols) k) in
-    in-model words m.0 sort.String symbols placed ∙ ap (λ o. Some (or_default sort.String o)) h.here
+by-place : {X : Type 0} (P : X → Type 0) (xs : List X) → AllByRecursion P xs → All P xs
+by-place P [] h k d l = absurd (omega arith)
+by-place P (x ∷ xs) h zero d l = h.0
+by-place P (x ∷ xs) h (suc k) d l = by-place P xs h.1 k d (omega arith)
 
-true-at : Decided → (words : Named) (symbols : List Symbol) (ms : List Membership) → AllByRecursion (HasWord words) ms → AllByRecursion (λ (m : Membership). IsDeclaredString symbols m.0) ms
-    → AllByRecursion (λ t. val (model_of words symbols) t ≡ Some (value.Truth true)) (map in_re ms)
-true-at d words symbols [] h k = tt
-true-at d words symbols (m ∷ ms) h k = (
-  val-is (model_of words symbols) m
-      ∙ ap (tested (matches m.1)) (placed-word words symbols m h.0 k.0)
-      ∙ ap (λ b. Some (value.Truth b)) ((d m.1 h.0.word).1 h.0.is_in),
-  true-at d words symbols ms h.1 k.1,
-)
+-- a value of its sort is kept
+kept-value : (s : Sort) (o : Option Value) → is_of s o ≡ true → Some (or_default s o) ≡ o
+kept-value s None h = absurd (cc)
+kept-value s (Some v) h = ap (λ b. Some (if b then v else default s)) h
 
-valued-at : (words : Named) (symbols : List Symbol) (ms : List Membership) → AllByRecursion (HasWord words) ms → AllByRecursion (λ (m : Membership). IsDeclaredString symbols m.0) ms
-    → AllByRecursion (λ t. IsTrue (is_valued (model_of words symbols) t)) (map in_re ms)
-valued-at words symbols [] h k = tt
-valued-at words symbols (m ∷ ms) h k = (valued-is (model_of words symbols) m ∙ ap (is_of sort.String) (placed-word words symbols m h.0 k.0), valued-at words symbols ms h.1 k.1)
-
--- each by its place
-all-placed : {X : Type 0} (P : X → Type 0) (xs : List X) → AllByRecursion P xs → All P xs
-all-placed P [] h k d l = absurd (omega (arith, l))
-all-placed P (x ∷ xs) h zero d l = h.0
-all-placed P (x ∷ xs) h (suc k) d l = all-placed P xs h.1 k d (omega (arith, l))
-
-mentioned : (name : Name) (ms : List Membership) → list_any (mentions name) (map in_re ms) ≡ list_any (same name) (keys_of ms)
-mentioned name [] = refl
-mentioned name (m ∷ ms) = λ i. mentions-is name m i || mentioned name ms i
-
-none-is : {V : Type 0} (o : Option V) → has_some o ≡ false → o ≡ None
-none-is None h = refl
-none-is (Some v) h = absurd (true≢false h)
-
--- a constant that no assertion mentions has no word
-unmentioned : (live : List Term) (words : Named) (all : Bool) → IsFound live words all → (name : Name) → list_any (mentions name) live ≡ false → lookup (same name) words ≡ None
-unmentioned live words all f name h =
-    none-is (lookup (same name) words)
-    (is_some-lookup (same name) words ∙ ap (list_any (same name)) f.names ∙ sym (mentioned name f.memberships) ∙ sym (ap (list_any (mentions name)) f.are) ∙ h)
+value-stays : (values : Named) (symbols : List Symbol) (n : Name) (s : Sort) → IsTrue (is_declared symbols n s) → IsTrue (is_of s (lookup (same n) values)) → lookup (same n) (model_of values symbols) ≡ lookup (same n) values
+value-stays values symbols n s known is =
+    in-model values n s symbols (as-constant n s symbols (declared-constant s (lookup (same n) symbols) known)) ∙ kept-value s (lookup (same n) values) is
 
 abbrev pub Allowed : Type 0
 Allowed = (symbols : List Symbol) → IsTrue (is_well_formed symbols) → All (λ (e : Symbol). IsTrue (is_entry symbols e.1)) symbols
@@ -255,21 +224,18 @@ Allowed = (symbols : List Symbol) → IsTrue (is_well_formed symbols) → All (�
 abbrev pub Placed : Type 0
 Placed = (symbols : List Symbol) → IsTrue (is_well_formed symbols) → All (λ (e : Symbol). lookup (same e.0) symbols ≡ Some e.1) symbols
 
--- words for all constants make a right model
-pub right-model : Decided → Allowed → Placed → (symbols : List Symbol) (live : List Term) (words : Named) → IsTrue (is_well_formed symbols) → AllByRecursion (λ t. IsTrue (constants_known symbols t)) live → IsFound live words true → IsRightModel symbols live (model_of words symbols)
-right-model d allowed placed symbols live words formed known f =
-    let members = declared-members symbols f.memberships (subst (AllByRecursion (λ t. IsTrue (constants_known symbols t))) f.are known) in
-    record {
-      covers = kinds-cover words symbols (all-suit words symbols symbols (words-placed symbols live words true f known)
-          (by-index (λ (e : Symbol). IsTrue (is_entry symbols e.1)) symbols (allowed symbols formed))
-          (by-index (λ (e : Symbol). lookup (same e.0) symbols ≡ Some e.1) symbols (placed symbols formed)));
-      holds = subst (AreTrueAt (model_of words symbols)) (sym f.are) (record {
-        worded = all-placed (λ (e : Name × Value). IsWorded e.1) (model_of words symbols) (all-worded words symbols f.texts);
-        valued = all-placed (λ t. IsTrue (is_valued (model_of words symbols) t)) (map in_re f.memberships) (valued-at words symbols f.memberships f.told members);
-        holds = all-placed (λ t. val (model_of words symbols) t ≡ Some (value.Truth true)) (map in_re f.memberships) (true-at d words symbols f.memberships f.told members);
-      });
-      defaults = λ name s is no. in-model words name s symbols is ∙ ap (λ o. Some (or_default s o)) (unmentioned live words true f name no);
-    }
+abbrev pub Valued : Type 0
+Valued = (values : Named) (symbols : List Symbol) (term : Term) → AreGiven values symbols → IsTrue (constants_known symbols term) → IsTrue (is_valued values term)
+
+pub covers-all : Allowed → (symbols : List Symbol) (values : Named) → IsTrue (is_well_formed symbols) → kinds_of (model_of values symbols) ≡ constants_of symbols
+covers-all allowed symbols values formed = kinds-cover values symbols (all-suit values symbols symbols (by-index (λ (e : Symbol). IsTrue (is_entry symbols e.1)) symbols (allowed symbols formed)))
+
+-- the values of a verdict make a model for the declared constants
+pub model-for : Allowed → (symbols : List Symbol) (live : List Term) (values : Named) → IsTrue (is_well_formed symbols) → AreOnly values live → IsModelFor symbols live (model_of values symbols)
+model-for allowed symbols live values formed only = record {
+  covers = covers-all allowed symbols values formed;
+  defaults = λ name s is no. in-model values name s symbols is ∙ ap (λ o. Some (or_default s o)) (only name no);
+}
 
 -- a right model has a value for each declared constant
 same-self : (s : Sort) → same_sort s s ≡ true
@@ -308,3 +274,32 @@ pub not-past : {X : Type 0} (xs : List X) (i : ℕ) → i < length xs → None �
 not-past [] i l h = omega (arith, l)
 not-past (x ∷ xs) zero l h = cc
 not-past (x ∷ xs) (suc i) l h = not-past xs i (omega (arith, l)) h
+
+-- each term has its constants' values in the model
+valued-all : Allowed → Placed → Valued → (symbols : List Symbol) (live : List Term) (values : Named) → IsTrue (is_well_formed symbols) → AllByRecursion (λ t. IsTrue (constants_known symbols t)) live → AreValued (model_of values symbols) live
+valued-all allowed placed valued symbols live values formed known k d l =
+    valued (model_of values symbols) symbols (get_or live k d)
+    (given placed (model_of values symbols) symbols formed (covers-all allowed symbols values formed))
+    (by-place (λ t. IsTrue (constants_known symbols t)) live known k d l)
+
+-- terms over well formed names have one sort for each name
+pub one-sort : Allowed → Placed → Valued → (symbols : List Symbol) (live : List Term) → IsTrue (is_well_formed symbols) → AllByRecursion (λ t. IsTrue (constants_known symbols t)) live → HaveOneSort live
+one-sort allowed placed valued symbols live formed known = (model_of [] symbols, valued-all allowed placed valued symbols live [] formed known)
+
+-- what is true at the values of a verdict is true at the model
+pub true-at : Allowed → Placed → Valued → (symbols : List Symbol) (live : List Term) (values : Named) → IsTrue (is_well_formed symbols) → AllByRecursion (λ t. IsTrue (constants_known symbols t)) live → AreTrueAt values live → AreTrueAt (model_of values symbols) live
+true-at allowed placed valued symbols live values formed known h = record {
+  worded = by-place (λ (e : Name × Value). IsWorded e.1) (model_of values symbols) (worded-each values symbols (by-index (λ (e : Name × Value). IsWorded e.1) values h.worded));
+  valued = valued-all allowed placed valued symbols live values formed known;
+  holds = λ k d l.
+      agrees (model_of values symbols) values (is_declared symbols) (value-stays values symbols) (get_or live k d)
+      (by-place (λ t. IsTrue (constants_known symbols t)) live known k d l) (h.valued k d l)
+      ∙ h.holds k d l;
+}
+
+-- the verdict with the model in the place of its values
+pub right-model : Allowed → Placed → Valued → (symbols : List Symbol) (live : List Term) (values : Named) → IsTrue (is_well_formed symbols) → AllByRecursion (λ t. IsTrue (constants_known symbols t)) live → RightVerdict live (Sat values) → RightVerdict live (Sat (model_of values symbols))
+right-model allowed placed valued symbols live values formed known h = (h.0, true-at allowed placed valued symbols live values formed known h.1)
+
+pub complete-model : (live : List Term) (values other : Named) → IsComplete live (Sat values) → IsComplete live (Sat other)
+complete-model live values other h = record { decided = λ none u. u; unsat = h.unsat }

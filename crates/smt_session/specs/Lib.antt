@@ -1,6 +1,6 @@
+pub mod Models
 pub mod Refusals
 pub mod Replies
-pub mod Search
 pub mod Standing
 pub mod Steps
 pub mod Verdicts

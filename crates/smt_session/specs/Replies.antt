@@ -11,6 +11,10 @@ use Rattle.sv_terms.specs.declared.sort.Sort.TheVariants as sort
 use Rattle.sv_terms.specs.declared.value.Value.{Value}
 use Rattle.sv_terms.specs.declared.value.Value.TheVariants as value
 use Rattle.sv_word.specs.Literals.{printed}
+use Rattle.smt_session.specs.declared.cause.Cause.{Cause}
+use Rattle.smt_session.specs.declared.cause.Cause.TheVariants as cause
+use Rattle.smt_session.specs.declared.cause.CubeCause.{CubeCause}
+use Rattle.smt_session.specs.declared.cause.CubeCause.TheVariants as cube_cause
 use Rattle.smt_session.specs.declared.error_kind.ErrorKind.{ErrorKind}
 use Rattle.smt_session.specs.declared.error_kind.ErrorKind.TheVariants as error
 use Rattle.smt_session.specs.declared.info.Info.{Info}
@@ -99,13 +103,30 @@ error_text (error.SyntaxClose p) = numbered (codes "syntax close at ") p
 error_text (error.SyntaxDepth p) = numbered (codes "syntax depth at ") p
 error_text (error.SyntaxLiteral p) = numbered (codes "syntax literal at ") p
 error_text error.Incomplete = codes "incomplete"
-error_text error.NotBuilt = codes "not built"
+
+-- why a cube is open, in a word
+abbrev pub cube_cause_text : CubeCause → Text
+cube_cause_text cube_cause.Fragment = codes "fragment"
+cube_cause_text cube_cause.Wide = codes "wide"
+cube_cause_text cube_cause.States = codes "states"
+cube_cause_text cube_cause.Splits = codes "splits"
+cube_cause_text cube_cause.Length = codes "length"
+cube_cause_text cube_cause.Branches = codes "branches"
+cube_cause_text cube_cause.NumberRow = codes "number-row"
+cube_cause_text cube_cause.NumberSum = codes "number-sum"
+
+-- why there is no answer; a cube by its number, counted from 0
+abbrev pub cause_text : Cause → Text
+cause_text cause.Cubes = codes "cubes"
+cause_text cause.NumberForm = codes "number-form"
+cause_text (cause.Cube k word) = numbered (codes "(cube ") k ++ 32 ∷ cube_cause_text word ++ 41 ∷ []
 
 abbrev pub info_text : Info → Text
 info_text info.Name = codes ":name \"strsolve\""
 info_text info.Version = codes ":version \"1\""
 info_text info.ErrorBehavior = codes ":error-behavior continued-execution"
 info_text (info.AssertionStackLevels n) = numbered (codes ":assertion-stack-levels ") n
+info_text (info.ReasonUnknown c) = codes ":reason-unknown " ++ cause_text c
 
 -- the printed reply
 abbrev pub text_of : Reply → Text
@@ -116,6 +137,7 @@ text_of (reply.Echo text) = line text
 text_of (reply.Error kind) = line (codes "(error \"" ++ error_text kind ++ codes "\")")
 text_of (reply.Sat values) = line (codes "sat")
 text_of reply.Unsat = line (codes "unsat")
+text_of (reply.Unknown why) = line (codes "unknown")
 text_of (reply.Definitions ds) = line (codes "(") ++ flat_map definition_text ds ++ line (codes ")")
 text_of (reply.Values vs) = line (enclosed (spaced (map pair_text vs)))
 text_of (reply.Info i) = line (enclosed (info_text i))

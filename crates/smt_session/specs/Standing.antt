@@ -23,6 +23,7 @@ AreSound (level ∷ outer) = IsTrue (is_well_formed (symbols_of (level ∷ outer
 abbrev pub IsKeptOf : List Level → Option Kept → Type 0
 IsKeptOf levels (Some (kept.Sat values)) = AreGiven values (symbols_of levels)
 IsKeptOf levels (Some kept.Unsat) = ⊤
+IsKeptOf levels (Some (kept.Unknown c)) = ⊤
 IsKeptOf levels None = ⊤
 
 -- what is known of a command under these levels

@@ -10,7 +10,6 @@ use Rattle.sort_check.specs.declared.commands.Command.{Command}
 use Rattle.sort_check.specs.declared.commands.Command.TheVariants as command
 use Rattle.sv_terms.specs.Meaning.{Named}
 use Rattle.sv_terms.specs.Sorting.{kind}
-use Rattle.sv_terms.specs.Truth.{clear_of, HasNoValues}
 use Rattle.sv_terms.specs.declared.entry.Entry.TheVariants as entry
 use Rattle.sv_terms.specs.declared.limits.TheConstants.{MOST_LEVELS}
 use Rattle.sv_terms.specs.declared.sort.Sort.{Sort}
@@ -25,8 +24,13 @@ use Rattle.smt_session.specs.declared.reply.Reply.{Reply}
 use Rattle.smt_session.specs.declared.reply.Reply.TheVariants as reply
 use Rattle.smt_session.specs.declared.session.Kept.{Kept}
 use Rattle.smt_session.specs.declared.session.Kept.TheVariants as kept
+use Rattle.cube_search.specs.declared.answer.Refutation.{Refutation}
+use Rattle.decide.specs.Completeness.{MustDecide, IsComplete}
+use Rattle.decide.specs.Verdicts.{RightVerdict}
+use Rattle.decide.specs.declared.verdict.Verdict.{Verdict}
+use Rattle.decide.specs.declared.verdict.Verdict.TheVariants as verdict_by
 use Rattle.smt_session.specs.Refusals.{of_check, of_value}
-use Rattle.smt_session.specs.Verdicts.{IsRightModel, IsBuilt}
+use Rattle.smt_session.specs.Verdicts.{Covers, cause_of}
 
 -- the levels, the innermost first; the verdict that is kept, if one is; whether successes are printed; whether `exit` was answered
 pub record State : Type 0 where
@@ -84,19 +88,27 @@ definitions_of values = map (λ v. (v.0, kind v.1, v.1)) values
 abbrev pub model_reply : Option Kept → Reply
 model_reply (Some (kept.Sat values)) = reply.Definitions (definitions_of values)
 model_reply (Some kept.Unsat) = reply.Error error.NoModel
+model_reply (Some (kept.Unknown c)) = reply.Error error.NoModel
 model_reply None = reply.Error error.NoModel
 
 abbrev pub same_keyword : List ℕ → List ℕ → Bool
 same_keyword k other = pointwise nat_eq k other
 
--- what is known of the program; no verdict is `unknown` as yet, so that there is no reason for one
+-- the reason needs a kept `unknown`
+abbrev pub reason_reply : Option Kept → Reply
+reason_reply (Some (kept.Sat values)) = reply.Error error.NoReason
+reason_reply (Some kept.Unsat) = reply.Error error.NoReason
+reason_reply (Some (kept.Unknown c)) = reply.Info (info.ReasonUnknown c)
+reason_reply None = reply.Error error.NoReason
+
+-- what is known of the program and of the session
 abbrev pub info_reply : State → List ℕ → Reply
 info_reply s k =
     if same_keyword k (codes ":name") then reply.Info info.Name else
     if same_keyword k (codes ":version") then reply.Info info.Version else
     if same_keyword k (codes ":error-behavior") then reply.Info info.ErrorBehavior else
     if same_keyword k (codes ":assertion-stack-levels") then reply.Info (info.AssertionStackLevels (length s.levels - 1)) else
-    if same_keyword k (codes ":reason-unknown") then reply.Error error.NoReason else reply.Unsupported
+    if same_keyword k (codes ":reason-unknown") then reason_reply s.verdict else reply.Unsupported
 
 -- the terms' values, each beside the s-expression as it was read
 abbrev pub AreValued : Named → List (Sexpr × Term) → List (Sexpr × Value) → Type 0
@@ -124,14 +136,30 @@ AnswersValues values items _ = ⊥
 abbrev pub AnswersTerms : Option Kept → List (Sexpr × Term) → Reply → Type 0
 AnswersTerms (Some (kept.Sat values)) items r = AnswersValues values items r
 AnswersTerms (Some kept.Unsat) items r = r ≡ reply.Error error.NoModel
+AnswersTerms (Some (kept.Unknown c)) items r = r ≡ reply.Error error.NoModel
 AnswersTerms None items r = r ≡ reply.Error error.NoModel
 
--- a right verdict on the live assertions, which is kept: values that make all true, or none that make those without opaque parts true; or `not built`, exactly where there is none as yet
-abbrev pub Checks : State → Reply → State → Type 0
-Checks s (reply.Sat values) t = IsBuilt (live s.levels) × IsRightModel (symbols_of s.levels) (live s.levels) values × (t ≡ with_verdict (kept.Sat values) s)
-Checks s reply.Unsat t = IsBuilt (live s.levels) × HasNoValues (clear_of (live s.levels)) × (t ≡ with_verdict kept.Unsat s)
-Checks s (reply.Error kind) t = (kind ≡ error.NotBuilt) × (IsBuilt (live s.levels) → ⊥) × (t ≡ s)
-Checks s _ t = ⊥
+-- the verdict that a reply tells
+abbrev pub Tells : Reply → Verdict → Type 0
+Tells (reply.Sat values) v = v ≡ verdict_by.Sat values
+Tells reply.Unsat v = (refutation : Refutation) × (v ≡ verdict_by.Unsat refutation)
+Tells (reply.Unknown why) v = v ≡ verdict_by.Unknown why
+Tells _ v = ⊥
+
+-- what a session keeps of a verdict
+abbrev pub kept_of : Verdict → Kept
+kept_of (verdict_by.Sat values) = kept.Sat values
+kept_of (verdict_by.Unsat refutation) = kept.Unsat
+kept_of (verdict_by.Unknown why) = kept.Unknown (cause_of why)
+
+-- the reply tells a right verdict on the live assertions, an answer where one is owed, and the verdict is kept
+pub record Checks (s : State) (r : Reply) (t : State) : Type 0 where
+  pub answer : Verdict
+  pub told : Tells r answer
+  pub right : RightVerdict (live s.levels) answer
+  pub complete : MustDecide (live s.levels) → IsComplete (live s.levels) answer
+  pub covers : Covers (symbols_of s.levels) (live s.levels) answer
+  pub after : t ≡ with_verdict (kept_of answer) s
 
 -- the reply to a command, and the session behind it
 abbrev pub Does : State → Command → Reply → State → Type 0

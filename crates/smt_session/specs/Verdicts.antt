@@ -1,35 +1,30 @@
--- When a verdict on the live assertions is right, and on which there is one as yet.
-use Rattle.std.specs.Prelude.{◌≡◌, ℕ, Bool, true, false, nat_eq, pos, List, [], ◌∷◌, map, Some}
-use Rattle.std.specs.List.{list_any, AllByRecursion, IsDistinct}
-use Rattle.std.specs.Map.{lookup, keys_of}
+-- The model of a verdict, and what is told of an open one.
+use Rattle.std.specs.Prelude.{◌≡◌, ℕ, false, nat_eq, List, [], ◌∷◌, map, Some, ⊤}
+use Rattle.std.specs.Map.{lookup}
 use Rattle.std.specs.Cmp.Lexicographic.{pointwise}
 use Rattle.assert_stack.specs.Levels.{Symbol}
-use Rattle.sv_terms.specs.Language.{is_plain}
+use Rattle.cube_search.specs.declared.reason.Reason.{Reason}
+use Rattle.cube_search.specs.declared.reason.Reason.TheVariants as reason
+use Rattle.decide.specs.Constants.{is_mentioned}
+use Rattle.decide.specs.Filling.{default}
+use Rattle.decide.specs.declared.verdict.Open.{Open}
+use Rattle.decide.specs.declared.verdict.Open.TheVariants as open_by
+use Rattle.decide.specs.declared.verdict.Verdict.{Verdict}
+use Rattle.decide.specs.declared.verdict.Verdict.TheVariants as verdict
+use Rattle.lia_branch.specs.declared.evidence.Evidence.{Evidence}
+use Rattle.lia_branch.specs.declared.evidence.Evidence.TheVariants as evidence
 use Rattle.sv_terms.specs.Meaning.{Named}
-use Rattle.sv_terms.specs.Parts.{some_step}
 use Rattle.sv_terms.specs.Sorting.{kind}
-use Rattle.sv_terms.specs.Truth.{AreTrueAt}
 use Rattle.sv_terms.specs.declared.entry.Entry.TheVariants.{Constant, Macro, Machine}
-use Rattle.sv_terms.specs.declared.regex.Regex.{Regex}
 use Rattle.sv_terms.specs.declared.sort.Sort.{Sort}
-use Rattle.sv_terms.specs.declared.sort.Sort.TheVariants as sort
 use Rattle.sv_terms.specs.declared.term.Term.{Term}
-use Rattle.sv_terms.specs.declared.term.Term.TheFolds.{fold-Term}
-use Rattle.sv_terms.specs.declared.term.Term.TheOpen.{Term-F}
-use Rattle.sv_terms.specs.declared.term.Term.TheVariants as term
-use Rattle.sv_terms.specs.declared.value.Value.{Value}
-use Rattle.sv_terms.specs.declared.value.Value.TheVariants as value
+use Rattle.smt_session.specs.declared.cause.Cause.{Cause}
+use Rattle.smt_session.specs.declared.cause.Cause.TheVariants as cause
+use Rattle.smt_session.specs.declared.cause.CubeCause.{CubeCause}
+use Rattle.smt_session.specs.declared.cause.CubeCause.TheVariants as cube_cause
 
 abbrev pub Name : Type 0
 Name = List ℕ
-
--- whether the constant stands in the term
-module _ (name : Name) where
-  abbrev pub mention_step : Term-F Bool → Bool
-  mention_step = some_step (λ other s. pointwise nat_eq name other) false
-
-  abbrev pub mentions : Term → Bool
-  mentions = fold-Term Bool mention_step
 
 -- the constants that are declared, in order, with their sorts
 abbrev pub constants_of : List Symbol → List (Name × Sort)
@@ -42,26 +37,36 @@ constants_of ((name, Machine t) ∷ symbols) = constants_of symbols
 abbrev pub kinds_of : Named → List (Name × Sort)
 kinds_of values = map (λ v. (v.0, kind v.1)) values
 
--- the value of a constant on which nothing depends
-abbrev pub default : Sort → Value
-default sort.Bool = value.Truth false
-default sort.Int = value.Number (pos 0)
-default sort.String = value.Text []
-default sort.RegLan = value.Text []
-
--- a value of its sort for each declared constant, in order, a text being a word, which make all assertions true; one that no assertion mentions has the default of its sort
-pub record IsRightModel (symbols : List Symbol) (live : List Term) (values : Named) : Type 0 where
+-- a value of its sort for each declared constant, in order; one that no assertion mentions has the default of its sort
+pub record IsModelFor (symbols : List Symbol) (live : List Term) (values : Named) : Type 0 where
   pub covers : kinds_of values ≡ constants_of symbols
-  pub holds : AreTrueAt values live
-  pub defaults : (name : Name) (s : Sort) → lookup (pointwise nat_eq name) (constants_of symbols) ≡ Some s → list_any (mentions name) live ≡ false → lookup (pointwise nat_eq name) values ≡ Some (default s)
+  pub defaults : (name : Name) (s : Sort) → lookup (pointwise nat_eq name) (constants_of symbols) ≡ Some s → is_mentioned name live ≡ false → lookup (pointwise nat_eq name) values ≡ Some (default s)
 
--- the membership of this constant of sort String in this regular expression
-abbrev pub in_re : Name × Regex → Term
-in_re m = term.InRe (term.Constant m.0 sort.String) m.1
+-- a model is one for the declared constants
+abbrev pub Covers : List Symbol → List Term → Verdict → Type 0
+Covers symbols live (verdict.Sat values) = IsModelFor symbols live values
+Covers symbols live (verdict.Unsat refutation) = ⊤
+Covers symbols live (verdict.Unknown reason) = ⊤
 
--- the assertions are memberships of constants, of which none stands in two of them, in regular expressions without complement, intersection, difference and loop
-pub record IsBuilt (live : List Term) : Type 0 where
-  pub memberships : List (Name × Regex)
-  pub are : live ≡ map in_re memberships
-  pub plain : AllByRecursion (λ (m : Name × Regex). is_plain m.1 ≡ true) memberships
-  pub distinct : IsDistinct (pointwise nat_eq) (keys_of memberships)
+-- why the solver gave up, in a word
+abbrev pub of_evidence : Evidence → CubeCause
+of_evidence (evidence.Branches tree) = cube_cause.Branches
+of_evidence (evidence.PastRow tree first second unknown column) = cube_cause.NumberRow
+of_evidence (evidence.PastSum tree column) = cube_cause.NumberSum
+
+-- why a cube is open, in a word
+abbrev pub of_reason : Reason → CubeCause
+of_reason (reason.Fragment what) = cube_cause.Fragment
+of_reason (reason.Wide n) = cube_cause.Wide
+of_reason (reason.States n) = cube_cause.States
+of_reason (reason.Splits n) = cube_cause.Splits
+of_reason (reason.Growth n) = cube_cause.Length
+of_reason (reason.Length machines long) = cube_cause.Length
+of_reason (reason.Arithmetic machines system e) = of_evidence e
+
+-- what is told of why there is no answer: of the open cubes the least one
+abbrev pub cause_of : Open → Cause
+cause_of (open_by.TooManyCubes n) = cause.Cubes
+cause_of (open_by.PastForm left right) = cause.NumberForm
+cause_of (open_by.Cubes []) = cause.Cubes
+cause_of (open_by.Cubes ((k, r) ∷ others)) = cause.Cube k (of_reason r)

@@ -1,103 +1,24 @@
-//! A verdict on live assertions that are memberships of different constants.
-ghost use Rattle.std.specs.Prelude.{◌≡◌, IfOk, IsTrue, MatchOption, None, OnOk, [], ◌∷◌, ◌++◌, nat_eq, true};
+//! A verdict on live assertions, with a value for each declared constant.
+ghost use Rattle.std.specs.Prelude.{◌≡◌, ◌≤◌, IfOk, IsTrue, None, OnOk, [], ◌∷◌, ◌++◌, nat_eq};
 ghost use Rattle.std.specs.List.{AllByRecursion};
 ghost use Rattle.std.specs.Map.{lookup};
 ghost use Rattle.std.specs.Cmp.Lexicographic.{pointwise};
-ghost use Rattle.sort_check.specs.WellFormed.{constants_known, is_well_formed};
-ghost use Rattle.sv_terms.specs.Language.{is_plain};
-ghost use Rattle.sv_terms.specs.declared.regex.Regex.{Regex as AnyRegex};
-ghost use Rattle.sv_terms.specs.declared.value.Value.TheVariants.{Text};
-ghost use Rattle.smt_session.specs.Search.{AddsWord, IsRight, Searched, model_of, or_default};
-ghost use Rattle.smt_session.specs.Verdicts.{default, in_re, Name as AnyName};
+ghost use Rattle.decide.specs.Completeness.{IsComplete, MustDecide};
+ghost use Rattle.decide.specs.Filling.{default, or_default};
+ghost use Rattle.decide.specs.Verdicts.{RightVerdict};
+ghost use Rattle.sort_check.specs.WellFormed.{IsTermOf, is_well_formed};
+ghost use Rattle.sv_terms.specs.Sorting.{kind, same_sort};
+ghost use Rattle.sv_terms.specs.declared.sort.Sort.TheVariants as sort;
+ghost use Rattle.smt_session.specs.Models.{model_of};
+ghost use Rattle.smt_session.specs.Verdicts.{Covers};
 
-use sort_check::well_formed_entries;
+use decide::{Verdict, check};
+use par_phase::Free;
+use sort_check::{constants_valued, well_formed_entries};
 use std::alloc::{AllocError, Global};
-use sv_terms::{Entry, Model, Name, Regex, Sort, Symbols, Term, Value, decided, witness};
+use std::thread::Threads;
+use sv_terms::{Entry, Model, Name, Sort, Symbols, Term, Value};
 use sv_word::Word;
-
-/// What the assertions come to.
-#[derive(Drop)]
-pub enum Verdict {
-    /// They are true at these values, one for each declared constant.
-    Sat(Model),
-    /// No values make them true.
-    Unsat,
-    /// They aren't memberships of different constants in plain regular expressions.
-    NotBuilt,
-}
-
-/// The words that were found for constants.
-#[derive(Drop)]
-struct Found {
-    words: Model,
-    /// Whether each regular expression so far had one.
-    all: bool,
-}
-
-// The constant of sort String and the plain regular expression that an assertion speaks of.
-fn membership(term: &Term) -> Option<(&Name, &Regex)>
-    ensures { MatchOption result
-        ((m : AnyName × AnyRegex) → is_plain m.1 ≡ true → term.now ≡ in_re m → ⊥)
-        (λ p. (term.now ≡ in_re (p.0.now, p.1.now)) × (is_plain p.1.now ≡ true)) }
-{
-    let Term::InRe(subject, regex) = term else {
-        return None;
-    };
-    let Term::Constant(name, Sort::String) = subject.get() else {
-        return None;
-    };
-    if regex.is_plain() {
-        Some((name, regex))
-    } else {
-        None
-    }
-}
-
-// One more constant, with this word.
-fn set(alloc: Global, words: &mut Model, name: &Name, word: Word) -> Result<(), AllocError>
-    requires { lookup (pointwise nat_eq name.now) words.old ≡ None }
-    ensures { OnOk result (words.new ≡ words.old ++ (name.now, Text word) ∷ []) }
-{
-    words.set(name.copy(alloc)?, Value::Text(word))
-}
-
-// A word for a further constant; the empty word stands where there is none.
-fn find(alloc: Global, found: &mut Found, name: &Name, regex: &Regex) -> Result<(), AllocError>
-    requires new { lookup (pointwise nat_eq name.now) found.old.words ≡ None }
-    requires plain { IsTrue (is_plain regex.now) }
-    ensures { OnOk result (AddsWord found.old found.new name.now regex.now) }
-{
-    match witness(alloc, regex)? {
-        Some(word) => {
-            word.is_word();
-            set(alloc, &mut found.words, name, word)
-        }
-        None => {
-            found.all = false;
-            set(alloc, &mut found.words, name, Word::new(alloc))
-        }
-    }
-}
-
-// Words for the constants of all assertions; nothing where they aren't memberships of different ones.
-fn find_all(alloc: Global, live: &[Term]) -> Result<Option<Found>, AllocError>
-    ensures { IfOk result (Searched live.now) }
-{
-    let mut found = Found {
-        words: Model::new(alloc),
-        all: true,
-    };
-    for term in live {
-        let Some((name, regex)) = membership(term) else {
-            return Ok(None);
-        };
-        if found.words.get(name).is_some() {
-            return Ok(None);
-        }
-        find(alloc, &mut found, name, regex)?;
-    }
-    Ok(Some(found))
-}
 
 // The value of a constant on which nothing depends.
 fn default(alloc: Global, sort: Sort) -> Value
@@ -111,12 +32,27 @@ fn default(alloc: Global, sort: Sort) -> Value
     }
 }
 
+// Whether the value has the sort.
+fn is_of(value: &Value, sort: Sort) -> bool
+    ensures { result ≡ same_sort sort (kind value.now) }
+{
+    match value {
+        Value::Truth(_) => matches!(sort, Sort::Bool),
+        Value::Number(_) => matches!(sort, Sort::Int),
+        Value::Text(_) => matches!(sort, Sort::String),
+    }
+}
+
 // The value of a declared constant.
 fn value(alloc: Global, words: &Model, name: &Name, sort: Sort) -> Result<Value, AllocError>
     ensures { IfOk result (λ v. v ≡ or_default sort (lookup (pointwise nat_eq name.now) words.now)) }
 {
     match words.get(name) {
-        Some(value) => value.copy(alloc),
+        Some(value) => if is_of(value, sort) {
+            value.copy(alloc)
+        } else {
+            Ok(default(alloc, sort))
+        },
         None => Ok(default(alloc, sort)),
     }
 }
@@ -155,22 +91,27 @@ fn model(alloc: Global, symbols: &Symbols, words: &Model) -> Result<Model, Alloc
     Ok(model)
 }
 
-/// The verdict on the live assertions, over the declared symbols: linear in both, and in the words.
-pub fn verdict_of(alloc: Global, symbols: &Symbols, live: &[Term]) -> Result<Verdict, AllocError>
+/// The verdict on the live assertions: what `decide` answers, and beyond that linear in the symbols.
+/// Its model has a value for each declared constant.
+pub fn verdict_of<R: Threads + Sync>(
+    rt: &R,
+    alloc: Global,
+    symbols: &Symbols,
+    live: &[Term],
+    workers: u32,
+) -> Result<Verdict, AllocError>
+    requires workers { 1 ≤ workers }
     requires well_formed { IsTrue (is_well_formed symbols.now) }
-    requires known { AllByRecursion (λ t. IsTrue (constants_known symbols.now t)) live.now }
-    ensures { IfOk result (IsRight symbols.now live.now) }
+    requires terms { AllByRecursion (IsTermOf symbols.now sort.Bool) live.now }
+    ensures right { IfOk result (RightVerdict live.now) }
+    ensures complete { MustDecide live.now → IfOk result (IsComplete live.now) }
+    ensures covers { IfOk result (Covers symbols.now live.now) }
 {
-    decided();
+    constants_valued();
     well_formed_entries();
-    match find_all(alloc, live)? {
-        None => Ok(Verdict::NotBuilt),
-        Some(found) => {
-            if found.all {
-                Ok(Verdict::Sat(model(alloc, symbols, &found.words)?))
-            } else {
-                Ok(Verdict::Unsat)
-            }
-        }
+    match check(rt, alloc, live, workers, &Free)? {
+        Verdict::Sat(values) => Ok(Verdict::Sat(model(alloc, symbols, &values)?)),
+        Verdict::Unsat(refutation) => Ok(Verdict::Unsat(refutation)),
+        Verdict::Unknown(open) => Ok(Verdict::Unknown(open)),
     }
 }

@@ -1,25 +1,28 @@
 //! The session, and what it does at each command.
-ghost use Rattle.std.specs.Prelude.{◌≡◌, [], ◌∷◌, All, IfOk, OnErr};
+ghost use Rattle.std.specs.Prelude.{◌≡◌, ◌≤◌, [], ◌∷◌, All, IfOk, OnErr};
 ghost use Rattle.sexpr_reader.specs.declared.sexpr.Sexpr.{Sexpr as AnySexpr};
 ghost use Rattle.sort_check.specs.WellFormed.{IsAdded, IsTermOf, IsWritten};
 ghost use Rattle.assert_stack.specs.Levels.{asserted, declared, empty, symbols_of};
 ghost use Rattle.sv_terms.specs.declared.sort.Sort.TheVariants as sort;
 ghost use Rattle.sv_terms.specs.declared.term.Term.{Term as AnyTerm};
 ghost use Rattle.smt_session.specs.Standing.{Fits};
-ghost use Rattle.smt_session.specs.Steps.{AnswersTerms, Checks, Does, Gives, Steps, after_exit, changed, info_reply, model_reply, opened, pops, printing, pushes, succeeds};
+ghost use Rattle.smt_session.specs.Steps.{AnswersTerms, Checks, Does, Gives, Steps, after_exit, changed, info_reply, model_reply, opened, pops, printing, pushes, reason_reply, succeeds};
 ghost use Rattle.smt_session.specs.declared.reply.Reply.TheVariants.{Success};
 
-use crate::check::{Verdict, verdict_of};
+use crate::cause::Cause;
+use crate::check::verdict_of;
 use crate::error_kind::ErrorKind;
 use crate::info::Info;
 use crate::reply::Reply;
 use crate::values::{definitions, values};
 use assert_stack::{Stack, StackFault};
+use decide::Verdict;
 use sexpr_reader::Sexpr;
 use sort_check::{
     Command, command, constants_valued, terms_sorted, well_formed_entries, well_formed_more,
 };
 use std::alloc::{AllocError, Global};
+use std::thread::Threads;
 use sv_list::Items;
 use sv_terms::{Entry, Model, Name, Term};
 
@@ -28,6 +31,7 @@ use sv_terms::{Entry, Model, Name, Term};
 pub enum Kept {
     Sat(Model),
     Unsat,
+    Unknown(Cause),
 }
 
 /// A session: its levels, the verdict that it keeps, whether successes are printed, and whether
@@ -40,9 +44,12 @@ pub struct Session {
     verdict: Option<Kept>,
     prints: bool,
     ended: bool,
+    /// How many threads do the cubes of a check.
+    workers: u32,
 }
 
 impl std::marker::Model for Session {
+    ghost use Rattle.std.specs.Prelude.{◌≤◌};
     ghost use Rattle.std.specs.Coded.{codes};
     ghost use Rattle.sv_terms.specs.contracts.regex.Regex as regex;
     ghost use Rattle.sv_terms.specs.contracts.term.Term as term;
@@ -55,12 +62,13 @@ impl std::marker::Model for Session {
 
     ghost view = { λ s. state s.stack s.verdict s.prints s.ended };
 
-    ghost invariant = { λ s. AreSound s.stack × IsKeptOf s.stack s.verdict };
+    ghost invariant = { λ s. AreSound s.stack × IsKeptOf s.stack s.verdict × (1 ≤ s.workers) };
 }
 
 impl Session {
-    /// A session at its start. It takes no memory.
-    pub fn new(alloc: Global) -> Session
+    /// A session at its start, whose checks are done by so many threads. It takes no memory.
+    pub fn new(alloc: Global, workers: u32) -> Session
+        requires { 1 ≤ workers }
         ensures { result ≡ opened }
     {
         Session {
@@ -68,6 +76,7 @@ impl Session {
             verdict: None,
             prints: false,
             ended: false,
+            workers,
         }
     }
 
@@ -82,23 +91,33 @@ impl Session {
     /// `unsupported`, and where memory is wanting, the session is what it was.
     ///
     /// It costs what checking the item and its command cost: `push` and `pop` what they put and take
-    /// away, `check-sat` the live assertions and symbols and the words that it finds, `get-model` and
+    /// away, `check-sat` what `decide` takes for the live assertions, and the symbols, `get-model` and
     /// `get-value` what they answer.
-    pub fn step(&mut self, alloc: Global, item: &Sexpr) -> Result<Reply, AllocError>
+    pub fn step<R: Threads + Sync>(
+        &mut self,
+        rt: &R,
+        alloc: Global,
+        item: &Sexpr,
+    ) -> Result<Reply, AllocError>
         ensures ok { IfOk result (λ reply. Steps self.old item.now reply self.new) }
         ensures err { OnErr result (self.new ≡ self.old) }
     {
         terms_sorted();
         well_formed_more();
         match command(alloc, self.stack.symbols(), item) {
-            Ok(command) => self.perform(alloc, command),
+            Ok(command) => self.perform(rt, alloc, command),
             Err(fault) => Ok(Reply::Error(ErrorKind::of_check(fault)?)),
         }
     }
 
     // Does the command.
-    fn perform(&mut self, alloc: Global, command: Command) -> Result<Reply, AllocError>
-        requires { Fits self.old.levels command }
+    fn perform<R: Threads + Sync>(
+        &mut self,
+        rt: &R,
+        alloc: Global,
+        command: Command,
+    ) -> Result<Reply, AllocError>
+        requires fits { Fits self.old.levels command }
         ensures ok { IfOk result (λ reply. Does self.old command reply self.new) }
         ensures err { OnErr result (self.new ≡ self.old) }
     {
@@ -111,7 +130,7 @@ impl Session {
             Command::Assert(term) => self.assert(term),
             Command::Push(n) => self.push(n),
             Command::Pop(n) => Ok(self.pop(n)),
-            Command::CheckSat => self.check_sat(alloc),
+            Command::CheckSat => self.check_sat(rt, alloc),
             Command::GetModel => self.model(alloc),
             Command::GetValue(items) => self.values(alloc, items),
             Command::GetInfo(keyword) => Ok(self.info(keyword.as_slice())),
@@ -185,23 +204,32 @@ impl Session {
         }
     }
 
-    fn check_sat(&mut self, alloc: Global) -> Result<Reply, AllocError>
+    fn check_sat<R: Threads + Sync>(&mut self, rt: &R, alloc: Global) -> Result<Reply, AllocError>
         ensures ok { IfOk result (λ reply. Checks self.old reply self.new) }
         ensures err { OnErr result (self.new ≡ self.old) }
     {
         constants_valued();
         well_formed_entries();
-        match verdict_of(alloc, self.stack.symbols(), self.stack.live())? {
+        match verdict_of(
+            rt,
+            alloc,
+            self.stack.symbols(),
+            self.stack.live(),
+            self.workers,
+        )? {
             Verdict::Sat(model) => {
                 let copy = model.copy(alloc)?;
                 self.verdict = Some(Kept::Sat(model));
                 Ok(Reply::Sat(copy))
             }
-            Verdict::Unsat => {
+            Verdict::Unsat(_) => {
                 self.verdict = Some(Kept::Unsat);
                 Ok(Reply::Unsat)
             }
-            Verdict::NotBuilt => Ok(Reply::Error(ErrorKind::NotBuilt)),
+            Verdict::Unknown(open) => {
+                self.verdict = Some(Kept::Unknown(Cause::of(&open)));
+                Ok(Reply::Unknown(open))
+            }
         }
     }
 
@@ -225,6 +253,7 @@ impl Session {
         match kept {
             Kept::Sat(model) => values(alloc, model, items),
             Kept::Unsat => Ok(Reply::Error(ErrorKind::NoModel)),
+            Kept::Unknown(_) => Ok(Reply::Error(ErrorKind::NoModel)),
         }
     }
 
@@ -240,9 +269,18 @@ impl Session {
         } else if keyword == b":assertion-stack-levels".as_slice() {
             Reply::Info(Info::AssertionStackLevels(self.stack.levels()))
         } else if keyword == b":reason-unknown".as_slice() {
-            Reply::Error(ErrorKind::NoReason)
+            self.reason()
         } else {
             Reply::Unsupported
+        }
+    }
+
+    fn reason(&self) -> Reply
+        ensures { result ≡ reason_reply self.now.verdict }
+    {
+        match &self.verdict {
+            Some(Kept::Unknown(cause)) => Reply::Info(Info::ReasonUnknown(*cause)),
+            _ => Reply::Error(ErrorKind::NoReason),
         }
     }
 

@@ -1,11 +1,12 @@
 //! The texts of the parts of replies. Each function adds its text at the end.
-ghost use Rattle.std.specs.Prelude.{◌≡◌, ◌++◌, map, OnOk};
+ghost use Rattle.std.specs.Prelude.{◌≡◌, ◌++◌, codes, map, OnOk};
 ghost use Rattle.std.specs.Fmt.{decimal};
 ghost use Rattle.std.specs.List.{list_all};
 ghost use Rattle.sexpr_reader.specs.Bytes.{is_digit, is_symbol_byte};
 ghost use Rattle.sexpr_reader.specs.Tokens.{is_symbol};
-ghost use Rattle.smt_session.specs.Replies.{definition_text, error_text, info_text, name_text, number_text, numbered, pair_text, sexpr_text, sort_text, spaced, truth_text, value_text};
+ghost use Rattle.smt_session.specs.Replies.{cause_text, cube_cause_text, definition_text, error_text, info_text, name_text, number_text, numbered, pair_text, sexpr_text, sort_text, spaced, truth_text, value_text};
 
+use crate::cause::{Cause, CubeCause};
 use crate::error_kind::ErrorKind;
 use crate::info::Info;
 use itoa::Buffer;
@@ -225,8 +226,48 @@ pub fn error(text: &mut Text, kind: ErrorKind) -> Result<(), AllocError>
         ErrorKind::SyntaxDepth(place) => numbered(text, "syntax depth at ", place),
         ErrorKind::SyntaxLiteral(place) => numbered(text, "syntax literal at ", place),
         ErrorKind::Incomplete => text.extend_from_slice(b"incomplete"),
-        ErrorKind::NotBuilt => text.extend_from_slice(b"not built"),
     }
+}
+
+// Why a cube is open, in a word.
+fn cube_cause(text: &mut Text, cause: CubeCause) -> Result<(), AllocError>
+    ensures { OnOk result (text.new.items ≡ text.old.items ++ cube_cause_text cause) }
+{
+    match cause {
+        CubeCause::Fragment => text.extend_from_slice(b"fragment"),
+        CubeCause::Wide => text.extend_from_slice(b"wide"),
+        CubeCause::States => text.extend_from_slice(b"states"),
+        CubeCause::Splits => text.extend_from_slice(b"splits"),
+        CubeCause::Length => text.extend_from_slice(b"length"),
+        CubeCause::Branches => text.extend_from_slice(b"branches"),
+        CubeCause::NumberRow => text.extend_from_slice(b"number-row"),
+        CubeCause::NumberSum => text.extend_from_slice(b"number-sum"),
+    }
+}
+
+// Why there is no answer.
+fn cause(text: &mut Text, cause: Cause) -> Result<(), AllocError>
+    ensures { OnOk result (text.new.items ≡ text.old.items ++ cause_text cause) }
+{
+    match cause {
+        Cause::Cubes => text.extend_from_slice(b"cubes"),
+        Cause::NumberForm => text.extend_from_slice(b"number-form"),
+        Cause::Cube(at, why) => {
+            numbered(text, "(cube ", at)?;
+            text.push(b' ')?;
+            cube_cause(text, why)?;
+            text.push(b')')?;
+            Ok(())
+        }
+    }
+}
+
+// The reason of an answer `unknown`.
+fn reason_unknown(text: &mut Text, why: Cause) -> Result<(), AllocError>
+    ensures { OnOk result (text.new.items ≡ text.old.items ++ codes ":reason-unknown " ++ cause_text why) }
+{
+    text.extend_from_slice(b":reason-unknown ")?;
+    cause(text, why)
 }
 
 /// An info, without what stands around it.
@@ -238,5 +279,6 @@ pub fn info(text: &mut Text, info: Info) -> Result<(), AllocError>
         Info::Version => text.extend_from_slice(b":version \"1\""),
         Info::ErrorBehavior => text.extend_from_slice(b":error-behavior continued-execution"),
         Info::AssertionStackLevels(n) => numbered(text, ":assertion-stack-levels ", u64::from(n)),
+        Info::ReasonUnknown(why) => reason_unknown(text, why),
     }
 }

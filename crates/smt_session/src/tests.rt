@@ -1,132 +1,179 @@
 //! Sessions, command after command, with the printed replies.
+
 use crate::{Session, print};
-use sexpr_reader::{Reader, Sexpr};
+use sexpr_reader::Reader;
 use std::alloc::{AllocError, Global};
 use std::test::Fail;
+use std::thread::Threads;
 
-// The item that the text is.
-fn item(alloc: Global, text: &str) -> Result<Option<Sexpr>, AllocError> {
-    let mut reader = Reader::new(alloc);
-    reader.feed(text.as_bytes())?;
-    match reader.next() {
-        Ok(item) => Ok(item),
-        Err(_) => Ok(None),
-    }
-}
-
-// Whether the printed reply is this text.
-fn answers(
+// The printed replies of a new session to the commands of the text.
+fn replies_to<R: Threads + Sync>(
+    rt: &R,
     alloc: Global,
-    session: &mut Session,
-    command: &str,
-    reply: &str,
-) -> Result<bool, AllocError> {
-    match item(alloc, command)? {
-        Some(item) => {
-            let answer = session.step(alloc, &item)?;
-            let text = print(alloc, &answer)?;
-            Ok(text.as_slice() == reply.as_bytes())
-        }
-        None => Ok(false),
-    }
-}
-
-// Whether a session answers each command by the text beside it.
-fn answers_all(alloc: Global, rows: &[(&str, &str)]) -> Result<bool, AllocError> {
-    let mut session = Session::new(alloc);
-    for (command, reply) in rows {
-        if !answers(alloc, &mut session, command, reply)? {
-            return Ok(false);
+    script: &str,
+) -> Result<Vec<u8>, AllocError> {
+    let mut session = Session::new(alloc, 2);
+    let mut reader = Reader::new(alloc);
+    let mut printed = Vec::new(alloc);
+    reader.feed(script.as_bytes())?;
+    for _ in 0..script.len() {
+        match reader.next() {
+            Ok(Some(item)) => {
+                let reply = session.step(rt, alloc, &item)?;
+                let text = print(alloc, &reply)?;
+                printed.extend_from_slice(&text)?;
+            }
+            _ => return Ok(printed),
         }
     }
-    Ok(true)
+    Ok(printed)
+}
+
+// The first row, counted from 0, whose script has other replies.
+fn first_wrong<R: Threads + Sync>(
+    rt: &R,
+    alloc: Global,
+    rows: &[(&str, &str)],
+) -> Result<Option<usize>, AllocError> {
+    for at in 0..rows.len() {
+        let printed = replies_to(rt, alloc, rows[at].0)?;
+        if printed.as_slice() != rows[at].1.as_bytes() {
+            return Ok(Some(at));
+        }
+    }
+    Ok(None)
 }
 
 #[test]
-fn levels_come_and_go(rt: HostRuntime) -> Result<(), Fail> {
+fn commands_have_their_replies(rt: HostRuntime) -> Result<(), Fail> {
     let rows = [
-        ("(push 2)", ""),
-        ("(declare-const x Int)", ""),
-        ("(pop 1)", ""),
-        ("(declare-const x String)", ""),
-        ("(pop 2)", "(error \"no such level\")\n"),
         (
-            "(get-info :assertion-stack-levels)",
-            "(:assertion-stack-levels 1)\n",
+            "(push 2)(declare-const x Int)(pop 1)(declare-const x String)(pop 2)(get-info :assertion-stack-levels)",
+            "(error \"no such level\")\n(:assertion-stack-levels 1)\n",
+        ),
+        (
+            "(set-option :print-success true)(echo \"a\")(frobnicate)(reset)(exit)",
+            "success\n\"a\"\nunsupported\n",
+        ),
+        (
+            "(define-transducer T (q q) q () ())(get-model)(get-info :reason-unknown)(get-info :authors)",
+            "(error \"transducer\")\n(error \"no model\")\n(error \"no reason\")\nunsupported\n",
         ),
     ];
-    assert!(rt; answers_all(rt.alloc(), &rows)?);
+    assert_eq!(rt; first_wrong(&rt, rt.alloc(), &rows)?, None);
     Ok(())
 }
 
 #[test]
-fn an_option_holds_from_its_own_reply_on(rt: HostRuntime) -> Result<(), Fail> {
+fn verdicts_are_kept_until_something_changes(rt: HostRuntime) -> Result<(), Fail> {
     let rows = [
-        ("(set-option :print-success true)", "success\n"),
-        ("(echo \"a\")", "\"a\"\n"),
-        ("(frobnicate)", "unsupported\n"),
-        ("(reset)", ""),
-        ("(exit)", ""),
+        (
+            "(declare-const |a b| String)(declare-const n Int)(assert (str.in_re |a b| (str.to_re \"ab\")))
+            (check-sat)(pop 1)(get-value ((str.len |a b|) (- n 1)))(get-model)",
+            "sat\n(error \"no such level\")\n(((str.len |a b|) 2) ((- n 1) (- 1)))\n(\n  (define-fun |a b| () String \"ab\")\n  (define-fun n () Int 0)\n)\n",
+        ),
+        (
+            "(declare-const n Int)(check-sat)(assert (= n 7))(get-model)(check-sat)(get-model)",
+            "sat\n(error \"no model\")\nsat\n(\n  (define-fun n () Int 7)\n)\n",
+        ),
+        (
+            "(declare-const x String)(declare-const y String)(assert (distinct x y))(check-sat)(get-info :reason-unknown)
+            (push 1)(get-info :reason-unknown)",
+            "unknown\n(:reason-unknown (cube 0 fragment))\n(error \"no reason\")\n",
+        ),
     ];
-    assert!(rt; answers_all(rt.alloc(), &rows)?);
+    assert_eq!(rt; first_wrong(&rt, rt.alloc(), &rows)?, None);
     Ok(())
 }
 
 #[test]
-fn a_verdict_is_kept_until_something_changes(rt: HostRuntime) -> Result<(), Fail> {
+fn scripts_have_values_or_none(rt: HostRuntime) -> Result<(), Fail> {
     let rows = [
-        ("(get-model)", "(error \"no model\")\n"),
-        ("(declare-const |a b| String)", ""),
-        ("(declare-const n Int)", ""),
-        ("(assert (str.in_re |a b| (str.to_re \"ab\")))", ""),
         ("(check-sat)", "sat\n"),
-        ("(pop 1)", "(error \"no such level\")\n"),
+        ("(assert false)(check-sat)", "unsat\n"),
         (
-            "(get-value ((str.len |a b|) (- n 1)))",
-            "(((str.len |a b|) 2) ((- n 1) (- 1)))\n",
+            "(declare-const p Bool)(assert (or p (not p)))(assert (not p))(check-sat)(get-value (p))",
+            "sat\n((p false))\n",
         ),
         (
-            "(get-model)",
-            "(\n  (define-fun |a b| () String \"ab\")\n  (define-fun n () Int 0)\n)\n",
+            "(declare-const x String)(assert (str.in_re x (str.to_re \"ab\")))(check-sat)(get-value (x))",
+            "sat\n((x \"ab\"))\n",
         ),
-        ("(assert (= n 0))", ""),
-        ("(get-model)", "(error \"no model\")\n"),
-        ("(check-sat)", "(error \"not built\")\n"),
+        (
+            "(declare-const x String)(assert (str.in_re x (str.to_re \"a\")))(assert (str.in_re x (re.comp (re.+ re.allchar))))(check-sat)",
+            "unsat\n",
+        ),
+        (
+            "(declare-const x String)(declare-const y String)(declare-const z String)(assert (= x (str.++ y z)))
+            (assert (str.in_re x (str.to_re \"ab\")))(assert (str.in_re y (str.to_re \"a\")))(check-sat)(get-value (z))",
+            "sat\n((z \"b\"))\n",
+        ),
+        (
+            "(declare-const x String)(declare-const y String)(declare-const z String)(assert (= x (str.++ y z)))
+            (assert (str.in_re x (str.to_re \"ab\")))(assert (str.in_re y (str.to_re \"b\")))(check-sat)",
+            "unsat\n",
+        ),
+        (
+            "(declare-const x String)(assert (str.in_re x (re.* (str.to_re \"ab\"))))(assert (= (str.len x) 4))(check-sat)(get-value (x))",
+            "sat\n((x \"abab\"))\n",
+        ),
+        (
+            "(declare-const x String)(assert (str.in_re x (re.* (str.to_re \"ab\"))))(assert (= (str.len x) 3))(check-sat)",
+            "unsat\n",
+        ),
+        (
+            "(declare-const x String)(declare-const y String)(assert (= y (str.replace_all x \"a\" \"bb\")))(assert (= y \"bbcbb\"))
+            (assert (= (str.len x) 3))(check-sat)(get-value (x))",
+            "sat\n((x \"aca\"))\n",
+        ),
+        (
+            "(define-transducer T (q) q ((q \"a\" \"y\" ((in 1)) q)) ((q ())))(declare-const x String)(declare-const y String)
+            (assert (T x y))(assert (= y \"bcd\"))(check-sat)(get-value (x (T \"abc\" y) (T y \"abc\")))",
+            "sat\n((x \"abc\") ((T \"abc\" y) true) ((T y \"abc\") false))\n",
+        ),
     ];
-    assert!(rt; answers_all(rt.alloc(), &rows)?);
+    assert_eq!(rt; first_wrong(&rt, rt.alloc(), &rows)?, None);
     Ok(())
 }
 
 #[test]
-fn a_transducer_relates_values(rt: HostRuntime) -> Result<(), Fail> {
+fn no_answer_has_a_cause(rt: HostRuntime) -> Result<(), Fail> {
     let rows = [
         (
-            "(define-transducer T (q q) q () ())",
-            "(error \"transducer\")\n",
+            "(declare-const x String)(declare-const p Bool)(assert (or p (str.prefixof x x)))(assert (not p))(check-sat)(get-model)",
+            "unknown\n(error \"no model\")\n",
         ),
         (
-            "(define-transducer T (q) q ((q \"a\" \"y\" ((in 1)) q)) ((q ())))",
-            "",
+            "(define-transducer T (q) q () ((q ())))(declare-const x String)(assert (T x x))(check-sat)(get-info :reason-unknown)",
+            "unknown\n(:reason-unknown (cube 0 fragment))\n",
         ),
-        ("(declare-const x String)", ""),
-        ("(assert (str.in_re x (str.to_re \"bcd\")))", ""),
-        ("(check-sat)", "sat\n"),
         (
-            "(get-value ((T \"abc\" x) (T x \"abc\")))",
-            "(((T \"abc\" x) true) ((T x \"abc\") false))\n",
+            "(declare-const x String)(assert (= (str.at x 0) \"a\"))(check-sat)(get-info :reason-unknown)(assert false)(check-sat)",
+            "unknown\n(:reason-unknown (cube 0 fragment))\nunsat\n",
         ),
-        ("(assert (T x x))", ""),
-        ("(check-sat)", "(error \"not built\")\n"),
+        (
+            "(declare-const n Int)(assert (< n (+ 170141183460469231731687303715884105727 1)))(check-sat)(get-info :reason-unknown)",
+            "unknown\n(:reason-unknown number-form)\n",
+        ),
+        (
+            "(declare-const p Bool)(declare-const q Bool)(define-fun a () Bool (or p q))(define-fun b () Bool (and a a a a a a a))
+            (assert (and b b b))(check-sat)(get-info :reason-unknown)",
+            "unknown\n(:reason-unknown cubes)\n",
+        ),
     ];
-    assert!(rt; answers_all(rt.alloc(), &rows)?);
+    assert_eq!(rt; first_wrong(&rt, rt.alloc(), &rows)?, None);
     Ok(())
 }
 
 #[test]
 fn a_session_ends_at_exit(rt: HostRuntime) -> Result<(), Fail> {
     let alloc = rt.alloc();
-    let mut session = Session::new(alloc);
-    assert!(rt; answers(alloc, &mut session, "(exit)", "")?);
+    let mut session = Session::new(alloc, 1);
+    let mut reader = Reader::new(alloc);
+    reader.feed(b"(exit)")?;
+    if let Ok(Some(item)) = reader.next() {
+        session.step(&rt, alloc, &item)?;
+    }
     assert!(rt; session.ended());
     Ok(())
 }

@@ -1,5 +1,5 @@
 -- What stands where nothing was read and written, and what the words say.
-use Rattle.std.proofs.Common.{◌≡◌, ◌≤◌, ℕ, List, [], ◌∷◌, ◌++◌, Bool, true, false, Some, refl, sym, ap, ◌∙◌, subst, arith, inl, inr}
+use Rattle.std.proofs.Common.{◌≡◌, ℕ, List, [], ◌∷◌, ◌++◌, true, false, Some, refl, sym, ap, ◌∙◌, subst, arith, inl, inr}
 use Rattle.std.proofs.KnownBytes.{Consumes-nil, Appends-nil}
 use Rattle.std.specs.declared.option.Option.{Option}
 use Rattle.command_words.specs.Asked.{IsAsked, IsTaskOf}
@@ -11,7 +11,7 @@ use Rattle.smt_session.specs.Steps.{opened}
 use Rattle.strsolve.specs.CommandLine.{AskFor}
 use Rattle.strsolve.specs.Generated.{IsAnsweredFront, IsGenerated, IsTrueIn}
 use Rattle.strsolve.specs.Runs.{IsCut, IsFront, IsPrompt}
-use Rattle.strsolve.specs.Scripts.{Follows, none}
+use Rattle.strsolve.specs.Scripts.{none}
 use Rattle.strsolve.proofs.Counts.{nothing_waits}
 use Rattle.strsolve.proofs.Turns.{cut_here, nothing_written}
 use Rattle.strsolve.proofs.Verdicts.{verdict_true}

@@ -1,12 +1,12 @@
 -- What was answered of a generated script, block by block, where nothing is written.
-use Rattle.std.proofs.Common.{◌≡◌, ℕ, zero, suc, List, [], ◌++◌, Bool, true, false, None, refl, sym, ap, ◌∙◌, append_assoc}
+use Rattle.std.proofs.Common.{◌≡◌, ℕ, suc, List, [], ◌++◌, Bool, true, false, None, refl, sym, ap, ◌∙◌, append_assoc}
 use Rattle.smt_session.specs.declared.reply.Reply.{Reply}
 use Rattle.generated_script.specs.Blocks.{block, blocks}
 use Rattle.generated_script.specs.Draws.{behind}
 use Rattle.strsolve.specs.Generated.{IsAnsweredFront, IsAnsweredWhole, StopsIn}
 use Rattle.strsolve.specs.Runs.{IsCut}
 use Rattle.strsolve.specs.Scripts.{all}
-use Rattle.strsolve.specs.Standing.{IsAnswering, IsWaiting, Stops}
+use Rattle.strsolve.specs.Standing.{IsWaiting, Stops}
 use Rattle.strsolve.specs.declared.answering.Answering.{Answering}
 use Rattle.strsolve.specs.declared.outcome.Ending.{Ending}
 use Rattle.strsolve.specs.declared.outcome.Ending.TheVariants as ending

@@ -1,24 +1,28 @@
 -- Verdicts come from `check-sat` alone.
 use Rattle.std.proofs.Common.{◌≡◌, ℕ, List, [], ◌∷◌, ◌++◌, Bool, true, false, if◌then◌else◌, Result, Ok, Err, Option, Some, None, refl, sym, ap, ◌∙◌, subst, ◌⊎◌, inl, inr, length, length-append, arith, ◌-◌}
 use Rattle.std.specs.Prelude.{codes}
-use Rattle.assert_stack.specs.Levels.{symbols_of}
+use Rattle.assert_stack.specs.Levels.{symbols_of, live}
+use Rattle.decide.specs.Completeness.{IsComplete, MustDecide}
+use Rattle.decide.specs.Verdicts.{RightVerdict}
+use Rattle.decide.specs.declared.verdict.Open.{Open}
+use Rattle.decide.specs.declared.verdict.Verdict.TheVariants as verdict
 use Rattle.sexpr_reader.specs.declared.sexpr.Sexpr.{Sexpr}
 use Rattle.sort_check.specs.Checking.{checked}
 use Rattle.smt_names.specs.Form.{seen}
 use Rattle.smt_names.specs.declared.check_fault.CheckFault.{CheckFault}
 use Rattle.sort_check.specs.declared.commands.Command.{Command}
 use Rattle.sort_check.specs.declared.commands.Command.TheVariants as command
+use Rattle.sv_terms.specs.Meaning.{Named}
 use Rattle.sv_terms.specs.declared.term.Term.{Term}
 use Rattle.smt_session.specs.declared.error_kind.ErrorKind.{ErrorKind}
-use Rattle.smt_session.specs.Steps.{State, Outcome, opened, same_keyword, info_reply, model_reply, AnswersTerms, Checks, Does, Performs, Steps}
-use Rattle.smt_session.specs.declared.error_kind.ErrorKind.TheVariants as error
+use Rattle.smt_session.specs.Steps.{State, Outcome, opened, same_keyword, info_reply, model_reply, reason_reply, AnswersTerms, Checks, Does, Performs, Steps}
 use Rattle.smt_session.specs.declared.info.Info.{Info as InfoOf}
 use Rattle.smt_session.specs.declared.info.Info.TheVariants as info
 use Rattle.smt_session.specs.declared.reply.Reply.{Reply}
-use Rattle.smt_session.specs.declared.reply.Reply.TheVariants.{Success, Unsupported, Echo, Error, Sat, Unsat, Definitions, Values, Info}
+use Rattle.smt_session.specs.declared.reply.Reply.TheVariants.{Success, Unsupported, Echo, Error, Sat, Unsat, Unknown, Definitions, Values, Info}
 use Rattle.smt_session.specs.declared.session.Kept.{Kept}
 use Rattle.smt_session.specs.declared.session.Kept.TheVariants as kept
-use Rattle.strsolve.specs.Scripts.{Follows, none, next, Answers, to_end, to_exit, to_fault, AnswersFront, so_far, all, IsTrueOf}
+use Rattle.strsolve.specs.Scripts.{Follows, none, next, Answers, to_end, to_exit, to_fault, AnswersFront, so_far, all, IsNotOwed, IsTrueOf}
 use Rattle.strsolve.specs.Runs.{IsTrueFor}
 use Rattle.sexpr_reader.specs.Reads.{Begins}
 use Rattle.std.proofs.lemmas.List.{append-nil}
@@ -26,6 +30,7 @@ use Rattle.std.proofs.lemmas.List.{append-nil}
 is_verdict : Reply → Bool
 is_verdict (Sat values) = true
 is_verdict Unsat = true
+is_verdict (Unknown why) = true
 is_verdict _ = false
 
 differ : false ≡ true → ⊥
@@ -46,6 +51,7 @@ no_model : (k : Option Kept) → is_verdict (model_reply k) ≡ false
 unfolding is_verdict
 no_model (Some (kept.Sat values)) = refl
 no_model (Some kept.Unsat) = refl
+no_model (Some (kept.Unknown c)) = refl
 no_model None = refl
 
 success : (printed : Bool) → is_verdict (Success printed) ≡ false
@@ -68,9 +74,16 @@ told_info : (i : InfoOf) → is_verdict (Info i) ≡ false
 unfolding is_verdict
 told_info i = refl
 
+no_reason : (k : Option Kept) → is_verdict (reason_reply k) ≡ false
+unfolding is_verdict
+no_reason (Some (kept.Sat values)) = refl
+no_reason (Some kept.Unsat) = refl
+no_reason (Some (kept.Unknown c)) = refl
+no_reason None = refl
+
 no_info : (s : State) (k : List ℕ) → is_verdict (info_reply s k) ≡ false
 no_info s k =
-    let reason = either (same_keyword k (codes ":reason-unknown")) (Error error.NoReason) Unsupported (failure error.NoReason) unsupported in
+    let reason = either (same_keyword k (codes ":reason-unknown")) (reason_reply s.verdict) Unsupported (no_reason s.verdict) unsupported in
     let levels = either (same_keyword k (codes ":assertion-stack-levels")) (Info (info.AssertionStackLevels (length s.levels - 1))) _ (told_info (info.AssertionStackLevels (length s.levels - 1))) reason in
     let behavior = either (same_keyword k (codes ":error-behavior")) (Info info.ErrorBehavior) _ (told_info info.ErrorBehavior) levels in
     let version = either (same_keyword k (codes ":version")) (Info info.Version) _ (told_info info.Version) behavior in
@@ -85,9 +98,11 @@ no_terms (Some (kept.Sat values)) items Unsupported h = refl
 no_terms (Some (kept.Sat values)) items (Echo t) h = refl
 no_terms (Some (kept.Sat values)) items (Sat vs) h = absurd h
 no_terms (Some (kept.Sat values)) items Unsat h = absurd h
+no_terms (Some (kept.Sat values)) items (Unknown why) h = absurd h
 no_terms (Some (kept.Sat values)) items (Definitions ds) h = refl
 no_terms (Some (kept.Sat values)) items (Info i) h = refl
 no_terms (Some kept.Unsat) items r h = ap is_verdict h
+no_terms (Some (kept.Unknown c)) items r h = ap is_verdict h
 no_terms None items r h = ap is_verdict h
 
 module _ (s t : State) (r : Reply) (told : is_verdict r ≡ true) where
@@ -114,10 +129,30 @@ module _ (s t : State) (r : Reply) (told : is_verdict r ≡ true) where
   performs (Ok c) h = does c h
   performs (Err fault) h = other _ _ _ h.2.0 (failure _) told
 
+-- what a reply to a check says
+sat_true : (s t : State) (values : Named) → Checks s (Sat values) t → IsTrueOf s (Sat values)
+sat_true s t values h = (subst (RightVerdict (live s.levels)) h.told h.right).1
+
+unsat_true : (s t : State) → Checks s Unsat t → IsTrueOf s Unsat
+unsat_true s t h = subst (RightVerdict (live s.levels)) h.told.1 h.right
+
+not_owed : (terms : List Term) (why : Open) → (MustDecide terms → IsComplete terms (verdict.Unknown why)) → IsNotOwed terms
+not_owed terms why complete = record {
+  opaque_part = λ must none. (complete must).decided none tt;
+  has_values = λ must none. (complete must).unsat none;
+}
+
+unknown_true : (s t : State) (why : Open) → Checks s (Unknown why) t → IsTrueOf s (Unknown why)
+unknown_true s t why h = (
+  subst (RightVerdict (live s.levels)) h.told h.right,
+  not_owed (live s.levels) why (λ must. subst (IsComplete (live s.levels)) h.told (h.complete must)),
+)
+
 claims : (s t : State) (item : Sexpr) (r : Reply) → Steps s item r t → IsTrueOf s r
 unfolding is_verdict
-claims s t item (Sat values) h = (performs s t (Sat values) refl (checked (symbols_of s.levels) (seen item)) h).1.holds
-claims s t item Unsat h = (performs s t Unsat refl (checked (symbols_of s.levels) (seen item)) h).1
+claims s t item (Sat values) h = sat_true s t values (performs s t (Sat values) refl (checked (symbols_of s.levels) (seen item)) h)
+claims s t item Unsat h = unsat_true s t (performs s t Unsat refl (checked (symbols_of s.levels) (seen item)) h)
+claims s t item (Unknown why) h = unknown_true s t why (performs s t (Unknown why) refl (checked (symbols_of s.levels) (seen item)) h)
 claims s t item (Success p) h = tt
 claims s t item Unsupported h = tt
 claims s t item (Echo text) h = tt

@@ -1,5 +1,5 @@
 -- What a run answers and writes where the words ask for a generated script.
-use Rattle.std.specs.Prelude.{◌≡◌, ◌⊎◌, ◌++◌, ◌^◌, ◌-◌, min, ℕ, Bool, true, false, List, [], ◌∷◌, take, count_by}
+use Rattle.std.specs.Prelude.{◌≡◌, ◌⊎◌, ◌++◌, ◌^◌, ◌-◌, min, ℕ, Bool, true, false, List, [], take, count_by}
 use Rattle.std.specs.declared.option.Option.{Option}
 use Rattle.std.specs.Io.KnownBytes.{Appends}
 use Rattle.smt_session.specs.declared.reply.Reply.{Reply}
@@ -19,9 +19,9 @@ abbrev pub is_unsat : Reply → Bool
 is_unsat reply.Unsat = true
 is_unsat _ = false
 
--- no reply says so yet
 abbrev pub is_unknown : Reply → Bool
-is_unknown r = false
+is_unknown (reply.Unknown why) = true
+is_unknown _ = false
 
 -- how many replies are so; a count stays at the last number of 64 bits
 abbrev pub counted : (Reply → Bool) → List Reply → ℕ

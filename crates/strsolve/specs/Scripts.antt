@@ -1,5 +1,5 @@
 -- The right replies to the commands of a script, in order (SMT-LIB 2.6, section 4.1).
-use Rattle.std.specs.Prelude.{◌≡◌, ◌||◌, ℕ, Bool, true, false, List, [], ◌∷◌, ◌++◌, Some, ⊤}
+use Rattle.std.specs.Prelude.{◌≡◌, ◌≢◌, ◌||◌, ℕ, Bool, true, false, List, [], ◌∷◌, ◌++◌, Some, ⊤}
 use Rattle.assert_stack.specs.Levels.{live}
 use Rattle.sexpr_reader.specs.Reads.{Begins, FaultAfter, Waits, Ends}
 use Rattle.sexpr_reader.specs.declared.sexpr.Sexpr.{Sexpr}
@@ -7,10 +7,13 @@ use Rattle.sexpr_reader.specs.declared.syntax_fault.SyntaxFault.{SyntaxFault}
 use Rattle.smt_session.specs.Refusals.{of_syntax}
 use Rattle.smt_session.specs.Replies.{text_of, is_error}
 use Rattle.smt_session.specs.Steps.{State, opened, Steps}
-use Rattle.sv_terms.specs.Truth.{AreTrueAt, HasNoValues, clear_of}
+use Rattle.decide.specs.Completeness.{MustDecide}
+use Rattle.decide.specs.Verdicts.{IsOpenFor}
+use Rattle.sv_terms.specs.Truth.{AreTrueAt, HasNoValues, clear_of, opaque_of}
+use Rattle.sv_terms.specs.declared.term.Term.{Term}
 use Rattle.smt_session.specs.declared.error_kind.ErrorKind.{ErrorKind}
 use Rattle.smt_session.specs.declared.reply.Reply.{Reply}
-use Rattle.smt_session.specs.declared.reply.Reply.TheVariants.{Error, Sat, Unsat}
+use Rattle.smt_session.specs.declared.reply.Reply.TheVariants.{Error, Sat, Unsat, Unknown}
 
 -- a reply to each item, and the session behind the last; nothing follows an answered `exit`
 pub data Follows : State → List Sexpr → List Reply → State → Type 0 where
@@ -39,10 +42,16 @@ pub data AnswersFront (ended : Bool) (bytes : List ℕ) (log : List Reply) : Typ
   so_far : (items : List Sexpr) (rest : List ℕ) (s : State) → Begins ended bytes items rest → Follows opened items log s → AnswersFront ended bytes log
   all : Answers ended bytes log → AnswersFront ended bytes log
 
--- what a verdict says of the session that it was given in: its values make each live assertion true, or no values make those without opaque parts true
+-- no answer is owed: where the text is within the limits, some assertion is opaque, and the others have values
+pub record IsNotOwed (terms : List Term) : Type 0 where
+  pub opaque_part : MustDecide terms → opaque_of terms ≢ []
+  pub has_values : MustDecide terms → HasNoValues (clear_of terms) → ⊥
+
+-- what a verdict says of the session that it was given in: its values make each live assertion true; no values make those without opaque parts true; or it names a cause that they have, and no answer is owed
 abbrev pub IsTrueOf : State → Reply → Type 0
 IsTrueOf s (Sat values) = AreTrueAt values (live s.levels)
 IsTrueOf s Unsat = HasNoValues (clear_of (live s.levels))
+IsTrueOf s (Unknown why) = IsOpenFor (live s.levels) why × IsNotOwed (live s.levels)
 IsTrueOf s _ = ⊤
 
 -- the printed replies, in order

@@ -11,6 +11,7 @@ use crate::transfer::write_reply;
 use sexpr_reader::{Reader, Sexpr, SyntaxFault, more_bytes};
 use smt_session::{ErrorKind, Reply, Session};
 use std::alloc::{AllocError, Global};
+use std::thread::Threads;
 use sv_io::{Sink, SinkFault};
 
 /// A script while it is answered: the reader of its bytes, the session, and the replies so far.
@@ -24,14 +25,15 @@ pub struct Answering {
 }
 
 impl Answering {
-    /// Nothing was fed and answered. It takes no memory.
-    pub fn new(alloc: Global) -> Answering
+    /// Nothing was fed and answered. So many threads do the cubes of a check. It takes no memory.
+    pub fn new(alloc: Global, workers: u32) -> Answering
+        requires { 1 ≤ workers }
         ensures waits { (taken : Optional (List ℕ)) → IsWaiting result [] taken taken }
         ensures empty { result.replies ≡ [] }
     {
         Answering {
             reader: Reader::new(alloc),
-            session: Session::new(alloc),
+            session: Session::new(alloc, workers),
             replies: Log::new(),
             fed: 0,
         }
@@ -66,8 +68,13 @@ impl Answering {
 
     /// Answers each item that is whole, up to an answered `exit` or a syntax fault. `None` where
     /// more bytes or the end have to come first.
-    pub fn answer_whole<K: Sink>(&mut self, alloc: Global, sink: &mut K) -> Option<Ending>
-        requires { (bytes : List ℕ) × (taken : Optional (List ℕ)) × IsAnswering false self.old bytes taken (K.taken sink.old) }
+    pub fn answer_whole<R: Threads + Sync, K: Sink>(
+        &mut self,
+        rt: &R,
+        alloc: Global,
+        sink: &mut K,
+    ) -> Option<Ending>
+        requires answering { (bytes : List ℕ) × (taken : Optional (List ℕ)) × IsAnswering false self.old bytes taken (K.taken sink.old) }
         ensures went { (bytes : List ℕ) (taken : Optional (List ℕ)) → IsAnswering false self.old bytes taken (K.taken sink.old)
             → MatchOption result (IsWaiting self.new bytes taken (K.taken sink.new)) (λ ending. Stops false bytes taken (K.taken sink.new) self.new.replies ending) }
         ensures added { Adds self.old.replies self.new.replies (K.taken sink.old) (K.taken sink.new) }
@@ -80,7 +87,7 @@ impl Answering {
                 Ok(None) => return None,
                 Err(fault) => return Some(self.refuse(alloc, sink, fault)),
             };
-            match self.answer(alloc, sink, &item) {
+            match self.answer(rt, alloc, sink, &item) {
                 None => {}
                 Some(ending) => return Some(ending),
             }
@@ -88,8 +95,13 @@ impl Answering {
     }
 
     /// Answers what is left where the input has ended.
-    pub fn answer_rest<K: Sink>(&mut self, alloc: Global, sink: &mut K) -> Ending
-        requires { (bytes : List ℕ) × (taken : Optional (List ℕ)) × IsAnswering false self.old bytes taken (K.taken sink.old) }
+    pub fn answer_rest<R: Threads + Sync, K: Sink>(
+        &mut self,
+        rt: &R,
+        alloc: Global,
+        sink: &mut K,
+    ) -> Ending
+        requires answering { (bytes : List ℕ) × (taken : Optional (List ℕ)) × IsAnswering false self.old bytes taken (K.taken sink.old) }
         ensures went { (bytes : List ℕ) (taken : Optional (List ℕ)) → IsAnswering false self.old bytes taken (K.taken sink.old) → Stops true bytes taken (K.taken sink.new) self.new.replies result }
         ensures added { Adds self.old.replies self.new.replies (K.taken sink.old) (K.taken sink.new) }
         ensures later { K.faults sink.old ≤ K.faults sink.new }
@@ -102,7 +114,7 @@ impl Answering {
                 Ok(None) => return Ending::Answered,
                 Err(fault) => return self.refuse(alloc, sink, fault),
             };
-            match self.answer(alloc, sink, &item) {
+            match self.answer(rt, alloc, sink, &item) {
                 None => {}
                 Some(ending) => return ending,
             }
@@ -110,7 +122,13 @@ impl Answering {
     }
 
     // Answers an item.
-    fn answer<K: Sink>(&mut self, alloc: Global, sink: &mut K, item: &Sexpr) -> Option<Ending>
+    fn answer<R: Threads + Sync, K: Sink>(
+        &mut self,
+        rt: &R,
+        alloc: Global,
+        sink: &mut K,
+        item: &Sexpr,
+    ) -> Option<Ending>
         ensures went { (ended : Bool) (bytes : List ℕ) (taken : Optional (List ℕ)) → IsGiven ended self.old item.now bytes taken (K.taken sink.old)
             → MatchOption result (IsAnswering ended self.new bytes taken (K.taken sink.new)) (λ ending. Stops ended bytes taken (K.taken sink.new) self.new.replies ending) }
         ensures count { IfNone result (length self.new.replies ≡ length self.old.replies + 1) }
@@ -119,7 +137,7 @@ impl Answering {
         ensures later { K.faults sink.old ≤ K.faults sink.new }
         ensures failed { IfSome result (λ ending. ending ≡ Ending.WriteFailed → Rose (K.faults sink.old) (K.faults sink.new)) }
     {
-        let reply = match self.session.step(alloc, item) {
+        let reply = match self.session.step(rt, alloc, item) {
             Ok(reply) => reply,
             Err(_) => return Some(Ending::NoMemory),
         };

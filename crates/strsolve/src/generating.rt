@@ -1,5 +1,5 @@
 //! Answers a generated script.
-ghost use Rattle.std.specs.Prelude.{◌≡◌, ◌⊎◌, ℕ, None, take};
+ghost use Rattle.std.specs.Prelude.{◌≡◌, ◌≤◌, ◌⊎◌, ℕ, None, take};
 ghost use Rattle.std.specs.Io.KnownBytes.{Appends};
 ghost use Rattle.generated_script.specs.Summary.{summary_text};
 ghost use Rattle.sv_io.specs.Counts.{Rose};
@@ -12,6 +12,7 @@ use crate::outcome::{ANSWERED, Ending, NO_MEMORY, Outcome, Run, WRITE_FAILED};
 use crate::transfer::write_all;
 use generated_script::{Blocks, summary};
 use std::alloc::Global;
+use std::thread::Threads;
 use sv_io::{Failed, Sink, SinkFault};
 
 /// Takes what is written to it, keeps none of it, and tells nothing.
@@ -33,11 +34,18 @@ impl Sink for Mute {
 }
 
 // Answers the generated script of this seed block by block, and writes nothing.
-fn answer_blocks(alloc: Global, seed: u64, size: u64) -> Outcome
+fn answer_blocks<R: Threads + Sync>(
+    rt: &R,
+    alloc: Global,
+    workers: u32,
+    seed: u64,
+    size: u64,
+) -> Outcome
+    requires { 1 ≤ workers }
     ensures { StopsIn (script seed size) result.log result.ending }
 {
     let mut blocks = Blocks::new(seed);
-    let mut answering = Answering::new(alloc);
+    let mut answering = Answering::new(alloc, workers);
     let mut mute = Mute;
     for _block in 0..size {
         let text = match blocks.next(alloc) {
@@ -58,7 +66,7 @@ fn answer_blocks(alloc: Global, seed: u64, size: u64) -> Outcome
                 };
             }
         }
-        match answering.answer_whole(alloc, &mut mute) {
+        match answering.answer_whole(rt, alloc, &mut mute) {
             None => {}
             Some(ending) => {
                 return Outcome {
@@ -68,7 +76,7 @@ fn answer_blocks(alloc: Global, seed: u64, size: u64) -> Outcome
             }
         }
     }
-    let ending = answering.answer_rest(alloc, &mut mute);
+    let ending = answering.answer_rest(rt, alloc, &mut mute);
     Outcome {
         ending,
         log: answering.into_log(),
@@ -97,11 +105,19 @@ fn write_summary<K: Sink>(alloc: Global, size: u64, log: &Log, sink: &mut K) -> 
 /// Answers the generated script of this seed, with so many blocks, and writes the one line that sums up
 /// its verdicts. A block is answered before the next one is made, so that memory doesn't grow with the
 /// script.
-pub fn answer_generated<K: Sink>(alloc: Global, seed: u64, size: u64, sink: &mut K) -> Run
+pub fn answer_generated<R: Threads + Sync, K: Sink>(
+    rt: &R,
+    alloc: Global,
+    workers: u32,
+    seed: u64,
+    size: u64,
+    sink: &mut K,
+) -> Run
+    requires { 1 ≤ workers }
     ensures generated { IsGenerated (script seed size) size (K.taken sink.old) (K.taken sink.new) result.status result.log }
     ensures failed { result.status ≡ 4 → Rose (K.faults sink.old) (K.faults sink.new) }
 {
-    let Outcome { ending, log } = answer_blocks(alloc, seed, size);
+    let Outcome { ending, log } = answer_blocks(rt, alloc, workers, seed, size);
     match ending {
         Ending::Answered => {
             let status = write_summary(alloc, size, &log, sink);

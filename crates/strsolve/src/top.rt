@@ -31,6 +31,15 @@ const PIECE: usize = 4_096;
 const USAGE: &str =
     "(error \"usage: strsolve [--workers N] [FILE] | strsolve [--workers N] --generate SEED --size N\")\n";
 
+// The number of workers that the words ask for.
+fn workers_of(asked: u64) -> u32
+    requires least { 1 ≤ asked }
+    requires most { asked ≤ 64 }
+    ensures { result ≡ asked }
+{
+    asked as u32
+}
+
 // Writes how the program is called, and says how that went.
 fn refuse_words<K: Sink>(sink: &mut K) -> u8
     ensures statuses { (result ≡ 2) ⊎ (result ≡ 4) ⊎ (result ≡ 5) }
@@ -46,8 +55,15 @@ fn refuse_words<K: Sink>(sink: &mut K) -> u8
 }
 
 // Answers each item as soon as it is whole, and reads on.
-fn answer_source<S: Source, K: Sink>(alloc: Global, source: &mut S, sink: &mut K) -> Outcome
-    requires { S.is_open source.old ≡ true }
+fn answer_source<R: Threads + Sync, S: Source, K: Sink>(
+    rt: &R,
+    alloc: Global,
+    workers: u32,
+    source: &mut S,
+    sink: &mut K,
+) -> Outcome
+    requires workers { 1 ≤ workers }
+    requires open { S.is_open source.old ≡ true }
     ensures went { Ended (S.left source.old) (S.left source.new) (K.taken sink.old) (K.taken sink.new) result.log result.ending }
     ensures prompt { IsPrompt (S.left source.old) (S.left source.new) (K.taken sink.old) (K.taken sink.new) result.log }
     ensures unread { result.ending ≡ Ending.ReadFailed → Rose (S.faults source.old) (S.faults source.new) }
@@ -55,7 +71,7 @@ fn answer_source<S: Source, K: Sink>(alloc: Global, source: &mut S, sink: &mut K
     ensures open { S.is_open source.new ≡ true }
     ensures astray { S.is_astray source.new ≡ S.is_astray source.old }
 {
-    let mut answering = Answering::new(alloc);
+    let mut answering = Answering::new(alloc, workers);
     let mut buffer = [0u8; PIECE];
     'pieces: loop {
         let count = match source.read(&mut buffer) {
@@ -68,7 +84,7 @@ fn answer_source<S: Source, K: Sink>(alloc: Global, source: &mut S, sink: &mut K
             }
         };
         if count == 0 {
-            let ending = answering.answer_rest(alloc, sink);
+            let ending = answering.answer_rest(rt, alloc, sink);
             return Outcome {
                 ending,
                 log: answering.into_log(),
@@ -83,7 +99,7 @@ fn answer_source<S: Source, K: Sink>(alloc: Global, source: &mut S, sink: &mut K
                 };
             }
         }
-        match answering.answer_whole(alloc, sink) {
+        match answering.answer_whole(rt, alloc, sink) {
             None => {}
             Some(ending) => {
                 return Outcome {
@@ -96,13 +112,16 @@ fn answer_source<S: Source, K: Sink>(alloc: Global, source: &mut S, sink: &mut K
 }
 
 // Answers the script that the source gives, opened with this name or none.
-fn answer_script<S: Source, K: Sink>(
+fn answer_script<R: Threads + Sync, S: Source, K: Sink>(
+    rt: &R,
     alloc: Global,
+    workers: u32,
     name: Option<&str>,
     source: &mut S,
     sink: &mut K,
 ) -> Outcome
-    requires { S.is_open source.old ≡ false }
+    requires workers { 1 ≤ workers }
+    requires closed { S.is_open source.old ≡ false }
     ensures went { Ended (S.left source.old) (S.left source.new) (K.taken sink.old) (K.taken sink.new) result.log result.ending }
     ensures prompt { IsPrompt (S.left source.old) (S.left source.new) (K.taken sink.old) (K.taken sink.new) result.log }
     ensures unread { result.ending ≡ Ending.ReadFailed → Rose (S.faults source.old) (S.faults source.new) }
@@ -111,10 +130,10 @@ fn answer_script<S: Source, K: Sink>(
     ensures astray { IsOwn (S.own_name source.old) (option_map (λ text. text.now) name.entry) → S.is_astray source.new ≡ S.is_astray source.old }
 {
     match source.open(name) {
-        Ok(()) => answer_source(alloc, source, sink),
+        Ok(()) => answer_source(rt, alloc, workers, source, sink),
         Err(_) => Outcome {
             ending: Ending::ReadFailed,
-            log: Answering::new(alloc).into_log(),
+            log: Answering::new(alloc, workers).into_log(),
         },
     }
 }
@@ -124,12 +143,13 @@ fn answer_script<S: Source, K: Sink>(
 ///
 /// The words are those behind the program's name, `[--workers N] [FILE]` or
 /// `[--workers N] --generate SEED --size N`, as `command_words` reads them. With any others the source
-/// isn't touched, and the sink gets one line that says how the program is called.
+/// isn't touched, and the sink gets one line that says how the program is called. N workers, or 1, do the
+/// cubes of a check.
 ///
 /// Takes time and memory in the bytes of the longest item, and what its commands take: the source
 /// is read in pieces, and each item is answered as soon as it is whole.
 pub fn run<R: Threads + Sync, S: Source, K: Sink>(
-    _rt: &R,
+    rt: &R,
     alloc: Global,
     words: &Words,
     source: &mut S,
@@ -170,13 +190,14 @@ pub fn run<R: Threads + Sync, S: Source, K: Sink>(
             };
         }
     };
+    let workers = workers_of(line.workers);
     match line.task {
         Task::Answer(name) => {
-            let outcome = answer_script(alloc, name, source, sink);
+            let outcome = answer_script(rt, alloc, workers, name, source, sink);
             let status = outcome.status();
             let Outcome { log, .. } = outcome;
             Run { status, log }
         }
-        Task::Generate { seed, size } => answer_generated(alloc, seed, size, sink),
+        Task::Generate { seed, size } => answer_generated(rt, alloc, workers, seed, size, sink),
     }
 }

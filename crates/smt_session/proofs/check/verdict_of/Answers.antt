@@ -1,23 +1,33 @@
-use Rattle.std.proofs.Common.{true, false, subst, sym}
-use Rattle.smt_session.specs.Search.{IsFound, Searched}
-use Rattle.smt_session.specs.Verdicts.{IsRightModel}
-use Rattle.smt_session.proofs.Memberships.{built, no-values}
-use Rattle.smt_session.proofs.Models.{right-model}
+use Rattle.std.proofs.Common.{sym, subst}
+use Rattle.decide.specs.Completeness.{IsComplete}
+use Rattle.decide.specs.Verdicts.{RightVerdict, HasOnly}
+use Rattle.decide.specs.declared.verdict.Verdict.TheVariants.{Sat}
+use Rattle.smt_session.specs.Verdicts.{IsModelFor}
+use Rattle.smt_session.proofs.Models.{one-sort, right-model, complete-model, model-for}
+use Rattle.smt_session.proofs.Soundness.{formed-all, known, sorted-all}
 use Rattle.smt_session.proofs.check.verdict_of.Goals as goal
 
-pub returns-then-found : goal.returns-then-found
-returns-then-found c =
-    let live = c.args.live.now in
-    let words = c.in-Some.found.words in
-    let found = subst (λ b. IsFound live words b) c.if-found.true (subst (Searched live) c.in-Some.is c.in_ok-find_all.ensures) in (
-      built live words true found,
-      subst (IsRightModel c.args.symbols.now live) (sym c.in_ok-model-in-Some.ensures)
-          (right-model c.decided.ensures c.well_formed_entries.ensures.allowed c.well_formed_entries.ensures.found c.args.symbols.now live words c.requires.well_formed c.requires.known found),
-    )
+pub check-requires-clause-sorts : goal.check-requires-clause-sorts
+check-requires-clause-sorts g c κs within =
+    one-sort c.well_formed_entries.ensures.allowed c.well_formed_entries.ensures.found c.constants_valued.ensures.valued c.args.symbols.now c.args.live.now c.requires.well_formed (known c.args.symbols.now c.args.live.now c.requires.terms)
 
-pub returns : goal.returns
-returns c =
-    let live = c.args.live.now in
-    let words = c.in-Some.found.words in
-    let found = subst (λ b. IsFound live words b) c.if-found.false (subst (Searched live) c.in-Some.is c.in_ok-find_all.ensures) in
-    (built live words false found, no-values c.decided.ensures live words found)
+pub returns-in_ok-model-in-Sat-clause-right : goal.returns-in_ok-model-in-Sat-clause-right
+returns-in_ok-model-in-Sat-clause-right g c =
+    subst (λ m. RightVerdict c.args.live.now (Sat m)) (sym c.in_ok-model-in-Sat.ensures)
+    (right-model c.well_formed_entries.ensures.allowed c.well_formed_entries.ensures.found c.constants_valued.ensures.valued c.args.symbols.now c.args.live.now c.in-Sat.values c.requires.well_formed (known c.args.symbols.now c.args.live.now c.requires.terms)
+    (subst (RightVerdict c.args.live.now) c.in-Sat.is c.in_ok-values.ensures.right))
+
+pub returns-in_ok-model-in-Sat-clause-covers : goal.returns-in_ok-model-in-Sat-clause-covers
+returns-in_ok-model-in-Sat-clause-covers g c =
+    subst (IsModelFor c.args.symbols.now c.args.live.now) (sym c.in_ok-model-in-Sat.ensures)
+    (model-for c.well_formed_entries.ensures.allowed c.args.symbols.now c.args.live.now c.in-Sat.values c.requires.well_formed
+    (subst (HasOnly c.args.live.now) c.in-Sat.is c.in_ok-values.ensures.only))
+
+pub returns-in_ok-model-in-Sat-clause-complete : goal.returns-in_ok-model-in-Sat-clause-complete
+returns-in_ok-model-in-Sat-clause-complete g c = λ must. complete-model c.args.live.now c.in-Sat.values _ (subst (IsComplete c.args.live.now) c.in-Sat.is (c.in_ok-values.ensures.complete must))
+
+pub check-requires-clause-sorted : goal.check-requires-clause-sorted
+check-requires-clause-sorted g c κs within = sorted-all c.args.symbols.now c.args.live.now c.requires.terms
+
+pub check-requires-clause-formed : goal.check-requires-clause-formed
+check-requires-clause-formed g c κs within = formed-all c.args.symbols.now c.args.live.now c.requires.terms

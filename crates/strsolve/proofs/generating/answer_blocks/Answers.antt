@@ -1,6 +1,6 @@
-use Rattle.std.proofs.Common.{◌≡◌, ◌+◌, ◌-◌, ◌<◌, ◌≤◌, ◌++◌, ℕ, suc, true, false, List, [], None, refl, sym, ap, ◌∙◌, subst, arith}
+use Rattle.std.proofs.Common.{◌≡◌, ◌+◌, ◌-◌, ◌≤◌, ◌++◌, suc, true, false, [], None, refl, sym, ap, ◌∙◌, subst, arith}
 use Rattle.generated_script.specs.Blocks.{blocks, script}
-use Rattle.generated_script.specs.Draws.{behind, seeded}
+use Rattle.generated_script.specs.Draws.{behind}
 use Rattle.strsolve.specs.Generated.{IsAnsweredFront, StopsIn}
 use Rattle.strsolve.proofs.Scripted.{next-fed, all-fed, cut-front, here-front, stopped}
 use Rattle.strsolve.proofs.generating.answer_blocks.Goals as goal
@@ -9,28 +9,28 @@ differ : false ≡ true → ⊥
 differ e = cc
 
 pub loop-block-init : goal.loop-block-init
-loop-block-init c =
+loop-block-init g c =
     let all : c.args.size ≡ c.args.size - 0 = omega arith in
     ([], c.new-answering.ensures.waits None, ap (λ s. blocks s c.args.size) (sym c.new-blocks.ensures) ∙ ap (blocks c.new-blocks.result) all)
 
 pub returns-in-Err : goal.returns-in-Err
-returns-in-Err c =
+returns-in-Err g c =
     let i = c.loop-block.invariant in
     subst (IsAnsweredFront (script c.args.seed c.args.size)) (sym c.into_log.ensures) (here-front (script c.args.seed c.args.size) i.0 (blocks c.loop-block.blocks (c.args.size - c.loop-block._block)) c.loop-block.answering i.2 i.1)
 
 pub returns-in-Err-feed : goal.returns-in-Err-feed
-returns-in-Err-feed c =
+returns-in-Err-feed g c =
     let i = c.loop-block.invariant in
     let less : c.args.size - c.loop-block._block ≡ suc (c.args.size - (c.loop-block._block + 1)) = omega (arith, c.loop-block-test.true) in
     let fed = next-fed (script c.args.seed c.args.size) i.0 c.deref.result.now c.loop-block.blocks (c.args.size - c.loop-block._block) (c.args.size - (c.loop-block._block + 1)) less (c.deref.ensures.value ∙ c.in-Ok.ensures.text) i.2 in
     subst (IsAnsweredFront (script c.args.seed c.args.size)) (sym c.into_log-in-Err-feed.ensures)
     (cut-front (script c.args.seed c.args.size) (i.0 ++ c.deref.result.now) (blocks (behind c.loop-block.blocks) (c.args.size - (c.loop-block._block + 1))) c.feed.new.self.replies false fed (c.in-Err-feed.ensures.err i.0 None None i.1.answering))
 
-pub answer_whole-requires : goal.answer_whole-requires
-answer_whole-requires c = let i = c.loop-block.invariant in (i.0 ++ c.deref.result.now, None, c.in-Ok-feed.ensures.ok i.0 None None i.1.answering)
+pub answer_whole-requires-clause-answering : goal.answer_whole-requires-clause-answering
+answer_whole-requires-clause-answering g c κs within = let i = c.loop-block.invariant in (i.0 ++ c.deref.result.now, None, c.in-Ok-feed.ensures.ok i.0 None None i.1.answering)
 
 pub returns-in-Some : goal.returns-in-Some
-returns-in-Some c =
+returns-in-Some g c =
     let i = c.loop-block.invariant in
     let less : c.args.size - c.loop-block._block ≡ suc (c.args.size - (c.loop-block._block + 1)) = omega (arith, c.loop-block-test.true) in
     let fed = next-fed (script c.args.seed c.args.size) i.0 c.deref.result.now c.loop-block.blocks (c.args.size - c.loop-block._block) (c.args.size - (c.loop-block._block + 1)) less (c.deref.ensures.value ∙ c.in-Ok.ensures.text) i.2 in
@@ -40,7 +40,7 @@ returns-in-Some c =
     (c.in-Some.ensures.went (i.0 ++ c.deref.result.now) None (c.in-Ok-feed.ensures.ok i.0 None None i.1.answering)))
 
 pub loop-block-preserved : goal.loop-block-preserved
-loop-block-preserved c =
+loop-block-preserved g c =
     let i = c.loop-block.invariant in
     let less : c.args.size - c.loop-block._block ≡ suc (c.args.size - (c.loop-block._block + 1)) = omega (arith, c.loop-block-test.true) in
     let fed = next-fed (script c.args.seed c.args.size) i.0 c.deref.result.now c.loop-block.blocks (c.args.size - c.loop-block._block) (c.args.size - (c.loop-block._block + 1)) less (c.deref.ensures.value ∙ c.in-Ok.ensures.text) i.2 in (
@@ -50,7 +50,7 @@ loop-block-preserved c =
     )
 
 pub returns : goal.returns
-returns c =
+returns g c =
     let i = c.loop-block.invariant in
     let none : c.args.size - c.loop-block._block ≡ 0 = omega (arith, c.loop-block-test.false) in
     subst (λ log. StopsIn (script c.args.seed c.args.size) log c.answer_rest-ending.result) (sym c.into_log-2.ensures)

@@ -5,4 +5,4 @@ use Rattle.strsolve.proofs.generating.answer_blocks.Given as goal
 
 -- so many blocks were fed and answered, and the others make up the rest of the script
 abbrev pub invariant-loop-block : goal.invariant-loop-block
-invariant-loop-block l = (bytes : List ℕ) × IsWaiting l.answering bytes None None × (script l.seed l.size ≡ bytes ++ blocks l.blocks (l.size - l._block))
+invariant-loop-block g l = (bytes : List ℕ) × IsWaiting l.answering bytes None None × (script l.seed l.size ≡ bytes ++ blocks l.blocks (l.size - l._block))

@@ -1,4 +1,4 @@
-use Rattle.std.proofs.Common.{◌≡◌, subst}
+use Rattle.std.proofs.Common.{subst}
 use Rattle.generated_script.specs.Blocks.{script}
 use Rattle.strsolve.specs.Generated.{StopsIn}
 use Rattle.strsolve.proofs.Scripted.{whole-front}

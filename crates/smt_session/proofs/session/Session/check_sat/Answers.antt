@@ -1,33 +1,44 @@
 use Rattle.std.proofs.Common.{ap, sym, ◌∙◌, subst, IsTrue}
 use Rattle.std.specs.List.{AllByRecursion}
 use Rattle.assert_stack.specs.Levels.{symbols_of, live}
-use Rattle.sort_check.specs.WellFormed.{is_well_formed, constants_known}
-use Rattle.smt_session.specs.Search.{IsRight}
-use Rattle.smt_session.specs.Steps.{State, with_verdict}
-use Rattle.sv_terms.specs.Truth.{clear_of, HasNoValues}
-use Rattle.smt_session.specs.Verdicts.{IsBuilt, constants_of}
+use Rattle.decide.specs.Verdicts.{RightVerdict}
+use Rattle.decide.specs.Completeness.{MustDecide, IsComplete}
+use Rattle.sort_check.specs.WellFormed.{is_well_formed, IsTermOf}
+use Rattle.sv_terms.specs.declared.sort.Sort.TheVariants as sort
+use Rattle.smt_session.specs.Steps.{State, with_verdict, kept_of}
 use Rattle.smt_session.specs.declared.session.Kept.TheVariants as kept
+use Rattle.smt_session.specs.Verdicts.{Covers, constants_of}
 use Rattle.smt_session.proofs.Models.{given}
-use Rattle.smt_session.proofs.Soundness.{live-known, sound-formed}
+use Rattle.smt_session.proofs.Soundness.{sound-formed, sound-live}
 use Rattle.smt_session.proofs.session.Session.check_sat.Goals as goal
 
 pub verdict_of-requires-clause-well_formed : goal.verdict_of-requires-clause-well_formed
-verdict_of-requires-clause-well_formed c = subst (λ z. IsTrue (is_well_formed z)) (sym c.symbols.ensures) (sound-formed c.self.inside.stack c.self.invariant.0)
+verdict_of-requires-clause-well_formed g c κs within = subst (λ z. IsTrue (is_well_formed z)) (sym c.symbols.ensures) (sound-formed c.self.inside.stack c.self.invariant.0)
 
-pub verdict_of-requires-clause-known : goal.verdict_of-requires-clause-known
-verdict_of-requires-clause-known c =
-    subst (AllByRecursion (λ t. IsTrue (constants_known c.symbols.result.now t))) (sym c.live.ensures)
-    (subst (λ z. AllByRecursion (λ t. IsTrue (constants_known z t)) (live c.self.inside.stack)) (sym c.symbols.ensures) (live-known c.constants_valued.ensures.kept c.self.inside.stack c.self.invariant.0))
+pub verdict_of-requires-clause-terms : goal.verdict_of-requires-clause-terms
+verdict_of-requires-clause-terms g c κs within =
+    subst (AllByRecursion (IsTermOf c.symbols.result.now sort.Bool)) (sym c.live.ensures)
+    (subst (λ z. AllByRecursion (IsTermOf z sort.Bool) (live c.self.inside.stack)) (sym c.symbols.ensures) (sound-live c.constants_valued.ensures.kept c.self.inside.stack c.self.invariant.0))
 
 pub invariant_of-self : goal.invariant_of-self
-invariant_of-self c =
-    let right = subst (IsRight c.symbols.result.now c.live.result.now) c.in-Sat.is c.in_ok-model.ensures in (
+invariant_of-self g c =
+    let covers = subst (Covers c.symbols.result.now c.live.result.now) c.in-Sat.is c.in_ok-model.ensures.covers in (
       c.self.invariant.0,
-      given c.well_formed_entries.ensures.found c.in-Sat.model (symbols_of c.self.inside.stack) (sound-formed c.self.inside.stack c.self.invariant.0) (right.1.covers ∙ ap constants_of c.symbols.ensures),
+      given c.well_formed_entries.ensures.found c.in-Sat.model (symbols_of c.self.inside.stack) (sound-formed c.self.inside.stack c.self.invariant.0) (covers.covers ∙ ap constants_of c.symbols.ensures),
+      c.self.invariant.2,
     )
 
 pub returns-in-Unsat-clause-ok : goal.returns-in-Unsat-clause-ok
-returns-in-Unsat-clause-ok c =
-    let right = subst (IsRight c.symbols.result.now c.live.result.now) c.in-Unsat.is c.in_ok-model.ensures in
-    let all = c.live.ensures ∙ ap live (ap (λ (s : State). s.levels) c.self.view_is) in
-    (subst IsBuilt all right.0, subst (λ ts. HasNoValues (clear_of ts)) all right.1, ap (with_verdict kept.Unsat) c.self.view_is)
+returns-in-Unsat-clause-ok g c =
+    let levels = ap (λ (s : State). s.levels) c.self.view_is in
+    let all = c.live.ensures ∙ ap live levels in
+    let symbols = c.symbols.ensures ∙ ap symbols_of levels in
+    let answer = c.in_ok-model.field-0 in
+    record {
+      answer = answer;
+      told = (_, c.in-Unsat.is);
+      right = subst (λ l. RightVerdict l answer) all c.in_ok-model.ensures.right;
+      complete = λ must. subst (λ l. IsComplete l answer) all (c.in_ok-model.ensures.complete (subst MustDecide (sym all) must));
+      covers = subst (λ z. Covers z (live c.args.self.now.levels) answer) symbols (subst (λ l. Covers c.symbols.result.now l answer) all c.in_ok-model.ensures.covers);
+      after = ap (with_verdict kept.Unsat) c.self.view_is ∙ ap (λ k. with_verdict k c.args.self.now) (sym (ap kept_of c.in-Unsat.is));
+    }

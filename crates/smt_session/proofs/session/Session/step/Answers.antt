@@ -8,15 +8,15 @@ use Rattle.smt_session.proofs.Names.{if-ok}
 use Rattle.smt_session.proofs.Soundness.{fits}
 use Rattle.smt_session.proofs.session.Session.step.Goals as goal
 
-pub perform-requires : goal.perform-requires
-perform-requires c =
+pub perform-requires-clause-fits : goal.perform-requires-clause-fits
+perform-requires-clause-fits g c κs within =
     let stack = c.self.inside.stack in
     let is = sym (ap (λ z. checked z (seen c.args.item.now)) c.symbols.ensures) ∙ c.in-Ok.ensures in
     subst (λ ls. Fits ls c.in-Ok.command) (ap (λ (s : State). s.levels) c.self.view_is)
     (fits c.terms_sorted.ensures.asserted c.terms_sorted.ensures.values c.well_formed_more.ensures.declared c.well_formed_more.ensures.defined stack c.args.item.now c.in-Ok.command c.self.invariant.0 is)
 
 pub returns-in-Ok-clause-ok : goal.returns-in-Ok-clause-ok
-returns-in-Ok-clause-ok c =
+returns-in-Ok-clause-ok g c =
     let at = c.symbols.ensures ∙ ap symbols_of (ap (λ (s : State). s.levels) c.self.view_is) in
     let is = sym (ap (λ z. checked z (seen c.args.item.now)) at) ∙ c.in-Ok.ensures in
     if-ok _ _ c.perform.result (λ r does. subst (λ x. Performs c.args.self.now x r c.perform.new.self) (sym is) does) c.perform.ensures.ok

@@ -1,4 +1,4 @@
-use Rattle.std.proofs.Common.{◌≡◌, ◌||◌, Bool, sym, ap, ◌∙◌}
+use Rattle.std.proofs.Common.{◌||◌, Bool, sym, ap, ◌∙◌}
 use Rattle.smt_session.specs.Replies.{is_error}
 use Rattle.strsolve.specs.Generated.{tally_of}
 use Rattle.strsolve.proofs.Turns.{error_more}

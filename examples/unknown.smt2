@@ -1,0 +1,5 @@
+(declare-const x String)
+(declare-const y String)
+(assert (distinct x y))
+(check-sat)
+(get-info :reason-unknown)
