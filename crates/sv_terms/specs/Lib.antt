@@ -17,5 +17,4 @@ pub mod TransducerSizeLaws
 pub mod Transduction
 pub mod TransductionLaws
 pub mod Truth
-pub mod Witness
 pub mod Written

@@ -9,13 +9,12 @@
 //! are words. `Pairs` is what a transducer relates, `ReplacedFirst` and `ReplacedAll` what
 //! replacement is. The laws join them to what computes.
 //!
-//! Copying, comparing and `witness` take time linear in the expression (and the word that is
-//! made), and stack in its nesting.
+//! Copying and comparing take time linear in the expression, and stack in its nesting.
 //!
 //! ```text
 //! let digit = Regex::Range(0x30, 0x39);
 //! let digits = Regex::Plus(Boxed::new(alloc, digit)?);
-//! witness(alloc, &digits)? // Some of the word 0
+//! bound(&digits) // 2: a machine of it has at most two states
 //! ```
 #![tactic(auto)]
 
@@ -26,7 +25,6 @@ mod limits;
 mod model;
 mod name;
 mod op;
-mod plain;
 mod regex;
 mod sort;
 mod symbols;
@@ -35,7 +33,6 @@ mod term;
 mod tests;
 mod transducer;
 mod value;
-mod witnesses;
 
 pub use bounds::{bound, power_of_two};
 pub use entry::{Body, Entry};
@@ -45,7 +42,7 @@ pub use laws::{
 };
 pub use limits::{
     MOST_CHARACTERS, MOST_CUBES, MOST_LEVELS, MOST_NESTING, MOST_NODES, MOST_POINTS,
-    MOST_REGISTERS, MOST_SPLITS, MOST_STATES, MOST_TIMES, MOST_TRANSDUCER_EDGES,
+    MOST_REGISTERS, MOST_SPLITS, MOST_TIMES, MOST_TRANSDUCER_EDGES,
     MOST_TRANSDUCER_ENDS, MOST_TRANSDUCER_STATES,
 };
 pub use model::Model;
@@ -57,4 +54,3 @@ pub use symbols::Symbols;
 pub use term::Term;
 pub use transducer::{Item, TransEdge, Transducer};
 pub use value::Value;
-pub use witnesses::witness;

@@ -28,9 +28,6 @@ pub const MOST_CUBES: u64 = 1_048_576;
 /// The most registers of a cube, and the most integer constants.
 pub const MOST_REGISTERS: u32 = 64;
 
-/// The most states of one machine of a cube, by the numbers of its text.
-pub const MOST_STATES: u64 = 65_536;
-
 /// The most splits of a cube, by the numbers of its text.
 pub const MOST_SPLITS: u64 = 1_048_576;
 
