@@ -9,6 +9,10 @@
 //! down to what lies on runs and answered by `leaf_solve`. The first hit ends the search: its runs are taken
 //! back over the steps that led to it, and its words are the model. One family a definition is kept at a time.
 //!
+//! The limits on a cube's text bound what its machines and their cuts may come to, which they seldom do. So a cube
+//! past the limit on states or on splits is searched all the same, as far as a bounded effort goes, and left open
+//! for its text only where that ends first.
+//!
 //! ```
 //! let numbers = numbers(alloc, &flat)?;
 //! match cube_answer(alloc, &flat, &numbers, &kept)? {
@@ -16,6 +20,7 @@
 //! ```
 #![tactic(auto)]
 
+mod allowance;
 mod answer;
 mod answering;
 mod boxes;
@@ -29,6 +34,7 @@ mod reason;
 mod regions;
 mod searching;
 mod settling;
+mod spending;
 mod spreading;
 mod stepping;
 mod tally;

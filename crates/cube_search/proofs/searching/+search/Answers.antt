@@ -1,4 +1,4 @@
-use Rattle.std.proofs.Common.{◌≡◌, ℕ, suc, ◌+◌, ◌-◌, ◌<◌, List, [], ◌∷◌, ◌++◌, length, Some, None, slice_get, arith, refl, sym, ap, ◌∙◌, subst, Ok, IfOk, IfSome, OnOk, MatchOption, add-one, length-append, inr}
+use Rattle.std.proofs.Common.{◌≡◌, ℕ, suc, ◌+◌, ◌-◌, ◌<◌, List, [], ◌∷◌, ◌++◌, length, Some, None, slice_get, arith, refl, sym, ap, ◌∙◌, subst, Ok, Err, IfOk, IfSome, OnOk, MatchOption, add-one, length-append, inr}
 use Rattle.backward.specs.States.{IsState}
 use Rattle.backward.specs.Steps.{CanPassAt}
 use Rattle.cube_search.specs.Searches.{IsFound}
@@ -125,3 +125,23 @@ try_cuts-states_at-s-end-requires-clause-at t c = cutting-below c.args.search.no
 
 pub try_cuts-states_at-s-end-requires-clause-machine : goal.try_cuts-states_at-s-end-requires-clause-machine
 try_cuts-states_at-s-end-requires-clause-machine t c = cutting-machine c.args.search.now.flat.now c.args.at c.args.pieces.now c.args.state.now.machines c.args.cuts.now c.requires.cuts
+
+pub below-returns-in_err-next-clause-refused : goal.below-returns-in_err-next-clause-refused
+below-returns-in_err-next-clause-refused t c = λ n e.
+    let d = rw e at c.from_residual-in_err-next.ensures.1 in
+    c.most_states-limit.ensures (c.in_err-next.ensures.refused n (ap Err (sym d)))
+
+pub below-returns-in_err-spend-clause-refused : goal.below-returns-in_err-spend-clause-refused
+below-returns-in_err-spend-clause-refused t c = λ n e.
+    let d = rw e at c.from_residual-in_err-spend.ensures.1 in
+    c.spend.ensures n (c.in_err-spend.was ∙ ap Err (sym d))
+
+pub below-returns-in_err-lifted-clause-refused : goal.below-returns-in_err-lifted-clause-refused
+below-returns-in_err-lifted-clause-refused t c = λ n e.
+    let d = rw e at c.from_residual-in_err-lifted.ensures.1 in
+    c.descend-found.ensures.refused n (c.leave.ensures.refused n (c.in_err-lifted.was ∙ ap Err (sym d)))
+
+pub try_cuts-returns-in_err-found-clause-refused : goal.try_cuts-returns-in_err-found-clause-refused
+try_cuts-returns-in_err-found-clause-refused t c = λ n e.
+    let d = rw e at c.from_residual-in_err-found.ensures.1 in
+    c.try_cuts.ensures.refused n (c.in_err-found.was ∙ ap Err (sym d))

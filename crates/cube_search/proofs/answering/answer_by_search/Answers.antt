@@ -1,4 +1,4 @@
-use Rattle.std.proofs.Common.{◌≡◌, Ok, refl, sym, ap, ◌∙◌, subst, arith, rules, w64, length, IfSome}
+use Rattle.std.proofs.Common.{◌≡◌, Ok, Err, inl, inr, refl, sym, ap, ◌∙◌, subst, arith, rules, w64, length, IfSome}
 use Rattle.std.proofs.lemmas.Int.{to_z-of_z}
 use mir.Val.{SFits}
 use Rattle.cube_search.specs.Answers.{IsCubeAnswer, IsDecided}
@@ -7,7 +7,7 @@ use Rattle.cube_search.specs.Tallies.{IsCovered}
 use Rattle.cube_search.proofs.AnswerLemmas.{left-answers, left-decides, little, model-of, reachable}
 use Rattle.cube_search.proofs.CountLemmas.{few-definitions}
 use Rattle.cube_search.proofs.FirstLemmas.{found-satisfies}
-use Rattle.cube_search.proofs.answering.answer_from.Goals as goal
+use Rattle.cube_search.proofs.answering.answer_by_search.Goals as goal
 
 pub overflow_cast-left : goal.overflow_cast-left
 overflow_cast-left c =
@@ -21,13 +21,13 @@ pub descend-requires-clause-search : goal.descend-requires-clause-search
 descend-requires-clause-search c = record {
   straight = c.requires.straight;
   formed = c.requires.formed;
-  little = little c.args.flat.now c.requires.bare c.requires.limits;
+  little = little c.args.flat.now c.requires.bare c.requires.little;
   whole = c.requires.whole;
   few = c.requires.few;
   region = c.in_ok-region_of.ensures;
   is_small = c.requires.numbers.small;
   is_reach = (let f : SFits w64 c.args.numbers.now.reach = search rules in to_z-of_z w64 c.args.numbers.now.reach f ∙ c.requires.numbers.reach);
-  reachable = reachable c.args.flat.now c.requires.limits;
+  reachable = reachable c.args.flat.now c.requires.little;
 }
 
 pub model_of-requires-clause-satisfies : goal.model_of-requires-clause-satisfies
@@ -56,3 +56,13 @@ returns-clause-right c =
 pub returns-clause-decided : goal.returns-clause-decided
 returns-clause-decided c = λ must.
     subst IsDecided (sym c.left_of.ensures) (left-decides c.args.flat.now c.in_ok-region_of.field-0 c.in_ok-region_of.ensures c.descend.new.tally c.in_ok-found.ensures.tally must)
+
+pub returns-in_err-state-clause-refused : goal.returns-in_err-state-clause-refused
+returns-in_err-state-clause-refused c = λ n e.
+    let d = rw e at c.from_residual-in_err-state.ensures.1 in
+    inr (c.in_err-state.ensures.refused n (ap Err (sym d)))
+
+pub returns-in_err-found-clause-refused : goal.returns-in_err-found-clause-refused
+returns-in_err-found-clause-refused c = λ n e.
+    let d = rw e at c.from_residual-in_err-found.ensures.1 in
+    inl (c.descend.ensures.refused n (c.in_err-found.was ∙ ap Err (sym d)))
