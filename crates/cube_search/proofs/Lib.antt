@@ -26,3 +26,4 @@ mod NearSides
 mod Named
 mod SpreadLemmas
 mod ModelLemmas
+pub mod DeadLemmas

@@ -6,7 +6,8 @@
 //!
 //! A concatenation is cut at all lists of states of its machine, one list after another, and another definition
 //! is carried through its transducer, until only the machines of the source variables are left. These are cut
-//! down to what lies on runs and answered by `leaf_solve`. The first hit ends the search: its runs are taken
+//! down to what lies on runs and answered by `leaf_solve`. Where some machine on the way reads nothing, nothing below
+//! it is looked at. The first hit ends the search: its runs are taken
 //! back over the steps that led to it, and its words are the model. One family a definition is kept at a time.
 //!
 //! The limits on a cube's text bound what its machines and their cuts may come to, which they seldom do. So a cube
@@ -24,6 +25,7 @@ mod allowance;
 mod answer;
 mod answering;
 mod boxes;
+mod dead_ends;
 mod found;
 mod laws;
 mod leaves;

@@ -7,6 +7,7 @@ ghost use Rattle.cube_search.specs.Steps.{CanStep, IsCutting};
 ghost use Rattle.cube_search.specs.Tallies.{IsTally, Keeps, IsCovered, AreCoveredFrom, IsCoveredBelow};
 
 use crate::allowance::Allowance;
+use crate::dead_ends::reads_nothing;
 use crate::found::Found;
 use crate::leaves::answer_leaf;
 use crate::spending::spend;
@@ -29,7 +30,8 @@ pub struct Search<'a> {
     pub allowance: Allowance,
 }
 
-/// Answers all leaves below a family in which `left` definitions are still to be carried. The first
+/// Answers all leaves below a family in which `left` definitions are still to be carried; none where some
+/// machine of it reads nothing. The first
 /// runs that satisfy the cube end it. `spent` counts the states of the families on the way. `States` comes only where the search isn't allowed to take whatever it takes.
 #[cycle(search)]
 pub fn descend(
@@ -50,6 +52,9 @@ pub fn descend(
     ensures found { IfOk result (λ o. IfSome o (IsFound search.now.flat.now left state.now.machines)) }
     ensures refused { (n : ℕ) → result ≡ Err (States n) → search.now.allowance ≡ Part }
 {
+    if reads_nothing(state) {
+        return Ok(None);
+    }
     if left == 0 {
         return answer_leaf(search, alloc, state, tally);
     }

@@ -53,5 +53,5 @@ returns-clause-kept c =
 
 pub returns-in_err-both-clause-refused : goal.returns-in_err-both-clause-refused
 returns-in_err-both-clause-refused c = λ n e.
-    let d = rw e at c.from_residual-in_err-both.ensures.1 in
+    let d = rw e at c.from_residual.ensures.1 in
     (c.in_err-both.ensures.beyond n (ap Err (sym d))).1

@@ -70,5 +70,5 @@ returns-clause-made c =
 
 pub returns-in_err-next-clause-refused : goal.returns-in_err-next-clause-refused
 returns-in_err-next-clause-refused c = λ n e.
-    let d = rw e at c.from_residual-in_err-next.ensures.1 in
+    let d = rw e at c.from_residual.ensures.1 in
     c.in_err-next.ensures.refused n (ap Err (sym d))

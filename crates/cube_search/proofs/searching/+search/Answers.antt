@@ -1,4 +1,5 @@
 use Rattle.std.proofs.Common.{◌≡◌, ℕ, suc, ◌+◌, ◌-◌, ◌<◌, List, [], ◌∷◌, ◌++◌, length, Some, None, slice_get, arith, refl, sym, ap, ◌∙◌, subst, Ok, Err, IfOk, IfSome, OnOk, MatchOption, add-one, length-append, inr}
+use Rattle.backward.specs.Families.{Conf}
 use Rattle.backward.specs.States.{IsState}
 use Rattle.backward.specs.Steps.{CanPassAt}
 use Rattle.cube_search.specs.Searches.{IsFound}
@@ -145,3 +146,10 @@ pub try_cuts-returns-in_err-found-clause-refused : goal.try_cuts-returns-in_err-
 try_cuts-returns-in_err-found-clause-refused t c = λ n e.
     let d = rw e at c.from_residual-in_err-found.ensures.1 in
     c.try_cuts.ensures.refused n (c.in_err-found.was ∙ ap Err (sym d))
+
+pub descend-returns-then-reads_nothing-clause-covered : goal.descend-returns-then-reads_nothing-clause-covered
+descend-returns-then-reads_nothing-clause-covered t c = λ none words totals ints conf obey meets.
+    absurd (c.reads_nothing.ensures c.if-reads_nothing.true words totals (subst (λ w. Conf w c.args.state.now.machines words totals) (sym c.requires.state.registers) conf))
+
+pub descend-returns-then-reads_nothing-clause-kept : goal.descend-returns-then-reads_nothing-clause-kept
+descend-returns-then-reads_nothing-clause-kept t c = keeps-same c.args.tally.now
