@@ -1,5 +1,5 @@
 -- A family with a machine without an end reads nothing.
-use Rattle.std.proofs.Common.{◌≡◌, ℕ, zero, suc, ◌<◌, ⊥, List, [], ◌∷◌, length, get_or, Option, Some, None, slice_get, ap, ◌∙◌, sym, subst, arith}
+use Rattle.std.proofs.Common.{◌≡◌, ℕ, zero, suc, ◌<◌, List, [], ◌∷◌, length, get_or, Option, Some, None, slice_get, ap, ◌∙◌, sym, subst, arith}
 use Rattle.machine_core.specs.declared.graph.Graph.{Graph}
 use Rattle.machine_core.specs.declared.end.End.{End}
 use Rattle.machine_core.specs.Edges.{EndsAt, StepsBy}

@@ -1,5 +1,5 @@
 //! Families that read nothing.
-ghost use Rattle.std.specs.Prelude.{◌≡◌, ℕ, ⊥, true, List, [], Some};
+ghost use Rattle.std.specs.Prelude.{◌≡◌, ℕ, true, List, [], Some};
 ghost use Rattle.machine_core.specs.declared.graph.Graph.{Graph};
 ghost use Rattle.backward.specs.Families.{Words, Conf};
 

@@ -1,5 +1,5 @@
 //! Leaves answered: families in which only source variables have machines.
-ghost use Rattle.std.specs.Prelude.{◌≡◌, ℕ, ⊥, pos, ◌≤ℤ◌, ◌<ℤ◌, Ok, Err, None, Some, IfOk, IfSome, OnOk};
+ghost use Rattle.std.specs.Prelude.{◌≡◌, ℕ, pos, ◌≤ℤ◌, ◌<ℤ◌, Ok, Err, None, Some, IfOk, IfSome, OnOk};
 ghost use Rattle.trim_search.specs.declared.build_fault.BuildFault.TheVariants.{States};
 ghost use Rattle.leaf_solve.specs.Answers.{IsDecided};
 ghost use Rattle.leaf_solve.specs.declared.long_shown.LongShown.TheVariants.{Words};
