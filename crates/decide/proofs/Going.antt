@@ -1,19 +1,24 @@
 -- One batch more.
-use Rattle.std.proofs.Common.{◌≡◌, ◌≢◌, ℕ, zero, suc, ◌+◌, ◌*◌, ◌^◌, ◌<◌, ◌≤◌, ◌⊎◌, Bool, true, false, ◌||◌, nat_lt, List, [], ◌∷◌, ◌++◌, length, map, Option, Some, None, MatchOption, Result, Ok, Err, IfOk, refl, sym, ap, ◌∙◌, subst, arith, length-append, append_assoc, inl, inr}
+use Rattle.std.proofs.Common.{◌≡◌, ◌≢◌, ℕ, zero, suc, ◌+◌, ◌*◌, ◌^◌, ◌<◌, ◌≤◌, ◌⊎◌, Bool, true, false, ◌||◌, nat_lt, List, [], ◌∷◌, ◌++◌, length, map, take, drop, Option, Some, None, MatchOption, Result, Ok, Err, IfOk, refl, sym, ap, ◌∙◌, subst, arith, length-append, append_assoc, append-nil, inl, inr}
 use Rattle.std.specs.List.{AllByRecursion, AllZip}
-use Rattle.std.proofs.lemmas.List.{map-append}
+use Rattle.std.proofs.lemmas.List.{length-drop, map-append, take-append-drop}
+use Rattle.std.proofs.Math.Seq.{drop-append_seam}
 use Rattle.std.specs.declared.alloc.AllocError.{AllocError}
 use Rattle.std.specs.Option.{is_some}
 use Rattle.std.proofs.lemmas.Bool.{ltb-true, ltb-false}
 use Rattle.sv_terms.specs.Meaning.{Named}
 use Rattle.sv_terms.specs.declared.term.Term.{Term}
+use Rattle.bool_cubes.specs.Cubes.{cubes_of}
 use Rattle.bool_cubes.specs.declared.literal.Cube.{Cube}
 use Rattle.cube_search.specs.declared.answer.CubeAnswer.{CubeAnswer}
 use Rattle.sv_terms.specs.Truth.{opaque_of}
 use Rattle.decide.specs.Folds.{found, fold, with_first, without_sat, opens_from, refuted_from, refutation}
 use Rattle.decide.specs.Jobs.{IsAsked, IsOutcome, IsTallyOf, AreWhole, EndsWithBatch, IsFoldOf, IsUnderWay, batch, verdict_of}
 use Rattle.decide.specs.Batches.{AreJobsOf, Yields}
+use Rattle.decide.specs.Causes.{CubeHasNoValues}
+use Rattle.decide.specs.Passing.{Passes, passed}
 use Rattle.decide.specs.declared.tally.Tally.{Tally}
+use Rattle.decide.proofs.Tallying.{found-over, passed-length}
 
 -- a job, as contracts see it
 abbrev Job : Type 0
@@ -193,3 +198,50 @@ module _ (new : List Cube) (jobs : List Job) (size : (length jobs ≡ batch) ⊎
       by true h m e = absurd cc
       by false h None e = (whole-size (ltb-false (length jobs) batch h), refl)
       by false h (Some x) e = absurd cc
+
+all-dropped : {X : Type 0} (P : X → Type 0) (n : ℕ) (xs : List X) → AllByRecursion P xs → AllByRecursion P (drop n xs)
+all-dropped P zero xs h = h
+all-dropped P (suc n) [] h = tt
+all-dropped P (suc n) (x ∷ xs) h = all-dropped P n xs h.1
+
+-- cubes without values have an answer that no work makes
+outcomes-over : (terms : List Term) (n : ℕ) (cubes : List Cube) → n ≤ length cubes → AllByRecursion CubeHasNoValues (take n cubes) → AllZip (IsOutcome terms) (take n cubes) (passed n)
+outcomes-over terms zero [] h none = tt
+outcomes-over terms zero (c ∷ cubes) h none = tt
+outcomes-over terms (suc n) [] h none = absurd (omega (arith, h))
+outcomes-over terms (suc n) (c ∷ cubes) h none = (record { right = none.0; decided = λ must. tt }, outcomes-over terms n cubes (omega (arith, h)) none.1)
+
+module _ (terms clear : List Term) (cubes old : List Cube) (before : Tally) (u : IsUnderWay terms cubes old before) (is : cubes ≡ cubes_of clear) where
+  -- those that are left stand behind those that were answered
+  pub left-behind : drop before.count (cubes_of clear) ≡ old
+  left-behind =
+      let n : before.count ≡ length u.done = u.tallied.count ∙ sym (zip-length (IsOutcome terms) u.done u.answers u.outcomes) in
+      (λ i. drop (n i) (sym is i)) ∙ ap (λ l. drop (length u.done) l) u.parts ∙ drop-append_seam u.done old
+
+  pub pass-room : length cubes ≤ 1048576 → before.count + length (drop before.count (cubes_of clear)) < 2 ^ 64
+  pass-room few = let a = counted terms cubes old before u in let b = ap length left-behind in omega (arith, a, b, few)
+
+  -- the search goes on behind those that are passed over
+  pub go-over : (new : List Cube) (after : Tally) → Passes clear old new before after → IsUnderWay terms cubes new after
+  go-over new after p =
+      let n = p.cubes in
+      let enough : n ≤ length old = subst (λ l. n ≤ length l) left-behind p.known.enough in
+      let none : AllByRecursion CubeHasNoValues (take n old) = subst (λ l. AllByRecursion CubeHasNoValues (take n l)) left-behind p.known.none in record {
+        done = u.done ++ take n old;
+        answers = u.answers ++ passed n;
+        parts = u.parts ∙ ap (λ l. u.done ++ l) (sym (take-append-drop n old) ∙ ap (λ l. take n old ++ l) (sym p.left)) ∙ sym (append_assoc u.done (take n old) new);
+        outcomes = zip-append (IsOutcome terms) u.done (take n old) u.answers (passed n) u.outcomes (outcomes-over terms n old enough none);
+        tallied = p.tallied (opaque_of terms) u.answers u.tallied;
+        whole = record {
+          batches = u.whole.batches + p.known.batches;
+          whole = length-append u.answers (passed n) ∙ (let l = passed-length n in let w = u.whole.whole in let k = p.known.whole in omega (arith, l, w, k));
+          goes_on = found-over (opaque_of terms) u.answers n ∙ u.whole.goes_on;
+        };
+      }
+
+module _ (clear : List Term) (old : List Cube) (before : Tally) (new : List Cube) (after : Tally) (p : Passes clear old new before after) where
+  pub asked-over : (terms : List Term) → AllByRecursion (IsAsked terms) old → AllByRecursion (IsAsked terms) new
+  asked-over terms h = subst (AllByRecursion (IsAsked terms)) (sym p.left) (all-dropped (IsAsked terms) p.cubes old h)
+
+  pub no-more-over : length new ≤ length old
+  no-more-over = let e = ap length p.left in let l = length-drop p.cubes old in omega (arith, e, l)

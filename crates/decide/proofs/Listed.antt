@@ -1,6 +1,6 @@
 -- Places in lists.
 use Rattle.std.proofs.Common.{◌≡◌, ℕ, zero, suc, ◌<◌, ◌≤◌, ◌+◌, Bool, true, false, ◌&&◌, List, [], ◌∷◌, ◌++◌, length, take, Contains, Option, Some, None, slice_get, get_or, refl, sym, ap, ◌∙◌, arith}
-use Rattle.std.specs.List.{list_all}
+use Rattle.std.specs.List.{AllByRecursion, list_all}
 
 pub contains-here : {X : Type 0} (x : X) (xs : List X) → Contains (x ∷ xs) x
 contains-here x xs = (zero, omega arith, refl)
@@ -50,3 +50,8 @@ take-whole [] n h = none n
     none (suc n) = refl
 take-whole (x ∷ xs) zero h = absurd (omega arith)
 take-whole (x ∷ xs) (suc n) h = ap (λ l. x ∷ l) (take-whole xs n (omega arith))
+
+-- what holds of all holds of both parts
+pub first-part : {X : Type 0} (P : X → Type 0) (xs ys : List X) → AllByRecursion P (xs ++ ys) → AllByRecursion P xs × AllByRecursion P ys
+first-part P [] ys h = (tt, h)
+first-part P (x ∷ xs) ys h = let r = first-part P xs ys h.1 in ((h.0, r.0), r.1)

@@ -36,6 +36,7 @@ use Rattle.decide.specs.Completeness.{MustDecideCube}
 use Rattle.decide.specs.Constants.{HaveOneSort}
 use Rattle.decide.specs.Filling.{AreChosen, IsFilledFrom, default, or_default, value_of}
 use Rattle.decide.specs.Jobs.{IsAsked, IsOutcome, IsSatOf}
+use Rattle.decide.proofs.Listed.{first-part}
 use Rattle.decide.proofs.Sorts.{same-self, sort_at, sorted-by, sorts_by}
 
 abbrev Name : Type 0
@@ -70,10 +71,6 @@ module _ (given full : Named) (chosen : AreChosen given full) where
   names-stay : (w : Word) (ns : List Name) → AllByRecursion (HasValue given (value.Text w)) ns → AllByRecursion (λ n. sorts_by full n ≡ sort.String) ns → AllByRecursion (HasValue full (value.Text w)) ns
   names-stay w [] h s = tt
   names-stay w (n ∷ ns) h s = (stays sort.String n (value.Text w) refl (λ e. cc) h.0 s.0, names-stay w ns h.1 s.1)
-
-  first-part : {X : Type 0} (P : X → Type 0) (xs ys : List X) → AllByRecursion P (xs ++ ys) → AllByRecursion P xs × AllByRecursion P ys
-  first-part P [] ys h = (tt, h)
-  first-part P (x ∷ xs) ys h = let r = first-part P xs ys h.1 in ((h.0, r.0), r.1)
 
   texts-stay : (vs : List Variable) (ws : List Word) → AllZip (NamesHave given) vs ws → AllByRecursion (λ n. sorts_by full n ≡ sort.String) (string_names vs) → AllZip (NamesHave full) vs ws
   texts-stay [] [] h s = tt

@@ -1,5 +1,6 @@
 -- The tally of one answer more.
 use Rattle.std.proofs.Common.{◌≡◌, ℕ, zero, suc, ◌+◌, List, [], ◌∷◌, ◌++◌, length, Option, Some, None, Result, Ok, Err, OnOk, refl, sym, ap, ◌∙◌, subst, arith, length-append, append-nil}
+use Rattle.sv_terms.specs.CutOff.{cut_off}
 use Rattle.sv_terms.specs.Meaning.{Named}
 use Rattle.sv_terms.specs.declared.term.Term.{Term}
 use Rattle.cube_search.specs.declared.answer.CubeAnswer.{CubeAnswer}
@@ -10,6 +11,7 @@ use Rattle.cube_search.specs.declared.reason.Reason.TheVariants.{Fragment}
 use Rattle.cube_search.specs.declared.reason.Shown.TheVariants.{Opaque}
 use Rattle.decide.specs.Folds.{first_sat, opens_from, refuted_from, refutation, add, found, or_else}
 use Rattle.decide.specs.Jobs.{IsTallyOf, first_of}
+use Rattle.decide.specs.Passing.{passed}
 use Rattle.decide.specs.declared.tally.Tally.{Tally}
 
 opens-behind : (k : ℕ) (opaque : List Term) (xs : List CubeAnswer) (a : CubeAnswer) → opens_from k opaque (xs ++ a ∷ []) ≡ opens_from k opaque xs ++ opens_from (k + length xs) opaque (a ∷ [])
@@ -120,3 +122,66 @@ module _ (opaque : List Term) (before : List CubeAnswer) (old new : Tally) (h : 
         list = ap (λ (t : Tally). t.open_cubes) n ∙ sym (append-nil old.open_cubes) ∙ sym (ap (λ l. old.open_cubes ++ opens_from old.count l (answer.Sat m ∷ [])) s);
         closed = ap (λ (t : Tally). t.refuted) n;
       } h
+
+-- cubes that are passed over add nothing but their number
+pub passed-length : (n : ℕ) → length (passed n) ≡ n
+passed-length zero = refl
+passed-length (suc n) = ap suc (passed-length n)
+
+passed-sat : (n : ℕ) → first_sat (passed n) ≡ None
+passed-sat zero = refl
+passed-sat (suc n) = passed-sat n
+
+sat-over : (xs : List CubeAnswer) (n : ℕ) → first_sat (xs ++ passed n) ≡ first_sat xs
+sat-over [] n = passed-sat n
+sat-over (answer.Sat m ∷ xs) n = refl
+sat-over (answer.Unsat s ∷ xs) n = sat-over xs n
+sat-over (answer.Open s ∷ xs) n = sat-over xs n
+
+pub found-over : (opaque : List Term) (xs : List CubeAnswer) (n : ℕ) → found opaque (xs ++ passed n) ≡ found opaque xs
+found-over [] xs n = sat-over xs n
+found-over (t ∷ ts) xs n = refl
+
+passed-opens : (k : ℕ) (opaque : List Term) (n : ℕ) → opens_from k opaque (passed n) ≡ []
+passed-opens k opaque zero = refl
+passed-opens k opaque (suc n) = passed-opens (suc k) opaque n
+
+opens-over : (k : ℕ) (opaque : List Term) (xs : List CubeAnswer) (n : ℕ) → opens_from k opaque (xs ++ passed n) ≡ opens_from k opaque xs
+opens-over k opaque [] n = passed-opens k opaque n
+opens-over k [] (answer.Sat m ∷ xs) n = opens-over (suc k) [] xs n
+opens-over k (t ∷ ts) (answer.Sat m ∷ xs) n = ap (λ l. (k, Fragment (Opaque t)) ∷ l) (opens-over (suc k) (t ∷ ts) xs n)
+opens-over k opaque (answer.Unsat r ∷ xs) n = opens-over (suc k) opaque xs n
+opens-over k opaque (answer.Open r ∷ xs) n = ap (λ l. (k, r) ∷ l) (opens-over (suc k) opaque xs n)
+
+-- counts that are cut off already
+abbrev none : Refutation
+none = refutation 0 0 0
+
+cut-twice : (a b : ℕ) → cut_off (cut_off (a + b) + 0) ≡ cut_off (a + b)
+cut-twice a b = omega arith
+
+abbrev IsCut : Refutation → Type 0
+IsCut r = add r none ≡ r
+
+added-cut : (r s : Refutation) → IsCut (add r s)
+added-cut r s i = refutation (cut-twice r.empty s.empty i) (cut-twice r.trees s.trees i) (cut-twice r.boxes s.boxes i)
+
+passed-refuted : (r : Refutation) (n : ℕ) → IsCut r → refuted_from r (passed n) ≡ r
+passed-refuted r zero h = refl
+passed-refuted r (suc n) h = ap (λ s. refuted_from s (passed n)) h ∙ passed-refuted r n h
+
+refuted-over : (r : Refutation) (xs : List CubeAnswer) (n : ℕ) → IsCut r → refuted_from r (xs ++ passed n) ≡ refuted_from r xs
+refuted-over r [] n h = passed-refuted r n h
+refuted-over r (answer.Sat m ∷ xs) n h = refuted-over r xs n h
+refuted-over r (answer.Unsat s ∷ xs) n h = refuted-over (add r s) xs n (added-cut r s)
+refuted-over r (answer.Open s ∷ xs) n h = refuted-over r xs n h
+
+pub tally-over : (opaque : List Term) (before : List CubeAnswer) (n : ℕ) (old new : Tally) → new.opaque ≡ old.opaque → new.count ≡ old.count + n → new.model ≡ old.model → new.open_cubes ≡ old.open_cubes → new.refuted ≡ old.refuted
+    → IsTallyOf opaque before old → IsTallyOf opaque (before ++ passed n) new
+tally-over opaque before n old new first count model list closed h = record {
+  first = first ∙ h.first;
+  count = let l = length-append before (passed n) in let p = passed-length n in let c = h.count in omega (arith, count, l, p, c);
+  model = model ∙ h.model ∙ sym (found-over opaque before n);
+  open_cubes = list ∙ h.open_cubes ∙ sym (opens-over 0 opaque before n);
+  refuted = closed ∙ h.refuted ∙ sym (refuted-over none before n refl);
+}

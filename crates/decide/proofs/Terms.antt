@@ -17,7 +17,7 @@ use Rattle.sv_terms.specs.declared.transducer.Transducer.{Transducer}
 use Rattle.decide.specs.Constants.{has_words, words_step}
 
 -- a fold of a term by those of its parts
-at : {A : Type 0} (f : Term-F A → A) (t : Term) (x : Term-F Term) → roll-Term x ≡ t → fold-Term A f t ≡ f (map-Term Term A (fold-Term A f) x)
+pub at : {A : Type 0} (f : Term-F A → A) (t : Term) (x : Term-F Term) → roll-Term x ≡ t → fold-Term A f t ≡ f (map-Term Term A (fold-Term A f) x)
 at {A} f t x e = ap (fold-Term A f) (sym e) ∙ fold-roll-Term A f x
 
 all-map : {X : Type 0} (f : X → Bool) (xs : List X) → list_all (λ b. b) (map f xs) ≡ list_all f xs

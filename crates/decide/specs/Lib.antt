@@ -5,4 +5,5 @@ pub mod Constants
 pub mod Filling
 pub mod Folds
 pub mod Jobs
+pub mod Passing
 pub mod Verdicts

@@ -1,19 +1,23 @@
 //! The verdict on assertions.
-ghost use Rattle.std.specs.Prelude.{◌≡◌, ◌≤◌, ◌+◌, ◌<◌, ◌^◌, ◌++◌, List, map, length, IsTrue, IfOk, OnOk, Ok, Some};
+ghost use Rattle.std.specs.Prelude.{◌≡◌, ◌≤◌, ◌+◌, ◌<◌, ◌^◌, ◌++◌, List, drop, map, length, IsTrue, IfOk, OnOk, Ok, Some};
 ghost use Rattle.std.specs.List.{AllByRecursion};
 ghost use Rattle.sv_terms.specs.Sorting.{sort_of};
 ghost use Rattle.sv_terms.specs.declared.sort.Sort.TheVariants as sort;
 ghost use Rattle.sv_terms.specs.declared.term.Term.{Term as AnyTerm};
+ghost use Rattle.bool_cubes.specs.Cubes.{cubes_of};
+ghost use Rattle.bool_cubes.specs.Laws.{IsSorted};
 ghost use Rattle.bool_cubes.specs.Refusing.{most_cubes};
 ghost use Rattle.cube_search.specs.declared.answer.CubeAnswer.{CubeAnswer as AnyAnswer};
 ghost use Rattle.decide.specs.Completeness.{MustDecide, IsComplete};
 ghost use Rattle.decide.specs.Constants.{HaveOneSort, has_formed};
 ghost use Rattle.decide.specs.Jobs.{IsAsked, IsFolded, IsFoldOf, IsTallyOf};
+ghost use Rattle.decide.specs.Passing.{Passes};
 ghost use Rattle.decide.specs.Verdicts.{HasOnly, RightVerdict, refused_as};
 
 use crate::batch::{answers, next_batch};
 use crate::cube_job::Shared;
 use crate::machines::machines_for;
+use crate::passing::{Pace, refuted_ahead};
 use crate::spelling::all_words;
 use crate::splitting::{clear_terms, first_opaque};
 use crate::tally::Tally;
@@ -65,7 +69,12 @@ pub fn check<R: Threads + Sync, G: Gate + Sync>(
     match Cubes::new(alloc, clear.as_slice()) {
         Ok(cubes) => {
             let kept = machines_for(alloc, clear.as_slice())?;
-            answer_all(rt, alloc, terms, &kept, cubes, workers, gate)
+            let shared = Shared {
+                alloc,
+                terms,
+                kept: &kept,
+            };
+            answer_all(rt, &shared, clear.as_slice(), cubes, workers, gate)
         }
         Err(fault) => refused(fault),
     }
@@ -82,31 +91,58 @@ fn refused(fault: CubeFault) -> Result<Verdict, AllocError>
     }
 }
 
-/// The answers for all cubes, a batch after another, up to the first batch that ends the search.
+/// The answers for all cubes, a batch after another, up to the first batch that ends the search. Those that need
+/// no work are passed over.
 fn answer_all<R: Threads + Sync, G: Gate + Sync>(
     rt: &R,
-    alloc: Global,
-    terms: &[Term],
-    kept: &Machines,
+    shared: &Shared<'_>,
+    clear: &[Term],
     mut cubes: Cubes,
     workers: u32,
     gate: &G,
 ) -> Result<Verdict, AllocError>
     requires workers { 1 ≤ workers }
     requires few { length cubes ≤ most_cubes }
-    requires asked { AllByRecursion (IsAsked terms.now) cubes }
-    ensures { IfOk result (IsFoldOf terms.now cubes) }
+    requires sorted { AllByRecursion IsSorted clear.now }
+    requires cubes { cubes ≡ cubes_of clear.now }
+    requires asked { AllByRecursion (IsAsked shared.now.terms.now) cubes }
+    ensures { IfOk result (IsFoldOf shared.now.terms.now cubes) }
 {
-    let mut tally = Tally::new(alloc, first_opaque(alloc, terms)?);
-    let shared = Shared { alloc, terms, kept };
+    let alloc = shared.alloc;
+    let mut tally = Tally::new(alloc, first_opaque(alloc, shared.terms)?);
+    let mut pace = Pace::new();
     loop {
-        let jobs = next_batch(alloc, &shared, &mut cubes)?;
+        let jobs = next_batch(alloc, shared, &mut cubes)?;
         let outcomes = answers(rt, alloc, jobs.as_slice(), workers, gate)?;
         tally_all(alloc, &mut tally, outcomes)?;
         if tally.ends(jobs.len()) {
             return Ok(tally.into_verdict());
         }
+        pass_over(shared, clear, &mut pace, &mut cubes, &mut tally)?;
     }
+}
+
+/// Passes over the next cubes that need no work, where it is time to ask for them.
+fn pass_over(
+    shared: &Shared<'_>,
+    clear: &[Term],
+    pace: &mut Pace,
+    cubes: &mut Cubes,
+    tally: &mut Tally,
+) -> Result<(), AllocError>
+    requires sorted { AllByRecursion IsSorted clear.now }
+    requires asked { AllByRecursion (IsAsked shared.now.terms.now) (cubes_of clear.now) }
+    requires room { tally.old.count + length (drop tally.old.count (cubes_of clear.now)) < 2 ^ 64 }
+    ensures { OnOk result (Passes clear.now cubes.old cubes.new tally.old tally.new) }
+{
+    if !pace.is_due() {
+        return Ok(());
+    }
+    let refuted = refuted_ahead(shared, clear, tally.count)?;
+    cubes.skip(refuted);
+    tally.pass(refuted);
+    pace.told(refuted);
+    Ok(())
 }
 
 /// Puts the answers to the tally, in their order.

@@ -33,8 +33,9 @@ fn is_of(sort: Sort, value: &Value) -> bool
     }
 }
 
-/// The value that is given to the name, if it is of the sort, else the default of the sort.
-fn value_for(alloc: Global, given: &Model, name: &Name, sort: Sort) -> Result<Value, AllocError>
+/// The value of a constant: what is given to the name, if it is of the sort, else the default of the sort, which is
+/// `false`, 0 or the empty word. Costs a look-up by the name and a copy of the value.
+pub fn value_for(alloc: Global, given: &Model, name: &Name, sort: Sort) -> Result<Value, AllocError>
     ensures { IfOk result (λ v. v ≡ or_default sort (lookup (pointwise nat_eq name.now) given.now)) }
 {
     match given.get(name) {

@@ -69,7 +69,7 @@ impl Job for CubeJob<'_> {
 }
 
 /// The answer for a cube of the terms: of its flat cube, or why it has none.
-fn answer_for(shared: &Shared<'_>, cube: &Cube) -> Result<CubeAnswer, AllocError>
+pub fn answer_for(shared: &Shared<'_>, cube: &Cube) -> Result<CubeAnswer, AllocError>
     requires asked { IsAsked shared.now.terms.now cube.now }
     ensures { IfOk result (IsOutcome shared.now.terms.now cube.now) }
 {

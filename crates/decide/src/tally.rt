@@ -5,6 +5,7 @@ ghost use Rattle.cube_search.specs.declared.answer.CubeAnswer.TheVariants as ans
 ghost use Rattle.sv_terms.specs.declared.term.Term.{Term as AnyTerm};
 ghost use Rattle.decide.specs.Folds.{add, or_else};
 ghost use Rattle.decide.specs.Jobs.{IsTallyOf, batch, first_of, verdict_of};
+ghost use Rattle.decide.specs.Passing.{passed};
 ghost use Rattle.std.specs.Option.{is_some};
 
 use crate::batch::BATCH;
@@ -89,6 +90,14 @@ impl Tally {
                 Ok(())
             }
         }
+    }
+
+    /// The next cubes, so many, need no work: they have no values.
+    pub fn pass(&mut self, cubes: u64)
+        requires { self.old.count + cubes < 2 ^ 64 }
+        ensures { (terms : List AnyTerm) (before : List AnyAnswer) → IsTallyOf terms before self.old → IsTallyOf terms (before ++ passed cubes) self.new }
+    {
+        self.count += cubes;
     }
 
     /// Keeps the model, unless there is one.

@@ -4,58 +4,18 @@ ghost use Rattle.std.specs.List.{AllByRecursion};
 ghost use Rattle.std.specs.Map.{lookup};
 ghost use Rattle.std.specs.Cmp.Lexicographic.{pointwise};
 ghost use Rattle.decide.specs.Completeness.{IsComplete, MustDecide};
-ghost use Rattle.decide.specs.Filling.{default, or_default};
 ghost use Rattle.decide.specs.Verdicts.{RightVerdict};
 ghost use Rattle.sort_check.specs.WellFormed.{IsTermOf, is_well_formed};
-ghost use Rattle.sv_terms.specs.Sorting.{kind, same_sort};
 ghost use Rattle.sv_terms.specs.declared.sort.Sort.TheVariants as sort;
 ghost use Rattle.smt_session.specs.Models.{model_of};
 ghost use Rattle.smt_session.specs.Verdicts.{Covers};
 
-use decide::{Verdict, check};
+use decide::{Verdict, check, value_for};
 use par_phase::Free;
 use sort_check::{constants_valued, well_formed_entries};
 use std::alloc::{AllocError, Global};
 use std::thread::Threads;
-use sv_terms::{Entry, Model, Name, Sort, Symbols, Term, Value};
-use sv_word::Word;
-
-// The value of a constant on which nothing depends.
-fn default(alloc: Global, sort: Sort) -> Value
-    ensures { result ≡ default sort }
-{
-    match sort {
-        Sort::Bool => Value::Truth(false),
-        Sort::Int => Value::Number(0),
-        Sort::String => Value::Text(Word::new(alloc)),
-        Sort::RegLan => Value::Text(Word::new(alloc)),
-    }
-}
-
-// Whether the value has the sort.
-fn is_of(value: &Value, sort: Sort) -> bool
-    ensures { result ≡ same_sort sort (kind value.now) }
-{
-    match value {
-        Value::Truth(_) => matches!(sort, Sort::Bool),
-        Value::Number(_) => matches!(sort, Sort::Int),
-        Value::Text(_) => matches!(sort, Sort::String),
-    }
-}
-
-// The value of a declared constant.
-fn value(alloc: Global, words: &Model, name: &Name, sort: Sort) -> Result<Value, AllocError>
-    ensures { IfOk result (λ v. v ≡ or_default sort (lookup (pointwise nat_eq name.now) words.now)) }
-{
-    match words.get(name) {
-        Some(value) => if is_of(value, sort) {
-            value.copy(alloc)
-        } else {
-            Ok(default(alloc, sort))
-        },
-        None => Ok(default(alloc, sort)),
-    }
-}
+use sv_terms::{Entry, Model, Name, Symbols, Term};
 
 // One more symbol: its value, where it is a constant.
 fn add(
@@ -70,7 +30,7 @@ fn add(
 {
     match entry {
         Entry::Constant(sort) => {
-            let value = value(alloc, words, name, *sort)?;
+            let value = value_for(alloc, words, name, *sort)?;
             model.set(name.copy(alloc)?, value)
         }
         _ => Ok(()),

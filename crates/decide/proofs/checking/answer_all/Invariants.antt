@@ -4,7 +4,7 @@ use Rattle.decide.specs.Jobs.{IsAsked, IsUnderWay}
 use Rattle.decide.proofs.checking.answer_all.Given as goal
 
 abbrev pub invariant-loop-tally : goal.invariant-loop-tally
-invariant-loop-tally g l = IsUnderWay l.terms l.fn.cubes l.cubes l.tally × AllByRecursion (IsAsked l.terms) l.cubes
+invariant-loop-tally g l = IsUnderWay l.shared.terms.now l.fn.cubes l.cubes l.tally × AllByRecursion (IsAsked l.shared.terms.now) l.cubes
 
 abbrev pub decreases-loop-tally : goal.decreases-loop-tally
 decreases-loop-tally g l = length l.cubes

@@ -52,3 +52,7 @@ returns-clause-only g c = subst (λ r. IfOk r (HasOnly c.args.terms.now)) (sym c
 
 pub returns-clause-folded : goal.returns-clause-folded
 returns-clause-folded g c = subst (λ r. IfOk r (IsFolded c.args.terms.now)) (sym c.refused.ensures) (refused-folded c.args.terms.now c.in-Err.fault)
+
+pub answer_all-requires-clause-sorted : goal.answer_all-requires-clause-sorted
+answer_all-requires-clause-sorted g c κs within =
+    subst (AllByRecursion IsSorted) (sym (c.as_slice-in-Ok-2.ensures ∙ c.in_ok-clear.ensures)) (clear-sorted c.args.terms.now c.requires.sorted)

@@ -1,0 +1,232 @@
+//! Cubes that need no work: those that share literals which have no values.
+ghost use Rattle.std.specs.Prelude.{◌≡◌, ◌<◌, ◌≤◌, ◌*◌, ◌+◌, ◌%◌, ◌||◌, ◌++◌, ◌∷◌, [], ℕ, IfOk, IfSome, IsTrue, OnOk, Some, drop, if◌then◌else◌, length, nat_lt, slice_get};
+ghost use Rattle.std.specs.List.{AllByRecursion};
+ghost use Rattle.bool_cubes.specs.Cubes.{cubes_of};
+ghost use Rattle.bool_cubes.specs.Laws.{IsSorted};
+ghost use Rattle.bool_cubes.specs.Refusing.{count_of};
+ghost use Rattle.decide.specs.Causes.{CubeHasNoValues};
+ghost use Rattle.decide.specs.Jobs.{IsAsked, batch};
+ghost use Rattle.decide.specs.Passing.{AreKnown, is_single, shared_of};
+
+use crate::batch::BATCH;
+use crate::cube_job::{Shared, answer_for};
+use bool_cubes::{Cube, CubeFault, Cubes, count, cubes_counted, cubes_picked};
+use cube_search::CubeAnswer;
+use std::alloc::{AllocError, Global};
+use sv_list::Items;
+use sv_terms::{MOST_CUBES, Term};
+
+/// After how many batches literals that cubes share are asked about: after the next one, and after twice as many
+/// whenever nothing came of it.
+#[derive(Clone, Copy)]
+pub struct Pace {
+    left: u64,
+    distance: u64,
+}
+
+impl Pace {
+    pub fn new() -> Pace {
+        Pace {
+            left: 1,
+            distance: 1,
+        }
+    }
+
+    /// One batch more: whether to ask now.
+    pub fn is_due(&mut self) -> bool {
+        self.left = self.left.saturating_sub(1);
+        self.left == 0
+    }
+
+    /// What came of it: so many cubes are passed over.
+    pub fn told(&mut self, cubes: u64) {
+        self.distance = if cubes > 0 {
+            1
+        } else {
+            self.distance.saturating_mul(2)
+        };
+        self.left = self.distance;
+    }
+}
+
+/// Whether the term leaves no choice.
+fn is_single(term: &Term) -> bool
+    requires { IsSorted term.now }
+    ensures { result ≡ is_single term.now }
+{
+    count(std::slice::from_ref(term)) == 1
+}
+
+/// Whether all cubes of one choice for the first terms share what the term at this place says.
+fn is_shared(term: &Term, at: usize, first: usize) -> bool
+    requires { IsSorted term.now }
+    ensures { result ≡ (nat_lt at first || is_single term.now) }
+{
+    at < first || is_single(term)
+}
+
+fn push_if_shared(
+    alloc: Global,
+    all: &mut Items<Term>,
+    term: &Term,
+    at: usize,
+    first: usize,
+) -> Result<(), AllocError>
+    requires { IsSorted term.now }
+    ensures { OnOk result (all.new ≡ all.old ++ (if nat_lt at first || is_single term.now then term.now ∷ [] else [])) }
+{
+    if !is_shared(term, at, first) {
+        return Ok(());
+    }
+    all.push(term.copy(alloc)?)?;
+    Ok(())
+}
+
+/// The first terms, and those of the others that leave no choice.
+fn shared_of(alloc: Global, terms: &[Term], first: usize) -> Result<Items<Term>, AllocError>
+    requires { AllByRecursion IsSorted terms.now }
+    ensures { IfOk result (λ all. all ≡ shared_of first terms.now) }
+{
+    let mut all = Items::new(alloc);
+    for at in 0..terms.len() {
+        push_if_shared(alloc, &mut all, &terms[at], at, first)?;
+    }
+    Ok(all)
+}
+
+/// The literals that the cubes of this choice for the first terms share. `None` where there is no such choice.
+fn shared_literals(
+    alloc: Global,
+    terms: &[Term],
+    first: usize,
+    choice: u64,
+) -> Result<Option<Cube>, AllocError>
+    requires { AllByRecursion IsSorted terms.now }
+    ensures { IfOk result (λ o. IfSome o (λ cube. slice_get (cubes_of (shared_of first terms.now)) choice ≡ Some cube)) }
+{
+    let shared = shared_of(alloc, terms, first)?;
+    match Cubes::new(alloc, shared.as_slice()) {
+        Ok(mut cubes) => {
+            cubes.skip(choice);
+            let cube = cubes.next(alloc)?;
+            Ok(cube)
+        }
+        Err(CubeFault::Memory(error)) => Err(error),
+        Err(_) => Ok(None),
+    }
+}
+
+/// How many cubes make one choice for the first terms, one after another: 0 where they are too many.
+fn block_of(terms: &[Term], first: usize) -> u64
+    requires sorted { AllByRecursion IsSorted terms.now }
+    requires first { first ≤ length terms.now }
+    ensures { 0 < result → result ≡ count_of (drop first terms.now) }
+{
+    let cubes = count(&terms[first..]);
+    if cubes > MOST_CUBES {
+        return 0;
+    }
+    cubes
+}
+
+/// How many of the cubes behind so many are in the block in which the first of them is, in whole batches.
+fn ahead(block: u64, given: u64) -> u64
+    ensures whole { (batches : ℕ) × (result ≡ batches * batch) }
+    ensures below { result ≤ block }
+    ensures within { 0 < result → given % block + result ≤ block }
+{
+    if block == 0 {
+        return 0;
+    }
+    (block - given % block) / (BATCH as u64) * (BATCH as u64)
+}
+
+/// The greatest number of first terms of which a block goes on for a whole batch.
+fn longest(terms: &[Term], given: u64) -> usize
+    requires { AllByRecursion IsSorted terms.now }
+    ensures { result ≤ length terms.now }
+{
+    let mut least = 0;
+    let mut most = terms.len();
+    while least < most {
+        let middle = most - (most - least) / 2;
+        if ahead(block_of(terms, middle), given) > 0 {
+            least = middle;
+        } else {
+            most = middle - 1;
+        }
+    }
+    least
+}
+
+/// Whether no values make the literals true, as far as is found.
+fn has_no_values(shared: &Shared<'_>, cube: &Cube) -> Result<bool, AllocError>
+    requires { IsAsked shared.now.terms.now cube.now }
+    ensures { IfOk result (λ refuted. IsTrue refuted → CubeHasNoValues cube.now) }
+{
+    match answer_for(shared, cube)? {
+        CubeAnswer::Unsat(_) => Ok(true),
+        CubeAnswer::Sat(_) => Ok(false),
+        CubeAnswer::Open(_) => Ok(false),
+    }
+}
+
+/// How many of the cubes behind so many have no values, by what they share with the first of them: its choice for
+/// the first terms, and what leaves no choice.
+fn refuted_by(
+    shared: &Shared<'_>,
+    terms: &[Term],
+    given: u64,
+    first: usize,
+) -> Result<u64, AllocError>
+    requires sorted { AllByRecursion IsSorted terms.now }
+    requires asked { AllByRecursion (IsAsked shared.now.terms.now) (cubes_of terms.now) }
+    requires first { first ≤ length terms.now }
+    ensures { IfOk result (AreKnown terms.now given) }
+{
+    cubes_counted();
+    cubes_picked();
+    let block = block_of(terms, first);
+    let cubes = ahead(block, given);
+    if cubes == 0 {
+        return Ok(0);
+    }
+    match shared_literals(shared.alloc, terms, first, given / block)? {
+        None => Ok(0),
+        Some(cube) => {
+            if has_no_values(shared, &cube)? {
+                Ok(cubes)
+            } else {
+                Ok(0)
+            }
+        }
+    }
+}
+
+/// How many of the cubes behind so many need no work, in whole batches: they share literals that have no values.
+///
+/// The least number of first terms whose literals tell it is sought by halving, from the greatest whose block goes
+/// on for a batch. So it costs one answer where nothing comes of it, else one for each halving besides.
+pub fn refuted_ahead(shared: &Shared<'_>, terms: &[Term], given: u64) -> Result<u64, AllocError>
+    requires sorted { AllByRecursion IsSorted terms.now }
+    requires asked { AllByRecursion (IsAsked shared.now.terms.now) (cubes_of terms.now) }
+    ensures { IfOk result (AreKnown terms.now given) }
+{
+    let mut least = 0;
+    let mut most = longest(terms, given);
+    let mut cubes = refuted_by(shared, terms, given, most)?;
+    if cubes == 0 {
+        return Ok(0);
+    }
+    while least < most {
+        let middle = least + (most - least) / 2;
+        let more = refuted_by(shared, terms, given, middle)?;
+        if more > 0 {
+            cubes = more;
+            most = middle;
+        } else {
+            least = middle + 1;
+        }
+    }
+    Ok(cubes)
+}
