@@ -4,7 +4,7 @@ ghost use Rattle.cube_search.specs.declared.allowance.Allowance.TheVariants.{Par
 
 use part_machines::MOST_STATES;
 
-/// The most states of all families of a search beyond the limits on the text.
+/// The most states that all families of a search beyond the limits on the text have, and that are explored for them.
 const MOST_EFFORT: u64 = 1_048_576;
 
 /// How much a search may take.

@@ -28,7 +28,7 @@ use trim_search::BuildFault;
 /// `numbers` are those of the cube, and machines of regular expressions are asked of `kept`. Only memory may be
 /// wanting. Time goes with the ways to cut all concatenations, and with what `leaf_solve` takes for each leaf;
 /// memory with one family of machines a definition. A cube whose text is past the limit on states or on splits
-/// is searched with a bounded effort: machines of 262,144 states, and families of 1,048,576 in all.
+/// is searched with a bounded effort: machines of 262,144 states, and families that take 1,048,576 in all.
 pub fn cube_answer(
     alloc: Global,
     flat: &Flat,
