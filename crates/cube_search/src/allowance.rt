@@ -1,5 +1,5 @@
 //! How much a search may take.
-ghost use Rattle.std.specs.Prelude.{◌≡◌, ◌<◌, ◌^◌};
+ghost use Rattle.std.specs.Prelude.{◌≡◌, ◌-◌, ◌<◌, ◌^◌};
 ghost use Rattle.cube_search.specs.declared.allowance.Allowance.TheVariants.{Part};
 
 use part_machines::MOST_STATES;
