@@ -129,13 +129,8 @@ try_cuts-states_at-s-end-requires-clause-machine t c = cutting-machine c.args.se
 
 pub below-returns-in_err-next-clause-refused : goal.below-returns-in_err-next-clause-refused
 below-returns-in_err-next-clause-refused t c = λ n e.
-    let d = rw e at c.from_residual-in_err-next.ensures.1 in
-    c.most_states-limit.ensures (c.in_err-next.ensures.refused n (ap Err (sym d)))
-
-pub below-returns-in_err-spend-clause-refused : goal.below-returns-in_err-spend-clause-refused
-below-returns-in_err-spend-clause-refused t c = λ n e.
-    let d = rw e at c.from_residual-in_err-spend.ensures.1 in
-    c.spend.ensures n (c.in_err-spend.was ∙ ap Err (sym d))
+    let d = rw e at c.from_residual.ensures.1 in
+    c.in_err-next.ensures.refused n (ap Err (sym d))
 
 pub below-returns-in_err-lifted-clause-refused : goal.below-returns-in_err-lifted-clause-refused
 below-returns-in_err-lifted-clause-refused t c = λ n e.
