@@ -148,3 +148,24 @@ descend-returns-then-reads_nothing-clause-covered t c = λ none words totals int
 
 pub descend-returns-then-reads_nothing-clause-kept : goal.descend-returns-then-reads_nothing-clause-kept
 descend-returns-then-reads_nothing-clause-kept t c = keeps-same c.args.tally.now
+
+pub descend-returns-then-reads_nothing-clause-tally : goal.descend-returns-then-reads_nothing-clause-tally
+descend-returns-then-reads_nothing-clause-tally t c = c.requires.tally
+
+pub descend-returns-then-reads_nothing-clause-refused : goal.descend-returns-then-reads_nothing-clause-refused
+descend-returns-then-reads_nothing-clause-refused t c = λ n e. cc
+
+pub descend-returns-in-Some-clause-refused : goal.descend-returns-in-Some-clause-refused
+descend-returns-in-Some-clause-refused t c = c.try_cuts.ensures.refused
+
+pub descend-returns-in-None-clause-refused : goal.descend-returns-in-None-clause-refused
+descend-returns-in-None-clause-refused t c = c.below.ensures.refused
+
+pub try_cuts-returns-then-cuts-pieces-clause-refused : goal.try_cuts-returns-then-cuts-pieces-clause-refused
+try_cuts-returns-then-cuts-pieces-clause-refused t c = c.below.ensures.refused
+
+pub try_cuts-returns-clause-refused : goal.try_cuts-returns-clause-refused
+try_cuts-returns-clause-refused t c = λ n e. cc
+
+pub below-returns-clause-refused : goal.below-returns-clause-refused
+below-returns-clause-refused t c = λ n e. cc
