@@ -24,7 +24,7 @@ use Rattle.sort_check.specs.declared.commands.Command.TheVariants as command
 use Rattle.smt_session.specs.Steps.{State, opened, kept_of, with_verdict, Tells, Does, Performs, Steps}
 use Rattle.smt_session.specs.declared.reply.Reply.{Reply}
 use Rattle.smt_session.specs.declared.reply.Reply.TheVariants.{Success, Unsupported, Echo, Error, Sat, Unsat, Unknown, Definitions, Values, Info}
-use Rattle.strsolve.specs.Runs.{IsPrompt, IsSoonOver}
+use Rattle.strsolve.specs.Runs.{IsPrompt, StopsAtExit}
 use Rattle.strsolve.specs.Scripts.{Follows, none, next}
 use Rattle.strsolve.proofs.Turns.{replies_count}
 
@@ -194,5 +194,5 @@ module _ (l0 l t0 t : Option (List ℕ)) (log : List Reply) (p : IsPrompt l0 l t
     | inr more ↦ let k = left_behind false (p.before ++ p.piece) (tokens_of_all items) rest begins.lexed in let m = longer_end k.0 rest p.before p.piece (sym k.1) more in absurd (whole_before m.0 m.1)
   ]
 
-pub soon_over : (l0 l t0 t : Option (List ℕ)) (log : List Reply) → IsPrompt l0 l t0 t log → IsSoonOver l0 l log
-soon_over l0 l t0 t log p = record { bytes = p.before ++ p.piece; gave = p.gave; few = λ items rest session begins follows over. few l0 l t0 t log p items rest session begins follows over }
+pub stops_at_exit : (l0 l t0 t : Option (List ℕ)) (log : List Reply) → IsPrompt l0 l t0 t log → StopsAtExit l0 l log
+stops_at_exit l0 l t0 t log p = record { bytes = p.before ++ p.piece; gave = p.gave; few = λ items rest session begins follows over. few l0 l t0 t log p items rest session begins follows over }
