@@ -2,7 +2,7 @@
 -- written after the reply to the one before it was read.
 --
 --     apt-get install ghc libghc-simple-smt-dev
---     ghc -outputdir /tmp/client -o /tmp/client/client examples/client.hs
+--     mkdir -p /tmp/client && ghc -outputdir /tmp/client -o /tmp/client/client examples/client.hs
 --     /tmp/client/client ./strsolve.sh
 module Main (main) where
 
