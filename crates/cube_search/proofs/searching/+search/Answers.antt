@@ -45,9 +45,9 @@ try_cuts-try_cuts-requires t c =
     let dec = c.decreases in
     let few = c.requires.cuts.fewer in
     let ne = c.if-cuts-pieces.false in
-    let same : c.as_slice.result.now ≡ c.args.cuts.now ++ c.loop-s.s ∷ [] = c.as_slice.ensures ∙ c.in_ok-more.ensures in
-    let size : length c.as_slice.result.now ≡ length c.args.cuts.now + 1 = ap length same ∙ length-append c.args.cuts.now (c.loop-s.s ∷ []) in
-    let lt : suc (weight flat.definitions c.args.at + (length pieces - length c.as_slice.result.now)) < t = omega arith in
+    let same : c.as_slice-cuts.result.now ≡ c.args.cuts.now ++ c.loop-s.s ∷ [] = c.as_slice-cuts.ensures ∙ c.in_ok-more.ensures in
+    let size : length c.as_slice-cuts.result.now ≡ length c.args.cuts.now + 1 = ap length same ∙ length-append c.args.cuts.now (c.loop-s.s ∷ []) in
+    let lt : suc (weight flat.definitions c.args.at + (length pieces - length c.as_slice-cuts.result.now)) < t = omega arith in
     let first = more-cuts flat c.args.at pieces ms c.args.cuts.now c.loop-s.s c.states_at-s-end.result c.requires.cuts ne c.states_at-s-end.ensures (omega arith) in
     (lt, (c.requires.search, (c.requires.state, (subst (IsCutting flat c.args.at pieces ms) (sym same) first, c.loop-s.invariant.tally))))
 
@@ -61,7 +61,7 @@ try_cuts-loop-s-preserved t c =
       kept = keeps-more c.args.tally.now c.loop-s.tally c.try_cuts.new.tally c.loop-s.invariant.kept c.in_ok-found.ensures.kept;
       covered = covered-next flat c.args.search.now.region c.args.at pieces ms c.args.cuts.now c.loop-s.tally c.try_cuts.new.tally c.loop-s.s
           c.in_ok-found.ensures.kept c.loop-s.invariant.covered
-          (subst (λ l. AreCoveredFrom flat c.args.search.now.region c.args.at pieces ms l c.try_cuts.new.tally) (c.as_slice.ensures ∙ c.in_ok-more.ensures)
+          (subst (λ l. AreCoveredFrom flat c.args.search.now.region c.args.at pieces ms l c.try_cuts.new.tally) (c.as_slice-cuts.ensures ∙ c.in_ok-more.ensures)
           (c.try_cuts.ensures.covered (c.in_ok-found.was ∙ ap (λ o. Ok o) (none-of c.in_ok-found.field-0 c.in_default.not-Some))));
     }
 
