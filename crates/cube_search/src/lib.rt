@@ -32,6 +32,8 @@ mod settling;
 mod spreading;
 mod stepping;
 mod tally;
+#[cfg(test)]
+mod tests;
 mod trimming;
 
 pub use answer::{CubeAnswer, Refutation, answer_crosses};

@@ -101,3 +101,20 @@ fn machines_are_kept_where_they_have_a_place(rt: HostRuntime) -> Result<(), Allo
     assert!(rt; !is_kept(alloc, &kept, &Regex::AnyChar)?);
     Ok(())
 }
+
+#[test]
+fn each_expression_has_one_place(rt: HostRuntime) -> Result<(), AllocError> {
+    let alloc = rt.alloc();
+    let expressions = [Regex::All, Regex::AnyChar, Regex::All, Regex::Empty];
+    let mut digests = Vec::new(alloc);
+    for expression in &expressions {
+        digests.push(digest(expression))?;
+    }
+    let kept = Machines::new(alloc, digests)?;
+    // Each is kept, though another was kept before it: its place is its own.
+    assert!(rt; is_kept(alloc, &kept, &Regex::All)?);
+    assert!(rt; is_kept(alloc, &kept, &Regex::AnyChar)?);
+    assert!(rt; is_kept(alloc, &kept, &Regex::Empty)?);
+    assert!(rt; is_kept(alloc, &kept, &Regex::All)?);
+    Ok(())
+}
