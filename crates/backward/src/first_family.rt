@@ -1,9 +1,10 @@
 //! The first family of a flat cube.
-ghost use Rattle.std.specs.Prelude.{◌≡◌, ◌≤◌, ℕ, cond, nat_eq, map, length, IfOk, Some, Contains};
+ghost use Rattle.std.specs.Prelude.{◌≡◌, ◌<◌, ℕ, cond, nat_eq, map, length, Err, IfOk, Some, Contains};
 ghost use Rattle.machine_core.specs.declared.graph.Graph.{Graph};
 ghost use Rattle.straight_line.specs.Bounds.{states};
 ghost use Rattle.straight_line.specs.Straight.{HasFormed, IsStraight};
 ghost use Rattle.straight_line.specs.declared.flat.Flat.{Flat as AnyFlat};
+ghost use Rattle.trim_search.specs.declared.build_fault.BuildFault.TheVariants.{States};
 ghost use Rattle.backward.specs.Chains.{width};
 ghost use Rattle.backward.specs.States.{AreOwnMachines, IsState};
 
@@ -13,6 +14,7 @@ use part_machines::{MOST_STATES, Machines, bounds_some, own_machine};
 use std::alloc::{AllocError, Global};
 use straight_line::{Flat, growth_solved, states_solved};
 use sv_list::Items;
+use trim_search::BuildFault;
 
 impl LeafState {
     /// The family of these machines, one per variable in their order. They have the same number of
@@ -64,15 +66,17 @@ fn character_cost(alloc: Global, registers: &[u32], v: usize) -> Result<Cost, Al
 }
 
 /// The first family of a flat cube: each variable's machine reads exactly the words that meet its parts,
-/// each with its length at the registers of the variable. Its transducers are formed, and its machines have
-/// at most [`MOST_STATES`](part_machines::MOST_STATES) states by its text, so that only memory may be wanting.
+/// each with its length at the registers of the variable. Its transducers are formed.
 /// Each machine is made as [`own_machine`](part_machines::own_machine) says, and those of regular expressions
 /// are asked of `kept`.
-pub fn first_state(alloc: Global, flat: &Flat, kept: &Machines) -> Result<LeafState, AllocError>
+///
+/// `States` comes only where the cube's text allows a machine more than
+/// [`MOST_STATES`](part_machines::MOST_STATES) states.
+pub fn first_state(alloc: Global, flat: &Flat, kept: &Machines) -> Result<LeafState, BuildFault>
     requires straight { IsStraight flat.now }
     requires formed { HasFormed flat.now }
-    requires few { states flat.now ≤ MOST_STATES }
     ensures state { IfOk result (λ s. IsState flat.now (length flat.now.definitions) s) }
+    ensures refused { (n : ℕ) → result ≡ Err (States n) → MOST_STATES < states flat.now }
 {
     states_solved();
     bounds_some();

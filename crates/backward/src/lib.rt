@@ -17,7 +17,7 @@
 //! ```
 //! // What is left for y of "abab" as y twice, cut in the middle.
 //! let state = LeafState::of(alloc, registers, machines)?;
-//! let after = carry_concat(alloc, &state, 1, &[0, 0], &[2])?;
+//! let after = carry_concat(alloc, &state, 1, &[0, 0], &[2], u64::MAX)?;
 //! ```
 #![tactic(auto)]
 

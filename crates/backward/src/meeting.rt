@@ -1,6 +1,7 @@
 //! A machine met with a part of another one's runs, and its runs taken apart.
-ghost use Rattle.std.specs.Prelude.{◌≡◌, ℕ, ◌<◌, ◌+◌, ◌^◌, IfOk};
+ghost use Rattle.std.specs.Prelude.{◌≡◌, ℕ, ◌<◌, ◌+◌, ◌^◌, Err, IfOk};
 ghost use Rattle.machine_core.specs.Graphs.{graph_top, IsRunOf};
+ghost use Rattle.trim_search.specs.declared.build_fault.BuildFault.TheVariants.{States};
 ghost use Rattle.backward.specs.Kept.{IsKept, IsApart};
 
 use machine_core::{Explicit, Run};
@@ -27,34 +28,31 @@ pub struct Apart {
 
 /// The words of `machine` on which `target` has a run from the state `from` to the state `to`, or to
 /// an end, at what both cost together. Time and memory are those of the states that are reached, at
-/// most the product of both numbers.
+/// most the product of both numbers. `States` comes where more than `limit` are reached, and never for a limit
+/// of 2^32 or more.
 pub fn meet_slice(
     alloc: Global,
     machine: &Explicit,
     target: &Explicit,
     from: u32,
     to: Option<u32>,
-) -> Result<Meeting, AllocError>
+    limit: u64,
+) -> Result<Meeting, BuildFault>
     requires from { from < target.now.states }
     requires registers { machine.now.registers ≡ target.now.registers }
     requires fits { graph_top machine.now + graph_top target.now < 2 ^ 64 }
-    ensures { IfOk result (IsKept machine.now target.now from to) }
+    ensures kept { IfOk result (IsKept machine.now target.now from to) }
+    ensures refused { (n : ℕ) → result ≡ Err (States n) → limit < 2 ^ 32 }
 {
     let whole = Slice::of(machine, 0, None);
     let part = Slice::of(target, from, to);
     let parts = [whole, part];
     let meet = Meet::of(&parts);
     costs_of_meets_are_bounded(&meet);
-    match materialise(alloc, &meet, u64::MAX) {
-        Ok(both) => {
-            lifted_runs_are_runs(&meet, &both);
-            let small = trim_named(alloc, &both.machine)?;
-            Ok(Meeting { both, small })
-        }
-        Err(BuildFault::Memory(e)) => Err(e),
-        // Only a limit below 2^32 refuses a number of states.
-        Err(BuildFault::States(_)) => unreachable!(),
-    }
+    let both = materialise(alloc, &meet, limit)?;
+    lifted_runs_are_runs(&meet, &both);
+    let small = trim_named(alloc, &both.machine)?;
+    Ok(Meeting { both, small })
 }
 
 /// A run of the machine and one of the part that it was met with, which the run of the meeting came

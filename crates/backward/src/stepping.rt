@@ -1,7 +1,8 @@
 //! One definition of a flat cube carried backward, and runs taken back over it.
-ghost use Rattle.std.specs.Prelude.{◌≡◌, ◌<◌, ◌+◌, ℕ, [], length, slice_get, Some, IfOk};
+ghost use Rattle.std.specs.Prelude.{◌≡◌, ◌<◌, ◌+◌, ◌^◌, ℕ, [], length, slice_get, Some, Err, IfOk};
 ghost use Rattle.straight_line.specs.Straight.{IsFormedBy, IsStraight};
 ghost use Rattle.straight_line.specs.declared.definition.Definition.{Definition as AnyDefinition};
+ghost use Rattle.trim_search.specs.declared.build_fault.BuildFault.TheVariants.{States};
 ghost use Rattle.backward.specs.Back.{AreBack};
 ghost use Rattle.backward.specs.Definitions.{IsFor, reads};
 ghost use Rattle.backward.specs.Runs.{AreRuns, run_words};
@@ -20,22 +21,25 @@ use std::alloc::{AllocError, Global};
 use straight_line::{By, Definition, Flat, growth_goes_along, growth_solved, states_solved};
 use sv_list::{Copied, Items};
 use sv_terms::Transducer;
+use trim_search::BuildFault;
 
 /// The family in which the definition at the place `at`, a concatenation, is carried: the machine of
 /// its variable is cut at these states, one for each border between two pieces. A family that the
-/// cube's text leads to leads on to such a family. It takes what [`carry_concat`] takes.
+/// cube's text leads to leads on to such a family. It takes what [`carry_concat`] takes, and refuses what that does.
 pub fn step_concat(
     alloc: Global,
     flat: &Flat,
     state: &LeafState,
     at: u32,
     cuts: &[u32],
-) -> Result<LeafState, AllocError>
+    limit: u64,
+) -> Result<LeafState, BuildFault>
     requires { CanCutAt flat.now at state.now.machines cuts.now }
     ensures registers { IfOk result (λ s. s.registers ≡ state.now.registers) }
     ensures conf { IfOk result (IsCutAt flat.now at cuts.now state.now) }
     ensures state { IfOk result (λ s. IsStraight flat.now → IsState flat.now (at + 1) state.now → IsState flat.now at s) }
     ensures made { IfOk result (IsMadeAt flat.now at cuts.now state.now.machines) }
+    ensures refused { (n : ℕ) → result ≡ Err (States n) → limit < 2 ^ 32 }
 {
     states_solved();
     growth_solved();
@@ -43,31 +47,40 @@ pub fn step_concat(
     let By::Concat(pieces) = &definition.by else {
         unreachable!();
     };
-    let next = carry_concat(alloc, state, definition.variable, pieces.as_slice(), cuts)?;
+    let next = carry_concat(
+        alloc,
+        state,
+        definition.variable,
+        pieces.as_slice(),
+        cuts,
+        limit,
+    )?;
     Ok(next)
 }
 
 /// The family in which the definition at the place `at`, no concatenation, is carried: the pre-image
 /// of the machine of its variable is met with that of the variable that it reads. A family that the
-/// cube's text leads to leads on to such a family. It takes what [`carry_through`] takes.
+/// cube's text leads to leads on to such a family. It takes what [`carry_through`] takes, and refuses what that does.
 pub fn step_through(
     alloc: Global,
     flat: &Flat,
     state: &LeafState,
     at: u32,
-) -> Result<LeafState, AllocError>
+    limit: u64,
+) -> Result<LeafState, BuildFault>
     requires { CanPassAt flat.now at state.now.machines }
     ensures registers { IfOk result (λ s. s.registers ≡ state.now.registers) }
     ensures conf { IfOk result (IsPassedAt flat.now at state.now) }
     ensures state { IfOk result (λ s. IsStraight flat.now → IsState flat.now (at + 1) state.now → IsState flat.now at s) }
     ensures made { IfOk result (IsMadeAt flat.now at [] state.now.machines) }
+    ensures refused { (n : ℕ) → result ≡ Err (States n) → limit < 2 ^ 32 }
 {
     states_solved();
     growth_goes_along();
     let definition = definition_at(flat, at);
     let read = read_by(&definition.by);
     let through = transducer_for(alloc, &definition.by)?;
-    let next = carry_through(alloc, state, definition.variable, read, through)?;
+    let next = carry_through(alloc, state, definition.variable, read, through, limit)?;
     Ok(next)
 }
 

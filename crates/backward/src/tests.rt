@@ -7,7 +7,7 @@ use machine_core::{Cost, Explicit};
 use std::alloc::{AllocError, Global};
 use sv_list::Items;
 use sv_word::Ranges;
-use trim_search::shortest;
+use trim_search::{BuildFault, shortest};
 
 // Adds an edge on one letter at this cost.
 pub fn add_edge(
@@ -90,17 +90,17 @@ fn costs(state: &LeafState, cost: u64) -> bool {
 }
 
 // What is left for y of `bb` as y twice, cut at this state.
-fn halved(alloc: Global, cut: u32) -> Result<LeafState, AllocError>
+fn halved(alloc: Global, cut: u32) -> Result<LeafState, BuildFault>
     requires { cut < 3 }
 {
     let piece = any_count(alloc)?;
     let whole = two_letters(alloc)?;
     let state = family(alloc, piece, whole)?;
-    carry_concat(alloc, &state, 1, &[0, 0], &[cut])
+    carry_concat(alloc, &state, 1, &[0, 0], &[cut], u64::MAX)
 }
 
 // The length of a shortest word that is left for y.
-fn least_after(alloc: Global, cut: u32) -> Result<Option<usize>, AllocError>
+fn least_after(alloc: Global, cut: u32) -> Result<Option<usize>, BuildFault>
     requires { cut < 3 }
 {
     let after = halved(alloc, cut)?;
@@ -108,7 +108,7 @@ fn least_after(alloc: Global, cut: u32) -> Result<Option<usize>, AllocError>
 }
 
 // Whether each letter that is left for y has this cost.
-fn costs_after(alloc: Global, cut: u32, cost: u64) -> Result<bool, AllocError>
+fn costs_after(alloc: Global, cut: u32, cost: u64) -> Result<bool, BuildFault>
     requires { cut < 3 }
 {
     let after = halved(alloc, cut)?;
@@ -116,7 +116,7 @@ fn costs_after(alloc: Global, cut: u32, cost: u64) -> Result<bool, AllocError>
 }
 
 #[test]
-fn a_piece_that_stands_twice_costs_twice(rt: HostRuntime) -> Result<(), AllocError> {
+fn a_piece_that_stands_twice_costs_twice(rt: HostRuntime) -> Result<(), BuildFault> {
     let alloc = rt.alloc();
     assert!(rt; least_after(alloc, 0)?.is_none());
     assert_eq!(rt; least_after(alloc, 1)?, Some(1));

@@ -3,6 +3,7 @@ use Rattle.std.proofs.Common.{◌≡◌, ℕ, zero, suc, ◌+◌, ◌*◌, ◌<�
 use Rattle.std.specs.List.{IsDistinct, AllByRecursion, list_any}
 use Rattle.std.proofs.lemmas.Map.Steps.{length-le_from_distinct_below}
 use Rattle.box_search.specs.Layers.{AreBelow}
+use Rattle.box_search.specs.Places.{number_of, numbers_below}
 use Rattle.std.proofs.Math.Nat.{mul-suc, mul-zero, mul-le-mul_left}
 
 -- a digit below its base, and what stands above it
@@ -19,16 +20,6 @@ digit-same v w b (suc c) zero lv lw e = absurd (omega (arith, mul-zero b, mul-su
 digit-same v w b (suc c) (suc d) lv lw e =
     let r = digit-same v w b c d lv lw (omega (arith, mul-suc b c, mul-suc b d)) in
     (r.0, ap suc r.1)
-
--- the number whose digits these are, the first one the least; the base of a digit is one more than its greatest
-abbrev pub number_of : List ℕ → List ℕ → ℕ
-number_of [] us = 0
-number_of (v ∷ vs) [] = 0
-number_of (v ∷ vs) (u ∷ us) = v + (u + 1) * number_of vs us
-
-abbrev pub numbers_below : List ℕ → ℕ
-numbers_below [] = 1
-numbers_below (u ∷ us) = (u + 1) * numbers_below us
 
 pub number-below : (vs us : List ℕ) → AreBelow vs us → number_of vs us < numbers_below us
 number-below [] [] h = omega arith

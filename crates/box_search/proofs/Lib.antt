@@ -10,3 +10,5 @@ mod ExactLemmas
 mod CutLemmas
 mod SearchLemmas
 mod WordLemmas
+mod PlaceLemmas
+mod TableLemmas

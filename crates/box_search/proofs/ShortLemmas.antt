@@ -23,7 +23,8 @@ use Rattle.box_search.specs.Regions.{IsWithin, whole_side, register_points, side
 use Rattle.std.specs.Prelude.{int_le}
 use Rattle.box_search.specs.Layers.{AreBelow}
 use Rattle.box_search.specs.LayerLaws.{length-uppers}
-use Rattle.box_search.proofs.DigitLemmas.{number_of, numbers_below, number-below, number-same, digit-below, digit-same, AreDifferent, different-few}
+use Rattle.box_search.specs.Places.{number_of, numbers_below}
+use Rattle.box_search.proofs.DigitLemmas.{number-below, number-same, digit-below, digit-same, AreDifferent, different-few}
 
 -- of costs that add up below some numbers each is below them
 pub below-parts : (step rest us : List ℕ) → length step ≡ length rest → AreBelow (add_costs step rest) us → AreBelow step us × AreBelow rest us

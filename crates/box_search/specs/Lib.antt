@@ -7,3 +7,4 @@ pub mod Moving
 pub mod Cuts
 pub mod LayerLaws
 pub mod UnknownLaws
+pub mod Places

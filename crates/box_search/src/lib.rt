@@ -8,7 +8,8 @@
 //! lies between.
 //!
 //! The machines are explored in turn as one machine, by breadth, over their states and what is spent so far
-//! at each register. That the totals meet the rows with some numbers is asked behind the last machine, by
+//! at each register; what was seen stands in a table, which has a block for each machine, in it a row for each
+//! state, and in that a place for each totals. That the totals meet the rows with some numbers is asked behind the last machine, by
 //! halving a box as long as the bounds of the rows allow it.
 //!
 //! ```
@@ -23,9 +24,11 @@ mod finding;
 mod hit;
 mod laws;
 mod layer;
+mod layer_table;
 mod layers;
 mod moving;
 mod paying;
+mod places;
 mod region;
 mod searching;
 #[cfg(test)]

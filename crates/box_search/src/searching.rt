@@ -14,12 +14,14 @@ ghost use Rattle.box_search.specs.declared.layer.Layer.{Layer};
 use crate::cutting::{cut, layer_at};
 use crate::hit::Hit;
 use crate::layer::Layer;
+use crate::layer_table::LayerTable;
 use crate::layers::Layers;
+use crate::places::Places;
 use crate::region::Region;
 use machine_core::{Explicit, Run};
 use std::alloc::{AllocError, Global};
 use sv_linear::Row;
-use trim_search::{BuildFault, Built, lifted_runs_are_runs, materialise, shortest};
+use trim_search::{BuildFault, Built, explore_with, lifted_runs_are_runs, shortest};
 
 /// Runs of all machines and whole numbers, as many as `integers` says, that lie in the region and meet the
 /// rows; `None` exactly where there are none.
@@ -29,7 +31,8 @@ use trim_search::{BuildFault, Built, lifted_runs_are_runs, materialise, shortest
 /// together at most as many characters as states of the largest machine, points of the region and machines
 /// multiplied. Where no numbers and totals of the region meet the rows it looks at no machine. Else it
 /// explores the machines in turn, with what is spent at the registers: each state with each totals once,
-/// whatever the numbers, and looks for numbers once for the totals that the runs end with.
+/// whatever the numbers, and looks for numbers once for the totals that the runs end with. What was seen
+/// is found by its place in a table, in constant time, up to 4,194,304 places, and by order beyond them.
 pub fn search(
     alloc: Global,
     machines: &[Explicit],
@@ -72,7 +75,10 @@ fn explored(alloc: Global, layers: &Layers) -> Result<Built<Layer>, AllocError>
     ensures lifts { IfOk result (λ b. (run : Run ℕ) (lifted : Run Layer) → IsRunOf b.machine run → IsLift b.names run lifted
         → IsRunOfAll layers.now.machines.now layers.now.rows.now layers.now.region.now lifted) }
 {
-    match materialise(alloc, layers, u64::MAX) {
+    let sides = layers.region.registers.as_slice();
+    let places = Places::of(alloc, layers.machines, sides)?;
+    let table = LayerTable::new(alloc, places);
+    match explore_with(alloc, layers, table, u64::MAX) {
         Ok(built) => {
             lifted_runs_are_runs(layers, &built);
             Ok(built)

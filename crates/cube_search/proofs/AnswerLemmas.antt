@@ -23,7 +23,7 @@ use Rattle.backward.specs.Runs.{run_words}
 use Rattle.backward.specs.States.{IsLittle}
 use Rattle.cube_search.specs.Answers.{IsCubeAnswer, IsDecided, IsModelOf, left_of, left_given, left_long}
 use Rattle.cube_search.specs.Causes.{EachSolution, IsLeftTo}
-use Rattle.cube_search.specs.Limits.{IsWithinLimits, MustDecideFlat}
+use Rattle.cube_search.specs.Limits.{GrowsLittle, MustDecideFlat}
 use Rattle.cube_search.specs.Models.{all_words}
 use Rattle.cube_search.specs.Regions.{IsRegionFor}
 use Rattle.cube_search.specs.Searches.{IsFound}
@@ -53,8 +53,8 @@ quotient-one x g zero h l e = absurd (let z : x / g ≡ 0 = sym e in let p : g *
 quotient-one x g (suc q) h l e = omega arith
 
 -- with rows some characters are within reach
-pub reachable : (flat : Flat) → IsWithinLimits flat → (flat.rows ≡ [] → ⊥) → pos 0 ≤ℤ reach flat
-reachable flat limits rows = elim limits.little_growth [
+pub reachable : (flat : Flat) → GrowsLittle flat → (flat.rows ≡ [] → ⊥) → pos 0 ≤ℤ reach flat
+reachable flat grows rows = elim grows [
   | inl e ↦ absurd (rows e)
   | inr few ↦
       let one = greatest-least 1 (growth_of flat) in
@@ -62,8 +62,8 @@ reachable flat limits rows = elim limits.little_growth [
       omega (arith, ints)
 ]
 
-pub little : (flat : Flat) → (flat.rows ≡ [] → flat.registers ≡ []) → IsWithinLimits flat → IsLittle flat
-little flat bare limits = elim limits.little_growth [
+pub little : (flat : Flat) → (flat.rows ≡ [] → flat.registers ≡ []) → GrowsLittle flat → IsLittle flat
+little flat bare grows = elim grows [
   | inl e ↦ inl (bare e)
   | inr few ↦ inr few
 ]

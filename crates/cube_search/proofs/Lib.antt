@@ -27,3 +27,4 @@ mod NearSides
 mod Named
 mod SpreadLemmas
 mod ModelLemmas
+pub mod DeadLemmas

@@ -13,11 +13,15 @@ most_states = 262144
 abbrev pub most_splits : ℕ
 most_splits = 1048576
 
--- no number of the text is past its limit; growth counts where there are rows
+-- words don't grow past the longest one of a model, which counts where there are rows
+abbrev pub GrowsLittle : Flat → Type 0
+GrowsLittle flat = (flat.rows ≡ []) ⊎ (growth flat ≤ longest_word)
+
+-- no number of the text is past its limit
 pub record IsWithinLimits (flat : Flat) : Type 0 where
   pub few_states : states flat ≤ most_states
   pub few_splits : splits flat ≤ most_splits
-  pub little_growth : (flat.rows ≡ []) ⊎ (growth flat ≤ longest_word)
+  pub little_growth : GrowsLittle flat
 
 -- the numbers of the text within which a cube must be decided
 pub record MustDecideFlat (flat : Flat) : Type 0 where

@@ -1,9 +1,14 @@
-ghost use Rattle.std.specs.Prelude.{◌≡◌, ◌<◌, ◌^◌, [], false, length, IfOk};
+ghost use Rattle.std.specs.Prelude.{◌≡◌, ◌<◌, ◌^◌, ◌⊎◌, ℕ, [], false, length, Err, IfOk};
+ghost use Rattle.trim_search.specs.declared.build_fault.BuildFault.TheVariants.{States};
+ghost use Rattle.straight_line.specs.Bounds.{states};
 ghost use Rattle.straight_line.specs.Measuring.{AreNumbersOf};
 ghost use Rattle.straight_line.specs.Straight.{AreNamesApart, HasFormed, IsStraight};
 ghost use Rattle.cube_search.specs.Answers.{IsCubeAnswer, IsDecided, left_of};
-ghost use Rattle.cube_search.specs.Limits.{IsWithinLimits, MustDecideFlat};
+ghost use Rattle.cube_search.specs.Causes.{IsCauseOf};
+ghost use Rattle.cube_search.specs.Limits.{GrowsLittle, IsWithinLimits, MustDecideFlat};
+ghost use Rattle.cube_search.specs.declared.allowance.Allowance.TheVariants.{Part};
 
+use crate::allowance::Allowance;
 use crate::answer::{CubeAnswer, Refutation};
 use crate::limits::past_limit;
 use crate::modelling::model_of;
@@ -12,15 +17,18 @@ use crate::regions::region_of;
 use crate::searching::{Search, descend};
 use crate::tally::Tally;
 use backward::first_state;
-use part_machines::Machines;
+use part_machines::{MOST_STATES, Machines};
 use std::alloc::{AllocError, Global};
 use straight_line::{Flat, Numbers};
+use sv_terms::MOST_CHARACTERS;
+use trim_search::BuildFault;
 
 /// A model of the cube, or that it has none, or why it is left open.
 ///
 /// `numbers` are those of the cube, and machines of regular expressions are asked of `kept`. Only memory may be
 /// wanting. Time goes with the ways to cut all concatenations, and with what `leaf_solve` takes for each leaf;
-/// memory with one family of machines a definition.
+/// memory with one family of machines a definition. A cube whose text is past the limit on states or on splits
+/// is searched with a bounded effort: machines of 262,144 states, and families that take 1,048,576 in all.
 pub fn cube_answer(
     alloc: Global,
     flat: &Flat,
@@ -39,10 +47,10 @@ pub fn cube_answer(
     if flat.broken {
         return Ok(CubeAnswer::Unsat(nothing_closed()));
     }
-    if let Some(reason) = past_limit(flat, numbers) {
-        return Ok(CubeAnswer::Open(reason));
+    match past_limit(flat, numbers) {
+        None => answer_within(alloc, flat, numbers, kept),
+        Some(reason) => answer_beyond(alloc, flat, numbers, kept, reason),
     }
-    answer_from(alloc, flat, numbers, kept)
 }
 
 fn nothing_closed() -> Refutation {
@@ -53,8 +61,8 @@ fn nothing_closed() -> Refutation {
     }
 }
 
-// The answer by all leaves.
-fn answer_from(
+// The answer where the text is within all limits: by all leaves.
+fn answer_within(
     alloc: Global,
     flat: &Flat,
     numbers: &Numbers,
@@ -71,20 +79,79 @@ fn answer_from(
     ensures right { IfOk result (IsCubeAnswer flat.now) }
     ensures decided { MustDecideFlat flat.now → IfOk result IsDecided }
 {
+    match answer_by_search(alloc, flat, numbers, kept, Allowance::Whole) {
+        Ok(answer) => Ok(answer),
+        Err(BuildFault::Memory(e)) => Err(e),
+        Err(BuildFault::States(_)) => unreachable!(),
+    }
+}
+
+// The answer where the text is past a limit, by the leaves that a bounded effort reaches; the reason where that
+// isn't enough. Where words grow past the longest one of a model and there are rows, nothing is searched.
+fn answer_beyond(
+    alloc: Global,
+    flat: &Flat,
+    numbers: &Numbers,
+    kept: &Machines,
+    reason: Reason,
+) -> Result<CubeAnswer, AllocError>
+    requires straight { IsStraight flat.now }
+    requires formed { HasFormed flat.now }
+    requires apart { AreNamesApart flat.now }
+    requires few { length flat.now.variables < 2 ^ 32 }
+    requires bare { flat.now.rows ≡ [] → flat.now.registers ≡ [] }
+    requires numbers { AreNumbersOf flat.now numbers.now }
+    requires whole { flat.now.broken ≡ false }
+    requires cause { IsCauseOf flat.now reason }
+    ensures right { IfOk result (IsCubeAnswer flat.now) }
+{
+    if numbers.growth > MOST_CHARACTERS && !flat.rows.is_empty() {
+        return Ok(CubeAnswer::Open(reason));
+    }
+    match answer_by_search(alloc, flat, numbers, kept, Allowance::Part) {
+        Ok(answer) => Ok(answer),
+        Err(BuildFault::Memory(e)) => Err(e),
+        Err(BuildFault::States(_)) => Ok(CubeAnswer::Open(reason)),
+    }
+}
+
+// The answer by all leaves. `States` comes where they take more than is allowed, or the text allows a machine
+// more states than one may have.
+fn answer_by_search(
+    alloc: Global,
+    flat: &Flat,
+    numbers: &Numbers,
+    kept: &Machines,
+    allowance: Allowance,
+) -> Result<CubeAnswer, BuildFault>
+    requires straight { IsStraight flat.now }
+    requires formed { HasFormed flat.now }
+    requires apart { AreNamesApart flat.now }
+    requires few { length flat.now.variables < 2 ^ 32 }
+    requires bare { flat.now.rows ≡ [] → flat.now.registers ≡ [] }
+    requires numbers { AreNumbersOf flat.now numbers.now }
+    requires whole { flat.now.broken ≡ false }
+    requires little { GrowsLittle flat.now }
+    ensures right { IfOk result (IsCubeAnswer flat.now) }
+    ensures decided { MustDecideFlat flat.now → IfOk result IsDecided }
+    ensures refused { (n : ℕ) → result ≡ Err (States n) → (allowance ≡ Part) ⊎ (MOST_STATES < states flat.now) }
+{
     let search = Search {
         flat,
         region: region_of(alloc, flat, numbers)?,
         small: numbers.small,
         reach: numbers.reach,
+        allowance,
     };
     let mut tally = Tally {
         given: None,
         long: None,
         closed: nothing_closed(),
     };
+    let mut spent = 0;
     let state = first_state(alloc, flat, kept)?;
     let left = flat.definitions.len() as u32;
-    match descend(&search, alloc, &state, left, &mut tally)? {
+    match descend(&search, alloc, &state, left, &mut tally, &mut spent)? {
         Some(found) => Ok(CubeAnswer::Sat(model_of(alloc, flat, &found)?)),
         None => Ok(left_of(tally)),
     }

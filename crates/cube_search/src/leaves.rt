@@ -1,5 +1,6 @@
 //! Leaves answered: families in which only source variables have machines.
-ghost use Rattle.std.specs.Prelude.{◌≡◌, pos, ◌≤ℤ◌, ◌<ℤ◌, Ok, None, Some, IfOk, IfSome, OnOk};
+ghost use Rattle.std.specs.Prelude.{◌≡◌, ℕ, pos, ◌≤ℤ◌, ◌<ℤ◌, Ok, Err, None, Some, IfOk, IfSome, OnOk};
+ghost use Rattle.trim_search.specs.declared.build_fault.BuildFault.TheVariants.{States};
 ghost use Rattle.leaf_solve.specs.Answers.{IsDecided};
 ghost use Rattle.leaf_solve.specs.declared.long_shown.LongShown.TheVariants.{Words};
 ghost use Rattle.backward.specs.States.{IsState};
@@ -21,14 +22,15 @@ use machine_core::Explicit;
 use std::alloc::{AllocError, Global};
 use straight_line::states_solved;
 use sv_list::{Copied, Items};
+use trim_search::BuildFault;
 
-/// Answers the leaf, and puts the answer to the tally unless it is a hit.
+/// Answers the leaf, and puts the answer to the tally unless it is a hit. Only memory may be wanting.
 pub fn answer_leaf(
     search: &Search,
     alloc: Global,
     state: &LeafState,
     tally: &mut Tally,
-) -> Result<Option<Found>, AllocError>
+) -> Result<Option<Found>, BuildFault>
     requires search { IsSearch search.now }
     requires state { IsState search.now.flat.now 0 state.now }
     requires tally { IsTally search.now.flat.now tally.old }
@@ -36,6 +38,7 @@ pub fn answer_leaf(
     ensures kept { OnOk result (Keeps tally.old tally.new) }
     ensures covered { result ≡ Ok None → IsCovered search.now.flat.now search.now.region 0 state.now.machines tally.new }
     ensures found { IfOk result (λ o. IfSome o (IsFound search.now.flat.now 0 state.now.machines)) }
+    ensures allowed { (n : ℕ) → result ≡ Err (States n) → ⊥ }
 {
     families_become_leaves(state);
     states_solved();

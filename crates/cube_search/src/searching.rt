@@ -1,11 +1,17 @@
-ghost use Rattle.std.specs.Prelude.{◌≡◌, ◌+◌, ◌++◌, ◌∷◌, ◌≤◌, [], Ok, None, IfOk, IfSome, OnOk, length};
+ghost use Rattle.std.specs.Prelude.{◌≡◌, ◌+◌, ◌++◌, ◌∷◌, ◌≤◌, ℕ, [], Ok, Err, None, IfOk, IfSome, OnOk, length};
+ghost use Rattle.trim_search.specs.declared.build_fault.BuildFault.TheVariants.{States};
 ghost use Rattle.backward.specs.States.{IsState};
 ghost use Rattle.cube_search.specs.Searches.{IsFound, IsSearch};
-ghost use Rattle.cube_search.specs.Steps.{CanStep, IsCutting};
+ghost use Rattle.cube_search.specs.declared.allowance.Allowance.TheVariants.{Part};
+ghost use Rattle.cube_search.specs.Steps.{CanStep, IsCutting, IsNext};
+ghost use Rattle.straight_line.specs.Straight.{IsStraight};
 ghost use Rattle.cube_search.specs.Tallies.{IsTally, Keeps, IsCovered, AreCoveredFrom, IsCoveredBelow};
 
+use crate::allowance::Allowance;
+use crate::dead_ends::reads_nothing;
 use crate::found::Found;
 use crate::leaves::answer_leaf;
+use crate::spending::spend;
 use crate::stepping::{leave, pieces_at, states_at, step};
 use crate::tally::Tally;
 use backward::LeafState;
@@ -13,6 +19,7 @@ use box_search::Region;
 use std::alloc::{AllocError, Global};
 use straight_line::Flat;
 use sv_list::Items;
+use trim_search::BuildFault;
 
 /// A flat cube and how its leaves are answered.
 #[derive(Drop)]
@@ -21,10 +28,12 @@ pub struct Search<'a> {
     pub region: Region,
     pub small: bool,
     pub reach: i64,
+    pub allowance: Allowance,
 }
 
-/// Answers all leaves below a family in which `left` definitions are still to be carried. The first
-/// runs that satisfy the cube end it.
+/// Answers all leaves below a family in which `left` definitions are still to be carried; none where some
+/// machine of it reads nothing. The first
+/// runs that satisfy the cube end it. `spent` counts the states of the families on the way. `States` comes only where the search isn't allowed to take whatever it takes.
 #[cycle(search)]
 pub fn descend(
     search: &Search,
@@ -32,7 +41,8 @@ pub fn descend(
     state: &LeafState,
     left: u32,
     tally: &mut Tally,
-) -> Result<Option<Found>, AllocError>
+    spent: &mut u64,
+) -> Result<Option<Found>, BuildFault>
     requires search { IsSearch search.now }
     requires state { IsState search.now.flat.now left state.now }
     requires left { left ≤ length search.now.flat.now.definitions }
@@ -41,14 +51,18 @@ pub fn descend(
     ensures kept { OnOk result (Keeps tally.old tally.new) }
     ensures covered { result ≡ Ok None → IsCovered search.now.flat.now search.now.region left state.now.machines tally.new }
     ensures found { IfOk result (λ o. IfSome o (IsFound search.now.flat.now left state.now.machines)) }
+    ensures refused { (n : ℕ) → result ≡ Err (States n) → search.now.allowance ≡ Part }
 {
+    if reads_nothing(state) {
+        return Ok(None);
+    }
     if left == 0 {
         return answer_leaf(search, alloc, state, tally);
     }
     let at = left - 1;
     match pieces_at(search, state, at) {
-        Some(pieces) => try_cuts(search, alloc, state, at, pieces, &[], tally),
-        None => below(search, alloc, state, at, &[], tally),
+        Some(pieces) => try_cuts(search, alloc, state, at, pieces, &[], tally, spent),
+        None => below(search, alloc, state, at, &[], tally, spent),
     }
 }
 
@@ -63,7 +77,8 @@ fn try_cuts(
     pieces: &[u32],
     cuts: &[u32],
     tally: &mut Tally,
-) -> Result<Option<Found>, AllocError>
+    spent: &mut u64,
+) -> Result<Option<Found>, BuildFault>
     requires search { IsSearch search.now }
     requires state { IsState search.now.flat.now (at + 1) state.now }
     requires cuts { IsCutting search.now.flat.now at pieces.now state.now.machines cuts.now }
@@ -72,13 +87,15 @@ fn try_cuts(
     ensures kept { OnOk result (Keeps tally.old tally.new) }
     ensures covered { result ≡ Ok None → AreCoveredFrom search.now.flat.now search.now.region at pieces.now state.now.machines cuts.now tally.new }
     ensures found { IfOk result (λ o. IfSome o (IsFound search.now.flat.now (at + 1) state.now.machines)) }
+    ensures refused { (n : ℕ) → result ≡ Err (States n) → search.now.allowance ≡ Part }
 {
     if cuts.len() + 1 == pieces.len() {
-        return below(search, alloc, state, at, cuts, tally);
+        return below(search, alloc, state, at, cuts, tally, spent);
     }
     for s in 0..states_at(search.flat, state, at) {
         let more = with_cut(alloc, cuts, s)?;
-        if let Some(found) = try_cuts(search, alloc, state, at, pieces, more.as_slice(), tally)? {
+        let cuts = more.as_slice();
+        if let Some(found) = try_cuts(search, alloc, state, at, pieces, cuts, tally, spent)? {
             return Ok(Some(found));
         }
     }
@@ -94,7 +111,8 @@ fn below(
     at: u32,
     cuts: &[u32],
     tally: &mut Tally,
-) -> Result<Option<Found>, AllocError>
+    spent: &mut u64,
+) -> Result<Option<Found>, BuildFault>
     requires search { IsSearch search.now }
     requires state { IsState search.now.flat.now (at + 1) state.now }
     requires step { CanStep search.now.flat.now at state.now.machines cuts.now }
@@ -103,11 +121,32 @@ fn below(
     ensures kept { OnOk result (Keeps tally.old tally.new) }
     ensures covered { result ≡ Ok None → IsCoveredBelow search.now.flat.now search.now.region at cuts.now state.now tally.new }
     ensures found { IfOk result (λ o. IfSome o (IsFound search.now.flat.now (at + 1) state.now.machines)) }
+    ensures refused { (n : ℕ) → result ≡ Err (States n) → search.now.allowance ≡ Part }
 {
-    let next = step(alloc, search.flat, state, at, cuts)?;
-    let found = descend(search, alloc, &next, at, tally);
+    let next = next_family(search, alloc, state, at, cuts, spent)?;
+    let found = descend(search, alloc, &next, at, tally, spent);
     let lifted = leave(alloc, search.flat, state, at, cuts, next, found)?;
     Ok(lifted)
+}
+
+/// The family with the definition at this place carried, counted as [`spend`] says.
+fn next_family(
+    search: &Search,
+    alloc: Global,
+    state: &LeafState,
+    at: u32,
+    cuts: &[u32],
+    spent: &mut u64,
+) -> Result<LeafState, BuildFault>
+    requires { CanStep search.now.flat.now at state.now.machines cuts.now }
+    ensures next { IfOk result (IsNext search.now.flat.now at cuts.now state.now) }
+    ensures state { IfOk result (λ s. IsStraight search.now.flat.now → IsState search.now.flat.now (at + 1) state.now → IsState search.now.flat.now at s) }
+    ensures refused { (n : ℕ) → result ≡ Err (States n) → search.now.allowance ≡ Part }
+{
+    let limit = search.allowance.most_states();
+    let next = step(alloc, search.flat, state, at, cuts, limit)?;
+    spend(search.allowance, spent, &next)?;
+    Ok(next)
 }
 
 /// One cut more.

@@ -1,6 +1,7 @@
 //! The definitions of a flat cube, one at a time, on the way to its leaves.
-ghost use Rattle.std.specs.Prelude.{◌≡◌, ℕ, ◌+◌, ◌<◌, List, [], Ok, None, Some, IfOk, IfSome, MatchOption, Option, length, slice_get};
+ghost use Rattle.std.specs.Prelude.{◌≡◌, ℕ, ◌+◌, ◌<◌, ◌^◌, List, [], Ok, Err, None, Some, IfOk, IfSome, MatchOption, Option, length, slice_get};
 ghost use Rattle.machine_core.specs.declared.graph.Graph.{Graph};
+ghost use Rattle.trim_search.specs.declared.build_fault.BuildFault.TheVariants.{States};
 ghost use Rattle.straight_line.specs.Straight.{IsStraight};
 ghost use Rattle.straight_line.specs.declared.definition.Definition.{Definition as AnyDefinition};
 ghost use Rattle.backward.specs.Families.{HasMachine};
@@ -15,8 +16,9 @@ use crate::searching::Search;
 use backward::{
     LeafState, cuts_are_exact, lift_step, next_can_be_carried, step_concat, step_through,
 };
-use std::alloc::{AllocError, Global};
+use std::alloc::Global;
 use straight_line::{By, Definition, Flat};
+use trim_search::BuildFault;
 
 // The definition at this place, which there is.
 fn definition_at(flat: &Flat, at: u32) -> &Definition
@@ -57,26 +59,29 @@ pub fn states_at(flat: &Flat, state: &LeafState, at: u32) -> u32
     }
 }
 
-/// The family with the definition at this place carried, at these cuts where it is a concatenation.
+/// The family with the definition at this place carried, at these cuts where it is a concatenation. `States`
+/// comes where a machine on the way has more than `limit` states.
 pub fn step(
     alloc: Global,
     flat: &Flat,
     state: &LeafState,
     at: u32,
     cuts: &[u32],
-) -> Result<LeafState, AllocError>
+    limit: u64,
+) -> Result<LeafState, BuildFault>
     requires { CanStep flat.now at state.now.machines cuts.now }
     ensures next { IfOk result (IsNext flat.now at cuts.now state.now) }
     ensures state { IfOk result (λ s. IsStraight flat.now → IsState flat.now (at + 1) state.now → IsState flat.now at s) }
+    ensures refused { (n : ℕ) → result ≡ Err (States n) → limit < 2 ^ 32 }
 {
     let definition = definition_at(flat, at);
     match &definition.by {
         By::Concat(_) => {
-            let next = step_concat(alloc, flat, state, at, cuts)?;
+            let next = step_concat(alloc, flat, state, at, cuts, limit)?;
             Ok(next)
         }
         _ => {
-            let next = step_through(alloc, flat, state, at)?;
+            let next = step_through(alloc, flat, state, at, limit)?;
             Ok(next)
         }
     }
@@ -90,8 +95,8 @@ pub fn leave(
     at: u32,
     cuts: &[u32],
     after: LeafState,
-    found: Result<Option<Found>, AllocError>,
-) -> Result<Option<Found>, AllocError>
+    found: Result<Option<Found>, BuildFault>,
+) -> Result<Option<Found>, BuildFault>
     requires straight { IsStraight flat.now }
     requires at { at < length flat.now.definitions }
     requires made { IsMadeAt flat.now at cuts.now before.now.machines after }
@@ -99,6 +104,7 @@ pub fn leave(
     ensures found { IfOk result (λ o. IfSome o (IsFound flat.now (at + 1) before.now.machines)) }
     ensures taken { IfOk result (λ o. (f : Option AnyFound) × (found ≡ Ok f)) }
     ensures none { result ≡ Ok None → found ≡ Ok None }
+    ensures refused { (n : ℕ) → result ≡ Err (States n) → found ≡ Err (States n) }
 {
     take_back(alloc, flat, before, at, cuts, &after, found)
 }
@@ -111,8 +117,8 @@ fn take_back(
     at: u32,
     cuts: &[u32],
     after: &LeafState,
-    found: Result<Option<Found>, AllocError>,
-) -> Result<Option<Found>, AllocError>
+    found: Result<Option<Found>, BuildFault>,
+) -> Result<Option<Found>, BuildFault>
     requires straight { IsStraight flat.now }
     requires at { at < length flat.now.definitions }
     requires made { IsMadeAt flat.now at cuts.now before.now.machines after.now }
@@ -120,6 +126,7 @@ fn take_back(
     ensures found { IfOk result (λ o. IfSome o (IsFound flat.now (at + 1) before.now.machines)) }
     ensures taken { IfOk result (λ o. (f : Option AnyFound) × (found ≡ Ok f)) }
     ensures none { result ≡ Ok None → found ≡ Ok None }
+    ensures refused { (n : ℕ) → result ≡ Err (States n) → found ≡ Err (States n) }
 {
     match found? {
         None => Ok(None),

@@ -153,17 +153,13 @@ made P most limit r m h e = let x = subst (Builds P most limit) e h in (x.0, x.1
 pub at-ok : (P : Graph → Type 0) (r : Result Graph BuildFault) (m : Graph) → r ≡ Ok m → IfOk r P → P m
 at-ok P r m e h = subst (λ x. IfOk x P) e h
 
-pub power-fits : (r : Regex) (b : Bool) (most : ℕ) → b ≡ false → part_bound (own.InRe r, b) ≤ most → 2 ^ size r ≤ most
-power-fits r true most e h = cc
-power-fits r false most e h = h
+pub power-below : (r : Regex) (b : Bool) → b ≡ false → 2 ^ size r ≤ part_bound (own.InRe r, b)
+power-below r true e = cc
+power-below r false e = omega arith
 
--- the bound of an expression that is small isn't cut off
-pub not-cut : (r : Regex) → size r ≤ 262144 → bound_of r ≡ size r
-not-cut r h = omega arith
-
-pub size-fits : (r : Regex) (b : Bool) (most : ℕ) → part_bound (own.InRe r, b) ≤ most → size r ≤ most
-size-fits r true most h = h
-size-fits r false most h = let x = below-power (size r) in omega (arith, h, x)
+pub size-below : (r : Regex) (b : Bool) → size r ≤ part_bound (own.InRe r, b)
+size-below r true = omega arith
+size-below r false = let x = below-power (size r) in omega (arith, x)
 
 pub others-part : (r : Regex) (m n : Graph) → ((w : Word) → WordsOf m w ↔ In r w) → m.states ≤ size r → Reads (λ w. IsWord w × (WordsOf m w → ⊥)) n → n.states ≤ 2 ^ m.states → IsOfPart (own.InRe r, false) n
 others-part r m n words few reads size_of = record {
@@ -227,11 +223,11 @@ bound-at (part ∷ parts) (suc i) d lt =
     let h : 1 * part_bound (get_or parts i d) ≤ part_bound part * product_by part_bound parts = mul-le-mul here rest in
     omega (arith, h)
 
-pub item-fits : (parts : List (Own × Bool)) (i : ℕ) (d : Own × Bool) (most : ℕ) → i < length parts → d ≡ get_or parts i d → product_by part_bound parts ≤ most → part_bound d ≤ most
-item-fits parts i d most lt is few =
+pub item-below : (parts : List (Own × Bool)) (i : ℕ) (d : Own × Bool) → i < length parts → d ≡ get_or parts i d → part_bound d ≤ product_by part_bound parts
+item-below parts i d lt is =
     let b = bound-at parts i d lt in
     let e = ap part_bound is in
-    omega (arith, b, e, few)
+    omega (arith, b, e)
 
 -- one machine for each part
 pub of-push : (parts : List (Own × Bool)) (ms : List Graph) (part : Own × Bool) (m : Graph) → AreOfParts parts ms → IsOfPart part m → AreOfParts (parts ++ part ∷ []) (ms ++ m ∷ [])

@@ -1,14 +1,16 @@
-ghost use Rattle.std.specs.Prelude.{◌≡◌, ◌≤◌, IfOk};
+ghost use Rattle.std.specs.Prelude.{◌≡◌, ◌<◌, ℕ, Err, IfOk};
 ghost use Rattle.sv_terms.specs.Bounds.{size};
+ghost use Rattle.trim_search.specs.declared.build_fault.BuildFault.TheVariants.{States};
 ghost use Rattle.part_machines.specs.Kept.{IsMachineOf};
 
-use crate::part::{MOST_STATES, allowed};
+use crate::part::MOST_STATES;
 use lang_pool::Keyed;
 use machine_core::Explicit;
 use regex_machine::build;
-use std::alloc::{AllocError, Global};
+use std::alloc::Global;
 use std::marker::Model;
 use sv_terms::{Regex, words_only};
+use trim_search::BuildFault;
 
 /// A machine that was built for a regular expression, kept beside it.
 #[derive(Drop)]
@@ -49,14 +51,15 @@ impl Keyed<Regex> for Keep {
 }
 
 impl Keep {
-    /// The machine of the regular expression, whose size is within [`MOST_STATES`](crate::MOST_STATES).
-    /// Only memory may be wanting.
-    pub fn of(alloc: Global, key: &Regex) -> Result<Keep, AllocError>
-        requires { size key.now ≤ MOST_STATES }
-        ensures { IfOk result (λ keep. keep.0 ≡ key.now) }
+    /// The machine of the regular expression.
+    ///
+    /// `States` comes only where the size of the expression is above [`MOST_STATES`](crate::MOST_STATES).
+    pub fn of(alloc: Global, key: &Regex) -> Result<Keep, BuildFault>
+        ensures key { IfOk result (λ keep. keep.0 ≡ key.now) }
+        ensures refused { (n : ℕ) → result ≡ Err (States n) → MOST_STATES < size key.now }
     {
         words_only();
-        let machine = allowed(build(alloc, key, MOST_STATES))?;
+        let machine = build(alloc, key, MOST_STATES)?;
         let key = key.copy(alloc)?;
         Ok(Keep { key, machine })
     }

@@ -1,7 +1,8 @@
 //! Machines of regular expressions that threads share.
-ghost use Rattle.std.specs.Prelude.{◌≡◌, ◌≤◌, length, IfOk};
+ghost use Rattle.std.specs.Prelude.{◌≡◌, ◌<◌, ℕ, Err, length, IfOk};
 ghost use Rattle.sv_terms.specs.Bounds.{size};
 ghost use Rattle.lang_pool.specs.Found.{found_value};
+ghost use Rattle.trim_search.specs.declared.build_fault.BuildFault.TheVariants.{States};
 ghost use Rattle.part_machines.specs.Kept.{IsMachineOf};
 
 use crate::digests::digest;
@@ -10,6 +11,7 @@ use crate::part::MOST_STATES;
 use lang_pool::{Found, Pool};
 use std::alloc::{AllocError, Global};
 use sv_terms::Regex;
+use trim_search::BuildFault;
 
 /// Machines of regular expressions, which threads share: each is built when it is first asked for, and kept.
 ///
@@ -32,35 +34,43 @@ impl Machines {
         Ok(Machines { digests, pool })
     }
 
-    /// The machine of the expression, whose size is within [`MOST_STATES`](crate::MOST_STATES). Only memory may
-    /// be wanting. An expression without a place gets a machine of its own.
+    /// The machine of the expression. One without a place gets a machine of its own.
     ///
+    /// `States` comes only where the size of the expression is above [`MOST_STATES`](crate::MOST_STATES).
     /// Where the machine is kept, time is that of the digest, of a search among the digests and of one
     /// comparison; else also that of [`Keep::of`].
-    pub fn machine(&self, alloc: Global, regex: &Regex) -> Result<Found<'_, Keep>, AllocError>
-        requires { size regex.now ≤ MOST_STATES }
-        ensures { IfOk result (λ found. IsMachineOf regex.now (found_value found).1) }
+    pub fn machine(&self, alloc: Global, regex: &Regex) -> Result<Found<'_, Keep>, BuildFault>
+        ensures machine { IfOk result (λ found. IsMachineOf regex.now (found_value found).1) }
+        ensures refused { (n : ℕ) → result ≡ Err (States n) → MOST_STATES < size regex.now }
     {
         match self.digests.binary_search(&digest(regex)) {
             Ok(cell) => {
                 let mut note = self.pool.note(cell);
                 let found = self
                     .pool
-                    .get(cell, regex, &mut note, || boxed(alloc, regex))?;
+                    .get(cell, regex, &mut note, || make(alloc, regex))?;
                 Ok(found)
             }
-            Err(_) => Ok(Found::Owned(boxed(alloc, regex)?)),
+            Err(_) => Ok(Found::Owned(make(alloc, regex)?)),
         }
     }
 }
 
-fn boxed(alloc: Global, regex: &Regex) -> Result<Box<Keep>, AllocError>
-    requires { size regex.now ≤ MOST_STATES }
+// What is made for a place, on the heap.
+fn boxed(alloc: Global, keep: Keep) -> Result<Box<Keep>, AllocError>
+    ensures { IfOk result (λ boxed. boxed.value ≡ keep) }
+{
+    let boxed = Box::new(alloc, keep)?;
+    Ok(boxed)
+}
+
+fn make(alloc: Global, regex: &Regex) -> Result<Box<Keep>, BuildFault>
     ensures key { IfOk result (λ keep. keep.value.0 ≡ regex.now) }
     ensures machine { IfOk result (λ keep. IsMachineOf regex.now keep.value.1) }
+    ensures refused { (n : ℕ) → result ≡ Err (States n) → MOST_STATES < size regex.now }
 {
     let keep = Keep::of(alloc, regex)?;
     keep.machine();
-    let boxed = Box::new(alloc, keep)?;
+    let boxed = boxed(alloc, keep)?;
     Ok(boxed)
 }

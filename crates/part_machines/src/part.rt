@@ -1,5 +1,5 @@
 //! The machine of one part.
-ghost use Rattle.std.specs.Prelude.{◌≡◌, ℕ, ◌≤◌, ◌<◌, Ok, Err, IfOk};
+ghost use Rattle.std.specs.Prelude.{◌≡◌, ℕ, ◌+◌, ◌≤◌, ◌<◌, Err, IfOk, length};
 ghost use Rattle.trim_search.specs.declared.build_fault.BuildFault.TheVariants.{States};
 ghost use Rattle.straight_line.specs.Bounds.{part_bound};
 ghost use Rattle.straight_line.specs.declared.variable.Own.TheVariants.{InRe};
@@ -10,25 +10,26 @@ use crate::machines::Machines;
 use crate::pattern::pattern_machine;
 use machine_core::Explicit;
 use regex_machine::complement;
-use std::alloc::{AllocError, Global};
+use std::alloc::Global;
 use straight_line::Own;
 use sv_list::Copied;
 use sv_terms::{Regex, words_only};
+use sv_word::Word;
 use trim_search::BuildFault;
 
-/// No machine of a variable has more states.
+/// No machine that is made for a variable has more states.
 pub const MOST_STATES: u64 = 262_144;
 
-/// What was built, where it isn't refused for its size.
-pub fn allowed(built: Result<Explicit, BuildFault>) -> Result<Explicit, AllocError>
-    requires { (n : ℕ) → built ≡ Err (States n) → ⊥ }
-    ensures { IfOk result (λ machine. built ≡ Ok machine) }
+// Whether a machine along the characters of the word is within the limit.
+fn check_length(word: &Word) -> Result<(), BuildFault>
+    ensures fits { IfOk result (λ _. length word.now + 1 ≤ MOST_STATES) }
+    ensures refused { (n : ℕ) → result ≡ Err (States n) → MOST_STATES < length word.now + 1 }
 {
-    match built {
-        Ok(machine) => Ok(machine),
-        Err(BuildFault::Memory(e)) => Err(e),
-        Err(BuildFault::States(_)) => unreachable!(),
+    let length = word.len() as u64;
+    if length >= MOST_STATES {
+        return Err(BuildFault::States(length));
     }
+    Ok(())
 }
 
 // The words of the expression, or without `holds` all others.
@@ -37,9 +38,9 @@ fn language(
     regex: &Regex,
     holds: bool,
     machines: &Machines,
-) -> Result<Explicit, AllocError>
-    requires { part_bound (InRe regex.now, holds) ≤ MOST_STATES }
-    ensures { IfOk result (IsOfPart (InRe regex.now, holds)) }
+) -> Result<Explicit, BuildFault>
+    ensures machine { IfOk result (IsOfPart (InRe regex.now, holds)) }
+    ensures refused { (n : ℕ) → result ≡ Err (States n) → MOST_STATES < part_bound (InRe regex.now, holds) }
 {
     words_only();
     let found = machines.machine(alloc, regex)?;
@@ -48,12 +49,15 @@ fn language(
         let copy = machine.copy(alloc)?;
         return Ok(copy);
     }
-    let others = allowed(complement(alloc, machine, MOST_STATES))?;
+    let others = complement(alloc, machine, MOST_STATES)?;
     Ok(others)
 }
 
 /// The machine of a part: without registers, it reads exactly the words that meet the part, and has at most
-/// as many states as its bound, which is within [`MOST_STATES`]. Only memory may be wanting.
+/// as many states as its bound.
+///
+/// `States` comes only where the bound is above [`MOST_STATES`]. What isn't reached takes no state, so that a
+/// regular expression may have its machine though its bound is above it.
 ///
 /// All but a regular expression takes time linear in the part's word, but for a factor logarithmic in it
 /// where the word is sought; a regular expression takes that of its exploration where `machines` has no machine
@@ -62,18 +66,20 @@ pub fn part_machine(
     alloc: Global,
     part: &(Own, bool),
     machines: &Machines,
-) -> Result<Explicit, AllocError>
-    requires { part_bound part.now ≤ MOST_STATES }
-    ensures { IfOk result (IsOfPart part.now) }
+) -> Result<Explicit, BuildFault>
+    ensures machine { IfOk result (IsOfPart part.now) }
+    ensures refused { (n : ℕ) → result ≡ Err (States n) → MOST_STATES < part_bound part.now }
 {
     let holds = part.1;
     match &part.0 {
         Own::Word(word) => {
+            check_length(word)?;
             let ranges = ranges_of(alloc, word)?;
             let machine = chain(alloc, ranges.as_slice(), false, holds)?;
             Ok(machine)
         }
         Own::Prefix(word) => {
+            check_length(word)?;
             let ranges = ranges_of(alloc, word)?;
             let machine = chain(alloc, ranges.as_slice(), true, holds)?;
             Ok(machine)
@@ -83,10 +89,12 @@ pub fn part_machine(
             Ok(machine)
         }
         Own::Contains(word) => {
+            check_length(word)?;
             let machine = pattern_machine(alloc, word, true, holds)?;
             Ok(machine)
         }
         Own::Suffix(word) => {
+            check_length(word)?;
             let machine = pattern_machine(alloc, word, false, holds)?;
             Ok(machine)
         }

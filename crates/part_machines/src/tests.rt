@@ -1,15 +1,14 @@
 //! Parts at concrete words, to hold and not to hold.
-ghost use Rattle.std.specs.Prelude.{◌≡◌, ◌≤◌, ◌∷◌, [], IfOk};
-ghost use Rattle.sv_terms.specs.Bounds.{size};
-ghost use Rattle.straight_line.specs.Bounds.{part_bound};
+ghost use Rattle.std.specs.Prelude.{◌≡◌, ◌∷◌, [], IfOk};
 
-use crate::{MOST_STATES, Machines, digest, part_machine};
+use crate::{Machines, digest, part_machine};
 use lang_pool::Found;
 use machine_core::Explicit;
 use std::alloc::{AllocError, Global};
 use straight_line::Own;
 use sv_terms::Regex;
 use sv_word::Word;
+use trim_search::BuildFault;
 
 // The word "a".
 fn letter(alloc: Global) -> Result<Word, AllocError>
@@ -52,8 +51,7 @@ fn reads(machine: &Explicit, text: &str) -> bool {
 }
 
 // Whether the machine of a part reads the first text, and not the second.
-fn tells(alloc: Global, own: Own, holds: bool, yes: &str, no: &str) -> Result<bool, AllocError>
-    requires { part_bound (own, holds) ≤ MOST_STATES }
+fn tells(alloc: Global, own: Own, holds: bool, yes: &str, no: &str) -> Result<bool, BuildFault>
 {
     let part = (own, holds);
     let kept = Machines::new(alloc, Vec::new(alloc))?;
@@ -64,7 +62,7 @@ fn tells(alloc: Global, own: Own, holds: bool, yes: &str, no: &str) -> Result<bo
 }
 
 #[test]
-fn digits(rt: HostRuntime) -> Result<(), AllocError> {
+fn digits(rt: HostRuntime) -> Result<(), BuildFault> {
     let alloc = rt.alloc();
     assert!(rt; tells(alloc, Own::Digit, true, "9", ":")?);
     assert!(rt; tells(alloc, Own::Digit, false, "00", "0")?);
@@ -72,7 +70,7 @@ fn digits(rt: HostRuntime) -> Result<(), AllocError> {
 }
 
 #[test]
-fn patterns(rt: HostRuntime) -> Result<(), AllocError> {
+fn patterns(rt: HostRuntime) -> Result<(), BuildFault> {
     let alloc = rt.alloc();
     assert!(rt; tells(alloc, Own::Contains(letter(alloc)?), true, "bab", "bb")?);
     assert!(rt; tells(alloc, Own::Suffix(letter(alloc)?), false, "ab", "ba")?);
@@ -81,15 +79,14 @@ fn patterns(rt: HostRuntime) -> Result<(), AllocError> {
 }
 
 // Whether the machine of the expression is kept.
-fn is_kept(alloc: Global, kept: &Machines, expression: &Regex) -> Result<bool, AllocError>
-    requires { size expression.now ≤ MOST_STATES }
+fn is_kept(alloc: Global, kept: &Machines, expression: &Regex) -> Result<bool, BuildFault>
 {
     let found = kept.machine(alloc, expression)?;
     Ok(matches!(found, Found::Shared(_)))
 }
 
 #[test]
-fn machines_are_kept_where_they_have_a_place(rt: HostRuntime) -> Result<(), AllocError> {
+fn machines_are_kept_where_they_have_a_place(rt: HostRuntime) -> Result<(), BuildFault> {
     let alloc = rt.alloc();
     let mut digests = Vec::new(alloc);
     digests.push(digest(&Regex::All))?;

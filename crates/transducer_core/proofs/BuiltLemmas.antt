@@ -15,7 +15,7 @@ use Rattle.machine_core.specs.declared.edge.Edge.{Edge}
 use Rattle.machine_core.specs.declared.end.End.{End}
 use Rattle.machine_core.specs.declared.graph.Graph.{Graph}
 use Rattle.sv_word.specs.Ranges.{in_ranges}
-use Rattle.transducer_core.specs.Built.{AreSteps, IsBuilt, IsStep}
+use Rattle.transducer_core.specs.Built.{IsAnyStep, IsBuilt, IsStep}
 use Rattle.transducer_core.specs.Nodes.{NodeSpells, Spells}
 use Rattle.transducer_core.specs.declared.node.Node.{Node}
 use Rattle.transducer_core.proofs.NodeLemmas.{only_one}
@@ -41,9 +41,9 @@ step_added old new on cost0 state c place r z e s d cost to = (
 
 -- the edges of one pair more
 pub steps_more : (es fs ls : List Edge) (state : ℕ) (firsts : List (ℕ × ℕ)) (i : ℕ) (x : ℕ × ℕ) → i < length firsts → x ≡ get_or firsts i x
-    → ((s d : ℕ) (cost : List ℕ) (to : ℕ) → StepsBy fs s d cost to ↔ (StepsBy es s d cost to ⊎ AreSteps state (take i firsts) s d cost to))
+    → ((s d : ℕ) (cost : List ℕ) (to : ℕ) → StepsBy fs s d cost to ↔ (StepsBy es s d cost to ⊎ IsAnyStep state (take i firsts) s d cost to))
     → ((s d : ℕ) (cost : List ℕ) (to : ℕ) → StepsBy ls s d cost to ↔ (StepsBy fs s d cost to ⊎ IsStep state x s d cost to))
-    → (s d : ℕ) (cost : List ℕ) (to : ℕ) → StepsBy ls s d cost to ↔ (StepsBy es s d cost to ⊎ AreSteps state (take (i + 1) firsts) s d cost to)
+    → (s d : ℕ) (cost : List ℕ) (to : ℕ) → StepsBy ls s d cost to ↔ (StepsBy es s d cost to ⊎ IsAnyStep state (take (i + 1) firsts) s d cost to)
 steps_more es fs ls state firsts i x h at f g s d cost to =
     let t : take (i + 1) firsts ≡ take i firsts ++ x ∷ [] = take_more firsts i x h ∙ ap (λ y. take i firsts ++ y ∷ []) (sym at) in (
       λ k. ⊎_elim (λ a. ⊎_elim inl (λ b. inr (b.0, subst (λ xs. Contains xs b.0) (sym t) (Contains-append_left (take i firsts) (x ∷ []) b.0 b.1), b.2)) ((f s d cost to).0 a))
@@ -69,7 +69,7 @@ which (x ∷ ns) n m zero e = inl e
 which (x ∷ ns) n m (suc s) e = ⊎_elim inl (λ r. inr (ap suc r.0, r.1)) (which ns n m s e)
 
 pub built_more : (g h : Graph) (ns : List Node) (n : Node) (state : ℕ) → state ≡ length ns → IsBuilt g ns
-    → ((s d : ℕ) (cost : List ℕ) (to : ℕ) → StepsBy h.edges s d cost to ↔ (StepsBy g.edges s d cost to ⊎ AreSteps state n.firsts s d cost to))
+    → ((s d : ℕ) (cost : List ℕ) (to : ℕ) → StepsBy h.edges s d cost to ↔ (StepsBy g.edges s d cost to ⊎ IsAnyStep state n.firsts s d cost to))
     → ((s : ℕ) (cost : List ℕ) → EndsAt h.ends s cost ↔ (EndsAt g.ends s cost ⊎ ((state ≡ s) × IsTrue n.ends × (cost ≡ []))))
     → IsBuilt h (ns ++ n ∷ [])
 built_more g h ns n state at b steps ends = record {

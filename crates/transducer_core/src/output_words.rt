@@ -6,7 +6,7 @@ ghost use Rattle.sv_terms.specs.Transduction.{IsFormed, Pairs, Writes};
 ghost use Rattle.transducer_core.specs.Nodes.{AddsText, AreClosed, AreGrown, IsChain, LeadsWithin, NodeSpells, Spells};
 ghost use Rattle.transducer_core.specs.Outputs.{Adds, ArePlaces, EndsBy, IsBase, IsOutput, MakesNode, MakesPlaces, OverEdge, OverEdges};
 ghost use Rattle.sv_word.specs.Words.{IsWord, greatest_character};
-ghost use Rattle.transducer_core.specs.Built.{AreSteps, IsBuilt, IsStep};
+ghost use Rattle.transducer_core.specs.Built.{IsAnyStep, IsBuilt, IsStep};
 ghost use Rattle.transducer_core.specs.declared.node.Node.{Node as AnyNode};
 ghost use Rattle.sv_terms.specs.declared.transducer.TransEdge.{TransEdge as AnyEdge};
 
@@ -344,7 +344,7 @@ fn add_steps(
     ensures states { machine.new.states ≡ machine.old.states }
     ensures registers { machine.new.registers ≡ machine.old.registers }
     ensures ends { machine.new.ends ≡ machine.old.ends }
-    ensures steps { OnOk result ((s d : ℕ) (cost : List ℕ) (to : ℕ) → StepsBy machine.new.edges s d cost to ↔ (StepsBy machine.old.edges s d cost to ⊎ AreSteps state firsts.now s d cost to)) }
+    ensures steps { OnOk result ((s d : ℕ) (cost : List ℕ) (to : ℕ) → StepsBy machine.new.edges s d cost to ↔ (StepsBy machine.old.edges s d cost to ⊎ IsAnyStep state firsts.now s d cost to)) }
 {
     for first in firsts {
         add_step(alloc, machine, state, first.0, first.1)?;

@@ -6,7 +6,7 @@ ghost use Rattle.trim_search.specs.Useful.{IsOnRun};
 
 use crate::build_fault::BuildFault;
 use crate::built::Built;
-use crate::explore::explore;
+use crate::explore::explore_with;
 use crate::numbering::Dense;
 use crate::rests::mark_rests;
 use crate::useful::Useful;
@@ -45,7 +45,7 @@ pub fn trim_named(alloc: Global, machine: &Explicit) -> Result<Built<u32>, Alloc
         machine,
         marks: marks.as_slice(),
     };
-    match explore(alloc, &useful, Dense::new(alloc), u64::MAX) {
+    match explore_with(alloc, &useful, Dense::new(alloc), u64::MAX) {
         Ok(built) => Ok(built),
         // There are fewer states than this limit.
         Err(BuildFault::States(_)) => unreachable!(),

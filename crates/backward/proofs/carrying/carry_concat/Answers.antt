@@ -1,4 +1,4 @@
-use Rattle.std.proofs.Common.{◌≡◌, ℕ, suc, ◌-◌, ◌+◌, ◌<◌, ◌≤◌, ◌∷◌, List, length, drop, get_or, Option, Some, slice_get, slice_set, refl, sym, ap, ◌∙◌, subst, arith}
+use Rattle.std.proofs.Common.{◌≡◌, ℕ, suc, ◌-◌, ◌+◌, ◌<◌, ◌≤◌, ◌∷◌, List, length, drop, get_or, Option, Some, slice_get, slice_set, refl, sym, ap, ◌∙◌, subst, arith, Err}
 use Rattle.machine_core.specs.declared.graph.Graph.{Graph}
 use Rattle.backward.specs.Families.{Family, HasMachine, without, AreWide}
 use Rattle.backward.specs.Carried.{CanCut, IsCarried}
@@ -95,9 +95,9 @@ loop-left-preserved c =
       within = omega arith;
       carried = subst (IsCarried s.registers s.machines c.args.x g (drop (c.loop-left.left - 1) (0 ∷ c.args.cuts.now)) (drop (c.loop-left.left - 1) c.args.pieces.now)) (sym is)
           (loop-next s.registers s.machines s.wide c.args.x g c.args.cuts.now c.args.pieces.now can (c.loop-left.left - 1) (omega arith) c.loop-left.machines inv c.machine_at-machine.result.now h
-          c.start_at-from.result c.stop_at-to.result c.start_at-from.ensures c.stop_at-to.ensures c.in_ok-meeting.meeting.small.machine c.in_ok-meeting.ensures.meets);
+          c.start_at-from.result c.stop_at-to.result c.start_at-from.ensures c.stop_at-to.ensures c.in_ok-meeting.meeting.small.machine c.in_ok-meeting.ensures.kept.meets);
       met = met-next g c.args.cuts.now c.args.pieces.now (without s.machines c.args.x) (c.loop-left.left - 1) (omega arith) c.loop-left.machines c.loop-left.meetings met c.machine_at-machine.result.now h
-          c.start_at-from.result c.stop_at-to.result c.start_at-from.ensures c.stop_at-to.ensures c.in_ok-meeting.meeting c.in_ok-meeting.ensures c.push.new.self c.in_ok-push.ensures.ok c.set.new.self is;
+          c.start_at-from.result c.stop_at-to.result c.start_at-from.ensures c.stop_at-to.ensures c.in_ok-meeting.meeting c.in_ok-meeting.ensures.kept c.push.new.self c.in_ok-push.ensures.ok c.set.new.self is;
     }
 
 pub invariant_of-result : goal.invariant_of-result
@@ -132,3 +132,8 @@ returns-clause-made c =
       made = refl;
       met = subst (λ n. AreMet g (drop n (0 ∷ c.args.cuts.now)) (drop n c.args.pieces.now) (without s.machines c.args.x) c.loop-left.meetings c.loop-left.machines) none c.loop-left.invariant.met;
     }
+
+pub returns-in_err-meeting-clause-refused : goal.returns-in_err-meeting-clause-refused
+returns-in_err-meeting-clause-refused c = λ n e.
+    let d = rw e at c.from_residual-in_err-meeting.ensures.1 in
+    c.in_err-meeting.ensures.refused n (ap Err (sym d))

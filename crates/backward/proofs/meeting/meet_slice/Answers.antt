@@ -1,4 +1,4 @@
-use Rattle.std.proofs.Common.{◌≡◌, ℕ, List, ◌∷◌, [], map, subst, sym, ap}
+use Rattle.std.proofs.Common.{◌≡◌, ℕ, List, ◌∷◌, [], map, subst, sym, ap, Err}
 use Rattle.machine_core.specs.Runs.{IsRun}
 use Rattle.machine_core.specs.declared.run.Run.{Run}
 use Rattle.machine_meet.specs.Products.{MeetEnds, MeetSteps, meet_width}
@@ -6,11 +6,11 @@ use Rattle.backward.proofs.MeetingLemmas.{IsBuiltOf, AreTwo, meeting-is, slice_e
 use Rattle.backward.proofs.KeptLemmas.{both-out}
 use Rattle.backward.proofs.meeting.meet_slice.Goals as goal
 
-pub returns-in_ok-small-in-Ok : goal.returns-in_ok-small-in-Ok
-returns-in_ok-small-in-Ok c =
-    let e = c.in-Ok.ensures in
-    let s = c.in_ok-small-in-Ok.ensures in
-    let built = c.in-Ok.both.machine in
+pub returns-clause-kept : goal.returns-clause-kept
+returns-clause-kept c =
+    let e = c.in_ok-both.ensures in
+    let s = c.in_ok-small.ensures in
+    let built = c.in_ok-both.both.machine in
     let two : AreTwo c.of-whole.result c.of-part.result c.args.machine.now c.args.target.now c.args.from c.args.to = record {
       whole = c.of-whole.ensures.target;
       first = c.of-whole.ensures.from;
@@ -25,7 +25,7 @@ returns-in_ok-small-in-Ok c =
       registers = c.requires.registers;
       fits = c.requires.fits;
       meets = meeting-is c.of-whole.result c.of-part.result c.args.machine.now c.args.target.now c.args.from c.args.to two
-          c.of-meet.ensures.language built c.in_ok-small-in-Ok.small.machine
+          c.of-meet.ensures.language built c.in_ok-small.small.machine
           (subst (λ qs. IsBuiltOf qs built) c.of-meet.ensures.parts (record {
             runs = e.runs;
             registers = e.registers;
@@ -50,3 +50,8 @@ returns-in_ok-small-in-Ok c =
           (subst (λ qs. IsRun (MeetEnds slice_ends (meet_width slice_width qs) qs) (MeetSteps slice_steps (meet_width slice_width qs) qs) (map slice_first qs) lifted) c.of-meet.ensures.parts
           (c.lifted_runs_are_runs.ensures run lifted r l));
     }
+
+pub returns-in_err-both-clause-refused : goal.returns-in_err-both-clause-refused
+returns-in_err-both-clause-refused c = λ n e.
+    let d = rw e at c.from_residual.ensures.1 in
+    (c.in_err-both.ensures.beyond n (ap Err (sym d))).1

@@ -1,4 +1,4 @@
-use Rattle.std.proofs.Common.{◌≡◌, ℕ, suc, ◌+◌, ap, sym, subst, ◌∙◌, arith}
+use Rattle.std.proofs.Common.{◌≡◌, ℕ, suc, ◌+◌, ap, sym, subst, ◌∙◌, arith, Err}
 use Rattle.straight_line.specs.declared.definition.By.TheVariants as by
 use Rattle.backward.specs.Definitions.{definition}
 use Rattle.backward.specs.States.{IsState}
@@ -67,3 +67,8 @@ returns-clause-made c =
     let e = c.in_ok-next.ensures in
     let carried = e.carried can.0 can.1 in
     cut-made flat at d there s new ps c.args.cuts.now is can.0 can.1 e.registers carried e.made
+
+pub returns-in_err-next-clause-refused : goal.returns-in_err-next-clause-refused
+returns-in_err-next-clause-refused c = λ n e.
+    let d = rw e at c.from_residual.ensures.1 in
+    c.in_err-next.ensures.refused n (ap Err (sym d))

@@ -1,4 +1,4 @@
-use Rattle.std.proofs.Common.{◌≡◌, ℕ, suc, ◌+◌, subst, arith}
+use Rattle.std.proofs.Common.{◌≡◌, ℕ, suc, ◌+◌, subst, sym, ap, arith, Err}
 use Rattle.straight_line.specs.NumberLaws.{slope_of, base_of}
 use Rattle.backward.specs.Definitions.{definition}
 use Rattle.backward.specs.States.{IsState}
@@ -82,3 +82,8 @@ returns-clause-made c =
     let there = c.definition_at-definition.ensures in
     let s = c.args.state.now in
     passed-made flat at d there s c.in_ok-next.next c.read_by-read.result c.read_by-read.ensures c.in_ok-through.through c.in_ok-through.ensures c.in_ok-next.ensures.made
+
+pub returns-in_err-next-clause-refused : goal.returns-in_err-next-clause-refused
+returns-in_err-next-clause-refused c = λ n e.
+    let d = rw e at c.from_residual-in_err-next.ensures.1 in
+    c.in_err-next.ensures.refused n (ap Err (sym d))

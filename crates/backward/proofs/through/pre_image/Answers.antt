@@ -1,13 +1,13 @@
-use Rattle.std.proofs.Common.{◌≡◌, subst}
+use Rattle.std.proofs.Common.{◌≡◌, subst, sym, ap, Err}
 use Rattle.machine_core.specs.Runs.{IsRun}
 use Rattle.pre_image.specs.PreImages.{PreEnds, PreSteps}
 use Rattle.backward.specs.PreBuilt.{IsPreImage, IsPreKept}
 use Rattle.backward.proofs.through.pre_image.Goals as goal
 
-pub returns-in-Ok : goal.returns-in-Ok
-returns-in-Ok c =
-    let e = c.in-Ok.ensures in
-    let built = c.in-Ok.built.machine in
+pub returns-clause-kept : goal.returns-clause-kept
+returns-clause-kept c =
+    let e = c.in_ok-built.ensures in
+    let built = c.in_ok-built.built.machine in
     let t = c.in_ok-pre.pre.through.now in
     let g = c.in_ok-pre.pre.target.now in
     let is : IsPreImage t g built = record {
@@ -30,3 +30,8 @@ returns-in-Ok c =
       lifts = λ run lifted r l. subst (λ x. IsRun (PreEnds x c.args.target.now) (PreSteps x c.args.target.now) (x.start, 0) lifted) c.in_ok-pre.ensures.through
           (subst (λ y. IsRun (PreEnds t y) (PreSteps t y) (t.start, 0) lifted) c.in_ok-pre.ensures.target (c.lifted_runs_are_runs.ensures run lifted r l));
     }
+
+pub returns-in_err-built-clause-refused : goal.returns-in_err-built-clause-refused
+returns-in_err-built-clause-refused c = λ n e.
+    let d = rw e at c.from_residual-in_err-built.ensures.1 in
+    (c.in_err-built.ensures.beyond n (ap Err (sym d))).1

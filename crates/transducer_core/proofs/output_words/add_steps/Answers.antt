@@ -1,7 +1,7 @@
 use Rattle.std.proofs.Common.{◌<◌, ◌≤◌, ◌⊎◌, ◌↔◌, ℕ, List, length, get_or, sym, ◌∙◌, subst, arith}
 use Rattle.std.proofs.lemmas.List.{get_or_default, take_all}
 use Rattle.machine_core.specs.Edges.{StepsBy}
-use Rattle.transducer_core.specs.Built.{AreSteps}
+use Rattle.transducer_core.specs.Built.{IsAnyStep}
 use Rattle.transducer_core.proofs.BuiltLemmas.{at_there, steps_more}
 use Rattle.transducer_core.proofs.output_words.add_steps.Goals as goal
 
@@ -36,5 +36,5 @@ loop-first-preserved c =
 pub returns-clause-steps : goal.returns-clause-steps
 returns-clause-steps c =
     let past : length c.args.firsts.now ≤ c.loop-first.first-index = omega arith in
-    let P : List (ℕ × ℕ) → Type 0 = λ fs. (s d : ℕ) (cost : List ℕ) (to : ℕ) → StepsBy c.loop-first.machine.edges s d cost to ↔ (StepsBy c.args.machine.now.edges s d cost to ⊎ AreSteps c.args.state fs s d cost to) in
+    let P : List (ℕ × ℕ) → Type 0 = λ fs. (s d : ℕ) (cost : List ℕ) (to : ℕ) → StepsBy c.loop-first.machine.edges s d cost to ↔ (StepsBy c.args.machine.now.edges s d cost to ⊎ IsAnyStep c.args.state fs s d cost to) in
     subst P (take_all c.loop-first.first-index c.args.firsts.now past) c.loop-first.invariant.3

@@ -1,0 +1,60 @@
+//! What a search has taken so far.
+ghost use Rattle.std.specs.Prelude.{◌≡◌, ℕ, Err};
+ghost use Rattle.trim_search.specs.declared.build_fault.BuildFault.TheVariants.{States};
+ghost use Rattle.cube_search.specs.declared.allowance.Allowance.TheVariants.{Part};
+
+use crate::allowance::Allowance;
+use backward::{LeafState, Made, Meeting};
+use machine_core::Explicit;
+use trim_search::BuildFault;
+
+// A family counts as so many states more, for what is done once for each.
+const FAMILY_EFFORT: u64 = 64;
+
+fn states_of(machine: &Option<Explicit>) -> u64 {
+    match machine {
+        None => 0,
+        Some(machine) => u64::from(machine.states()),
+    }
+}
+
+fn states_of_all(machines: &[Option<Explicit>]) -> u64 {
+    let mut sum = 0u64;
+    for machine in machines {
+        sum = sum.saturating_add(states_of(machine));
+    }
+    sum
+}
+
+fn states_explored(meetings: &[Meeting]) -> u64 {
+    let mut sum = 0u64;
+    for meeting in meetings {
+        sum = sum.saturating_add(u64::from(meeting.both.machine.states()));
+    }
+    sum
+}
+
+// The states that were explored for a family.
+fn effort_of(made: &Made) -> u64 {
+    match made {
+        Made::First => 0,
+        Made::Cut(meetings) => states_explored(meetings.as_slice()),
+        Made::Through(_, before, meeting) => u64::from(before.built.machine.states())
+            .saturating_add(u64::from(meeting.both.machine.states())),
+    }
+}
+
+/// Counts the states that a family has and that were explored for it. `States` comes where that is more than is
+/// allowed.
+pub fn spend(allowance: Allowance, spent: &mut u64, family: &LeafState) -> Result<(), BuildFault>
+    ensures { (n : ℕ) → result ≡ Err (States n) → allowance ≡ Part }
+{
+    *spent = spent
+        .saturating_add(FAMILY_EFFORT)
+        .saturating_add(states_of_all(family.machines.as_slice()))
+        .saturating_add(effort_of(&family.made));
+    if *spent > allowance.most_effort() {
+        return Err(BuildFault::States(*spent));
+    }
+    Ok(())
+}
