@@ -1,11 +1,15 @@
 use Rattle.std.proofs.Common.{◌<◌, subst, sym}
-use Rattle.backward.proofs.TestLemmas.{can-halve}
+use Rattle.machine_core.specs.Graphs.{graph_top}
+use Rattle.backward.proofs.TestLemmas.{can-cut, has-first, free, dear}
 use Rattle.backward.proofs.tests.halved.Goals as goal
 
 pub carry_concat-requires : goal.carry_concat-requires
 carry_concat-requires c =
-    let whole = c.in_ok-whole in (
-      whole.whole,
-      can-halve c.in_ok-state.state.machines c.in_ok-piece.piece whole.whole c.args.cut c.in_ok-state.ensures c.in_ok-piece.ensures.top whole.ensures.top
-          (subst (λ n. c.args.cut < n) (sym whole.ensures.states) c.requires),
-    )
+    let piece = c.in_ok-piece in
+    let whole = c.in_ok-whole in
+    let other = c.in_ok-other in
+    let ms = c.in_ok-state.state.machines in
+    let are = c.in_ok-state.ensures in
+    let y = has-first ms piece.piece whole.whole other.other are in
+    let within = subst (λ n. c.args.cut < n) (sym whole.ensures.states) c.requires in
+    (whole.whole, can-cut ms piece.piece whole.whole other.other 0 0 c.args.cut are (free (graph_top piece.piece) piece.ensures.top) (dear (graph_top whole.whole) whole.ensures.top) (free (graph_top other.other) other.ensures.top) y y within)
