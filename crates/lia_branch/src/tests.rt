@@ -14,6 +14,12 @@ const MAX: i128 = i128::MAX;
 
 const LEAST: i128 = -i128::MAX;
 
+/// 2^100 + 1.
+const LARGE: i128 = (1 << 100) + 1;
+
+/// 2^101 + 1.
+const LARGER: i128 = (1 << 101) + 1;
+
 /// A row's kind, its coefficients at the unknowns 0, 1 and 2, and its constant.
 type Entries = (RowKind, [i128; 3], i128);
 
@@ -24,7 +30,8 @@ enum Ending {
     Farkas,
     Divisor,
     Splits,
-    Branches,
+    /// So many splits were made.
+    Branches(u32),
     PastRow,
     PastSum,
 }
@@ -127,7 +134,9 @@ fn end_of_system(alloc: Global, system: &System) -> Result<Ending, Fail>
                 Err(Fail::new("the checker refuses the tree"))
             }
         }
-        Outcome::GaveUp(Evidence::Branches(_)) => Ok(Ending::Branches),
+        Outcome::GaveUp(Evidence::Branches(tree)) => {
+            Ok(Ending::Branches(count_splits(alloc, &tree)?))
+        }
         Outcome::GaveUp(Evidence::PastRow { .. }) => Ok(Ending::PastRow),
         Outcome::GaveUp(Evidence::PastSum(_, _)) => Ok(Ending::PastSum),
     }
@@ -139,6 +148,24 @@ fn kind_of(tree: &Tree) -> Ending {
         Tree::Divisor { .. } => Ending::Divisor,
         _ => Ending::Splits,
     }
+}
+
+/// The splits of the tree, in which fewer than 4,000 nodes are not leaves.
+fn count_splits(alloc: Global, tree: &Tree) -> Result<u32, Fail> {
+    let mut splits: u32 = 0;
+    let mut waiting = Items::new(alloc);
+    waiting.push(tree)?;
+    for _ in 0..8_000 {
+        let Some(node) = waiting.pop() else {
+            return Ok(splits);
+        };
+        if let Tree::Split { low, high, .. } = node {
+            splits = splits.saturating_add(1);
+            waiting.push(high.get())?;
+            waiting.push(low.get())?;
+        }
+    }
+    Err(Fail::new("too large a tree"))
 }
 
 /// Rows over n and m.
@@ -163,6 +190,19 @@ fn endings(rt: HostRuntime) -> Result<(), Fail> {
     Ok(())
 }
 
+/// The difference of the equations is 2^100 m + 1 = 0, a divisor, but the first taken 2^100 - 1 times is past
+/// 128 bits.
+#[test]
+fn a_sum_past_its_bounds(rt: HostRuntime) -> Result<(), Fail> {
+    let alloc = rt.alloc();
+    let table = [
+        (RowKind::Eq, [2, LARGE, 0], 1),
+        (RowKind::Eq, [2, LARGER, 0], 2),
+    ];
+    assert_eq!(rt; end_of(alloc, table.as_slice())?, Ending::PastSum);
+    Ok(())
+}
+
 /// A box of 65 times 65 points that a strip between two lines of even numbers misses.
 #[test]
 fn closed_by_splits(rt: HostRuntime) -> Result<(), Fail> {
@@ -184,7 +224,7 @@ fn closed_by_splits(rt: HostRuntime) -> Result<(), Fail> {
 fn an_endless_strip(rt: HostRuntime) -> Result<(), Fail> {
     let alloc = rt.alloc();
     let table = [(RowKind::Le, [-2, -2, 0], 1), (RowKind::Le, [2, 2, 0], -1)];
-    assert_eq!(rt; end_of(alloc, table.as_slice())?, Ending::Branches);
+    assert_eq!(rt; end_of(alloc, table.as_slice())?, Ending::Branches(2_000));
     Ok(())
 }
 
