@@ -1,11 +1,16 @@
-ghost use Rattle.std.specs.Prelude.{◌≡◌, ℕ, [], Some, slice_get, IfOk, IsTrue};
+ghost use Rattle.std.specs.Prelude.{◌≡◌, ℕ, [], ◌∷◌, Some, slice_get, IfOk, IsTrue, true, false, pos, ◌<ℤ◌, ◌≤ℤ◌};
+ghost use Rattle.farkas_check.specs.Closings.{at_least};
+ghost use Rattle.farkas_check.specs.Cuts.{values_of};
+ghost use Rattle.lia_branch.specs.LoopNets.{loop_net};
+ghost use Rattle.lia_branch.specs.Nodes.{IsRowOf};
 ghost use Rattle.sv_linear.specs.Rows.{IsRowWithin};
 ghost use Rattle.sv_linear.specs.declared.row.Row.{Row as AnyRow};
 
+use crate::branch_rows::at_least_row;
 use crate::reducing::is_within;
 use crate::{Evidence, NoCut, Outcome, solve};
-use farkas_check::{System, Tree, closes};
-use std::alloc::Global;
+use farkas_check::{Cutter, Net, NetEdge, System, Tree, closes};
+use std::alloc::{AllocError, Global};
 use std::test::Fail;
 use sv_linear::{Form, Row, RowKind};
 use sv_list::Items;
@@ -30,6 +35,7 @@ enum Ending {
     Farkas,
     Divisor,
     Splits,
+    SetSplits,
     /// So many splits were made.
     Branches(u32),
     PastRow,
@@ -146,6 +152,7 @@ fn kind_of(tree: &Tree) -> Ending {
     match tree {
         Tree::Farkas { .. } => Ending::Farkas,
         Tree::Divisor { .. } => Ending::Divisor,
+        Tree::SetSplit { .. } => Ending::SetSplits,
         _ => Ending::Splits,
     }
 }
@@ -255,5 +262,80 @@ fn chains_of_edges(rt: HostRuntime) -> Result<(), Fail> {
             Ending::Divisor
         );
     }
+    Ok(())
+}
+
+/// The cutter of a net whose one edge, counted by unknown 0, is a loop that lies apart from the start.
+struct LoopCutter;
+
+impl Cutter for LoopCutter {
+    ghost use Rattle.std.specs.Prelude.{[], ◌∷◌};
+    ghost use Rattle.lia_branch.specs.LoopNets.{loop_net};
+
+    ghost nets = { λ _. loop_net ∷ [] };
+
+    fn cut(&self, alloc: Global, point: &[i128]) -> Result<Option<(u32, Items<u32>)>, AllocError> {
+        if is_loop_used(point) {
+            Ok(Some((0, Items::from_slice(alloc, &[1])?)))
+        } else {
+            Ok(None)
+        }
+    }
+}
+
+fn is_loop_used(point: &[i128]) -> bool
+    ensures used { result ≡ true → pos 0 <ℤ values_of point.now 0 }
+    ensures idle { result ≡ false → values_of point.now 0 ≤ℤ pos 0 }
+{
+    match point.get(0) {
+        Some(value) => *value > 0,
+        None => false,
+    }
+}
+
+fn net_of_loop(alloc: Global) -> Result<Net, AllocError>
+    ensures { IfOk result (λ net. net ≡ loop_net) }
+{
+    let edge = NetEdge {
+        from: 1,
+        to: 1,
+        unknown: 0,
+    };
+    Ok(Net {
+        states: 2,
+        start: 0,
+        edges: Items::from_slice(alloc, &[edge])?,
+    })
+}
+
+/// The loop is used.
+fn used_loop(alloc: Global) -> Result<System, AllocError>
+    ensures unknowns { IfOk result (λ s. s.unknowns ≡ 1) }
+    ensures nets { IfOk result (λ s. s.nets ≡ loop_net ∷ []) }
+    ensures rows { IfOk result (λ s. (row : AnyRow) × ((s.rows ≡ row ∷ []) × (IsRowWithin 1 row × IsRowOf (at_least 0 (pos 1)) row))) }
+{
+    let mut rows = Items::new(alloc);
+    rows.push(at_least_row(alloc, 0, 1)?)?;
+    let mut nets = Items::new(alloc);
+    nets.push(net_of_loop(alloc)?)?;
+    Ok(System {
+        unknowns: 1,
+        rows,
+        nets,
+    })
+}
+
+fn end_of_used_loop(alloc: Global) -> Result<Ending, Fail> {
+    let system = used_loop(alloc)?;
+    match solve(alloc, &system, &LoopCutter)? {
+        Outcome::Closed(tree) => Ok(kind_of(&tree)),
+        _ => Err(Fail::new("nothing closes the system")),
+    }
+}
+
+/// A used loop that lies apart from the start.
+#[test]
+fn closed_by_a_set_split(rt: HostRuntime) -> Result<(), Fail> {
+    assert_eq!(rt; end_of_used_loop(rt.alloc())?, Ending::SetSplits);
     Ok(())
 }
