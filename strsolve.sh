@@ -51,7 +51,7 @@ build_crate() {
 build() {
     local at names
     find_layer strsolve
-    echo "strsolve: proving and building the program, which takes some minutes" >&2
+    echo "strsolve: proving and building the program, crate by crate, which takes long the first time" >&2
     for at in $(seq 1 $((layer[strsolve] - 1))); do
         names=$(for name in "${!layer[@]}"; do
             if [ "${layer[$name]}" -eq "$at" ]; then echo "$name"; fi

@@ -9,6 +9,7 @@ mod TrimLemmas
 mod FoundLemmas
 mod FirstLemmas
 mod CoverLemmas
+mod Samples
 mod SearchLemmas
 mod RowLemmas
 mod AskLemmas

@@ -40,6 +40,8 @@ mod spending;
 mod spreading;
 mod stepping;
 mod tally;
+#[cfg(test)]
+mod tests;
 mod trimming;
 
 pub use answer::{CubeAnswer, Refutation, answer_crosses};

@@ -3,7 +3,8 @@ ghost use Rattle.trim_search.specs.declared.build_fault.BuildFault.TheVariants.{
 ghost use Rattle.backward.specs.States.{IsState};
 ghost use Rattle.cube_search.specs.Searches.{IsFound, IsSearch};
 ghost use Rattle.cube_search.specs.declared.allowance.Allowance.TheVariants.{Part};
-ghost use Rattle.cube_search.specs.Steps.{CanStep, IsCutting};
+ghost use Rattle.cube_search.specs.Steps.{CanStep, IsCutting, IsNext};
+ghost use Rattle.straight_line.specs.Straight.{IsStraight};
 ghost use Rattle.cube_search.specs.Tallies.{IsTally, Keeps, IsCovered, AreCoveredFrom, IsCoveredBelow};
 
 use crate::allowance::Allowance;
@@ -122,12 +123,30 @@ fn below(
     ensures found { IfOk result (λ o. IfSome o (IsFound search.now.flat.now (at + 1) state.now.machines)) }
     ensures refused { (n : ℕ) → result ≡ Err (States n) → search.now.allowance ≡ Part }
 {
-    let limit = search.allowance.most_states();
-    let next = step(alloc, search.flat, state, at, cuts, limit)?;
-    spend(search.allowance, spent, &next)?;
+    let next = next_family(search, alloc, state, at, cuts, spent)?;
     let found = descend(search, alloc, &next, at, tally, spent);
     let lifted = leave(alloc, search.flat, state, at, cuts, next, found)?;
     Ok(lifted)
+}
+
+/// The family with the definition at this place carried, counted as [`spend`] says.
+fn next_family(
+    search: &Search,
+    alloc: Global,
+    state: &LeafState,
+    at: u32,
+    cuts: &[u32],
+    spent: &mut u64,
+) -> Result<LeafState, BuildFault>
+    requires { CanStep search.now.flat.now at state.now.machines cuts.now }
+    ensures next { IfOk result (IsNext search.now.flat.now at cuts.now state.now) }
+    ensures state { IfOk result (λ s. IsStraight search.now.flat.now → IsState search.now.flat.now (at + 1) state.now → IsState search.now.flat.now at s) }
+    ensures refused { (n : ℕ) → result ≡ Err (States n) → search.now.allowance ≡ Part }
+{
+    let limit = search.allowance.most_states();
+    let next = step(alloc, search.flat, state, at, cuts, limit)?;
+    spend(search.allowance, spent, &next)?;
+    Ok(next)
 }
 
 /// One cut more.

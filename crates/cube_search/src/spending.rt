@@ -39,8 +39,9 @@ fn effort_of(made: &Made) -> u64 {
     match made {
         Made::First => 0,
         Made::Cut(meetings) => states_explored(meetings.as_slice()),
-        Made::Through(_, before, meeting) => u64::from(before.built.machine.states())
-            .saturating_add(u64::from(meeting.both.machine.states())),
+        Made::Through(_, before, meeting) => u64::from(
+            before.built.machine.states(),
+        ).saturating_add(u64::from(meeting.both.machine.states())),
     }
 }
 

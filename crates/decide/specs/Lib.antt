@@ -6,4 +6,5 @@ pub mod Filling
 pub mod Folds
 pub mod Jobs
 pub mod Passing
+pub mod Samples
 pub mod Verdicts

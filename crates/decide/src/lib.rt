@@ -26,6 +26,8 @@ mod passing;
 mod spelling;
 mod splitting;
 mod tally;
+#[cfg(test)]
+mod tests;
 mod verdict;
 
 pub use checking::check;

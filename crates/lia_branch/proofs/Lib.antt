@@ -14,6 +14,7 @@ pub mod LeafSums
 pub mod Paths
 pub mod Roots
 pub mod SumLemmas
+pub mod TestLoops
 pub mod TestRows
 pub mod Waiting
 pub mod WholePoints

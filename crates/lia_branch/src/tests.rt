@@ -1,11 +1,16 @@
-ghost use Rattle.std.specs.Prelude.{◌≡◌, ℕ, [], Some, slice_get, IfOk, IsTrue};
+ghost use Rattle.std.specs.Prelude.{◌≡◌, ℕ, [], ◌∷◌, Some, slice_get, IfOk, IsTrue, true, false, pos, ◌<ℤ◌, ◌≤ℤ◌};
+ghost use Rattle.farkas_check.specs.Closings.{at_least};
+ghost use Rattle.farkas_check.specs.Cuts.{values_of};
+ghost use Rattle.lia_branch.specs.LoopNets.{loop_net};
+ghost use Rattle.lia_branch.specs.Nodes.{IsRowOf};
 ghost use Rattle.sv_linear.specs.Rows.{IsRowWithin};
 ghost use Rattle.sv_linear.specs.declared.row.Row.{Row as AnyRow};
 
+use crate::branch_rows::at_least_row;
 use crate::reducing::is_within;
 use crate::{Evidence, NoCut, Outcome, solve};
-use farkas_check::{System, Tree, closes};
-use std::alloc::Global;
+use farkas_check::{Cutter, Net, NetEdge, System, Tree, closes};
+use std::alloc::{AllocError, Global};
 use std::test::Fail;
 use sv_linear::{Form, Row, RowKind};
 use sv_list::Items;
@@ -13,6 +18,12 @@ use sv_list::Items;
 const MAX: i128 = i128::MAX;
 
 const LEAST: i128 = -i128::MAX;
+
+/// 2^100 + 1.
+const LARGE: i128 = (1 << 100) + 1;
+
+/// 2^101 + 1.
+const LARGER: i128 = (1 << 101) + 1;
 
 /// A row's kind, its coefficients at the unknowns 0, 1 and 2, and its constant.
 type Entries = (RowKind, [i128; 3], i128);
@@ -24,7 +35,9 @@ enum Ending {
     Farkas,
     Divisor,
     Splits,
-    Branches,
+    SetSplits,
+    /// So many splits were made.
+    Branches(u32),
     PastRow,
     PastSum,
 }
@@ -127,7 +140,9 @@ fn end_of_system(alloc: Global, system: &System) -> Result<Ending, Fail>
                 Err(Fail::new("the checker refuses the tree"))
             }
         }
-        Outcome::GaveUp(Evidence::Branches(_)) => Ok(Ending::Branches),
+        Outcome::GaveUp(Evidence::Branches(tree)) => {
+            Ok(Ending::Branches(count_splits(alloc, &tree)?))
+        }
         Outcome::GaveUp(Evidence::PastRow { .. }) => Ok(Ending::PastRow),
         Outcome::GaveUp(Evidence::PastSum(_, _)) => Ok(Ending::PastSum),
     }
@@ -137,8 +152,27 @@ fn kind_of(tree: &Tree) -> Ending {
     match tree {
         Tree::Farkas { .. } => Ending::Farkas,
         Tree::Divisor { .. } => Ending::Divisor,
+        Tree::SetSplit { .. } => Ending::SetSplits,
         _ => Ending::Splits,
     }
+}
+
+/// The splits of the tree, in which fewer than 4,000 nodes are not leaves.
+fn count_splits(alloc: Global, tree: &Tree) -> Result<u32, Fail> {
+    let mut splits: u32 = 0;
+    let mut waiting = Items::new(alloc);
+    waiting.push(tree)?;
+    for _ in 0..8_000 {
+        let Some(node) = waiting.pop() else {
+            return Ok(splits);
+        };
+        if let Tree::Split { low, high, .. } = node {
+            splits = splits.saturating_add(1);
+            waiting.push(high.get())?;
+            waiting.push(low.get())?;
+        }
+    }
+    Err(Fail::new("too large a tree"))
 }
 
 /// Rows over n and m.
@@ -163,6 +197,19 @@ fn endings(rt: HostRuntime) -> Result<(), Fail> {
     Ok(())
 }
 
+/// The difference of the equations is 2^100 m + 1 = 0, a divisor, but the first taken 2^100 - 1 times is past
+/// 128 bits.
+#[test]
+fn a_sum_past_its_bounds(rt: HostRuntime) -> Result<(), Fail> {
+    let alloc = rt.alloc();
+    let table = [
+        (RowKind::Eq, [2, LARGE, 0], 1),
+        (RowKind::Eq, [2, LARGER, 0], 2),
+    ];
+    assert_eq!(rt; end_of(alloc, table.as_slice())?, Ending::PastSum);
+    Ok(())
+}
+
 /// A box of 65 times 65 points that a strip between two lines of even numbers misses.
 #[test]
 fn closed_by_splits(rt: HostRuntime) -> Result<(), Fail> {
@@ -184,7 +231,7 @@ fn closed_by_splits(rt: HostRuntime) -> Result<(), Fail> {
 fn an_endless_strip(rt: HostRuntime) -> Result<(), Fail> {
     let alloc = rt.alloc();
     let table = [(RowKind::Le, [-2, -2, 0], 1), (RowKind::Le, [2, 2, 0], -1)];
-    assert_eq!(rt; end_of(alloc, table.as_slice())?, Ending::Branches);
+    assert_eq!(rt; end_of(alloc, table.as_slice())?, Ending::Branches(2_000));
     Ok(())
 }
 
@@ -215,5 +262,80 @@ fn chains_of_edges(rt: HostRuntime) -> Result<(), Fail> {
             Ending::Divisor
         );
     }
+    Ok(())
+}
+
+/// The cutter of a net whose one edge, counted by unknown 0, is a loop that lies apart from the start.
+struct LoopCutter;
+
+impl Cutter for LoopCutter {
+    ghost use Rattle.std.specs.Prelude.{[], ◌∷◌};
+    ghost use Rattle.lia_branch.specs.LoopNets.{loop_net};
+
+    ghost nets = { λ _. loop_net ∷ [] };
+
+    fn cut(&self, alloc: Global, point: &[i128]) -> Result<Option<(u32, Items<u32>)>, AllocError> {
+        if is_loop_used(point) {
+            Ok(Some((0, Items::from_slice(alloc, &[1])?)))
+        } else {
+            Ok(None)
+        }
+    }
+}
+
+fn is_loop_used(point: &[i128]) -> bool
+    ensures used { result ≡ true → pos 0 <ℤ values_of point.now 0 }
+    ensures idle { result ≡ false → values_of point.now 0 ≤ℤ pos 0 }
+{
+    match point.get(0) {
+        Some(value) => *value > 0,
+        None => false,
+    }
+}
+
+fn net_of_loop(alloc: Global) -> Result<Net, AllocError>
+    ensures { IfOk result (λ net. net ≡ loop_net) }
+{
+    let edge = NetEdge {
+        from: 1,
+        to: 1,
+        unknown: 0,
+    };
+    Ok(Net {
+        states: 2,
+        start: 0,
+        edges: Items::from_slice(alloc, &[edge])?,
+    })
+}
+
+/// The loop is used.
+fn used_loop(alloc: Global) -> Result<System, AllocError>
+    ensures unknowns { IfOk result (λ s. s.unknowns ≡ 1) }
+    ensures nets { IfOk result (λ s. s.nets ≡ loop_net ∷ []) }
+    ensures rows { IfOk result (λ s. (row : AnyRow) × ((s.rows ≡ row ∷ []) × (IsRowWithin 1 row × IsRowOf (at_least 0 (pos 1)) row))) }
+{
+    let mut rows = Items::new(alloc);
+    rows.push(at_least_row(alloc, 0, 1)?)?;
+    let mut nets = Items::new(alloc);
+    nets.push(net_of_loop(alloc)?)?;
+    Ok(System {
+        unknowns: 1,
+        rows,
+        nets,
+    })
+}
+
+fn end_of_used_loop(alloc: Global) -> Result<Ending, Fail> {
+    let system = used_loop(alloc)?;
+    match solve(alloc, &system, &LoopCutter)? {
+        Outcome::Closed(tree) => Ok(kind_of(&tree)),
+        _ => Err(Fail::new("nothing closes the system")),
+    }
+}
+
+/// A used loop that lies apart from the start.
+#[test]
+fn closed_by_a_set_split(rt: HostRuntime) -> Result<(), Fail> {
+    assert_eq!(rt; end_of_used_loop(rt.alloc())?, Ending::SetSplits);
     Ok(())
 }

@@ -7,7 +7,7 @@ use Rattle.farkas_check.specs.Systems.{Reached, Joined, reached_start, reached_e
 use Rattle.farkas_check.specs.Cuts.{IsNetWithin, IsUnreached}
 use Rattle.farkas_check.specs.declared.net.Net.{Net}
 use Rattle.farkas_check.specs.declared.net.NetEdge.{NetEdge}
-use Rattle.parikh_flow.specs.Reaching.{source_of, unmarked_count, Follows, IsReaching}
+use Rattle.parikh_flow.specs.Reaching.{source_of, unmarked_count, Traverses, IsReaching}
 use Rattle.parikh_flow.proofs.Gets.{slice_get-below, slice_get-in}
 use Rattle.parikh_flow.proofs.PlaceLemmas.{places-in, places-all}
 use Rattle.machine_core.specs.PlaceLaws.{index-add, length-add_to}
@@ -104,12 +104,12 @@ module _ (x : ℕ → ℤ) (net : Net) (found : List ℕ) (seen : List Bool) (at
         size = rw b (set-length seen d.to ∙ h.size);
       }
 
-  pub step-follow : (new : List ℕ) (now : List Bool) → Follows x d found new seen now → IsReaching x net new now at (done ++ p ∷ [])
-  step-follow new now (inl r) = rw (r.1, r.2) (step-same (λ w. absurd (r.0 w)))
-  step-follow new now (inr (used, inl r)) = rw (r.1, r.2) (step-same (λ w. r.0))
-  step-follow new now (inr (used, inr r)) = step-new new now used r.0 r.1 r.2
+  pub step-traverse : (new : List ℕ) (now : List Bool) → Traverses x d found new seen now → IsReaching x net new now at (done ++ p ∷ [])
+  step-traverse new now (inl r) = rw (r.1, r.2) (step-same (λ w. absurd (r.0 w)))
+  step-traverse new now (inr (used, inl r)) = rw (r.1, r.2) (step-same (λ w. r.0))
+  step-traverse new now (inr (used, inr r)) = step-new new now used r.0 r.1 r.2
 
-  pub step-here : (new : List ℕ) (now : List Bool) → Follows x d found new seen now → slice_get new at ≡ Some s
+  pub step-here : (new : List ℕ) (now : List Bool) → Traverses x d found new seen now → slice_get new at ≡ Some s
   step-here new now (inl r) = rw r.1 here
   step-here new now (inr (used, inl r)) = rw r.1 here
   step-here new now (inr (used, inr r)) = rw r.1 (slice_get-append found (d.to ∷ []) at s here)
@@ -145,14 +145,14 @@ edge-within n net p d w e = let a = all-at (λ (e : NetEdge). e.unknown < n) net
     let b = all-at (λ (e : NetEdge). (e.from < net.states) × (e.to < net.states)) net.edges p d w.states e in (a, b.0, b.1)
 
 pub visit-step : (x : ℕ → ℤ) (net : Net) (n : ℕ) (found new : List ℕ) (seen now : List Bool) (at i : ℕ) (row : List ℕ) (d : NetEdge) → IsNetWithin n net
-    → (v : Visits net found row at) → IsReaching x net found seen at (take i row) → i < length row → slice_get net.edges (get_or row i 0) ≡ Some d → Follows x d found new seen now
+    → (v : Visits net found row at) → IsReaching x net found seen at (take i row) → i < length row → slice_get net.edges (get_or row i 0) ≡ Some d → Traverses x d found new seen now
     → IsReaching x net new now at (take (i + 1) row) × Visits net new row at
 visit-step x net n found new seen now at i row d w v h lt e f =
     let r = row-edge net found row at i v lt in
     let same : r.0 ≡ d = (let a = r.1 in cc) in
     let from : d.from ≡ v.0 = subst (λ (y : NetEdge). y.from ≡ v.0) same r.2 in
     let inside = (edge-within n net (get_or row i 0) d w e).2 in
-    let next = step-follow x net found seen at (take i row) h v.0 v.1 (get_or row i 0) d e from inside new now f in
+    let next = step-traverse x net found seen at (take i row) h v.0 v.1 (get_or row i 0) d e from inside new now f in
     (rw (add-one, take-more row i 0 lt) next, (v.0, step-here x net found seen at (take i row) h v.0 v.1 (get_or row i 0) d e from inside new now f, v.2))
 
 pub visit-end : (x : ℕ → ℤ) (net : Net) (found : List ℕ) (seen : List Bool) (at i : ℕ) (row : List ℕ) → Visits net found row at

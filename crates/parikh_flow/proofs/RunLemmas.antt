@@ -208,36 +208,36 @@ reverse-take : {X : Type 0} (xs : List X) (k : ℕ) (d : X) → k < length xs �
 reverse-take xs k d lt = ap reverse (take-more xs k d lt) ∙ reverse-push (take k xs) (get_or xs k d)
 
 -- the run so far, and the edges that are still to come, the last first
-abbrev pub Follows : List Edge → List ℕ → ℕ → List ℕ → List ℕ → List (List ℕ) → Type 0
-Follows edges back k states word costs = (gone visited : List ℕ) × (s t : ℕ) × (states ≡ 0 ∷ visited) × LeadsAlong edges 0 gone visited word costs s
+abbrev pub RunsAlong : List Edge → List ℕ → ℕ → List ℕ → List ℕ → List (List ℕ) → Type 0
+RunsAlong edges back k states word costs = (gone visited : List ℕ) × (s t : ℕ) × (states ≡ 0 ∷ visited) × LeadsAlong edges 0 gone visited word costs s
     × IsWalk edges s (reverse (take k back)) t × (gone ++ reverse (take k back) ≡ reverse back) × IsWalk edges 0 (reverse back) t
 
 module _ (edges : List Edge) (back : List ℕ) where
-  pub follows-start : (ss word : List ℕ) (costs : List (List ℕ)) → (t : ℕ) × IsWalk edges 0 (reverse back) t → ss ≡ [] ++ 0 ∷ [] → word ≡ [] → costs ≡ []
-      → Follows edges back (length back) ss word costs
-  follows-start ss word costs w a b g =
+  pub along-start : (ss word : List ℕ) (costs : List (List ℕ)) → (t : ℕ) × IsWalk edges 0 (reverse back) t → ss ≡ [] ++ 0 ∷ [] → word ≡ [] → costs ≡ []
+      → RunsAlong edges back (length back) ss word costs
+  along-start ss word costs w a b g =
       let full = take-full back (length back) (omega arith) in
       rw (b, g) ([], [], 0, w.0, a, refl, subst (λ l. IsWalk edges 0 (reverse l) w.0) (sym full) w.1, ap reverse full, w.1)
 
-  next-edge : (k : ℕ) (ss word : List ℕ) (costs : List (List ℕ)) → k < length back → Follows edges back (suc k) ss word costs
+  next-edge : (k : ℕ) (ss word : List ℕ) (costs : List (List ℕ)) → k < length back → RunsAlong edges back (suc k) ss word costs
       → (e : Edge) × (slice_get edges (get_or back k 0) ≡ Some e)
   next-edge k ss word costs lt f = let w = subst (λ l. IsWalk edges f.2 l f.3) (reverse-take back k 0 lt) f.6 in (w.0, w.1)
 
   one-more : (k : ℕ) → 0 < k → suc (k - 1) ≡ k
   one-more k h = omega arith
 
-  pub follows-below : (all : List Edge) (k : ℕ) (ss word : List ℕ) (costs : List (List ℕ)) → all ≡ edges → 0 < k → k ≤ length back → Follows edges back k ss word costs
+  pub along-below : (all : List Edge) (k : ℕ) (ss word : List ℕ) (costs : List (List ℕ)) → all ≡ edges → 0 < k → k ≤ length back → RunsAlong edges back k ss word costs
       → get_or back (k - 1) 0 < length all
-  follows-below all k ss word costs e some lt f =
-      let r = next-edge (k - 1) ss word costs (omega arith) (subst (λ n. Follows edges back n ss word costs) (sym (one-more k some)) f) in
+  along-below all k ss word costs e some lt f =
+      let r = next-edge (k - 1) ss word costs (omega arith) (subst (λ n. RunsAlong edges back n ss word costs) (sym (one-more k some)) f) in
       rw e (slice_get-below edges (get_or back (k - 1) 0) r.0 r.1)
 
-  pub follows-step : (formed : (e : Edge) → Contains edges e → IsTrue (in_ranges e.on (least_of e.on))) (all : List Edge) (k : ℕ) (ss word : List ℕ) (costs : List (List ℕ)) (d : Edge) (new_ss new_word : List ℕ) (new_costs : List (List ℕ))
-      → all ≡ edges → 0 < k → k ≤ length back → slice_get all (get_or back (k - 1) 0) ≡ Some d → Follows edges back k ss word costs
+  pub along-step : (formed : (e : Edge) → Contains edges e → IsTrue (in_ranges e.on (least_of e.on))) (all : List Edge) (k : ℕ) (ss word : List ℕ) (costs : List (List ℕ)) (d : Edge) (new_ss new_word : List ℕ) (new_costs : List (List ℕ))
+      → all ≡ edges → 0 < k → k ≤ length back → slice_get all (get_or back (k - 1) 0) ≡ Some d → RunsAlong edges back k ss word costs
       → new_word ≡ word ++ least_of d.on ∷ [] → new_costs ≡ costs ++ d.cost ∷ [] → new_ss ≡ ss ++ d.to ∷ []
-      → Follows edges back (k - 1) new_ss new_word new_costs
-  follows-step formed all k ss word costs d new_ss new_word new_costs e some lt read f0 a b g =
-      let f = subst (λ n. Follows edges back n ss word costs) (sym (one-more k some)) f0 in
+      → RunsAlong edges back (k - 1) new_ss new_word new_costs
+  along-step formed all k ss word costs d new_ss new_word new_costs e some lt read f0 a b g =
+      let f = subst (λ n. RunsAlong edges back n ss word costs) (sym (one-more k some)) f0 in
       let rt = reverse-take back (k - 1) 0 (omega arith) in
       let w = subst (λ l. IsWalk edges f.2 l f.3) rt f.6 in
       let read' = subst (λ l. slice_get l (get_or back (k - 1) 0) ≡ Some d) e read in
@@ -258,9 +258,9 @@ module _ (edges : List Edge) (back : List ℕ) where
         f.8,
       )
 
-  pub follows-end : (k : ℕ) (ss word : List ℕ) (costs : List (List ℕ)) → k ≡ 0 → Follows edges back k ss word costs
+  pub along-end : (k : ℕ) (ss word : List ℕ) (costs : List (List ℕ)) → k ≡ 0 → RunsAlong edges back k ss word costs
       → (t : ℕ) × IsWalk edges 0 (reverse back) t × (after : List ℕ) × (ss ≡ 0 ∷ after) × LeadsAlong edges 0 (reverse back) after word costs t
-  follows-end k ss word costs z f0 =
-      let f = subst (λ n. Follows edges back n ss word costs) z f0 in
+  along-end k ss word costs z f0 =
+      let f = subst (λ n. RunsAlong edges back n ss word costs) z f0 in
       let whole : f.0 ≡ reverse back = sym (append-nil f.0) ∙ f.7 in
       (f.3, f.8, f.1, f.4, subst (λ l. LeadsAlong edges 0 l f.1 word costs f.3) whole (subst (λ u. LeadsAlong edges 0 f.0 f.1 word costs u) f.6 f.5))

@@ -5,14 +5,11 @@ use Rattle.std.proofs.lemmas.Int.{ints}
 use Rattle.std.proofs.lemmas.Bool.Decides.{nat_tests}
 use Rattle.std.proofs.lemmas.List.Elements.{All-nil, All-cons, All-head, All-tail, All-append, All-map, All-weaker}
 use Rattle.sv_linear.specs.Combining.{IsSymmetric}
-use Rattle.sv_linear.specs.Forms.{entry}
 use Rattle.sv_linear.specs.Points.{unit}
 use Rattle.sv_linear.specs.Rows.{IsRowWithin, HasSymmetricEntries}
 use Rattle.sv_linear.specs.Terms.{coefficient, AscendsWithin}
 use Rattle.sv_linear.specs.TermLaws.{below_low, met, passed}
-use Rattle.sv_linear.specs.declared.column.Column.{Column}
 use Rattle.sv_linear.specs.declared.column.Column.TheVariants.{Unknown, Constant}
-use Rattle.sv_linear.specs.declared.form.Form.{Form}
 use Rattle.sv_linear.specs.declared.row.Row.{Row}
 use Rattle.machine_core.specs.declared.edge.Edge.{Edge}
 use Rattle.machine_core.specs.declared.end.End.{End}

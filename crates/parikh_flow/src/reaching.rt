@@ -4,7 +4,7 @@ ghost use Rattle.machine_core.specs.Places.{IsIndex, places};
 ghost use Rattle.farkas_check.specs.Systems.{Reached, Joined};
 ghost use Rattle.farkas_check.specs.Cuts.{values_of, IsNetWithin, IsUnreached};
 ghost use Rattle.farkas_check.specs.declared.net.NetEdge.{NetEdge};
-ghost use Rattle.parikh_flow.specs.Reaching.{source_of, Marks, Follows, IsReaching};
+ghost use Rattle.parikh_flow.specs.Reaching.{source_of, Marks, Traverses, IsReaching};
 
 use crate::running::unmarked;
 use farkas_check::{Net, NetEdge};
@@ -39,7 +39,7 @@ fn mark(found: &mut Items<u32>, seen: &mut Items<bool>, state: u32) -> Result<()
 }
 
 // Marks the state that an edge leads to, where the edge is used.
-fn follow(
+fn traverse(
     point: &[i128],
     found: &mut Items<u32>,
     seen: &mut Items<bool>,
@@ -47,7 +47,7 @@ fn follow(
 ) -> Result<(), AllocError>
     requires unknown { edge.unknown < length point.now }
     requires to { edge.to < length seen.old }
-    ensures { OnOk result (Follows (values_of point.now) edge found.old found.new seen.old seen.new) }
+    ensures { OnOk result (Traverses (values_of point.now) edge found.old found.new seen.old seen.new) }
 {
     if point[edge.unknown as usize] <= 0 {
         return Ok(());
@@ -63,7 +63,7 @@ fn edge_at(edges: &[NetEdge], place: usize) -> NetEdge
     edges[place]
 }
 
-// Follows the edges at these places, which leave the state listed at `_at`.
+// Traverses the edges at these places, which leave the state listed at `_at`.
 fn visit(
     net: &Net,
     row: &[usize],
@@ -79,7 +79,7 @@ fn visit(
 {
     for place in row {
         let edge = edge_at(net.edges.as_slice(), *place);
-        follow(point, found, seen, edge)?;
+        traverse(point, found, seen, edge)?;
     }
     Ok(())
 }

@@ -38,7 +38,7 @@ pub fn run_of(alloc: Global, machine: &Explicit, counts: &[u64]) -> Result<Run<u
     let walked = tour_of(alloc, machine, of_edges, end.at)?;
     if is_spent(walked.left.as_slice()) {
         let cost = end.cost.copy(alloc)?;
-        Ok(follow(alloc, machine, walked.back.as_slice(), cost)?)
+        Ok(run_along(alloc, machine, walked.back.as_slice(), cost)?)
     } else {
         let set = unmet(alloc, machine, walked.back.as_slice())?;
         Err(FlowFault::Apart(set))
@@ -131,8 +131,8 @@ fn edge_at(edges: &[Edge], place: usize) -> &Edge
     &edges[place]
 }
 
-// The run over these edges, of which the last comes first, with this last cost.
-fn follow(
+// The run along these edges, of which the last comes first, with this last cost.
+fn run_along(
     alloc: Global,
     machine: &Explicit,
     back: &[usize],
@@ -144,8 +144,10 @@ fn follow(
     ensures last { IfOk result (λ run. run.last ≡ cost) }
 {
     let mut word = Word::new(alloc);
-    let mut states = Items::new(alloc);
-    let mut costs = Items::new(alloc);
+    let room = Vec::with_capacity(alloc, back.len().saturating_add(1))?;
+    let mut states = Items::from_vec(room);
+    let room = Vec::with_capacity(alloc, back.len())?;
+    let mut costs = Items::from_vec(room);
     states.push(0)?;
     let mut k = back.len();
     while k > 0 {

@@ -4,7 +4,8 @@ ghost use Rattle.machine_core.specs.Edges.{from_of, at_of};
 ghost use Rattle.parikh_flow.specs.Balance.{AreBalanced};
 ghost use Rattle.parikh_flow.specs.Counts.{to_of, total_count};
 
-use crate::{FlowFault, flow_of, run_of};
+use crate::{FlowFault, NetCutter, flow_of, nets_are_within, run_of, system_of};
+use farkas_check::Cutter;
 use machine_core::{Cost, Explicit};
 use std::alloc::{AllocError, Global};
 use sv_list::Items;
@@ -36,6 +37,7 @@ fn sample(alloc: Global) -> Result<Explicit, AllocError>
     ensures sources { IfOk result (λ m. map from_of m.edges ≡ 0 ∷ 0 ∷ 2 ∷ 3 ∷ 4 ∷ 5 ∷ []) }
     ensures targets { IfOk result (λ m. map to_of m.edges ≡ 1 ∷ 2 ∷ 3 ∷ 4 ∷ 5 ∷ 3 ∷ []) }
     ensures ends { IfOk result (λ m. map at_of m.ends ≡ 1 ∷ 3 ∷ []) }
+    ensures registers { IfOk result (λ m. m.registers ≡ 0) }
 {
     let mut machine = Explicit::new(alloc, 6, 0)?;
     add_edge(alloc, &mut machine, 0, b'a', 1)?;
@@ -59,6 +61,19 @@ fn apart(alloc: Global) -> Result<Option<Items<u32>>, AllocError> {
     }
 }
 
+// The machine and the states that a cutter of its system finds to lie apart at the same counts.
+fn cut(alloc: Global) -> Result<Option<(u32, Items<u32>)>, AllocError> {
+    let mut machines = Items::new(alloc);
+    machines.push(sample(alloc)?)?;
+    let system = system_of(alloc, machines.as_slice(), 0, 0, &[], None)?;
+    nets_are_within(machines.as_slice(), &system);
+    let point = [1, 0, 0, 1, 1, 1, 1, 0];
+    if system.unknowns != 8 {
+        return Ok(None);
+    }
+    NetCutter::of(&system).cut(alloc, &point)
+}
+
 // The counts of a run that is made of the counts of `bb` with `ccc` twice behind it.
 fn counted(alloc: Global) -> Result<Items<u64>, FlowFault> {
     let machine = sample(alloc)?;
@@ -70,6 +85,15 @@ fn counted(alloc: Global) -> Result<Items<u64>, FlowFault> {
 fn a_cycle_lies_apart(rt: HostRuntime) -> Result<(), AllocError> {
     let set = apart(rt.alloc())?;
     assert!(rt; set.is_some_and(|set| set.as_slice() == [2, 3, 4, 5].as_slice()));
+    Ok(())
+}
+
+#[test]
+fn a_cutter_finds_the_cycle(rt: HostRuntime) -> Result<(), AllocError> {
+    let found = cut(rt.alloc())?;
+    assert!(rt;
+        found.is_some_and(|(at, set)| at == 0 && set.as_slice() == [2, 3, 4, 5].as_slice())
+    );
     Ok(())
 }
 

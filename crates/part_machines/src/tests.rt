@@ -51,8 +51,7 @@ fn reads(machine: &Explicit, text: &str) -> bool {
 }
 
 // Whether the machine of a part reads the first text, and not the second.
-fn tells(alloc: Global, own: Own, holds: bool, yes: &str, no: &str) -> Result<bool, BuildFault>
-{
+fn tells(alloc: Global, own: Own, holds: bool, yes: &str, no: &str) -> Result<bool, BuildFault> {
     let part = (own, holds);
     let kept = Machines::new(alloc, Vec::new(alloc))?;
     let machine = part_machine(alloc, &part, &kept)?;
@@ -79,22 +78,38 @@ fn patterns(rt: HostRuntime) -> Result<(), BuildFault> {
 }
 
 // Whether the machine of the expression is kept.
-fn is_kept(alloc: Global, kept: &Machines, expression: &Regex) -> Result<bool, BuildFault>
-{
+fn is_kept(alloc: Global, kept: &Machines, expression: &Regex) -> Result<bool, BuildFault> {
     let found = kept.machine(alloc, expression)?;
     Ok(matches!(found, Found::Shared(_)))
+}
+
+fn digests_of(alloc: Global, expressions: &[Regex]) -> Result<Vec<u64>, AllocError> {
+    let mut digests = Vec::new(alloc);
+    for expression in expressions {
+        digests.push(digest(expression))?;
+    }
+    Ok(digests)
 }
 
 #[test]
 fn machines_are_kept_where_they_have_a_place(rt: HostRuntime) -> Result<(), BuildFault> {
     let alloc = rt.alloc();
-    let mut digests = Vec::new(alloc);
-    digests.push(digest(&Regex::All))?;
-    digests.push(digest(&Regex::All))?;
-    let kept = Machines::new(alloc, digests)?;
+    let kept = Machines::new(alloc, digests_of(alloc, &[Regex::All, Regex::All])?)?;
     let part = (Own::InRe(Regex::All), true);
     part_machine(alloc, &part, &kept)?;
     assert!(rt; is_kept(alloc, &kept, &Regex::All)?);
     assert!(rt; !is_kept(alloc, &kept, &Regex::AnyChar)?);
+    Ok(())
+}
+
+// An expression is kept though others were before it: its place is its own.
+#[test]
+fn each_expression_has_one_place(rt: HostRuntime) -> Result<(), BuildFault> {
+    let alloc = rt.alloc();
+    let expressions = [Regex::All, Regex::AnyChar, Regex::All, Regex::Empty];
+    let kept = Machines::new(alloc, digests_of(alloc, &expressions)?)?;
+    assert!(rt; is_kept(alloc, &kept, &Regex::All)?);
+    assert!(rt; is_kept(alloc, &kept, &Regex::AnyChar)?);
+    assert!(rt; is_kept(alloc, &kept, &Regex::Empty)?);
     Ok(())
 }

@@ -11,7 +11,7 @@ ghost use Rattle.command_words.specs.Words.{is_in_form};
 ghost use Rattle.generated_script.specs.Blocks.{script};
 ghost use Rattle.strsolve.specs.CommandLine.{AskFor, usage};
 ghost use Rattle.strsolve.specs.Generated.{IsGenerated, IsTrueIn};
-ghost use Rattle.strsolve.specs.Runs.{IsTrueBehind, IsAnswered, IsFront, IsPrompt, IsRefused, IsUnfinished};
+ghost use Rattle.strsolve.specs.Runs.{IsTrueBehind, IsAnswered, IsFront, IsPrompt, IsRefused, StopsAtExit, IsUnfinished};
 ghost use Rattle.strsolve.specs.Scripts.{has_error};
 ghost use Rattle.strsolve.specs.Standing.{Ended};
 
@@ -168,6 +168,7 @@ pub fn run<R: Threads + Sync, S: Source, K: Sink>(
     ensures write_fault { result.status ≡ 4 → Rose (K.faults sink.old) (K.faults sink.new) }
     ensures front { is_some (named words.now) ≡ true → IsFront (S.left source.old) (S.left source.new) (K.taken sink.old) (K.taken sink.new) result.log }
     ensures prompt { is_some (named words.now) ≡ true → IsPrompt (S.left source.old) (S.left source.new) (K.taken sink.old) (K.taken sink.new) result.log }
+    ensures exit { is_some (named words.now) ≡ true → StopsAtExit (S.left source.old) (S.left source.new) result.log }
     ensures open { is_some (named words.now) ≡ true → (result.status ≡ 0) ⊎ (result.status ≡ 1) → S.is_open source.new ≡ true }
     ensures name { (name : Optional (List ℕ)) → named words.now ≡ Some name → (result.status ≡ 0) ⊎ (result.status ≡ 1) → IsOwn (S.own_name source.old) name }
     ensures astray { (name : Optional (List ℕ)) → named words.now ≡ Some name → IsOwn (S.own_name source.old) name → S.is_astray source.new ≡ S.is_astray source.old }

@@ -45,9 +45,9 @@ try_cuts-try_cuts-requires t c =
     let dec = c.decreases in
     let few = c.requires.cuts.fewer in
     let ne = c.if-cuts-pieces.false in
-    let same : c.as_slice.result.now ≡ c.args.cuts.now ++ c.loop-s.s ∷ [] = c.as_slice.ensures ∙ c.in_ok-more.ensures in
-    let size : length c.as_slice.result.now ≡ length c.args.cuts.now + 1 = ap length same ∙ length-append c.args.cuts.now (c.loop-s.s ∷ []) in
-    let lt : suc (weight flat.definitions c.args.at + (length pieces - length c.as_slice.result.now)) < t = omega arith in
+    let same : c.as_slice-cuts.result.now ≡ c.args.cuts.now ++ c.loop-s.s ∷ [] = c.as_slice-cuts.ensures ∙ c.in_ok-more.ensures in
+    let size : length c.as_slice-cuts.result.now ≡ length c.args.cuts.now + 1 = ap length same ∙ length-append c.args.cuts.now (c.loop-s.s ∷ []) in
+    let lt : suc (weight flat.definitions c.args.at + (length pieces - length c.as_slice-cuts.result.now)) < t = omega arith in
     let first = more-cuts flat c.args.at pieces ms c.args.cuts.now c.loop-s.s c.states_at-s-end.result c.requires.cuts ne c.states_at-s-end.ensures (omega arith) in
     (lt, (c.requires.search, (c.requires.state, (subst (IsCutting flat c.args.at pieces ms) (sym same) first, c.loop-s.invariant.tally))))
 
@@ -61,7 +61,7 @@ try_cuts-loop-s-preserved t c =
       kept = keeps-more c.args.tally.now c.loop-s.tally c.try_cuts.new.tally c.loop-s.invariant.kept c.in_ok-found.ensures.kept;
       covered = covered-next flat c.args.search.now.region c.args.at pieces ms c.args.cuts.now c.loop-s.tally c.try_cuts.new.tally c.loop-s.s
           c.in_ok-found.ensures.kept c.loop-s.invariant.covered
-          (subst (λ l. AreCoveredFrom flat c.args.search.now.region c.args.at pieces ms l c.try_cuts.new.tally) (c.as_slice.ensures ∙ c.in_ok-more.ensures)
+          (subst (λ l. AreCoveredFrom flat c.args.search.now.region c.args.at pieces ms l c.try_cuts.new.tally) (c.as_slice-cuts.ensures ∙ c.in_ok-more.ensures)
           (c.try_cuts.ensures.covered (c.in_ok-found.was ∙ ap (λ o. Ok o) (none-of c.in_ok-found.field-0 c.in_default.not-Some))));
     }
 
@@ -129,13 +129,8 @@ try_cuts-states_at-s-end-requires-clause-machine t c = cutting-machine c.args.se
 
 pub below-returns-in_err-next-clause-refused : goal.below-returns-in_err-next-clause-refused
 below-returns-in_err-next-clause-refused t c = λ n e.
-    let d = rw e at c.from_residual-in_err-next.ensures.1 in
-    c.most_states-limit.ensures (c.in_err-next.ensures.refused n (ap Err (sym d)))
-
-pub below-returns-in_err-spend-clause-refused : goal.below-returns-in_err-spend-clause-refused
-below-returns-in_err-spend-clause-refused t c = λ n e.
-    let d = rw e at c.from_residual-in_err-spend.ensures.1 in
-    c.spend.ensures n (c.in_err-spend.was ∙ ap Err (sym d))
+    let d = rw e at c.from_residual.ensures.1 in
+    c.in_err-next.ensures.refused n (ap Err (sym d))
 
 pub below-returns-in_err-lifted-clause-refused : goal.below-returns-in_err-lifted-clause-refused
 below-returns-in_err-lifted-clause-refused t c = λ n e.
@@ -153,3 +148,24 @@ descend-returns-then-reads_nothing-clause-covered t c = λ none words totals int
 
 pub descend-returns-then-reads_nothing-clause-kept : goal.descend-returns-then-reads_nothing-clause-kept
 descend-returns-then-reads_nothing-clause-kept t c = keeps-same c.args.tally.now
+
+pub descend-returns-then-reads_nothing-clause-tally : goal.descend-returns-then-reads_nothing-clause-tally
+descend-returns-then-reads_nothing-clause-tally t c = c.requires.tally
+
+pub descend-returns-then-reads_nothing-clause-refused : goal.descend-returns-then-reads_nothing-clause-refused
+descend-returns-then-reads_nothing-clause-refused t c = λ n e. cc
+
+pub descend-returns-in-Some-clause-refused : goal.descend-returns-in-Some-clause-refused
+descend-returns-in-Some-clause-refused t c = c.try_cuts.ensures.refused
+
+pub descend-returns-in-None-clause-refused : goal.descend-returns-in-None-clause-refused
+descend-returns-in-None-clause-refused t c = c.below.ensures.refused
+
+pub try_cuts-returns-then-cuts-pieces-clause-refused : goal.try_cuts-returns-then-cuts-pieces-clause-refused
+try_cuts-returns-then-cuts-pieces-clause-refused t c = c.below.ensures.refused
+
+pub try_cuts-returns-clause-refused : goal.try_cuts-returns-clause-refused
+try_cuts-returns-clause-refused t c = λ n e. cc
+
+pub below-returns-clause-refused : goal.below-returns-clause-refused
+below-returns-clause-refused t c = λ n e. cc

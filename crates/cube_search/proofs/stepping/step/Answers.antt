@@ -16,4 +16,5 @@ returns-in_ok-next-in_default c =
         made = made-any flat at c.args.cuts.now c.args.state.now.machines c.in_ok-next-in_default.next d here c.in_default.not-Concat e.made;
       };
       state = e.state;
+      refused = λ n is. cc;
     }

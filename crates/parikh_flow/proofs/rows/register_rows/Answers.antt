@@ -1,4 +1,4 @@
-use Rattle.std.proofs.Common.{◌≡◌, ℕ, ◌+◌, All, below_more, arith}
+use Rattle.std.proofs.Common.{◌≡◌, ◌+◌, All, below_more, arith}
 use Rattle.parikh_flow.specs.Building.{CostsFit}
 use Rattle.parikh_flow.specs.Rows.{register_row}
 use Rattle.parikh_flow.proofs.RowLemmas.{rows-next}

@@ -1,8 +1,7 @@
-use Rattle.std.proofs.Common.{◌≡◌, ◌<◌, ◌^◌, ◌++◌, ◌∷◌, [], pos, map, take, slice_index, subst, arith}
+use Rattle.std.proofs.Common.{◌<◌, ◌^◌, slice_index, subst, arith}
 use Rattle.std.proofs.lemmas.Grind.{common_steps}
 use Rattle.std.proofs.lemmas.List.Elements.{All-more}
 use Rattle.machine_core.specs.declared.end.End.{End}
-use Rattle.parikh_flow.specs.Rows.{end_cost}
 use Rattle.parikh_flow.proofs.terms.end_costs.Goals as goal
 
 pub loop-end-preserved : goal.loop-end-preserved

@@ -1,0 +1,6 @@
+use Rattle.std.proofs.Common.{sym, ◌∙◌}
+use Rattle.leaf_solve.proofs.RunLemmas.{is-none}
+use Rattle.cube_search.proofs.dead_ends.is_dead.Goals as goal
+
+pub returns-in-Some : goal.returns-in-Some
+returns-in-Some c = λ e. (c.in-Some.machine, c.in-Some.is, sym c.finals.ensures ∙ is-none c.finals.result.now c.is_empty.result c.is_empty.ensures e)
