@@ -32,8 +32,8 @@ pub struct Search<'a> {
 }
 
 /// Answers all leaves below a family in which `left` definitions are still to be carried; none where some
-/// machine of it reads nothing. The first
-/// runs that satisfy the cube end it. `spent` counts the states of the families on the way. `States` comes only where the search isn't allowed to take whatever it takes.
+/// machine of it reads nothing. The first runs that satisfy the cube end it. `spent` counts what the families on
+/// the way took. `States` comes only where the search isn't allowed to take whatever it takes.
 #[cycle(search)]
 pub fn descend(
     search: &Search,
