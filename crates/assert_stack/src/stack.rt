@@ -8,7 +8,8 @@ use crate::fault::{Below, StackFault};
 use crate::mark::Mark;
 use std::alloc::{AllocError, Global};
 use sv_list::Items;
-use sv_terms::{Entry, MOST_LEVELS, Name, Symbols, Term};
+use sv_terms::{Entry, MOST_LEVELS, Name, Term};
+use term_draft::Declarations;
 
 /// The levels of a session, with their symbols and assertions.
 ///
@@ -16,7 +17,7 @@ use sv_terms::{Entry, MOST_LEVELS, Name, Symbols, Term};
 /// assertions in the order in which they came. There is always the outermost one.
 #[derive(Drop)]
 pub struct Stack {
-    symbols: Symbols,
+    symbols: Declarations,
     live: Items<Term>,
     marks: Items<Mark>,
 }
@@ -45,14 +46,14 @@ impl Stack {
         ensures { result ≡ empty ∷ [] }
     {
         Stack {
-            symbols: Symbols::new(alloc),
+            symbols: Declarations::new(alloc),
             live: Items::new(alloc),
             marks: Items::new(alloc),
         }
     }
 
     /// The symbols of all levels.
-    pub fn symbols(&self) -> &Symbols
+    pub fn symbols(&self) -> &Declarations
         ensures { result.now ≡ symbols_of self.now }
     {
         &self.symbols
@@ -129,8 +130,8 @@ impl Stack {
         }
     }
 
-    /// Declares a name that isn't there, on the innermost level. Time is linear in the name, but for
-    /// the moves of a growing map.
+    /// Declares a name that isn't there, on the innermost level. Time is linear in the name and, for
+    /// a macro, in its body, but for the moves of a growing map.
     pub fn declare(&mut self, name: Name, entry: Entry) -> Result<(), AllocError>
         requires { lookup (pointwise nat_eq name) (symbols_of self.old) ≡ None }
         ensures ok { OnOk result (self.new ≡ declared name entry self.old) }
@@ -178,11 +179,4 @@ fn set_marks(marks: &mut Items<Mark>, mark: Mark, n: u32) -> Result<(), AllocErr
         }
     }
     Ok(())
-}
-
-fn crosses<T: Send + Sync>() {}
-
-/// A stack may go to another thread, and threads may share one.
-pub fn stack_crosses() {
-    crosses::<Stack>()
 }

@@ -12,3 +12,6 @@ mod SearchLemmas
 mod WordLemmas
 mod PlaceLemmas
 mod TableLemmas
+mod MarkLemmas
+mod ReachLemmas
+mod TraceLemmas

@@ -67,7 +67,7 @@ module _ (machines : List Graph) (integers : ℕ) (rows : List Row) (region : Re
     abbrev first : Layer
     first = layer 0 0 (zeros (length region.registers))
 
-    hit-word : (runs : List (Run ℕ)) (numbers : List ℤ) → IsHitOf runs numbers → (word cost : List ℕ) × RunsFrom Ends Steps first word cost × (length word ≡ characters runs + length machines)
+    pub hit-word : (runs : List (Run ℕ)) (numbers : List ℤ) → IsHitOf runs numbers → (word cost : List ℕ) × RunsFrom Ends Steps first word cost × (length word ≡ characters runs + length machines)
     hit-word runs numbers h =
         let good = hit-good runs numbers h in
         runs-word machines (uppers_of region) (IsGood rows region) (length region.registers) runs same h.hit.each

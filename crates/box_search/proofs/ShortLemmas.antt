@@ -187,6 +187,17 @@ integers-some (s ∷ ss) =
     let m : 1 * 1 ≤ side_points s * integer_points ss = mul-le-mul a b in
     omega arith
 
+-- so many characters at most for each machine, state and totals
+pub few-characters : (machines : List Graph) (region : Region) (c : ℕ) → c ≤ length machines * (greatest_states machines * register_points region.registers) → c ≤ greatest_states machines * points region * length machines
+few-characters machines region c le =
+    let some = integers-some region.integers in
+    let p : register_points region.registers * 1 ≤ register_points region.registers * integer_points region.integers = mul-le-mul_left (register_points region.registers) some in
+    let one : register_points region.registers * 1 ≡ register_points region.registers = omega arith in
+    let q : greatest_states machines * register_points region.registers ≤ greatest_states machines * points region = mul-le-mul_left (greatest_states machines) (omega arith) in
+    let r : length machines * (greatest_states machines * register_points region.registers) ≤ length machines * (greatest_states machines * points region) = mul-le-mul_left (length machines) q in
+    let e = mul_comm (length machines) (greatest_states machines * points region) in
+    omega arith
+
 pub hit-short : (machines : List Graph) (region : Region) → HaveRegisters (length region.registers) machines
     → (integers : ℕ) (rows : List Row) (runs : List (Run ℕ)) (numbers : List ℤ) → IsHitWithin machines integers rows region runs numbers
     → (short : List (Run ℕ)) × IsShortHit machines integers rows region short numbers
@@ -200,16 +211,6 @@ hit-short machines region same integers rows runs numbers h =
           hit = record { each = f.1; meets = rw f.2 h.hit.meets };
           within = record { not_empty = h.within.not_empty; numbers = h.within.numbers; registers = rw f.2 h.within.registers };
         };
-        short = few (characters f.0) (rw (points-are region.registers) at f.3);
+        short = few-characters machines region (characters f.0) (rw (points-are region.registers) at f.3);
       },
     )
-  where
-    few : (c : ℕ) → c ≤ length machines * (greatest_states machines * register_points region.registers) → c ≤ greatest_states machines * points region * length machines
-    few c le =
-        let some = integers-some region.integers in
-        let p : register_points region.registers * 1 ≤ register_points region.registers * integer_points region.integers = mul-le-mul_left (register_points region.registers) some in
-        let one : register_points region.registers * 1 ≡ register_points region.registers = omega arith in
-        let q : greatest_states machines * register_points region.registers ≤ greatest_states machines * points region = mul-le-mul_left (greatest_states machines) (omega arith) in
-        let r : length machines * (greatest_states machines * register_points region.registers) ≤ length machines * (greatest_states machines * points region) = mul-le-mul_left (length machines) q in
-        let e = mul_comm (length machines) (greatest_states machines * points region) in
-        omega arith

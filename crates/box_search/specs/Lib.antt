@@ -8,3 +8,5 @@ pub mod Cuts
 pub mod LayerLaws
 pub mod UnknownLaws
 pub mod Places
+pub mod Marks
+pub mod Told

@@ -1,6 +1,7 @@
 //! Places of layers in a table.
 ghost use Rattle.std.specs.Prelude.{◌≡◌, ◌+◌, ◌*◌, ◌<◌, ◌≤◌, ◌^◌, true, length, IfSome, MatchOption};
 ghost use Rattle.box_search.specs.Layers.{AreBelow};
+ghost use Rattle.box_search.specs.Regions.{greatest_states};
 ghost use Rattle.box_search.specs.Places.{number_of, numbers_below, HasPlace, place_of};
 
 use crate::layer::Layer;
@@ -96,8 +97,10 @@ fn are_few(points: u64, states: u64, machines: u64) -> bool
     }
 }
 
-// The greatest number of states.
-fn greatest_states(machines: &[Explicit]) -> u64 {
+/// The greatest number of states.
+pub fn greatest_states(machines: &[Explicit]) -> u64
+    ensures { result ≤ greatest_states machines.now }
+{
     let mut greatest = 0;
     for machine in machines {
         greatest = u64::from(machine.states()).max(greatest);

@@ -1,24 +1,24 @@
-ghost use Rattle.std.specs.Prelude.{◌≡◌, ℤ, ℕ, ◌+◌, false, List, length, IfOk, MatchOption};
+ghost use Rattle.std.specs.Prelude.{◌≡◌, ℤ, ℕ, false, List, length, IfOk, MatchOption};
 ghost use Rattle.machine_core.specs.Costs.{zeros};
 ghost use Rattle.machine_core.specs.Edges.{EndsAt, StepsBy};
 ghost use Rattle.machine_core.specs.Graphs.{IsRunOf};
 ghost use Rattle.machine_core.specs.Language.{SameRuns};
 ghost use Rattle.machine_core.specs.declared.run.Run.{Run};
 ghost use Rattle.trim_search.specs.Lifted.{IsLift};
-ghost use Rattle.box_search.specs.Hits.{characters};
 ghost use Rattle.box_search.specs.Regions.{IsQuestion, IsHitWithin, IsShortHit};
 ghost use Rattle.box_search.specs.Layers.{layer, uppers_of, IsGood, LayerStep, LayerEnd};
 ghost use Rattle.box_search.specs.Cuts.{IsRunOfAll};
 ghost use Rattle.box_search.specs.declared.layer.Layer.{Layer};
 
-use crate::cutting::{cut, layer_at};
+use crate::by_marks::{Told, by_marks};
 use crate::hit::Hit;
+use crate::hitting::hit_of;
 use crate::layer::Layer;
 use crate::layer_table::LayerTable;
 use crate::layers::Layers;
 use crate::places::Places;
 use crate::region::Region;
-use machine_core::{Explicit, Run};
+use machine_core::Explicit;
 use std::alloc::{AllocError, Global};
 use sv_linear::Row;
 use trim_search::{BuildFault, Built, explore_with, lifted_runs_are_runs, shortest};
@@ -29,10 +29,13 @@ use trim_search::{BuildFault, Built, explore_with, lifted_runs_are_runs, shortes
 /// The unknowns of the rows are the numbers and then the registers. A region that isn't marked empty has
 /// a side for each of them, and each row can be added up in it within 128 bits. The words of a hit have
 /// together at most as many characters as states of the largest machine, points of the region and machines
-/// multiplied. Where no numbers and totals of the region meet the rows it looks at no machine. Else it
-/// explores the machines in turn, with what is spent at the registers: each state with each totals once,
-/// whatever the numbers, and looks for numbers once for the totals that the runs end with. What was seen
-/// is found by its place in a table, in constant time, up to 4,194,304 places, and by order beyond them.
+/// multiplied. Where no numbers and totals of the region meet the rows it looks at no machine. Where there is one
+/// register, time is that of the edges of all machines and a word for each 64 totals, of the numbers for each total
+/// that is reached, up to the first that has some, and of a way back; memory that of a bit for each state of the
+/// largest machine, total and machine, up to 128 MB. Else it explores the machines in turn, with what is spent at the
+/// registers: each state with each totals once, whatever the numbers, and looks for numbers once for the totals that
+/// the runs end with. What was seen is found by its place in a table, in constant time, up to 4,194,304 places, and by
+/// order beyond them.
 pub fn search(
     alloc: Global,
     machines: &[Explicit],
@@ -57,12 +60,29 @@ pub fn search(
     if !layers.has_point(alloc)? {
         return Ok(None);
     }
-    let built = explored(alloc, &layers)?;
+    if region.registers.len() == 1 {
+        match by_marks(alloc, &layers)? {
+            Told::Nothing => return Ok(None),
+            Told::Found(hit) => return Ok(Some(hit)),
+            Told::Unknown => {}
+        }
+    }
+    by_layers(alloc, &layers)
+}
+
+// The same by all layers.
+fn by_layers(alloc: Global, layers: &Layers) -> Result<Option<Hit>, AllocError>
+    requires { layers.now.region.now.empty ≡ false }
+    ensures { IfOk result (λ o. MatchOption o
+        ((runs : List (Run ℕ)) (numbers : List ℤ) → IsHitWithin layers.now.machines.now layers.now.integers layers.now.rows.now layers.now.region.now runs numbers → ⊥)
+        (λ hit. IsShortHit layers.now.machines.now layers.now.integers layers.now.rows.now layers.now.region.now hit.runs hit.integers)) }
+{
+    let built = explored(alloc, layers)?;
     let Some(numbered) = shortest(alloc, &built.machine)? else {
         return Ok(None);
     };
     let run = built.lift(alloc, &numbered)?;
-    Ok(Some(hit_of(alloc, &layers, &run)?))
+    Ok(Some(hit_of(alloc, layers, &run)?))
 }
 
 // All layers that are reached.
@@ -87,17 +107,4 @@ fn explored(alloc: Global, layers: &Layers) -> Result<Built<Layer>, AllocError>
         Err(BuildFault::States(_)) => unreachable!(),
         Err(BuildFault::Memory(e)) => Err(e),
     }
-}
-
-// The run of each machine, and the numbers that meet the rows with what they cost.
-fn hit_of(alloc: Global, layers: &Layers, run: &Run<Layer>) -> Result<Hit, AllocError>
-    requires { IsRunOfAll layers.now.machines.now layers.now.rows.now layers.now.region.now run.now }
-    ensures hit { IfOk result (λ hit. layers.now.region.now.empty ≡ false
-        → IsHitWithin layers.now.machines.now layers.now.integers layers.now.rows.now layers.now.region.now hit.runs hit.integers) }
-    ensures size { IfOk result (λ hit. characters hit.runs + length layers.now.machines.now ≡ length run.now.word) }
-{
-    let stop = layer_at(run.states.as_slice(), run.word.len());
-    let integers = layers.numbers(alloc, stop.spent.as_slice())?.unwrap();
-    let runs = cut(alloc, layers, run)?;
-    Ok(Hit { runs, integers })
 }

@@ -1,6 +1,8 @@
-ghost use Rattle.std.specs.Prelude.{◌≡◌, ℕ, ℤ, pos, negsuc, neg_ℤ, ◌≤ℤ◌, [], ◌∷◌, length, IfOk};
+ghost use Rattle.std.specs.Prelude.{◌≡◌, ℕ, ℤ, pos, negsuc, neg_ℤ, ◌<◌, ◌≤ℤ◌, [], ◌∷◌, length, IfOk};
 ghost use Rattle.box_search.specs.Regions.{IsQuestion};
 
+use crate::by_marks::{Told, by_marks};
+use crate::layers::Layers;
 use crate::{Hit, Region, search};
 use machine_core::{Cost, Explicit};
 use std::alloc::{AllocError, Global};
@@ -173,5 +175,58 @@ fn letter_and_number(alloc: Global) -> Result<Question, AllocError>
 fn a_letter_and_a_number_below_0(rt: HostRuntime) -> Result<(), AllocError> {
     let found = hit(rt.alloc(), &letter_and_number(rt.alloc())?)?;
     assert_eq!(rt; found.map(|hit| sizes(&hit)), Some((1, -5)));
+    Ok(())
+}
+
+// The words over one character whose length is a multiple of `states`, each character at this cost at the one
+// register.
+fn multiples(alloc: Global, states: u32, cost: u64) -> Result<Explicit, AllocError>
+    requires { 0 < states }
+    ensures { IfOk result (λ m. m.registers ≡ 1) }
+{
+    let mut machine = Explicit::new(alloc, states, 1)?;
+    for from in 0..states {
+        let to = if from + 1 == states { 0 } else { from + 1 };
+        let on = Ranges::of(alloc, 0x61, 0x61)?;
+        machine.add_edge(from, on, Cost::from_slice(alloc, &[cost])?, to)?;
+    }
+    machine.add_end(0, Cost::zeros(alloc, 1)?)?;
+    Ok(machine)
+}
+
+// What marks tell of words that cost 3 a piece, words that cost 5 a piece and words that cost nothing, which are to
+// cost so much together: whether there are such, or `None` where they don't tell.
+fn told(alloc: Global, total: u64) -> Result<Option<bool>, AllocError> {
+    let mut machines = Items::new(alloc);
+    machines.push(multiples(alloc, 3, 1)?)?;
+    machines.push(multiples(alloc, 2, 0)?)?;
+    machines.push(multiples(alloc, 1, 5)?)?;
+    let region = Region {
+        empty: false,
+        registers: Items::from_slice(alloc, &[(total, total)])?,
+        integers: Items::new(alloc),
+    };
+    let layers = Layers {
+        machines: machines.as_slice(),
+        integers: 0,
+        rows: &[],
+        region: &region,
+    };
+    match by_marks(alloc, &layers)? {
+        Told::Nothing => Ok(Some(false)),
+        Told::Found(hit) => Ok(Some(hit.runs.len() == 3)),
+        Told::Unknown => Ok(None),
+    }
+}
+
+#[test]
+fn totals_of_pieces_of_3_and_5(rt: HostRuntime) -> Result<(), AllocError> {
+    let alloc = rt.alloc();
+    for total in [1, 2, 4, 7] {
+        assert_eq!(rt; told(alloc, total)?, Some(false));
+    }
+    for total in [0, 3, 5, 6, 8, 63, 64, 65, 127, 128, 1000] {
+        assert_eq!(rt; told(alloc, total)?, Some(true));
+    }
     Ok(())
 }

@@ -1,6 +1,6 @@
 //! Places for the machines of the regular expressions of terms.
 
-use part_machines::{Machines, digest};
+use part_machines::{Machines, digest, digest_of_others};
 use std::alloc::{AllocError, Global};
 use sv_terms::Term;
 
@@ -11,6 +11,7 @@ fn collect(digests: &mut Vec<u64>, term: &Term) -> Result<(), AllocError> {
         Term::InRe(term, regex) => {
             collect(digests, term.get())?;
             digests.push(digest(regex))?;
+            digests.push(digest_of_others(regex))?;
             Ok(())
         }
         Term::Related(_, read, written) => {
@@ -30,8 +31,8 @@ fn collect_all(digests: &mut Vec<u64>, terms: &[Term]) -> Result<(), AllocError>
     Ok(())
 }
 
-/// Machines with a place for each regular expression that stands in the terms. None is built yet. Time is that
-/// of their digests, linear in the terms, and of sorting these.
+/// Machines with a place for each regular expression that stands in the terms, and for its complement. None is
+/// built yet. Time is that of their digests, linear in the terms, and of sorting these.
 pub fn machines_for(alloc: Global, terms: &[Term]) -> Result<Machines, AllocError> {
     let mut digests = Vec::new(alloc);
     collect_all(&mut digests, terms)?;

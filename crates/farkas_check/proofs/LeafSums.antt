@@ -9,8 +9,6 @@ use Rattle.std.proofs.lemmas.List.Elements.{All-head, All-tail, All-from_get_or}
 use Rattle.sv_linear.specs.Combining.{IsFirstOutside}
 use Rattle.sv_linear.specs.Columns.{IsBefore}
 use Rattle.sv_linear.specs.Divisors.{Divides}
-use Rattle.sv_linear.specs.EntryLaws.{entry_of_sum, entry_of_product}
-use Rattle.sv_linear.specs.Faults.{IsFirstPast}
 use Rattle.sv_linear.specs.Forms.{form_value, entry}
 use Rattle.sv_linear.specs.Integers.{mul_comm, mul-add}
 use Rattle.sv_linear.specs.Rows.{NameUnknowns}
@@ -24,8 +22,8 @@ use Rattle.farkas_check.specs.Systems.{Constraint, no_constraint, constraint_of}
 use Rattle.farkas_check.specs.Closings.{combined, Allowed, OfEquations, FarkasRule, DivisorRule}
 use Rattle.farkas_check.specs.Columns.{part_at}
 use Rattle.farkas_check.specs.Fitting.{SumFits, LeafFits}
-use Rattle.farkas_check.specs.LeafTests.{IsSumOf, IsAdded, IsNotAdded}
-use Rattle.farkas_check.proofs.Multiples.{divides_zero}
+use Rattle.farkas_check.specs.Sums.{total_at, IsSumOf, IsAdded, IsNotAdded, IsAddedAt, AreAdded}
+use Rattle.farkas_check.specs.declared.leaf_sum.Sum.{Sum}
 use Rattle.farkas_check.proofs.Summing.{IsSumming, summing-none, summing-row, summing-fits, summing-more}
 
 pub rows_size : (rows : List Row) → length (map constraint_of rows) ≡ length rows
@@ -41,62 +39,55 @@ row_here [] k d h = absurd (omega arith)
 row_here (r ∷ rs) zero d h = refl
 row_here (r ∷ rs) (suc k) d h = row_here rs k d (omega arith)
 
-pub added : (sum other product next : Form) (by : ℤ) →
-    ((x : ℕ → ℤ) (d : ℤ) → form_value x d product ≡ by *ℤ form_value x d other) → ((c : Column) → FitsSigned w128 (entry c other *ℤ by)) →
-    ((x : ℕ → ℤ) (d : ℤ) → form_value x d next ≡ form_value x d sum +ℤ form_value x d product) → ((c : Column) → FitsSigned w128 (entry c sum +ℤ entry c product)) →
-    IsAdded sum other by next
-added sum other product next by e f g h = record {
-  product_fits = λ c. subst (FitsSigned w128) (mul_comm (entry c other) by) (f c);
-  sum_fits = λ c. subst (λ z. FitsSigned w128 (entry c sum +ℤ z)) (entry_of_product other product by e c) (h c);
-  entry_is = λ c. entry_of_sum sum product next g c ∙ ap (λ z. entry c sum +ℤ z) (entry_of_product other product by e c);
-}
+-- added at each unknown, and at the constant
+pub columns_added : (sum : Sum) (other : Form) (by : ℤ) (numbers : List ℤ) (constant : ℤ) → AreAdded sum.numbers other.coefficients by numbers → IsAddedAt sum.constant other.constant by constant → IsAdded sum other by (record { numbers = numbers; constant = constant })
+columns_added sum other by numbers constant a i = record { product_fits = product; sum_fits = fits; entry_is = is }
+  where
+    product : (c : Column) → FitsSigned w128 (by *ℤ entry c other)
+    product (Unknown u) = (a u).product_fits
+    product Constant = i.product_fits
 
-pub product_past : (sum other : Form) (by l r : ℤ) → IsFirstPast (λ a b. a *ℤ b) (λ c. entry c other) (λ _. by) l r → IsNotAdded sum other by
-product_past sum other by l r p = record {
-  column = p.column;
-  outside = λ f g. p.outside (subst (FitsSigned w128) (mul_comm by (entry p.column other) ∙ sym (ap (λ z. z *ℤ r) p.left_is ∙ ap (λ z. entry p.column other *ℤ z) p.right_is)) f);
-}
+    fits : (c : Column) → FitsSigned w128 (total_at sum c +ℤ by *ℤ entry c other)
+    fits (Unknown u) = (a u).sum_fits
+    fits Constant = i.sum_fits
 
-pub sum_past : (sum other product : Form) (by l r : ℤ) → ((x : ℕ → ℤ) (d : ℤ) → form_value x d product ≡ by *ℤ form_value x d other) →
-    IsFirstPast (λ a b. a +ℤ b) (λ c. entry c sum) (λ c. entry c product) l r → IsNotAdded sum other by
-sum_past sum other product by l r e p = record {
-  column = p.column;
-  outside = λ f g. p.outside (subst (FitsSigned w128)
-      (sym (ap (λ z. z +ℤ r) p.left_is ∙ ap (λ z. entry p.column sum +ℤ z) (p.right_is ∙ entry_of_product other product by e p.column))) g);
-}
+    is : (c : Column) → total_at (record { numbers = numbers; constant = constant }) c ≡ total_at sum c +ℤ by *ℤ entry c other
+    is (Unknown u) = (a u).is
+    is Constant = i.is
 
 -- the sum so far, at each column
-pub record IsSummingAll (rows : List Constraint) (ms : List (ℕ × ℤ)) (sum : Form) (i : ℕ) : Type 0 where
-  pub at : (c : Column) → IsSumming (part_at c) rows ms (entry c sum) i
+pub record IsSummingAll (rows : List Constraint) (ms : List (ℕ × ℤ)) (sum : Sum) (i : ℕ) : Type 0 where
+  pub at : (c : Column) → IsSumming (part_at c) rows ms (total_at sum c) i
+  pub fits : (c : Column) → FitsSigned w128 (total_at sum c)
 
-pub all-none : (rows : List Constraint) (ms : List (ℕ × ℤ)) (sum : Form) → sum.coefficients ≡ [] → sum.constant ≡ pos 0 → Allowed 0 rows ms → IsSummingAll rows ms sum 0
-all-none rows ms sum e f a = record { at = λ c. subst (λ z. IsSumming (part_at c) rows ms z 0) (sym (nothing c)) (summing-none (part_at c) rows ms a) }
-  where
-    nothing : (c : Column) → entry c sum ≡ pos 0
-    nothing (Unknown u) = ap (coefficient u) e
-    nothing Constant = f
-
-pub all-row : (rows : List Constraint) (ms : List (ℕ × ℤ)) (sum : Form) (i : ℕ) → IsSummingAll rows ms sum i → i < length ms → (get_or ms i (0, pos 0)).0 < length rows
-all-row rows ms sum i s h = summing-row (part_at Constant) rows ms (entry Constant sum) i (0, pos 0) (s.at Constant) h
-
-pub all-more : (rows : List Constraint) (ms : List (ℕ × ℤ)) (sum other next : Form) (i : ℕ) → IsSummingAll rows ms sum i → i < length ms →
-    ((c : Column) → entry c other ≡ part_at c (get_or rows (get_or ms i (0, pos 0)).0 no_constraint)) → IsAdded sum other (get_or ms i (0, pos 0)).1 next → IsSummingAll rows ms next (i + 1)
-all-more rows ms sum other next i s h e a = record {
-  at = λ c.
-      let by = (get_or ms i (0, pos 0)).1 in
-      summing-more (part_at c) rows ms (entry c sum) (entry c next) i (0, pos 0) (s.at c) h
-      (subst (λ z. FitsSigned w128 (by *ℤ z)) (e c) (a.product_fits c))
-      (subst (λ z. FitsSigned w128 (entry c sum +ℤ by *ℤ z)) (e c) (a.sum_fits c))
-      (a.entry_is c ∙ ap (λ z. entry c sum +ℤ by *ℤ z) (e c));
+pub all-none : (rows : List Constraint) (ms : List (ℕ × ℤ)) (sum : Sum) → ((c : Column) → total_at sum c ≡ pos 0) → Allowed 0 rows ms → IsSummingAll rows ms sum 0
+all-none rows ms sum e a = record {
+  at = λ c. subst (λ z. IsSumming (part_at c) rows ms z 0) (sym (e c)) (summing-none (part_at c) rows ms a);
+  fits = λ c. let z = e c in omega (arith, ints, z);
 }
 
-pub all-not : (rows : List Constraint) (ms : List (ℕ × ℤ)) (sum other : Form) (i : ℕ) → IsSummingAll rows ms sum i → i < length ms →
+pub all-row : (rows : List Constraint) (ms : List (ℕ × ℤ)) (sum : Sum) (i : ℕ) → IsSummingAll rows ms sum i → i < length ms → (get_or ms i (0, pos 0)).0 < length rows
+all-row rows ms sum i s h = summing-row (part_at Constant) rows ms (total_at sum Constant) i (0, pos 0) (s.at Constant) h
+
+pub all-more : (rows : List Constraint) (ms : List (ℕ × ℤ)) (sum next : Sum) (other : Form) (i : ℕ) → IsSummingAll rows ms sum i → i < length ms →
+    ((c : Column) → entry c other ≡ part_at c (get_or rows (get_or ms i (0, pos 0)).0 no_constraint)) → IsAdded sum other (get_or ms i (0, pos 0)).1 next → IsSummingAll rows ms next (i + 1)
+all-more rows ms sum next other i s h e a = record {
+  at = λ c.
+      let by = (get_or ms i (0, pos 0)).1 in
+      summing-more (part_at c) rows ms (total_at sum c) (total_at next c) i (0, pos 0) (s.at c) h
+      (subst (λ z. FitsSigned w128 (by *ℤ z)) (e c) (a.product_fits c))
+      (subst (λ z. FitsSigned w128 (total_at sum c +ℤ by *ℤ z)) (e c) (a.sum_fits c))
+      (a.entry_is c ∙ ap (λ z. total_at sum c +ℤ by *ℤ z) (e c));
+  fits = λ c. subst (FitsSigned w128) (sym (a.entry_is c)) (a.sum_fits c);
+}
+
+pub all-not : (rows : List Constraint) (ms : List (ℕ × ℤ)) (sum : Sum) (other : Form) (i : ℕ) → IsSummingAll rows ms sum i → i < length ms →
     ((c : Column) → entry c other ≡ part_at c (get_or rows (get_or ms i (0, pos 0)).0 no_constraint)) → IsNotAdded sum other (get_or ms i (0, pos 0)).1 → LeafFits rows ms → ⊥
 all-not rows ms sum other i s h e n f =
     let c = n.column in
     let by = (get_or ms i (0, pos 0)).1 in
-    let g = summing-fits (part_at c) rows ms (entry c sum) i (0, pos 0) (s.at c) h (f c) in
-    n.outside (subst (λ z. FitsSigned w128 (by *ℤ z)) (sym (e c)) g.0) (subst (λ z. FitsSigned w128 (entry c sum +ℤ by *ℤ z)) (sym (e c)) g.1)
+    let g = summing-fits (part_at c) rows ms (total_at sum c) i (0, pos 0) (s.at c) h (f c) in
+    n.outside (subst (λ z. FitsSigned w128 (by *ℤ z)) (sym (e c)) g.0) (subst (λ z. FitsSigned w128 (total_at sum c +ℤ by *ℤ z)) (sym (e c)) g.1)
 
 drop_whole : (xs : List (ℕ × ℤ)) (i : ℕ) → length xs ≤ i → drop i xs ≡ []
 drop_whole [] zero h = refl
@@ -104,9 +95,9 @@ drop_whole [] (suc i) h = refl
 drop_whole (x ∷ xs) zero h = absurd (omega arith)
 drop_whole (x ∷ xs) (suc i) h = drop_whole xs i (omega arith)
 
-pub all-done : (rows : List Constraint) (ms : List (ℕ × ℤ)) (sum : Form) (i : ℕ) → IsSummingAll rows ms sum i → length ms ≤ i → IsSumOf rows ms sum
+pub all-done : (rows : List Constraint) (ms : List (ℕ × ℤ)) (sum : Sum) (i : ℕ) → IsSummingAll rows ms sum i → length ms ≤ i → IsSumOf rows ms sum
 all-done rows ms sum i s h = record {
-  fits = λ c. (s.at c).back (subst (SumFits (part_at c) rows (entry c sum)) (sym (drop_whole ms i h)) tt);
+  fits = λ c. (s.at c).back (subst (SumFits (part_at c) rows (total_at sum c)) (sym (drop_whole ms i h)) tt);
   entry_is = λ c. let e = ap (combined (part_at c) rows) (drop_whole ms i h) in omega (arith, ints, (s.at c).value, e);
 }
 
@@ -149,57 +140,31 @@ past_constant n rows ms w h past = record { outside = λ s. past (all s); first 
     first (Unknown u) b = unknown_fits n rows ms w h u
     first Constant b = absurd b
 
--- a form whose coefficients are all 0 has no terms
-pub none_left : (low high : ℕ) (ts : List (ℕ × ℤ)) → AscendsWithin low high ts → ((u : ℕ) → coefficient u ts ≡ pos 0) → ts ≡ []
-none_left low high [] a h = refl
-none_left low high (t ∷ ts) a h =
-    let here = term_here low high (t ∷ ts) 0 t a refl in
-    let z = ap unsigned_abs (sym here.is ∙ h t.0) in
-    absurd (omega (arith, here.not_zero))
-
-divides_sum : (d a b : ℤ) → Divides d a → Divides d b → Divides d (a +ℤ b)
-divides_sum d a b h k = (h.0 +ℤ k.0, omega (arith, ints, h.1, k.1, mul-add d h.0 k.0))
-
-divides_step : (d a b : ℤ) (is : Bool) → Divides d a → Divides d b → Divides d (cond is a (pos 0) +ℤ b)
-divides_step d a b true h k = divides_sum d a b h k
-divides_step d a b false h k = (k.0, omega (arith, ints, k.1))
-
--- what divides each term divides each coefficient, and the other way round
-pub coefficient_divided : (d : ℤ) (ts : List (ℕ × ℤ)) → All (λ t. Divides d t.1) ts → (u : ℕ) → Divides d (coefficient u ts)
-coefficient_divided d [] h u = divides_zero d (pos 0) refl
-coefficient_divided d (t ∷ ts) h u =
-    divides_step d t.1 (coefficient u ts) (eqb t.0 u) (All-head (λ s. Divides d s.1) t ts h) (coefficient_divided d ts (All-tail (λ s. Divides d s.1) t ts h) u)
-
-pub terms_divided : (d : ℤ) (low high : ℕ) (ts : List (ℕ × ℤ)) → AscendsWithin low high ts → ((u : ℕ) → Divides d (coefficient u ts)) → All (λ t. Divides d t.1) ts
-terms_divided d low high ts a h = All-from_get_or (λ t. Divides d t.1) ts (0, pos 0) (λ i l.
-    let here = term_here low high ts i (get_or ts i (0, pos 0)) a (slice_get-get_or ts i (0, pos 0) l) in
-    subst (Divides d) here.is (h (get_or ts i (0, pos 0)).0))
-
--- what the sum's form tells of the rules
-pub farkas_of : (rows : List Constraint) (ms : List (ℕ × ℤ)) (f : Form) → Allowed 0 rows ms → IsSumOf rows ms f → f.coefficients ≡ [] → pos 0 <ℤ f.constant → FarkasRule rows ms
+-- what the sum tells of the rules
+pub farkas_of : (rows : List Constraint) (ms : List (ℕ × ℤ)) (f : Sum) → Allowed 0 rows ms → IsSumOf rows ms f → ((u : ℕ) → get_or f.numbers u (pos 0) ≡ pos 0) → pos 0 <ℤ f.constant → FarkasRule rows ms
 farkas_of rows ms f a s e p = record {
   allowed = a;
-  vanishes = λ u. sym (s.entry_is (Unknown u)) ∙ ap (coefficient u) e;
+  vanishes = λ u. sym (s.entry_is (Unknown u)) ∙ e u;
   above_zero = subst (λ z. pos 0 <ℤ z) (s.entry_is Constant) p;
 }
 
-pub farkas_back : (rows : List Constraint) (ms : List (ℕ × ℤ)) (f : Form) → IsSumOf rows ms f → FarkasRule rows ms → (f.coefficients ≡ []) × (pos 0 <ℤ f.constant)
+pub farkas_back : (rows : List Constraint) (ms : List (ℕ × ℤ)) (f : Sum) → IsSumOf rows ms f → FarkasRule rows ms → ((u : ℕ) → get_or f.numbers u (pos 0) ≡ pos 0) × (pos 0 <ℤ f.constant)
 farkas_back rows ms f s r = (
-  none_left 0 (2 ^ 32) f.coefficients f.ascending (λ u. s.entry_is (Unknown u) ∙ r.vanishes u),
+  (λ u. s.entry_is (Unknown u) ∙ r.vanishes u),
   subst (λ z. pos 0 <ℤ z) (sym (s.entry_is Constant)) r.above_zero,
 )
 
-pub divisor_of : (rows : List Constraint) (ms : List (ℕ × ℤ)) (d : ℤ) (f : Form) → OfEquations 0 rows ms → pos 2 ≤ℤ d → IsSumOf rows ms f → All (λ t. Divides d t.1) f.coefficients → (Divides d f.constant → ⊥) → DivisorRule rows ms d
+pub divisor_of : (rows : List Constraint) (ms : List (ℕ × ℤ)) (d : ℤ) (f : Sum) → OfEquations 0 rows ms → pos 2 ≤ℤ d → IsSumOf rows ms f → ((u : ℕ) → Divides d (get_or f.numbers u (pos 0))) → (Divides d f.constant → ⊥) → DivisorRule rows ms d
 divisor_of rows ms d f e two s h n = record {
   allowed = e;
   at_least_two = two;
-  divides = λ u. subst (Divides d) (s.entry_is (Unknown u)) (coefficient_divided d f.coefficients h u);
+  divides = λ u. subst (Divides d) (s.entry_is (Unknown u)) (h u);
   apart = λ k. n (subst (Divides d) (sym (s.entry_is Constant)) k);
 }
 
-pub divisor_back : (rows : List Constraint) (ms : List (ℕ × ℤ)) (d : ℤ) (f : Form) → IsSumOf rows ms f → DivisorRule rows ms d → All (λ t. Divides d t.1) f.coefficients × (Divides d f.constant → ⊥)
+pub divisor_back : (rows : List Constraint) (ms : List (ℕ × ℤ)) (d : ℤ) (f : Sum) → IsSumOf rows ms f → DivisorRule rows ms d → ((u : ℕ) → Divides d (get_or f.numbers u (pos 0))) × (Divides d f.constant → ⊥)
 divisor_back rows ms d f s r = (
-  terms_divided d 0 (2 ^ 32) f.coefficients f.ascending (λ u. subst (Divides d) (sym (s.entry_is (Unknown u))) (r.divides u)),
+  (λ u. subst (Divides d) (sym (s.entry_is (Unknown u))) (r.divides u)),
   (λ k. r.apart (subst (Divides d) (s.entry_is Constant) k)),
 )
 

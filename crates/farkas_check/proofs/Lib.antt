@@ -2,6 +2,7 @@ pub mod Children
 pub mod Combining
 pub mod Counting
 pub mod Covering
+pub mod Dense
 pub mod LeafSums
 pub mod Multiples
 pub mod Soundness

@@ -7,4 +7,5 @@ pub mod LeafTests
 pub mod Leaves
 pub mod NodeLaws
 pub mod RowLaws
+pub mod Sums
 pub mod Systems

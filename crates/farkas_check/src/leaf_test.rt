@@ -1,4 +1,4 @@
-ghost use Rattle.std.specs.Prelude.{◌≡◌, IsTrue, ◌↔◌, map, All, IfOk, pos, ◌≤ℤ◌, ◌<ℤ◌, []};
+ghost use Rattle.std.specs.Prelude.{◌≡◌, ℕ, IsTrue, ◌↔◌, map, get_or, IfOk, pos, ◌≤ℤ◌, ◌<ℤ◌};
 ghost use Rattle.sv_linear.specs.Divisors.{Divides};
 ghost use Rattle.sv_linear.specs.Rows.{NameUnknowns};
 ghost use Rattle.farkas_check.specs.Systems.{constraint_of};
@@ -7,10 +7,10 @@ ghost use Rattle.farkas_check.specs.LeafTests.{LeafTold};
 
 use crate::above::Above;
 use crate::leaf::{Leaf, is_multiple};
-use crate::leaf_sum::{past_column, sum_of};
+use crate::leaf_sum::{Sum, past_column, sum_of};
 use crate::rules::LEAST_DIVISOR;
 use std::alloc::{AllocError, Global};
-use sv_linear::{Column, Form, Row};
+use sv_linear::{Column, Row};
 
 /// What multipliers show of some rows.
 #[derive(Clone, Copy, Debug, PartialEq, Eq)]
@@ -25,7 +25,7 @@ pub enum LeafTest {
 
 /// Tests a Farkas leaf over these rows, which name unknowns below `unknowns` alone.
 ///
-/// One merge for each multiplier; only where a sum leaves 128 bits also a look at each row for each
+/// Linear in the unknowns and in the terms of the rows that are named; only where a sum leaves 128 bits also a look at each row for each
 /// unknown. As `closes`, for a leaf of these rows.
 pub fn test_farkas(
     alloc: Global,
@@ -39,7 +39,7 @@ pub fn test_farkas(
     if !is_allowed(rows, multipliers) {
         return Ok(LeafTest::Fails);
     }
-    match sum_of(alloc, rows, multipliers)? {
+    match sum_of(alloc, unknowns, rows, multipliers)? {
         None => Ok(LeafTest::Past(past_column(rows, multipliers, unknowns))),
         Some(sum) => {
             if is_above_zero(&sum) {
@@ -65,7 +65,7 @@ pub fn test_divisor(
     if divisor < LEAST_DIVISOR || !has_equations(rows, multipliers) {
         return Ok(LeafTest::Fails);
     }
-    match sum_of(alloc, rows, multipliers)? {
+    match sum_of(alloc, unknowns, rows, multipliers)? {
         None => Ok(LeafTest::Past(past_column(rows, multipliers, unknowns))),
         Some(sum) => {
             if is_indivisible(&sum, divisor) {
@@ -99,27 +99,38 @@ fn has_equations(rows: &[Row], multipliers: &[(u32, i128)]) -> bool
     leaf.has_equations()
 }
 
-/// Whether the form has no unknowns and is above 0.
-fn is_above_zero(sum: &Form) -> bool
-    ensures { IsTrue result ↔ ((sum.now.coefficients ≡ []) × (pos 0 <ℤ sum.now.constant)) }
+/// Whether the sum is 0 at each unknown, and its constant above 0.
+fn is_above_zero(sum: &Sum) -> bool
+    ensures { IsTrue result ↔ (((u : ℕ) → get_or sum.now.numbers u (pos 0) ≡ pos 0) × (pos 0 <ℤ sum.now.constant)) }
 {
-    sum.coefficients.is_empty() && 0 < sum.constant
+    0 < sum.constant && are_zero(sum.numbers.as_slice())
 }
 
-/// Whether the divisor divides each coefficient and not the constant.
-fn is_indivisible(sum: &Form, divisor: i128) -> bool
-    requires { pos 0 ≤ℤ divisor }
-    ensures { IsTrue result ↔ (All (λ t. Divides divisor t.1) sum.now.coefficients × (Divides divisor sum.now.constant → ⊥)) }
+fn are_zero(numbers: &[i128]) -> bool
+    ensures { IsTrue result ↔ ((u : ℕ) → get_or numbers.now u (pos 0) ≡ pos 0) }
 {
-    are_multiples(sum.coefficients.as_slice(), divisor) && !is_multiple(sum.constant, divisor)
+    for number in numbers {
+        if *number != 0 {
+            return false;
+        }
+    }
+    true
 }
 
-fn are_multiples(terms: &[(u32, i128)], divisor: i128) -> bool
+/// Whether the divisor divides the sum at each unknown, and not its constant.
+fn is_indivisible(sum: &Sum, divisor: i128) -> bool
     requires { pos 0 ≤ℤ divisor }
-    ensures { IsTrue result ↔ All (λ t. Divides divisor t.1) terms.now }
+    ensures { IsTrue result ↔ (((u : ℕ) → Divides divisor (get_or sum.now.numbers u (pos 0))) × (Divides divisor sum.now.constant → ⊥)) }
 {
-    for (_, coefficient) in terms {
-        if !is_multiple(*coefficient, divisor) {
+    are_multiples(sum.numbers.as_slice(), divisor) && !is_multiple(sum.constant, divisor)
+}
+
+fn are_multiples(numbers: &[i128], divisor: i128) -> bool
+    requires { pos 0 ≤ℤ divisor }
+    ensures { IsTrue result ↔ ((u : ℕ) → Divides divisor (get_or numbers.now u (pos 0))) }
+{
+    for number in numbers {
+        if !is_multiple(*number, divisor) {
             return false;
         }
     }

@@ -7,7 +7,6 @@ pub mod DivisorLeaves
 pub mod DueTreeRules
 pub mod EdgeRows
 pub mod Entering
-pub mod FormValues
 pub mod ForkRows
 pub mod Forking
 pub mod LeafSums

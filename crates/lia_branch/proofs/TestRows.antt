@@ -1,51 +1,8 @@
--- Rows that are looked at term by term, as the tests look at them.
-use Rattle.std.proofs.Common.{◌≡◌, ℕ, zero, suc, ◌+◌, ◌<◌, ◌≤◌, ◌^◌, ℤ, pos, ◌+ℤ◌, List, [], ◌∷◌, ◌++◌, length, slice_get, get_or, Some, Bool, true, false, cond, eqb, ◌⊎◌, ⊎_elim, inl, inr, ap, sym, ◌∙◌, subst, arith}
-use Rattle.std.proofs.lemmas.Int.{ints}
+-- Rows that are looked at one by one, as the tests look at them.
+use Rattle.std.proofs.Common.{◌≡◌, ℕ, ◌+◌, ◌<◌, ◌≤◌, List, slice_get, get_or, Some, ⊎_elim, ap, ◌∙◌, subst, arith}
 use Rattle.std.proofs.lemmas.Bool.{cases_lt}
-use Rattle.std.proofs.lemmas.Bool.Decides.{eqb_tells}
 use Rattle.std.proofs.lemmas.Option.{get_or_from_slice_get}
-use Rattle.sv_linear.specs.Combining.{IsSymmetric}
-use Rattle.sv_linear.specs.Rows.{HasSymmetricEntries}
-use Rattle.sv_linear.specs.TermLaws.{below_low}
-use Rattle.sv_linear.specs.Terms.{coefficient, AscendsWithin}
-use Rattle.sv_linear.specs.declared.column.Column.TheVariants.{Unknown, Constant}
-use Rattle.sv_linear.specs.declared.form.Form.{Form}
 use Rattle.sv_linear.specs.declared.row.Row.{Row}
-
-pub ascends_within : (n low high : ℕ) (ts : List (ℕ × ℤ)) → AscendsWithin low high ts → low ≤ n → ((k : ℕ) → k < length ts → (get_or ts k (0, pos 0)).0 < n) → AscendsWithin low n ts
-ascends_within n low high [] a l h = l
-ascends_within n low high (t ∷ ts) a l h =
-    let first = h 0 (omega arith) in
-    (a.0, (a.1.0, ascends_within n (t.0 + 1) high ts a.1.1 (omega arith) (λ k p. h (suc k) (omega arith))))
-
-coefficient_symmetric : (low high : ℕ) (ts : List (ℕ × ℤ)) → AscendsWithin low high ts → ((k : ℕ) → k < length ts → IsSymmetric (get_or ts k (0, pos 0)).1) → (u : ℕ) → IsSymmetric (coefficient u ts)
-coefficient_symmetric low high [] a h u = omega arith
-coefficient_symmetric low high (t ∷ ts) a h u = by (eqb t.0 u) (eqb_tells t.0 u) (coefficient_symmetric (t.0 + 1) high ts a.1.1 (λ k p. h (suc k) (omega arith)) u)
-  where
-    by : (b : Bool) → ((b ≡ true) × (t.0 ≡ u)) ⊎ ((b ≡ false) × (t.0 ≡ u → ⊥)) → IsSymmetric (coefficient u ts) → IsSymmetric (cond b t.1 (pos 0) +ℤ coefficient u ts)
-    by true (inl e) r =
-        let same = e.1 in
-        let z = below_low (t.0 + 1) high u ts a.1.1 (omega arith) in
-        let s : t.1 +ℤ coefficient u ts ≡ t.1 = omega (arith, ints, z) in
-        subst IsSymmetric (sym s) (h 0 (omega arith))
-    by true (inr e) r = absurd (cc)
-    by false (inl e) r = absurd (cc)
-    by false (inr e) r =
-        let s : pos 0 +ℤ coefficient u ts ≡ coefficient u ts = omega (arith, ints) in
-        subst IsSymmetric (sym s) r
-
-pub entries_symmetric : (f : Form) → ((k : ℕ) → k < length f.coefficients → IsSymmetric (get_or f.coefficients k (0, pos 0)).1) → IsSymmetric f.constant → HasSymmetricEntries f
-entries_symmetric f h s (Unknown u) = coefficient_symmetric 0 (2 ^ 32) f.coefficients f.ascending h u
-entries_symmetric f h s Constant = s
-
-get_push_cases : {X : Type 0} (xs : List X) (y : X) (i : ℕ) (x : X) → slice_get (xs ++ y ∷ []) i ≡ Some x → (slice_get xs i ≡ Some x) ⊎ (y ≡ x)
-get_push_cases [] y zero x e = inr (cc)
-get_push_cases [] y (suc i) x e = cc
-get_push_cases (z ∷ zs) y zero x e = inl e
-get_push_cases (z ∷ zs) y (suc i) x e = get_push_cases zs y i x e
-
-pub each_pushed : (P : Row → Type 0) (rows : List Row) (row : Row) → ((i : ℕ) (r : Row) → slice_get rows i ≡ Some r → P r) → P row → (i : ℕ) (r : Row) → slice_get (rows ++ row ∷ []) i ≡ Some r → P r
-each_pushed P rows row h p i r g = ⊎_elim (λ l. h i r l) (λ e. subst P e p) (get_push_cases rows row i r g)
 
 -- rows that are looked at one by one
 pub each_more : (P : Row → Type 0) (items : List Row) (i : ℕ) (row : Row) → row ≡ get_or items i row → ((j : ℕ) (r : Row) → j < i → slice_get items j ≡ Some r → P r) → P row → (j : ℕ) (r : Row) → j < i + 1 → slice_get items j ≡ Some r → P r

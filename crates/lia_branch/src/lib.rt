@@ -5,12 +5,11 @@
 //! tree. What was given up shows evidence that can't be invented: 2,000 splits, each the one that is due,
 //! or two rows or a sum past 128 bits.
 //!
-//! First equations are eliminated by unknowns with coefficient 1 or -1, in one pass, and each is looked at for a
-//! divisor that no whole numbers meet. What is left, which is small where the equations are those of chains, is
-//! solved as a system of its own: its solution gives the other unknowns their values, and its tree is lifted to
-//! the rows of the whole. Both are heuristics, and tested before they are answered. Then the tree of the whole
-//! system whose splits are due is searched, depth first and low before high, by a loop with a stack of its own.
-//! The trail of a node ends by itself, since no basis comes twice. A node that waits keeps its tableau, so memory
+//! First come the quick ways of `lia_quick`: equations are eliminated, and what is left, which is small where they
+//! are those of chains, is solved or closed by bounds, or else searched as a system of its own, and its solution or
+//! tree taken to the rows of the whole. All are heuristics, and tested before they are answered. Then the tree of the
+//! whole system whose splits are due is searched, depth first and low before high, by a loop with a stack of its
+//! own. The trail of a node ends by itself, since no basis comes twice. A node that waits keeps its tableau, so memory
 //! is that of the rows times the depth.
 //!
 //! ```text
@@ -19,28 +18,22 @@
 #![tactic(auto)]
 
 mod branch_rows;
-mod dividing;
 mod edge_sums;
-mod elimination;
 mod evidence;
-mod filling;
 mod fork;
 mod leaf_sums;
 mod leaves;
 mod level;
-mod lifting;
 mod no_cut;
 mod outcome;
 mod points;
 mod reduced_search;
-mod reducing;
 mod searching;
 mod solving;
 mod stop;
 #[cfg(test)]
 mod tests;
 mod visit;
-mod weights;
 
 pub use evidence::Evidence;
 pub use no_cut::NoCut;

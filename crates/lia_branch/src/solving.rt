@@ -5,12 +5,11 @@ ghost use Rattle.lia_branch.specs.EvidenceHolds.{Holds};
 ghost use Rattle.lia_branch.specs.Outcomes.{CountsEdges, IfSolution, IfClosed, IfGaveUp, IsSolution, IsAccepted};
 ghost use Rattle.sv_linear.specs.Rows.{IsRowWithin};
 
-use crate::dividing::close_by_divisor;
-use crate::elimination::Elimination;
 use crate::outcome::Outcome;
 use crate::reduced_search::solve_reduced;
 use crate::searching::search_tree;
 use farkas_check::{Cutter, System};
+use lia_quick::{Elimination, close_by_divisor};
 use std::alloc::{AllocError, Global};
 
 /// Whole numbers that meet the system's rows and join its nets, a tree that closes it, or the evidence with

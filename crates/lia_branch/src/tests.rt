@@ -7,9 +7,9 @@ ghost use Rattle.sv_linear.specs.Rows.{IsRowWithin};
 ghost use Rattle.sv_linear.specs.declared.row.Row.{Row as AnyRow};
 
 use crate::branch_rows::at_least_row;
-use crate::reducing::is_within;
 use crate::{Evidence, NoCut, Outcome, solve};
 use farkas_check::{Cutter, Net, NetEdge, System, Tree, closes};
+use lia_quick::is_within;
 use std::alloc::{AllocError, Global};
 use std::test::Fail;
 use sv_linear::{Form, Row, RowKind};
@@ -223,6 +223,22 @@ fn closed_by_splits(rt: HostRuntime) -> Result<(), Fail> {
         (RowKind::Le, [2, -2, 0], -1),
     ];
     assert_eq!(rt; end_of(alloc, table.as_slice())?, Ending::Splits);
+    Ok(())
+}
+
+/// Sums of 6, 10 and 15: each number above 29, but not 29.
+#[test]
+fn coins(rt: HostRuntime) -> Result<(), Fail> {
+    let alloc = rt.alloc();
+    for (constant, ending) in [(-29, Ending::Splits), (-30, Ending::Solution)] {
+        let table = [
+            (RowKind::Eq, [6, 10, 15], constant),
+            (RowKind::Le, [-1, 0, 0], 0),
+            (RowKind::Le, [0, -1, 0], 0),
+            (RowKind::Le, [0, 0, -1], 0),
+        ];
+        assert_eq!(rt; end_of(alloc, table.as_slice())?, ending);
+    }
     Ok(())
 }
 

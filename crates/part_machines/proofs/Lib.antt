@@ -3,3 +3,4 @@ pub mod ChainLemmas
 pub mod PatternLemmas
 pub mod PartLemmas
 pub mod PriceLemmas
+pub mod SideLemmas

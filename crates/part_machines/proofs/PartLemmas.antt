@@ -11,7 +11,9 @@ use Rattle.sv_terms.specs.Meaning.{is_digit}
 use Rattle.sv_terms.specs.Replacement.{begins}
 use Rattle.sv_terms.specs.ReplacementLaws.{both, refuted}
 use Rattle.sv_terms.specs.Bounds.{size, bound_of}
-use Rattle.sv_terms.specs.BoundLaws.{size-some}
+use Rattle.sv_terms.specs.BoundLaws.{size-some, size-Comp}
+use Rattle.sv_terms.specs.Opened.{In-Comp}
+use Rattle.sv_terms.specs.declared.regex.Regex.TheVariants as v
 use Rattle.sv_terms.specs.CutOff.{below-power, power-more}
 use Rattle.sv_terms.specs.declared.regex.Regex.{Regex}
 use Rattle.machine_core.specs.declared.graph.Graph.{Graph}
@@ -161,21 +163,18 @@ pub size-below : (r : Regex) (b : Bool) → size r ≤ part_bound (own.InRe r, b
 size-below r true = omega arith
 size-below r false = let x = below-power (size r) in omega (arith, x)
 
-pub others-part : (r : Regex) (m n : Graph) → ((w : Word) → WordsOf m w ↔ In r w) → m.states ≤ size r → Reads (λ w. IsWord w × (WordsOf m w → ⊥)) n → n.states ≤ 2 ^ m.states → IsOfPart (own.InRe r, false) n
-others-part r m n words few reads size_of = record {
+-- the machine of a complement is that of the others
+pub others-kept : (r : Regex) (m : Graph) → ((w : Word) → In r w → IsWord w) → IsOfPart (own.InRe (v.Comp r), true) m → IsOfPart (own.InRe r, false) m
+others-kept r m only is = record {
   reads = record {
-    plain = reads.plain;
+    plain = is.reads.plain;
     words = λ w. (
-      λ h. let g = (reads.words w).0 h in (g.0, λ i. g.1 ((words w).1 i)),
-      λ h. (reads.words w).1 (h.0, λ i. h.1 ((words w).0 i)),
+      λ h. let g = (is.reads.words w).0 h in (g.0, (subst (λ T. T) (In-Comp r w) g.1).1),
+      λ h. (is.reads.words w).1 (h.0, rw (In-Comp r w) (h.0, h.1)),
     );
   };
-  few = (let x = power-more m.states (size r) few in omega (arith, x, size_of));
+  few = (let x = is.few in let e = size-Comp r in omega (arith, x, e));
 }
-
--- the same, by a machine of the expression
-pub others-of : (r : Regex) (m n : Graph) → ((w : Word) → In r w → IsWord w) → IsOfPart (own.InRe r, true) m → Reads (λ w. IsWord w × (WordsOf m w → ⊥)) n → n.states ≤ 2 ^ m.states → IsOfPart (own.InRe r, false) n
-others-of r m n only is = others-part r m n (λ w. (λ h. ((is.reads.words w).0 h).1, λ i. (is.reads.words w).1 (only w i, i))) is.few
 
 pub language-part : (r : Regex) (m : Graph) → ((w : Word) → In r w → IsWord w) → m.registers ≡ 0 → ((w : Word) → WordsOf m w ↔ In r w) → m.states ≤ size r → IsOfPart (own.InRe r, true) m
 language-part r m only plain words few = record {
@@ -249,7 +248,7 @@ of-plain (part ∷ parts) [] h m i = absurd h
 of-plain (part ∷ parts) (x ∷ ms) h m (zero, lt, e) = let same : x ≡ m = e in subst (λ (g : Graph). g.registers ≡ 0) same h.0.reads.plain
 of-plain (part ∷ parts) (x ∷ ms) h m (suc n, lt, e) = of-plain parts ms h.1 m (n, omega (arith, lt), e)
 
-of-words : (parts : List (Own × Bool)) (ms : List Graph) → AreOfParts parts ms → (w : Word) → InAllOf WordsOf ms w ↔ (IsWord w × AllByRecursion (MeetsPart w) parts)
+pub of-words : (parts : List (Own × Bool)) (ms : List Graph) → AreOfParts parts ms → (w : Word) → InAllOf WordsOf ms w ↔ (IsWord w × AllByRecursion (MeetsPart w) parts)
 of-words [] [] h w = (λ a. (a, tt), λ a. a.0)
 of-words [] (m ∷ ms) h w = absurd h
 of-words (part ∷ parts) [] h w = absurd h

@@ -3,3 +3,4 @@ pub mod Chains
 pub mod Patterns
 pub mod Parts
 pub mod Kept
+pub mod Sides

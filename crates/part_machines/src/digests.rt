@@ -2,6 +2,12 @@
 
 use sv_terms::Regex;
 
+// What each digest begins with.
+const SEED: u64 = 0xcbf2_9ce4_8422_2325;
+
+// The number of the form of a complement.
+const COMPLEMENT: u64 = 13;
+
 // One more number goes into the digest, as in the hash FNV-1a, with eight bytes at once.
 fn mixed(digest: u64, number: u64) -> u64 {
     (digest ^ number).wrapping_mul(0x100_0000_01b3)
@@ -39,7 +45,7 @@ fn of(expression: &Regex, seed: u64) -> u64 {
         Regex::Star(part) => of(part.get(), mixed(seed, 10)),
         Regex::Plus(part) => of(part.get(), mixed(seed, 11)),
         Regex::Opt(part) => of(part.get(), mixed(seed, 12)),
-        Regex::Comp(part) => of(part.get(), mixed(seed, 13)),
+        Regex::Comp(part) => of(part.get(), mixed(seed, COMPLEMENT)),
         Regex::Loop(part, least, most) => {
             let bounds = mixed(mixed(mixed(seed, 14), u64::from(*least)), u64::from(*most));
             of(part.get(), bounds)
@@ -50,5 +56,10 @@ fn of(expression: &Regex, seed: u64) -> u64 {
 /// A number for how the regular expression is written: two that are written the same have the same one, and
 /// others rarely do. Linear in the expression.
 pub fn digest(expression: &Regex) -> u64 {
-    of(expression, 0xcbf2_9ce4_8422_2325)
+    of(expression, SEED)
+}
+
+/// The digest of the expression's complement.
+pub fn digest_of_others(expression: &Regex) -> u64 {
+    of(expression, mixed(SEED, COMPLEMENT))
 }

@@ -1,47 +1,48 @@
-ghost use Rattle.std.specs.Prelude.{◌≡◌, ◌<◌, ℕ, Err, IfOk};
+ghost use Rattle.std.specs.Prelude.{◌≡◌, ◌<◌, IfOk, MatchOption};
 ghost use Rattle.sv_terms.specs.Bounds.{size};
-ghost use Rattle.trim_search.specs.declared.build_fault.BuildFault.TheVariants.{States};
-ghost use Rattle.part_machines.specs.Kept.{IsMachineOf};
+ghost use Rattle.part_machines.specs.Kept.{IsMachineOf, IsKept};
 
 use crate::part::MOST_STATES;
 use lang_pool::Keyed;
 use machine_core::Explicit;
 use regex_machine::build;
-use std::alloc::Global;
+use std::alloc::{AllocError, Global};
 use std::marker::Model;
 use sv_terms::{Regex, words_only};
 use trim_search::BuildFault;
 
-/// A machine that was built for a regular expression, kept beside it.
+/// What came of building the machine of a regular expression, kept beside it: the machine, or that it takes more
+/// states than a machine may have.
 #[derive(Drop)]
 pub struct Keep {
     key: Regex,
-    machine: Explicit,
+    machine: Option<Explicit>,
 }
 
 impl Model for Keep {
+    ghost use Rattle.std.specs.Prelude.{Option};
     ghost use Rattle.std.specs.Coded.{codes};
     ghost use Rattle.sv_terms.specs.contracts.regex.Regex as regex;
     ghost use Rattle.sv_terms.specs.declared.regex.Regex.{Regex as AnyRegex};
     ghost use Rattle.machine_core.specs.declared.graph.Graph.{Graph};
-    ghost use Rattle.part_machines.specs.Kept.{IsMachineOf};
+    ghost use Rattle.part_machines.specs.Kept.{IsKept};
 
-    ghost Value = { AnyRegex × Graph };
+    ghost Value = { AnyRegex × Option Graph };
 
     ghost coded = { Prim.hlevel (codes, regex.the_row.coded) };
 
     ghost view = { λ keep. (keep.key, keep.machine) };
 
-    ghost invariant = { λ keep. IsMachineOf keep.key keep.machine };
+    ghost invariant = { λ keep. IsKept keep.key keep.machine };
 }
 
 impl Keyed<Regex> for Keep {
     ghost use Rattle.sv_terms.specs.Written.{same_regex-exact};
-    ghost use Rattle.part_machines.specs.Kept.{IsMachineOf};
+    ghost use Rattle.part_machines.specs.Kept.{IsKept};
 
     ghost key_of = { λ keep. keep.0 };
 
-    ghost Fits = { λ key keep. IsMachineOf key keep.1 };
+    ghost Fits = { λ key keep. IsKept key keep.1 };
 
     ghost exact = { λ a b same. (same_regex-exact a b).0 same };
 
@@ -50,26 +51,34 @@ impl Keyed<Regex> for Keep {
     }
 }
 
+// The machine of the regular expression; `None` only where its size is above that of any machine.
+fn built(alloc: Global, key: &Regex) -> Result<Option<Explicit>, AllocError>
+    ensures { IfOk result (IsKept key.now) }
+{
+    words_only();
+    match build(alloc, key, MOST_STATES) {
+        Ok(machine) => Ok(Some(machine)),
+        Err(BuildFault::States(_)) => Ok(None),
+        Err(BuildFault::Memory(e)) => Err(e),
+    }
+}
+
 impl Keep {
-    /// The machine of the regular expression.
-    ///
-    /// `States` comes only where the size of the expression is above [`MOST_STATES`](crate::MOST_STATES).
-    pub fn of(alloc: Global, key: &Regex) -> Result<Keep, BuildFault>
+    /// What comes of building the machine of the regular expression.
+    pub fn of(alloc: Global, key: &Regex) -> Result<Keep, AllocError>
         ensures key { IfOk result (λ keep. keep.0 ≡ key.now) }
-        ensures refused { (n : ℕ) → result ≡ Err (States n) → MOST_STATES < size key.now }
     {
-        words_only();
-        let machine = build(alloc, key, MOST_STATES)?;
+        let machine = built(alloc, key)?;
         let key = key.copy(alloc)?;
         Ok(Keep { key, machine })
     }
 
-    /// Its machine.
-    pub fn machine(&self) -> &Explicit
-        ensures machine { result.now ≡ self.now.1 }
-        ensures fits { IsMachineOf self.now.0 result.now }
+    /// Its machine; `None` where it takes more than [`MOST_STATES`](crate::MOST_STATES) states, as only one whose size
+    /// is above that does.
+    pub fn machine(&self) -> Option<&Explicit>
+        ensures { MatchOption result (MOST_STATES < size self.now.0) (λ m. IsMachineOf self.now.0 m.now) }
     {
-        &self.machine
+        self.machine.as_ref()
     }
 }
 

@@ -5,8 +5,9 @@
 //! isn't. [`own_machine`] joins the machines of all parts of a variable, and lets each character cost what
 //! the registers of the variable count.
 //!
-//! A regular expression is built once for all threads that share [`Machines`], and its complement made by the
-//! subset construction. All other parts come
+//! A regular expression is built once for all threads that share [`Machines`], and so is its complement, by the subset
+//! construction; that one takes too many states is found once too. Beside other parts an expression that no word may
+//! be in isn't complemented: its sets of states are made as the other parts lead to them. All other parts come
 //! by a table that says where each state leads on each character: a word, a prefix and a digit by a chain
 //! along their characters, what occurs and what ends a word by the failure automaton of Knuth, Morris and
 //! Pratt (Fast pattern matching in strings, 1977). A table is complete, so that a part that isn't to hold has
@@ -34,7 +35,7 @@ mod table;
 #[cfg(test)]
 mod tests;
 
-pub use digests::digest;
+pub use digests::{digest, digest_of_others};
 pub use keep::Keep;
 pub use laws::{bounds_some, machines_cross};
 pub use machines::Machines;

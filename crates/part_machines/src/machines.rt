@@ -1,19 +1,15 @@
 //! Machines of regular expressions that threads share.
-ghost use Rattle.std.specs.Prelude.{◌≡◌, ◌<◌, ℕ, Err, length, IfOk};
-ghost use Rattle.sv_terms.specs.Bounds.{size};
+ghost use Rattle.std.specs.Prelude.{◌≡◌, length, IfOk};
 ghost use Rattle.lang_pool.specs.Found.{found_value};
-ghost use Rattle.trim_search.specs.declared.build_fault.BuildFault.TheVariants.{States};
-ghost use Rattle.part_machines.specs.Kept.{IsMachineOf};
 
 use crate::digests::digest;
 use crate::keep::Keep;
-use crate::part::MOST_STATES;
 use lang_pool::{Found, Pool};
 use std::alloc::{AllocError, Global};
 use sv_terms::Regex;
-use trim_search::BuildFault;
 
-/// Machines of regular expressions, which threads share: each is built when it is first asked for, and kept.
+/// Machines of regular expressions, which threads share: each is built when it is first asked for, and kept. That
+/// one takes too many states is kept too, so that it is found once.
 ///
 /// An expression has a place by its digest. Of two expressions with one digest the first that is asked for is
 /// kept, and the machine of the other is built for each that asks.
@@ -34,14 +30,12 @@ impl Machines {
         Ok(Machines { digests, pool })
     }
 
-    /// The machine of the expression. One without a place gets a machine of its own.
+    /// What came of building the machine of the expression. One without a place is built for the caller.
     ///
-    /// `States` comes only where the size of the expression is above [`MOST_STATES`](crate::MOST_STATES).
-    /// Where the machine is kept, time is that of the digest, of a search among the digests and of one
-    /// comparison; else also that of [`Keep::of`].
-    pub fn machine(&self, alloc: Global, regex: &Regex) -> Result<Found<'_, Keep>, BuildFault>
-        ensures machine { IfOk result (λ found. IsMachineOf regex.now (found_value found).1) }
-        ensures refused { (n : ℕ) → result ≡ Err (States n) → MOST_STATES < size regex.now }
+    /// Where it is kept, be it as the machine or as one with too many states, time is that of the digest, of a search
+    /// among the digests and of one comparison; else also that of [`Keep::of`].
+    pub fn kept(&self, alloc: Global, regex: &Regex) -> Result<Found<'_, Keep>, AllocError>
+        ensures { IfOk result (λ found. (found_value found).0 ≡ regex.now) }
     {
         match self.digests.binary_search(&digest(regex)) {
             Ok(cell) => {
@@ -57,20 +51,10 @@ impl Machines {
 }
 
 // What is made for a place, on the heap.
-fn boxed(alloc: Global, keep: Keep) -> Result<Box<Keep>, AllocError>
-    ensures { IfOk result (λ boxed. boxed.value ≡ keep) }
-{
-    let boxed = Box::new(alloc, keep)?;
-    Ok(boxed)
-}
-
-fn make(alloc: Global, regex: &Regex) -> Result<Box<Keep>, BuildFault>
-    ensures key { IfOk result (λ keep. keep.value.0 ≡ regex.now) }
-    ensures machine { IfOk result (λ keep. IsMachineOf regex.now keep.value.1) }
-    ensures refused { (n : ℕ) → result ≡ Err (States n) → MOST_STATES < size regex.now }
+fn make(alloc: Global, regex: &Regex) -> Result<Box<Keep>, AllocError>
+    ensures { IfOk result (λ keep. keep.value.0 ≡ regex.now) }
 {
     let keep = Keep::of(alloc, regex)?;
-    keep.machine();
-    let boxed = boxed(alloc, keep)?;
+    let boxed = Box::new(alloc, keep)?;
     Ok(boxed)
 }

@@ -1,37 +1,100 @@
 //! The machine of all parts of a variable.
-ghost use Rattle.std.specs.Prelude.{◌≡◌, ℕ, ◌<◌, Err, IfOk};
+ghost use Rattle.std.specs.Prelude.{◌≡◌, ℕ, ◌<◌, ◌∷◌, false, map, Err, IfOk, IfSome, OnOk};
+ghost use Rattle.regex_machine.specs.Built.{Builds};
+ghost use Rattle.regex_machine.specs.Joined.{ArePlain, WordsOf};
+ghost use Rattle.regex_machine.specs.Kinds.{states_of};
+ghost use Rattle.sv_terms.specs.Bounds.{from_left, without_size};
+ghost use Rattle.sv_terms.specs.Language.{InFirstOnly};
 ghost use Rattle.straight_line.specs.Bounds.{part_bound, product_by};
+ghost use Rattle.straight_line.specs.declared.variable.Own.TheVariants.{InRe};
 ghost use Rattle.trim_search.specs.declared.build_fault.BuildFault.TheVariants.{States};
-ghost use Rattle.part_machines.specs.Parts.{AreOfParts, IsOfParts, ReadsParts};
+ghost use Rattle.part_machines.specs.Parts.{IsOfParts, ReadsParts};
+ghost use Rattle.part_machines.specs.Sides.{AddsSide, AreSides};
 
 use crate::machines::Machines;
-use crate::part::{MOST_STATES, part_machine};
+use crate::part::{MOST_STATES, kept_machine, part_machine};
 use crate::pricing::price;
 use machine_core::{Cost, Explicit};
-use regex_machine::all_of;
+use regex_machine::{all_of, difference};
 use std::alloc::Global;
 use straight_line::Own;
 use sv_list::Items;
+use sv_terms::Regex;
 use trim_search::BuildFault;
 
-// The machine of each part.
-fn part_machines(
-    alloc: Global,
-    parts: &[(Own, bool)],
-    kept: &Machines,
-) -> Result<Items<Explicit>, BuildFault>
-    ensures machines { IfOk result (AreOfParts parts.now) }
-    ensures refused { (n : ℕ) → result ≡ Err (States n) → MOST_STATES < product_by part_bound parts.now }
-{
-    let mut machines = Items::new(alloc);
-    for part in parts {
-        let machine = part_machine(alloc, part, kept)?;
-        machines.push(machine)?;
-    }
-    Ok(machines)
+// The machines of some parts: one for each part that is met as it stands, and for each expression that no word may
+// be in that of the expression.
+#[derive(Drop)]
+struct Sides {
+    within: Items<Explicit>,
+    outside: Items<Explicit>,
 }
 
-// The words that meet all parts.
+// The expression that no word may be in, if the part is of that kind.
+fn barred(part: &(Own, bool)) -> Option<&Regex>
+    ensures { IfSome result (λ regex. part.now ≡ (InRe regex.now, false)) }
+{
+    if part.1 {
+        return None;
+    }
+    match &part.0 {
+        Own::InRe(regex) => Some(regex),
+        _ => None,
+    }
+}
+
+// One part more.
+fn add_side(
+    alloc: Global,
+    within: &mut Items<Explicit>,
+    outside: &mut Items<Explicit>,
+    part: &(Own, bool),
+    kept: &Machines,
+) -> Result<(), BuildFault>
+    ensures added { OnOk result (AddsSide part.now within.old within.new outside.old outside.new) }
+    ensures refused { (n : ℕ) → result ≡ Err (States n) → MOST_STATES < part_bound part.now }
+{
+    if let Some(regex) = barred(part) {
+        let machine = kept_machine(alloc, regex, kept)?;
+        outside.push(machine)?;
+        return Ok(());
+    }
+    let machine = part_machine(alloc, part, kept)?;
+    within.push(machine)?;
+    Ok(())
+}
+
+// The machines of all parts.
+fn sides_of(alloc: Global, parts: &[(Own, bool)], kept: &Machines) -> Result<Sides, BuildFault>
+    ensures sides { IfOk result (λ sides. AreSides parts.now sides.within sides.outside) }
+    ensures refused { (n : ℕ) → result ≡ Err (States n) → MOST_STATES < product_by part_bound parts.now }
+{
+    let mut within = Items::new(alloc);
+    let mut outside = Items::new(alloc);
+    for part in parts {
+        add_side(alloc, &mut within, &mut outside, part, kept)?;
+    }
+    Ok(Sides { within, outside })
+}
+
+// The words of the machine that none of the others reads: their subsets are made as they are met with its states.
+fn without(
+    alloc: Global,
+    machine: Explicit,
+    others: Items<Explicit>,
+) -> Result<Explicit, BuildFault>
+    requires plain { machine.registers ≡ 0 }
+    requires others { ArePlain others }
+    ensures { Builds (InFirstOnly WordsOf (machine ∷ others)) (from_left without_size (map states_of (machine ∷ others))) MOST_STATES result }
+{
+    let mut all = Items::new(alloc);
+    all.push(machine)?;
+    all.append(others)?;
+    difference(alloc, all.as_slice(), MOST_STATES)
+}
+
+// The words that meet all parts. An expression that no word may be in has no machine of the others by itself where
+// there are further parts.
 fn joint_machine(
     alloc: Global,
     parts: &[(Own, bool)],
@@ -44,8 +107,12 @@ fn joint_machine(
         let machine = part_machine(alloc, &parts[0], kept)?;
         return Ok(machine);
     }
-    let machines = part_machines(alloc, parts, kept)?;
-    let machine = all_of(alloc, machines.as_slice(), MOST_STATES)?;
+    let Sides { within, outside } = sides_of(alloc, parts, kept)?;
+    let met = all_of(alloc, within.as_slice(), MOST_STATES)?;
+    if outside.is_empty() {
+        return Ok(met);
+    }
+    let machine = without(alloc, met, outside)?;
     Ok(machine)
 }
 
@@ -56,7 +123,9 @@ fn joint_machine(
 /// `States` comes only where that is above [`MOST_STATES`](crate::MOST_STATES), and not always then: what isn't
 /// reached takes no state.
 ///
-/// A single part takes no product. Machines of regular expressions are asked of `kept`.
+/// A single part takes no product. An expression that no word may be in is met with the other parts by the subset
+/// construction as far as these lead alone, and has its own complement only where it is the single part. Machines of
+/// regular expressions are asked of `kept`.
 pub fn own_machine(
     alloc: Global,
     parts: &[(Own, bool)],

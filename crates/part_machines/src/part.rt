@@ -3,16 +3,18 @@ ghost use Rattle.std.specs.Prelude.{◌≡◌, ℕ, ◌+◌, ◌≤◌, ◌<◌,
 ghost use Rattle.trim_search.specs.declared.build_fault.BuildFault.TheVariants.{States};
 ghost use Rattle.straight_line.specs.Bounds.{part_bound};
 ghost use Rattle.straight_line.specs.declared.variable.Own.TheVariants.{InRe};
+ghost use Rattle.sv_terms.specs.Bounds.{size};
+ghost use Rattle.sv_terms.specs.declared.regex.Regex.TheVariants.{Comp};
+ghost use Rattle.part_machines.specs.Kept.{IsMachineOf};
 ghost use Rattle.part_machines.specs.Parts.{IsOfPart};
 
 use crate::chains::{chain, ranges_of};
 use crate::machines::Machines;
 use crate::pattern::pattern_machine;
 use machine_core::Explicit;
-use regex_machine::complement;
-use std::alloc::Global;
+use std::alloc::{AllocError, Global};
 use straight_line::Own;
-use sv_list::Copied;
+use sv_list::{Boxed, Copied};
 use sv_terms::{Regex, words_only};
 use sv_word::Word;
 use trim_search::BuildFault;
@@ -32,6 +34,30 @@ fn check_length(word: &Word) -> Result<(), BuildFault>
     Ok(())
 }
 
+/// The machine of the expression, as it is kept.
+pub fn kept_machine(
+    alloc: Global,
+    regex: &Regex,
+    machines: &Machines,
+) -> Result<Explicit, BuildFault>
+    ensures machine { IfOk result (IsMachineOf regex.now) }
+    ensures refused { (n : ℕ) → result ≡ Err (States n) → MOST_STATES < size regex.now }
+{
+    let found = machines.kept(alloc, regex)?;
+    match found.value().machine() {
+        Some(machine) => Ok(machine.copy(alloc)?),
+        None => Err(BuildFault::States(MOST_STATES + 1)),
+    }
+}
+
+// All words that aren't of the expression, as an expression.
+fn others_of(alloc: Global, regex: &Regex) -> Result<Regex, AllocError>
+    ensures { IfOk result (λ others. others ≡ Comp regex.now) }
+{
+    let part = Boxed::new(alloc, regex.copy(alloc)?)?;
+    Ok(Regex::Comp(part))
+}
+
 // The words of the expression, or without `holds` all others.
 fn language(
     alloc: Global,
@@ -42,15 +68,14 @@ fn language(
     ensures machine { IfOk result (IsOfPart (InRe regex.now, holds)) }
     ensures refused { (n : ℕ) → result ≡ Err (States n) → MOST_STATES < part_bound (InRe regex.now, holds) }
 {
-    words_only();
-    let found = machines.machine(alloc, regex)?;
-    let machine = found.value().machine();
     if holds {
-        let copy = machine.copy(alloc)?;
-        return Ok(copy);
+        let machine = kept_machine(alloc, regex, machines)?;
+        return Ok(machine);
     }
-    let others = complement(alloc, machine, MOST_STATES)?;
-    Ok(others)
+    words_only();
+    let others = others_of(alloc, regex)?;
+    let machine = kept_machine(alloc, &others, machines)?;
+    Ok(machine)
 }
 
 /// The machine of a part: without registers, it reads exactly the words that meet the part, and has at most

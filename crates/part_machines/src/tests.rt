@@ -1,11 +1,12 @@
 //! Parts at concrete words, to hold and not to hold.
 ghost use Rattle.std.specs.Prelude.{◌≡◌, ◌∷◌, [], IfOk};
 
-use crate::{Machines, digest, part_machine};
+use crate::{Machines, digest, digest_of_others, own_machine, part_machine};
 use lang_pool::Found;
-use machine_core::Explicit;
+use machine_core::{Cost, Explicit};
 use std::alloc::{AllocError, Global};
 use straight_line::Own;
+use sv_list::{Boxed, Items};
 use sv_terms::Regex;
 use sv_word::Word;
 use trim_search::BuildFault;
@@ -79,7 +80,7 @@ fn patterns(rt: HostRuntime) -> Result<(), BuildFault> {
 
 // Whether the machine of the expression is kept.
 fn is_kept(alloc: Global, kept: &Machines, expression: &Regex) -> Result<bool, BuildFault> {
-    let found = kept.machine(alloc, expression)?;
+    let found = kept.kept(alloc, expression)?;
     Ok(matches!(found, Found::Shared(_)))
 }
 
@@ -111,5 +112,53 @@ fn each_expression_has_one_place(rt: HostRuntime) -> Result<(), BuildFault> {
     assert!(rt; is_kept(alloc, &kept, &Regex::All)?);
     assert!(rt; is_kept(alloc, &kept, &Regex::AnyChar)?);
     assert!(rt; is_kept(alloc, &kept, &Regex::Empty)?);
+    Ok(())
+}
+
+fn others_alone(alloc: Global, expression: &Regex) -> Result<Vec<u64>, AllocError> {
+    let mut digests = Vec::new(alloc);
+    digests.push(digest_of_others(expression))?;
+    Ok(digests)
+}
+
+// The complement of an expression is kept as one, though the expression isn't asked for.
+#[test]
+fn complements_are_kept(rt: HostRuntime) -> Result<(), BuildFault> {
+    let alloc = rt.alloc();
+    let kept = Machines::new(alloc, others_alone(alloc, &Regex::AnyChar)?)?;
+    let part = (Own::InRe(Regex::AnyChar), false);
+    part_machine(alloc, &part, &kept)?;
+    let others = Regex::Comp(Boxed::new(alloc, Regex::AnyChar)?);
+    assert!(rt; is_kept(alloc, &kept, &others)?);
+    assert!(rt; !is_kept(alloc, &kept, &Regex::AnyChar)?);
+    Ok(())
+}
+
+fn a_or_b(alloc: Global) -> Result<Regex, AllocError> {
+    let mut letters = Items::new(alloc);
+    letters.push(Regex::Range(97, 98))?;
+    Ok(Regex::Union(letters))
+}
+
+// The words over "a" and "b" in which the last letter but 20 is "a": a complete machine of sets has 2^21 states.
+fn a_before_twenty(alloc: Global) -> Result<Regex, AllocError> {
+    let mut parts = Items::new(alloc);
+    parts.push(Regex::Star(Boxed::new(alloc, a_or_b(alloc)?)?))?;
+    parts.push(Regex::Text(letter(alloc)?))?;
+    parts.push(Regex::Loop(Boxed::new(alloc, a_or_b(alloc)?)?, 20, 20))?;
+    Ok(Regex::Concat(parts))
+}
+
+// A word that may not be in an expression takes the sets that it leads to alone.
+#[test]
+fn others_are_met_as_far_as_a_word_leads(rt: HostRuntime) -> Result<(), BuildFault> {
+    let alloc = rt.alloc();
+    let kept = Machines::new(alloc, Vec::new(alloc))?;
+    let mut parts = Items::new(alloc);
+    parts.push((Own::InRe(a_before_twenty(alloc)?), false))?;
+    parts.push((Own::Word(letter(alloc)?), true))?;
+    let machine = own_machine(alloc, parts.as_slice(), &Cost::new(alloc), &kept)?;
+    assert!(rt; reads(&machine, "a"));
+    assert!(rt; machine.states() <= 3);
     Ok(())
 }

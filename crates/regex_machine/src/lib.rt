@@ -32,4 +32,4 @@ mod woven;
 mod written;
 
 pub use building::build;
-pub use joining::{all_of, complement};
+pub use joining::{all_of, difference};

@@ -15,7 +15,8 @@ use par_phase::Free;
 use sort_check::{constants_valued, well_formed_entries};
 use std::alloc::{AllocError, Global};
 use std::thread::Threads;
-use sv_terms::{Entry, Model, Name, Symbols, Term};
+use sv_terms::{Entry, Model, Name, Term};
+use term_draft::Declarations;
 
 // One more symbol: its value, where it is a constant.
 fn add(
@@ -38,7 +39,7 @@ fn add(
 }
 
 // A value for each declared constant, in order.
-fn model(alloc: Global, symbols: &Symbols, words: &Model) -> Result<Model, AllocError>
+fn model(alloc: Global, symbols: &Declarations, words: &Model) -> Result<Model, AllocError>
     requires { IsTrue (is_well_formed symbols.now) }
     ensures { IfOk result (λ m. m ≡ model_of words.now symbols.now) }
 {
@@ -56,7 +57,7 @@ fn model(alloc: Global, symbols: &Symbols, words: &Model) -> Result<Model, Alloc
 pub fn verdict_of<R: Threads + Sync>(
     rt: &R,
     alloc: Global,
-    symbols: &Symbols,
+    symbols: &Declarations,
     live: &[Term],
     workers: u32,
 ) -> Result<Verdict, AllocError>

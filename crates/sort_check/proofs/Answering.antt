@@ -5,7 +5,7 @@ use Rattle.sexpr_reader.specs.declared.sexpr.Sexpr.TheFolds.{ind-Sexpr, map-Sexp
 use Rattle.sexpr_reader.specs.declared.sexpr.Sexpr.TheOpen.{Sexpr-F}
 use Rattle.sexpr_reader.specs.declared.sexpr.Sexpr.TheVariants as v
 use Rattle.smt_names.specs.declared.check_fault.CheckFault.{CheckFault}
-use Rattle.sort_check.specs.Checking.{definition, free, is_empty, passed, passed_definition, settled_definition, valued, values}
+use Rattle.sort_check.specs.Checking.{definition, free, is_empty, passed_definition, settled_definition, valued, values}
 use Rattle.smt_names.specs.Tokens.{listed, sort_of}
 use Rattle.smt_names.specs.Signature.{Name}
 use Rattle.sort_check.specs.declared.commands.Command.{Command}
@@ -16,6 +16,7 @@ use Rattle.smt_names.specs.Form.{Form, Forms, forms, seen, raw, raws, group}
 use Rattle.smt_names.specs.Answering.{answers-same, fault-passes}
 use Rattle.smt_names.specs.Shapes.{seen-Atom, seen-List, none-seen, one-seen}
 use Rattle.sort_check.proofs.Counted.{assertion-few, assertion-many}
+use Rattle.item_passes.specs.Passes.{passed}
 use Rattle.sort_check.specs.Meant.{Names, settled}
 
 -- a fault of what is looked for first

@@ -4,7 +4,7 @@ use Rattle.std.proofs.lemmas.List.{append-nil}
 use Rattle.sexpr_reader.specs.declared.sexpr.Sexpr.{Sexpr}
 use Rattle.sv_terms.specs.declared.entry.Body.{Body}
 use Rattle.sv_terms.specs.declared.term.Term.{Term}
-use Rattle.sort_check.specs.Bodies.{term_of}
+use Rattle.term_draft.specs.Bodies.{term_of}
 use Rattle.sort_check.specs.Checking.{beside}
 use Rattle.smt_names.specs.Form.{forms, seen, raw}
 use Rattle.sort_check.proofs.Answering.{raw-seen}

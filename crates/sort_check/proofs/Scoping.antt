@@ -2,15 +2,15 @@
 use Rattle.std.proofs.Common.{◌≡◌, refl, sym, ap, ◌∙◌, subst, ℕ, zero, suc, ◌-◌, ◌<◌, ◌≤◌, Bool, true, false, cond, List, [], ◌∷◌, ◌++◌, length, take, Option, Some, None, arith, append_assoc}
 use Rattle.std.specs.Prelude.{if◌then◌else◌}
 use Rattle.std.proofs.lemmas.Grind.{common_steps}
+use Rattle.std.proofs.lemmas.List.{map-append}
 use Rattle.std.proofs.Math.ListN.{length-append}
 use Rattle.std.proofs.Math.Seq.{take-append_seam}
 use Rattle.std.proofs.lemmas.Cmp.{nat_list_eq_equiv}
 use Rattle.sort_check.specs.declared.scope.Binding.{Binding}
-use Rattle.sort_check.specs.Drafts.{shown}
+use Rattle.term_draft.specs.Drafts.{shown}
 use Rattle.sort_check.specs.Meant.{latest, or_else}
 use Rattle.sort_check.specs.Scopes.{bound_pairs, HidesFrom, IsIndexed}
 use Rattle.smt_names.specs.Signature.{Name, same_name}
-use Rattle.sort_check.proofs.Layers.{map-snoc}
 
 abbrev Places : Type 0
 Places = List (Name × Option ℕ)
@@ -64,7 +64,7 @@ pub index-none : (bs : List Binding) (places : Places) → bs ≡ [] → places 
 index-none bs places e f = subst (λ (z : List Binding). IsIndexed z places) (sym e) (subst (λ (z : Places). IsIndexed [] z) (sym f) (record { found = λ n. refl; hidden = tt }))
 
 pub pairs-snoc : (bs : List Binding) (b : Binding) → bound_pairs (bs ++ b ∷ []) ≡ bound_pairs bs ++ (b.name, b.place) ∷ []
-pairs-snoc bs b = map-snoc (λ (b : Binding). (b.name, b.place)) bs b
+pairs-snoc bs b = map-append (λ (b : Binding). (b.name, b.place)) bs (b ∷ [])
 
 pub length-pairs : (bs : List Binding) → length (bound_pairs bs) ≡ length bs
 length-pairs [] = refl

@@ -1,7 +1,7 @@
 -- Terms by their forms: what the walk reads of each, by what it reads of the parts.
 use Rattle.std.proofs.Common.{◌==◌, ◌≡◌, refl, sym, ap, ◌∙◌, subst, ℕ, zero, suc, ◌+◌, ◌-◌, ◌<◌, ◌≤◌, Bool, true, false, ◌||◌, ◌&&◌, List, [], ◌∷◌, ◌++◌, length, map, get_or, take, drop, Result, Ok, Err, arith, append_assoc}
 use Rattle.std.specs.Prelude.{nat_le}
-use Rattle.std.proofs.lemmas.List.{take_more}
+use Rattle.std.proofs.lemmas.List.{map-append, take_more}
 use Rattle.std.proofs.Math.Seq.{take-append_seam}
 use Rattle.std.proofs.lemmas.Bool.Decides.{nat_tests}
 use Rattle.std.proofs.lemmas.Grind.{common_steps}
@@ -14,22 +14,20 @@ use Rattle.smt_names.specs.declared.check_fault.CheckFault.{CheckFault}
 use Rattle.smt_names.specs.declared.check_fault.CheckFault.TheVariants as fault
 use Rattle.smt_names.specs.declared.opening.Opening.{Opening}
 use Rattle.sort_check.specs.declared.walk.Walk.{Walk}
-use Rattle.sort_check.specs.Binders.{are_some, is_binding, is_variable, variables}
-use Rattle.sort_check.specs.Bodies.{parameter_name}
-use Rattle.sort_check.specs.Drafts.{at_place, at_places}
+use Rattle.item_passes.specs.Binders.{are_some, is_binding, is_variable, variables}
+use Rattle.term_draft.specs.Bodies.{parameter_name}
+use Rattle.term_draft.specs.Drafts.{at_place, at_places}
 use Rattle.smt_names.specs.Faults.{Answers, and_then, ◌>>◌, need}
 use Rattle.smt_names.specs.Form.{Form, Forms, forms, seen, token, group, end, ◌⨾◌, count}
 use Rattle.sort_check.specs.Meant.{Scope, Names, Head, any_size, alone, of_theory, identified, head, head_count, in_parentheses, application, meant, meant_all, meant_let, meant_values, meant_value, meant_quantifier, meant_annotated, meant_token, quantified, quantified_over, as_constants, renamed, settled}
 use Rattle.smt_names.specs.Tokens.{chosen}
 use Rattle.smt_names.specs.Signature.{Name}
-use Rattle.sort_check.specs.Sizes.{fits}
+use Rattle.term_draft.specs.Sizes.{fits}
 use Rattle.smt_names.specs.Tokens.{symbol, opening}
 use Rattle.sort_check.specs.Walks.{Here, Each, Bound, sized, Meaning, Read, Reads, applied_head, bound_to, fitting}
 use Rattle.sort_check.proofs.Reading.{alike, fault-first, then-reads, bound-grow, joined, gathered, single, all-gathered, values-gathered, gathered-snoc, gathered-append}
-use Rattle.sort_check.proofs.Layers.{map-snoc}
 use Rattle.smt_names.specs.Shapes.{seen-Atom, seen-List, two-seen}
-use Rattle.sort_check.proofs.Walking.{each-are, fits-so}
-use Rattle.sort_check.specs.Weights.{weight_of, weight_fits}
+use Rattle.sort_check.proofs.Walking.{each-are}
 
 module _ (symbols : Names) (s : Scope) (old new : Walk) (r : Result ℕ CheckFault) where
   pub atom-read : (item : Sexpr) (k : Kind) (text : List ℕ) → item ≡ v.Atom k text → Reads Here (λ t. meant_token symbols s k text) old new r → Reads Here (λ t. meant t symbols s (seen item)) old new r
@@ -121,10 +119,6 @@ module _ {A X : Type 0} (stands : List Body → List X → List A → Type 0)
   drop-more (b ∷ bs) zero d h = refl
   drop-more (b ∷ bs) (suc i) d h = ap (λ z. b ∷ z) (drop-more bs i d (omega arith))
 
-  map-append : {B C : Type 0} (f : B → C) (xs ys : List B) → map f (xs ++ ys) ≡ map f xs ++ map f ys
-  map-append f [] ys = refl
-  map-append f (x ∷ xs) ys = ap (λ z. f x ∷ z) (map-append f xs ys)
-
   pub gather-fault : (xs : List Sexpr) (i : ℕ) (d : Sexpr) (old mid new : Walk) (ps : List X) (f : CheckFault) → i < length xs → d ≡ get_or xs i d → Read stands (λ t. gathered (g t) (map seen (take i xs))) old mid ps → Reads stands (λ t. g t (seen d)) mid new (Err f) → Reads stands (λ t. gathered (g t) (map seen xs)) old new (Err f)
   gather-fault xs i d old mid new ps f h e a b = fault-first stands stands (λ t. g t (seen d)) (λ t. gathered (g t) (map seen xs)) mid new new f (λ k j.
       ap (λ z. gathered (g any_size) (map seen z)) (drop-more xs i d h)
@@ -136,7 +130,7 @@ module _ {A X : Type 0} (stands : List Body → List X → List A → Type 0)
   pub gather-next : (xs : List Sexpr) (i : ℕ) (d : Sexpr) (old mid new : Walk) (ps qs : List X) → i < length xs → d ≡ get_or xs i d → Read stands (λ t. gathered (g t) (map seen (take i xs))) old mid ps → Read stands (λ t. g t (seen d)) mid new qs → Read stands (λ t. gathered (g t) (map seen (take (i + 1) xs))) old new (ps ++ qs)
   gather-next xs i d old mid new ps qs h e a b =
       subst (λ (z : List Form). Read stands (λ t. gathered (g t) z) old new (ps ++ qs))
-      (ap (λ z. map seen (take i xs) ++ seen z ∷ []) e ∙ sym (map-snoc seen (take i xs) (get_or xs i d)) ∙ ap (map seen) (sym (take_more xs i d h)))
+      (ap (λ z. map seen (take i xs) ++ seen z ∷ []) e ∙ sym (map-append seen (take i xs) (get_or xs i d ∷ [])) ∙ ap (map seen) (sym (take_more xs i d h)))
       (gather-more (map seen (take i xs)) (seen d) old mid new ps qs a b)
 
   take-all : {B : Type 0} (n : ℕ) (bs : List B) → length bs ≤ n → take n bs ≡ bs
@@ -373,17 +367,14 @@ module _ (symbols : Names) (s : Scope) (f : Form) (w2 w3 : Walk) (place : ℕ) (
   one-read : Read Each (λ t. meant_all t symbols s (f ⨾ end)) w2 w3 (place ∷ [])
   one-read = single-read (λ t. meant t symbols s f) w2 w3 place a
 
-  fits-here : (b : Bool) → weight_fits (weight_of (at_place w3.draft place)) ≡ b → fits (at_place w3.draft place) ≡ b
-  fits-here b h = sym (fits-so (at_place w3.draft place)) ∙ h
-
   one-fitting : w3.is_past ≡ false → settled symbols s (f ⨾ end) ≡ fitting (at_place w3.draft place ∷ [])
   one-fitting e = settled-fitting symbols s (f ⨾ end) one-read.what one-read.past one-read.means one-read.limits (read-past Each (λ t. meant_all t symbols s (f ⨾ end)) w2 w3 (place ∷ []) false one-read begun e) ∙ ap fitting (sym (each-are w3.draft (place ∷ []) one-read.what one-read.there))
 
-  pub one-settled : (x : Body) → w3.is_past ≡ false → weight_fits (weight_of (at_place w3.draft place)) ≡ true → x ≡ at_place w3.draft place → settled symbols s (f ⨾ end) ≡ Ok (x ∷ [])
-  one-settled x e h g = one-fitting e ∙ ap (λ b. need (b && true) fault.Size >> Ok (at_place w3.draft place ∷ [])) (fits-here true h) ∙ ap (λ z. Ok (z ∷ [])) (sym g)
+  pub one-settled : (x : Body) → w3.is_past ≡ false → fits (at_place w3.draft place) ≡ true → x ≡ at_place w3.draft place → settled symbols s (f ⨾ end) ≡ Ok (x ∷ [])
+  one-settled x e h g = one-fitting e ∙ ap (λ b. need (b && true) fault.Size >> Ok (at_place w3.draft place ∷ [])) h ∙ ap (λ z. Ok (z ∷ [])) (sym g)
 
-  pub one-unfit : w3.is_past ≡ false → weight_fits (weight_of (at_place w3.draft place)) ≡ false → settled symbols s (f ⨾ end) ≡ Err fault.Size
-  one-unfit e h = one-fitting e ∙ ap (λ b. need (b && true) fault.Size >> Ok (at_place w3.draft place ∷ [])) (fits-here false h)
+  pub one-unfit : w3.is_past ≡ false → fits (at_place w3.draft place) ≡ false → settled symbols s (f ⨾ end) ≡ Err fault.Size
+  one-unfit e h = one-fitting e ∙ ap (λ b. need (b && true) fault.Size >> Ok (at_place w3.draft place ∷ [])) h
 
   pub one-past : w3.is_past ≡ true → settled symbols s (f ⨾ end) ≡ Err fault.Size
   one-past e = settled-past symbols s (f ⨾ end) one-read.what one-read.past one-read.means one-read.limits (read-past Each (λ t. meant_all t symbols s (f ⨾ end)) w2 w3 (place ∷ []) true one-read begun e)

@@ -4,29 +4,25 @@ use Rattle.std.specs.List.{list_all}
 use Rattle.std.specs.Prelude.{slice_get, not}
 use Rattle.std.proofs.lemmas.Bool.Decides.{nat_tests}
 use Rattle.std.proofs.lemmas.Grind.{common_steps}
-use Rattle.std.proofs.lemmas.List.{take_more}
+use Rattle.std.proofs.lemmas.List.{map-append, take_more}
 use Rattle.sexpr_reader.specs.declared.kind.Kind.TheVariants.{Numeral, Literal}
 use Rattle.sv_terms.specs.declared.entry.Body.{Body}
 use Rattle.sv_terms.specs.declared.entry.Body.TheVariants as body
 use Rattle.sv_terms.specs.declared.sort.Sort.{Sort}
 use Rattle.sv_terms.specs.declared.sort.Sort.TheVariants as sort
 use Rattle.sv_terms.specs.declared.term.Term.TheVariants as term
-use Rattle.sv_terms.specs.declared.transducer.Transducer.{Transducer}
 use Rattle.sv_terms.specs.Sorting.{same_sort}
 use Rattle.smt_names.specs.declared.check_fault.CheckFault.{CheckFault}
 use Rattle.smt_names.specs.declared.check_fault.CheckFault.TheVariants as fault
-use Rattle.sort_check.specs.declared.weight.Weight.{Weight}
 use Rattle.sort_check.specs.declared.walk.Walk.{Walk}
-use Rattle.sort_check.specs.Bodies.{body_sort, term_of}
-use Rattle.sort_check.specs.Drafts.{at_place, at_places}
+use Rattle.term_draft.specs.Bodies.{body_sort}
+use Rattle.term_draft.specs.Drafts.{at_place, at_places}
 use Rattle.smt_names.specs.Faults.{Answers, ◌>>◌, need, refuse, or_fault}
-use Rattle.sort_check.specs.Meant.{Scope, Names, Head, any_size, latest, variable_or, alone, named, application, head_count, head_sorts, head_applied, meant_name, meant_token, related, mapped, bind, as_constants}
+use Rattle.sort_check.specs.Meant.{Scope, Names, Head, any_size, latest, variable_or, alone, named, application, head_count, head_sorts, head_applied, meant_name, meant_token, mapped, bind, as_constants}
 use Rattle.smt_names.specs.Signature.{Name}
-use Rattle.sort_check.specs.Sizes.{fits, nodes, nesting}
+use Rattle.term_draft.specs.Sizes.{fits}
 use Rattle.smt_names.specs.Tokens.{value, literal_word}
 use Rattle.sort_check.specs.Walks.{Here, Each, Bound, sized, Meaning, Read, Reads, applied_head, bound_to, bound_place}
-use Rattle.sort_check.specs.Weights.{weight_of, weight_fits, as_term, pair_weight, related_weight, capped}
-use Rattle.sort_check.proofs.Layers.{weight-Related, weight-Opaque, map-snoc}
 use Rattle.sort_check.proofs.Reading.{alike, Stands, stands-latest, bound-grow, bound-append}
 
 get-last : {A : Type 0} (as_ : List A) (a : A) → slice_get (as_ ++ a ∷ []) (length as_) ≡ Some a
@@ -37,9 +33,9 @@ or-false : (b : Bool) → b ≡ (b || false)
 or-false true = refl
 or-false false = refl
 
--- a part that was put
-pub put-read : (old : Walk) (draft : List Body) (b : Body) (place : ℕ) → place ≡ length old.draft → draft ≡ old.draft ++ b ∷ [] → Read Here (λ t. Ok b) old (record old { draft = draft }) place
-put-read old draft b place e f = record {
+-- a part that was added
+pub put-read : (old : Walk) (draft : List Body) (b : Body) (place : ℕ) → (place ≡ length old.draft) × (draft ≡ old.draft ++ b ∷ []) → Read Here (λ t. Ok b) old (record old { draft = draft }) place
+put-read old draft b place (e, f) = record {
   what = b;
   past = false;
   added = b ∷ [];
@@ -84,26 +80,6 @@ literal-read s text w old new r e a = alike Here (λ t. Ok (body.Term (term.Text
 pub literal-none : (s : Scope) (text : List ℕ) → None ≡ literal_word text → meant_token [] s Literal text ≡ Err fault.Shape
 literal-none s text e = ap (λ o. or_fault fault.Shape (mapped (λ w. body.Term (term.Text w)) o)) (sym e)
 
-related-weighs : (t : Transducer) (bs : List Body) → weight_of (related t bs) ≡ pair_weight (map weight_of bs)
-related-weighs t [] = weight-Opaque sort.Bool
-related-weighs t (a ∷ []) = weight-Opaque sort.Bool
-related-weighs t (a ∷ b ∷ []) = weight-Related t (term_of a) (term_of b) ∙ (λ i. related_weight (term-weighs a i) (term-weighs b i))
-  where
-    term-weighs : (b : Body) → weight_of (body.Term (term_of b)) ≡ as_term (weight_of b)
-    term-weighs (body.Term t) = refl
-    term-weighs (body.Language r) = weight-Opaque sort.RegLan
-related-weighs t (a ∷ b ∷ c ∷ bs) = weight-Opaque sort.Bool
-
-pub pair-weighs : (t : Transducer) (bs : List Body) (ws : List Weight) (w : Weight) → ws ≡ map weight_of bs → w ≡ pair_weight ws → w ≡ weight_of (related t bs)
-pair-weighs t bs ws w e f = f ∙ ap pair_weight e ∙ sym (related-weighs t bs)
-
-pub sorts-so : (bs : List Body) (ws : List Weight) → ws ≡ map weight_of bs → map (λ w. w.sort) ws ≡ map body_sort bs
-sorts-so bs ws e = ap (map (λ w. w.sort)) e ∙ go bs
-  where
-    go : (bs : List Body) → map (λ w. w.sort) (map weight_of bs) ≡ map body_sort bs
-    go [] = refl
-    go (b ∷ bs) = ap (λ z. body_sort b ∷ z) (go bs)
-
 -- a fault that was answered
 pub answered : {A X Y : Type 0} (stands : List Body → X → Y → Type 0) (a : Result A CheckFault) (m : Meaning Y) (old new : Walk) (f : CheckFault) → ((e : CheckFault) → a ≡ Err e → m any_size ≡ Err e) → Answers a (Err f) → Reads stands m old new (Err f)
 answered stands a m old new fault.Unknown h e = h fault.Unknown e
@@ -144,13 +120,6 @@ name-alone symbols s n m h old new r b e f g a = alike Here (λ t. application h
 pub name-fault : (symbols : Names) (s : Scope) (n m : Name) (f : CheckFault) (old new : Walk) → Bound old.draft old.scope s → m ≡ n → None ≡ latest m old.scope → Answers (named symbols n) (Err f) → Reads Here (λ t. meant_name symbols s n) old new (Err f)
 name-fault symbols s n m f old new b e g a = answered Here (named symbols n) (λ t. meant_name symbols s n) old new f (λ k h. unbound symbols s n m old b e g ∙ ap alone h) a
 
--- size of a value of `let`
-cap-le : (n m : ℕ) → m < 4294967295 → nat_le (capped n) m ≡ nat_le n m
-cap-le n m h = grind (arith, nat_tests)
-
-pub fits-so : (b : Body) → weight_fits (weight_of b) ≡ fits b
-fits-so b = λ i. cap-le (nodes b) 1048576 (omega arith) i && cap-le (nesting b) 1000 (omega arith) i
-
 pub here-is : (d : List Body) (p : ℕ) (b : Body) → slice_get d p ≡ Some b → at_place d p ≡ b
 here-is [] p b e = absurd (cc)
 here-is (x ∷ d) zero b e = cc
@@ -186,7 +155,7 @@ not-not true = refl
 not-not false = refl
 
 -- a value of `let` that was noted
-pub noted-read : (old new : Walk) (o : Option Name) (x : Body) (place : ℕ) (q : List (Name × ℕ)) → slice_get old.draft place ≡ Some x → q ≡ bound_place o place → new.scope ≡ old.scope → new.draft ≡ old.draft → new.is_past ≡ (old.is_past || not (weight_fits (weight_of (at_place old.draft place)))) → Read Bound (λ t. bound_to t o x) old new q
+pub noted-read : (old new : Walk) (o : Option Name) (x : Body) (place : ℕ) (q : List (Name × ℕ)) → slice_get old.draft place ≡ Some x → q ≡ bound_place o place → new.scope ≡ old.scope → new.draft ≡ old.draft → new.is_past ≡ (old.is_past || not (fits (at_place old.draft place))) → Read Bound (λ t. bound_to t o x) old new q
 noted-read old new o x place q h e f g k = record {
   what = bind o x;
   past = not (fits x);
@@ -195,7 +164,7 @@ noted-read old new o x place q h e f g k = record {
   limits = ap (λ b. need b fault.Size >> Ok (bind o x)) (not-not (fits x));
   there = subst (λ (z : List (Name × ℕ)). Bound new.draft z (bind o x)) (sym e) (subst (λ (z : List Body). Bound z (bound_place o place) (bind o x)) (sym g) (bound o));
   more = g ∙ sym (append-nothing old.draft);
-  noted = k ∙ ap (λ b. old.is_past || not b) (fits-so (at_place old.draft place) ∙ ap fits (here-is old.draft place x h));
+  noted = k ∙ ap (λ b. old.is_past || not b) (ap fits (here-is old.draft place x h));
   back = f;
 }
   where
@@ -203,7 +172,7 @@ noted-read old new o x place q h e f g k = record {
     bound None = tt
     bound (Some n) = (refl, h, tt)
 
-pub quantified-so : (d : List Body) (place : ℕ) (x : Body) (b : Bool) → slice_get d place ≡ Some x → same_sort sort.Bool (weight_of (at_place d place)).sort ≡ b → same_sort sort.Bool (body_sort x) ≡ b
+pub quantified-so : (d : List Body) (place : ℕ) (x : Body) (b : Bool) → slice_get d place ≡ Some x → same_sort sort.Bool (body_sort (at_place d place)) ≡ b → same_sort sort.Bool (body_sort x) ≡ b
 quantified-so d place x b h e = ap (λ z. same_sort sort.Bool (body_sort z)) (sym (here-is d place x h)) ∙ e
 
 abbrev right : {A : Type 0} → A → Result A CheckFault
@@ -231,7 +200,7 @@ pub constants-more : (r : Name → Name) (vs : List (Name × Sort)) (i : ℕ) (v
 constants-more r vs i v old mid new ps bound name place h e f g a b =
     let more : as_constants r (take (i + 1) vs) ≡ as_constants r (take i vs) ++ (bound, body.Term (term.Constant name v.1)) ∷ [] =
     ap (as_constants r) (take_more vs i v h ∙ ap (λ z. take i vs ++ z ∷ []) (sym e))
-    ∙ map-snoc (λ (z : Name × Sort). (z.0, body.Term (term.Constant (r z.0) z.1))) (take i vs) v
+    ∙ map-append (λ (z : Name × Sort). (z.0, body.Term (term.Constant (r z.0) z.1))) (take i vs) (v ∷ [])
     ∙ (λ j. as_constants r (take i vs) ++ (sym f j, body.Term (term.Constant (sym g j) v.1)) ∷ []) in
     subst (λ (z : Scope). Read Bound (λ t. Ok z) old new (ps ++ (bound, place) ∷ [])) (sym more) (record {
       what = as_constants r (take i vs) ++ (bound, body.Term (term.Constant name v.1)) ∷ [];
@@ -264,15 +233,15 @@ constants-end r vs i old new ps h a = subst (λ (z : List (Name × Sort)). Read 
     take-all zero (b ∷ bs) h = absurd (omega arith)
     take-all (suc n) (b ∷ bs) h = ap (λ z. b ∷ z) (take-all n bs (omega arith))
 
-fit-next : (d : List Body) (ps : List ℕ) (i p : ℕ) → i < length ps → p ≡ get_or ps i p → list_all fits (at_places d (drop i ps)) ≡ (weight_fits (weight_of (at_place d p)) && list_all fits (at_places d (drop (suc i) ps)))
+fit-next : (d : List Body) (ps : List ℕ) (i p : ℕ) → i < length ps → p ≡ get_or ps i p → list_all fits (at_places d (drop i ps)) ≡ (fits (at_place d p) && list_all fits (at_places d (drop (suc i) ps)))
 fit-next d [] i p h e = absurd (omega arith)
-fit-next d (q ∷ ps) zero p h e = ap (λ z. fits (at_place d z) && list_all fits (at_places d ps)) (sym e) ∙ ap (λ z. z && list_all fits (at_places d ps)) (sym (fits-so (at_place d p)))
+fit-next d (q ∷ ps) zero p h e = ap (λ z. fits (at_place d z) && list_all fits (at_places d ps)) (sym e)
 fit-next d (q ∷ ps) (suc i) p h e = fit-next d ps i p (omega arith) e
 
-pub fit-more : (d : List Body) (ps : List ℕ) (i p : ℕ) (b : Bool) → i < length ps → p ≡ get_or ps i p → weight_fits (weight_of (at_place d p)) ≡ true → list_all fits (at_places d (drop i ps)) ≡ b → list_all fits (at_places d (drop (i + 1) ps)) ≡ b
+pub fit-more : (d : List Body) (ps : List ℕ) (i p : ℕ) (b : Bool) → i < length ps → p ≡ get_or ps i p → fits (at_place d p) ≡ true → list_all fits (at_places d (drop i ps)) ≡ b → list_all fits (at_places d (drop (i + 1) ps)) ≡ b
 fit-more d ps i p b h e f g = rw (add-one i) (sym (ap (λ z. z && list_all fits (at_places d (drop (suc i) ps))) f) ∙ sym (fit-next d ps i p h e) ∙ g)
 
-pub fit-not : (d : List Body) (ps : List ℕ) (i p : ℕ) (b : Bool) → i < length ps → p ≡ get_or ps i p → weight_fits (weight_of (at_place d p)) ≡ false → list_all fits (at_places d (drop i ps)) ≡ b → false ≡ b
+pub fit-not : (d : List Body) (ps : List ℕ) (i p : ℕ) (b : Bool) → i < length ps → p ≡ get_or ps i p → fits (at_place d p) ≡ false → list_all fits (at_places d (drop i ps)) ≡ b → false ≡ b
 fit-not d ps i p b h e f g = sym (fit-next d ps i p h e ∙ ap (λ z. z && list_all fits (at_places d (drop (suc i) ps))) f) ∙ g
 
 drop-all : {A : Type 0} (as_ : List A) (i : ℕ) → length as_ ≤ i → drop i as_ ≡ []

@@ -19,16 +19,17 @@ use Rattle.sort_check.specs.declared.commands.Command.{Command}
 use Rattle.sort_check.specs.declared.commands.Command.TheVariants as command
 use Rattle.smt_names.specs.declared.verb.Verb.{Verb}
 use Rattle.smt_names.specs.declared.verb.Verb.TheVariants as verb
-use Rattle.sort_check.specs.Binders.{is_variable, bound_name, bound_names, repeats, variable_of, variable_sort, variables}
+use Rattle.item_passes.specs.Binders.{is_variable, bound_name, bound_names, repeats, variable_of, variable_sort, variables}
 use Rattle.smt_names.specs.Form.{are_all}
-use Rattle.sort_check.specs.Bodies.{body_sort, term_of, parameter_name, is_escaped}
+use Rattle.term_draft.specs.Bodies.{body_sort, term_of, parameter_name, is_escaped}
+use Rattle.item_passes.specs.Passes.{passed}
 use Rattle.sort_check.specs.Checking as c
 use Rattle.smt_names.specs.Faults.{◌>>◌, refuse, or_fault}
 use Rattle.smt_names.specs.Form.{Form, Forms, token, group, end, ◌⨾◌, count}
 use Rattle.sort_check.specs.Meant as m
 use Rattle.sort_check.specs.Meant.{Scope, Names, meant_all, any_size, parameters_of}
-use Rattle.smt_names.specs.Signature.{Name, same_name, stands_in, is_reserved, is_some}
-use Rattle.sort_check.specs.Sizes.{fits}
+use Rattle.smt_names.specs.Signature.{Name, same_name, is_reserved, is_some}
+use Rattle.term_draft.specs.Sizes.{fits}
 use Rattle.smt_names.specs.Tokens as t
 use Rattle.sort_check.specs.WellFormed.{is_constant_of, is_declared, IsTermOf, IsWritten, hidden_by, is_bound, is_sort, constants_are, has_formed, is_entry, is_well_formed, IsAdded}
 use Rattle.sort_check.proofs.WellApplied.{same-is, same-self, IsWell}
@@ -161,7 +162,7 @@ module _ (symbols : Names) (wf : IsTrue (is_well_formed symbols)) where
 
   assertion-sound : (fs : Forms) → Gives Sound (c.assertion symbols fs)
   assertion-sound end = tt
-  assertion-sound (u ⨾ end) = after-gives Sound (c.passed (u ⨾ end)) _
+  assertion-sound (u ⨾ end) = after-gives Sound (passed (u ⨾ end)) _
       (then-gives (AreWell (is_declared symbols) 1) Sound c.asserted (m.settled symbols [] (u ⨾ end)) (settled-well (is_declared symbols) declared-knows [] tt (u ⨾ end)) (λ bs a. asserted-sound bs a.well))
   assertion-sound (u ⨾ w ⨾ fs) = tt
 
@@ -175,7 +176,7 @@ module _ (symbols : Names) (wf : IsTrue (is_well_formed symbols)) where
 
   values-sound : (ts : Forms) → Gives Sound (c.values symbols ts)
   values-sound end = tt
-  values-sound (u ⨾ ts) = after-gives Sound (c.passed (u ⨾ ts)) _
+  values-sound (u ⨾ ts) = after-gives Sound (passed (u ⨾ ts)) _
       (then-gives (AreWell (is_declared symbols) (count (u ⨾ ts))) Sound (c.valued (u ⨾ ts)) (m.settled symbols [] (u ⨾ ts)) (settled-well (is_declared symbols) declared-knows [] tt (u ⨾ ts))
       (λ bs a. need-gives Sound (list_all c.has_values (map body_sort bs)) fault.Sort _ (λ h. each-written (u ⨾ ts) bs a.well h)))
 
@@ -303,7 +304,7 @@ module _ (symbols : Names) (wf : IsTrue (is_well_formed symbols)) where
   set-sound : (k : Option Name) (b : Option Bool) → Sound (c.option_set k b)
   set-sound None b = tt
   set-sound (Some k) None = tt
-  set-sound (Some k) (Some b) = if-sound (same_name k (codes ":print-success")) _ _ tt (if-sound (stands_in (codes ":produce-models" ∷ codes ":produce-unsat-cores" ∷ codes ":produce-proofs" ∷ []) k) _ _ tt tt)
+  set-sound (Some k) (Some b) = if-sound (same_name k (codes ":print-success")) _ _ tt (if-sound (same_name k (codes ":produce-models")) _ _ tt (if-sound (same_name k (codes ":produce-unsat-cores")) _ _ tt (if-sound (same_name k (codes ":produce-proofs")) _ _ tt tt)))
 
   option-sound : (fs : Forms) → Gives Sound (c.set_option fs)
   option-sound end = tt

@@ -13,17 +13,18 @@ use Rattle.smt_names.specs.declared.check_fault.CheckFault.{CheckFault}
 use Rattle.smt_names.specs.declared.check_fault.CheckFault.TheVariants as fault
 use Rattle.sort_check.specs.declared.commands.Command.{Command}
 use Rattle.sort_check.specs.declared.commands.Command.TheVariants as command
-use Rattle.sort_check.specs.declared.pass.Pass.TheVariants as pass
+use Rattle.sort_check.specs.declared.commands.Product.TheVariants as product
+use Rattle.item_passes.specs.declared.pass.Pass.TheVariants as pass
 use Rattle.smt_names.specs.declared.verb.Verb.{Verb}
 use Rattle.smt_names.specs.declared.verb.Verb.TheVariants as verb
-use Rattle.sort_check.specs.Binders.{is_variable, bound_names, repeats, variables}
+use Rattle.item_passes.specs.Binders.{is_variable, bound_names, repeats, variables}
 use Rattle.smt_names.specs.Form.{are_all}
-use Rattle.sort_check.specs.Bodies.{body_sort, term_of, parameter_name, is_escaped}
+use Rattle.term_draft.specs.Bodies.{body_sort, term_of, parameter_name, is_escaped}
 use Rattle.smt_names.specs.Faults.{and_then, ◌>>◌, need, refuse, or_fault}
 use Rattle.smt_names.specs.Form.{Form, Forms, end, ◌⨾◌, raw}
 use Rattle.sort_check.specs.Meant.{Names, settled, parameters_of}
-use Rattle.sort_check.specs.Passes.{at_variables, looked, looked_all}
-use Rattle.smt_names.specs.Signature.{Name, same_name, stands_in, is_reserved, is_some}
+use Rattle.item_passes.specs.Passes.{at_variables, looked, passed}
+use Rattle.smt_names.specs.Signature.{Name, same_name, is_reserved, is_some}
 use Rattle.smt_names.specs.Tokens.{symbol, word, digits, keyword, literal_text, listed, truth, is_too_large, level, is_sort_form, sort_of}
 use Rattle.smt_names.specs.Verbs.{verb_of}
 use Rattle.transducer_form.specs.Descriptions.{described}
@@ -48,7 +49,9 @@ option_set None b = command.Unsupported
 option_set (Some k) None = command.Unsupported
 option_set (Some k) (Some b) =
     if same_name k (codes ":print-success") then command.PrintSuccess b else
-    if stands_in (codes ":produce-models" ∷ codes ":produce-unsat-cores" ∷ codes ":produce-proofs" ∷ []) k then command.Produce b else command.Unsupported
+    if same_name k (codes ":produce-models") then command.Produce product.Models b else
+    if same_name k (codes ":produce-unsat-cores") then command.Produce product.UnsatCores b else
+    if same_name k (codes ":produce-proofs") then command.Produce product.Proofs b else command.Unsupported
 
 -- an option that is known, with a truth value; any other is unsupported
 abbrev pub set_option : Forms → Result Command CheckFault
@@ -78,10 +81,6 @@ is_empty _ = false
 abbrev pub declare_fun : Names → Forms → Result Command CheckFault
 declare_fun symbols (n ⨾ ps ⨾ s ⨾ end) = need (is_empty (listed ps)) fault.Shape >> declaration symbols n s
 declare_fun symbols _ = Err fault.Shape
-
--- the four passes over terms
-abbrev pub passed : Forms → Result Unit CheckFault
-passed ts = looked_all pass.Names ts >> looked_all pass.Sorts ts >> looked_all pass.Languages ts >> looked_all pass.Numbers ts
 
 -- the parameters as they stand in the body
 abbrev pub parameters : Forms → List (Name × Sort)

@@ -6,5 +6,5 @@ use Rattle.sort_check.specs.Meant.{Head, theory, constant, macro, machine}
 abbrev pub kept : Held → Head
 kept (v.Theory f) = theory f
 kept (v.Constant n s) = constant n s
-kept (v.Macro parameters b) = macro parameters.now b.now
+kept (v.Macro m) = macro m.parameters.now m.body.now
 kept (v.Machine t) = machine t.now

@@ -1,13 +1,6 @@
-pub mod Binders
-pub mod Bodies
 pub mod Checking
-pub mod Drafts
 pub mod Heads
 pub mod Meant
-pub mod Passes
-pub mod Ranks
 pub mod Scopes
-pub mod Sizes
 pub mod Walks
-pub mod Weights
 pub mod WellFormed

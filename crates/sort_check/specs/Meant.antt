@@ -19,13 +19,13 @@ use Rattle.smt_names.specs.declared.check_fault.CheckFault.{CheckFault}
 use Rattle.smt_names.specs.declared.check_fault.CheckFault.TheVariants as fault
 use Rattle.smt_names.specs.declared.function.Function.{Function}
 use Rattle.smt_names.specs.declared.function.Takes.TheVariants.{Nothing, Two}
-use Rattle.sort_check.specs.Binders.{is_binding, is_variable, are_some, variables}
-use Rattle.sort_check.specs.Bodies.{body_sort, term_of, opaque, called, parameter_name}
+use Rattle.item_passes.specs.Binders.{is_binding, is_variable, are_some, variables}
+use Rattle.term_draft.specs.Bodies.{body_sort, opaque, called, related, parameter_name}
 use Rattle.smt_names.specs.Faults.{and_then, ◌>>◌, need, refuse, or_fault}
 use Rattle.smt_names.specs.Form.{Form, Forms, token, group, end, ◌⨾◌, count}
-use Rattle.sort_check.specs.Ranks.{takes_count, takes_sorts, are_of, applied}
+use Rattle.term_draft.specs.Ranks.{takes_count, takes_sorts, are_of, applied}
 use Rattle.smt_names.specs.Signature.{Name, same_name, stands_in, signature, indexed_names, power, loop, character}
-use Rattle.sort_check.specs.Sizes.{fits}
+use Rattle.term_draft.specs.Sizes.{fits}
 use Rattle.smt_names.specs.Tokens.{symbol, digits, value, is_too_large, literal_word, character_token, opening, is_identifier, chosen}
 
 abbrev pub Scope : Type 0
@@ -118,11 +118,6 @@ head_sorts (theory f) ss = takes_sorts f.takes ss
 head_sorts (constant name s) ss = takes_sorts Nothing ss
 head_sorts (macro parameters b) ss = are_of (map (λ p. p.1) parameters) ss
 head_sorts (machine t) ss = takes_sorts (Two sort.String sort.String) ss
-
--- the pair of words that a transducer relates
-abbrev pub related : Transducer → List Body → Body
-related t (b ∷ c ∷ []) = body.Term (term.Related t (term_of b) (term_of c))
-related t _ = opaque sort.Bool
 
 abbrev pub head_applied : Head → List Body → Body
 head_applied (theory f) bs = applied f bs

@@ -3,23 +3,19 @@ ghost use Rattle.std.specs.Prelude.{◌≡◌, ℕ, [], ◌∷◌, Some, Ok, Err
 ghost use Rattle.std.specs.List.{list_all};
 ghost use Rattle.sv_terms.specs.Names.{symbol_name};
 ghost use Rattle.sort_check.specs.declared.commands.Command.{Command as AnyCommand};
-ghost use Rattle.sort_check.specs.Binders as v;
-ghost use Rattle.sort_check.specs.Bodies as b;
-ghost use Rattle.sort_check.specs.Checking as c;
+ghost use Rattle.item_passes.specs.Binders as binders;
+ghost use Rattle.term_draft.specs.Bodies as terms;
+ghost use Rattle.sort_check.specs.Checking as commands;
 ghost use Rattle.smt_names.specs.Faults.{Answers, made_of};
 ghost use Rattle.smt_names.specs.Form.{Forms, seen, forms};
-ghost use Rattle.smt_names.specs.Tokens as t;
+ghost use Rattle.smt_names.specs.Tokens as tokens;
 ghost use Rattle.smt_names.specs.Verbs.{verb_of as verb_is};
-ghost use Rattle.transducer_form.specs.Written as w;
+ghost use Rattle.transducer_form.specs.Written as written;
 
-use crate::applying::{body_sort, into_term};
-use crate::binder::{are_parameters, repeats, variables};
-use crate::commands::Command;
-use crate::pass::Pass;
-use crate::passes::{at_variables, look, pass_over};
-use crate::rank::same_sort;
+use crate::commands::{Command, Product};
 use crate::scope::parameter_name;
 use crate::walk::{settled, settled_one};
+use item_passes::{Pass, are_parameters, at_variables, look, pass_over, repeats, variables};
 use sexpr_reader::Sexpr;
 use smt_names::signature::{is_reserved, sort_of, truth, verb};
 use smt_names::token::{
@@ -28,12 +24,13 @@ use smt_names::token::{
 use smt_names::{CheckFault, Verb};
 use std::alloc::{AllocError, Global};
 use sv_list::{Copied, Items};
-use sv_terms::{Body, Entry, Name, Sort, Symbols, Term};
+use sv_terms::{Body, Entry, Name, Sort, Term};
+use term_draft::{Declarations, body_sort, into_term, same_sort};
 use transducer_form::{Description, described};
 
 #[tactic(auto, using(crate::proofs::Counted::commands))]
 fn plain(made: Command, parts: &[Sexpr]) -> Result<Command, CheckFault>
-    ensures { result ≡ c.plain made (forms (map seen parts.now)) }
+    ensures { result ≡ commands.plain made (forms (map seen parts.now)) }
 {
     match parts {
         [] => Ok(made),
@@ -43,7 +40,7 @@ fn plain(made: Command, parts: &[Sexpr]) -> Result<Command, CheckFault>
 
 #[tactic(auto, using(crate::proofs::Counted::commands))]
 fn set_logic(parts: &[Sexpr]) -> Result<Command, CheckFault>
-    ensures { result ≡ c.set_logic (forms (map seen parts.now)) }
+    ensures { result ≡ commands.set_logic (forms (map seen parts.now)) }
 {
     match parts {
         [name] => {
@@ -59,7 +56,7 @@ fn set_logic(parts: &[Sexpr]) -> Result<Command, CheckFault>
 
 #[tactic(auto, using(crate::proofs::Counted::commands))]
 fn set_info(parts: &[Sexpr]) -> Result<Command, CheckFault>
-    ensures { result ≡ c.set_info (forms (map seen parts.now)) }
+    ensures { result ≡ commands.set_info (forms (map seen parts.now)) }
 {
     match parts {
         [] => Err(CheckFault::Shape),
@@ -74,22 +71,25 @@ fn set_info(parts: &[Sexpr]) -> Result<Command, CheckFault>
 }
 
 fn known_option(keyword: &[u8], value: bool) -> Command
-    ensures { result ≡ c.option_set (Some keyword.now) (Some value) }
+    ensures { result ≡ commands.option_set (Some keyword.now) (Some value) }
 {
     if keyword == b":print-success".as_slice() {
         return Command::PrintSuccess(value);
     }
-    if keyword == b":produce-models".as_slice()
-        || keyword == b":produce-unsat-cores".as_slice()
-        || keyword == b":produce-proofs".as_slice()
-    {
-        return Command::Produce(value);
+    if keyword == b":produce-models".as_slice() {
+        return Command::Produce(Product::Models, value);
+    }
+    if keyword == b":produce-unsat-cores".as_slice() {
+        return Command::Produce(Product::UnsatCores, value);
+    }
+    if keyword == b":produce-proofs".as_slice() {
+        return Command::Produce(Product::Proofs, value);
     }
     Command::Unsupported
 }
 
 fn option_set(first: &Sexpr, second: &Sexpr) -> Command
-    ensures { result ≡ c.option_set (t.keyword (seen first.now)) (t.truth (seen second.now)) }
+    ensures { result ≡ commands.option_set (tokens.keyword (seen first.now)) (tokens.truth (seen second.now)) }
 {
     match keyword(first) {
         Some(keyword) => match truth(second) {
@@ -102,7 +102,7 @@ fn option_set(first: &Sexpr, second: &Sexpr) -> Command
 
 #[tactic(auto, using(crate::proofs::Counted::commands))]
 fn set_option(parts: &[Sexpr]) -> Result<Command, CheckFault>
-    ensures { result ≡ c.set_option (forms (map seen parts.now)) }
+    ensures { result ≡ commands.set_option (forms (map seen parts.now)) }
 {
     match parts {
         [first, second] => Ok(option_set(first, second)),
@@ -112,7 +112,7 @@ fn set_option(parts: &[Sexpr]) -> Result<Command, CheckFault>
 
 /// Whether parameters stand under such names: it begins with a backslash.
 fn is_escaped(name: &[u8]) -> bool
-    ensures { result ≡ b.is_escaped name.now }
+    ensures { result ≡ terms.is_escaped name.now }
 {
     match name {
         [first, ..] => *first == b'\\',
@@ -121,9 +121,9 @@ fn is_escaped(name: &[u8]) -> bool
 }
 
 /// A name that may be declared.
-fn free(alloc: Global, symbols: &Symbols, text: &[u8]) -> Result<Name, CheckFault>
-    ensures ok { IfOk result (λ n. (n ≡ symbol_name text.now) × (c.free symbols.now n ≡ Ok tt)) }
-    ensures err { IfErr result (λ f. Answers (c.free symbols.now (symbol_name text.now)) (Err f)) }
+fn free(alloc: Global, symbols: &Declarations, text: &[u8]) -> Result<Name, CheckFault>
+    ensures ok { IfOk result (λ n. (n ≡ symbol_name text.now) × (commands.free symbols.now n ≡ Ok tt)) }
+    ensures err { IfErr result (λ f. Answers (commands.free symbols.now (symbol_name text.now)) (Err f)) }
 {
     let name = unquoted(text);
     if is_escaped(name) {
@@ -140,7 +140,7 @@ fn free(alloc: Global, symbols: &Symbols, text: &[u8]) -> Result<Name, CheckFaul
 }
 
 fn declared_as(name: Name, sort: Sort) -> Result<Command, CheckFault>
-    ensures { result ≡ c.declared_as name sort }
+    ensures { result ≡ commands.declared_as name sort }
 {
     match sort {
         Sort::RegLan => Err(CheckFault::Sort),
@@ -151,11 +151,11 @@ fn declared_as(name: Name, sort: Sort) -> Result<Command, CheckFault>
 #[tactic(auto, using(crate::proofs::Answering::answering))]
 fn declaration(
     alloc: Global,
-    symbols: &Symbols,
+    symbols: &Declarations,
     name: &Sexpr,
     sort: &Sexpr,
 ) -> Result<Command, CheckFault>
-    ensures { Answers (c.declaration symbols.now (seen name.now) (seen sort.now)) result }
+    ensures { Answers (commands.declaration symbols.now (seen name.now) (seen sort.now)) result }
 {
     if !is_sort_form(sort) {
         return Err(CheckFault::Shape);
@@ -173,8 +173,12 @@ fn declaration(
 }
 
 #[tactic(auto, using(crate::proofs::Counted::commands))]
-fn declare_const(alloc: Global, symbols: &Symbols, parts: &[Sexpr]) -> Result<Command, CheckFault>
-    ensures { Answers (c.declare_const symbols.now (forms (map seen parts.now))) result }
+fn declare_const(
+    alloc: Global,
+    symbols: &Declarations,
+    parts: &[Sexpr],
+) -> Result<Command, CheckFault>
+    ensures { Answers (commands.declare_const symbols.now (forms (map seen parts.now))) result }
 {
     match parts {
         [name, sort] => declaration(alloc, symbols, name, sort),
@@ -184,7 +188,7 @@ fn declare_const(alloc: Global, symbols: &Symbols, parts: &[Sexpr]) -> Result<Co
 
 #[tactic(auto, using(crate::proofs::Answering::emptiness))]
 fn is_empty_list(item: &Sexpr) -> bool
-    ensures { result ≡ c.is_empty (t.listed (seen item.now)) }
+    ensures { result ≡ commands.is_empty (tokens.listed (seen item.now)) }
 {
     match item {
         Sexpr::List(items) => match items.as_slice() {
@@ -196,8 +200,12 @@ fn is_empty_list(item: &Sexpr) -> bool
 }
 
 #[tactic(auto, using(crate::proofs::Counted::commands))]
-fn declare_fun(alloc: Global, symbols: &Symbols, parts: &[Sexpr]) -> Result<Command, CheckFault>
-    ensures { Answers (c.declare_fun symbols.now (forms (map seen parts.now))) result }
+fn declare_fun(
+    alloc: Global,
+    symbols: &Declarations,
+    parts: &[Sexpr],
+) -> Result<Command, CheckFault>
+    ensures { Answers (commands.declare_fun symbols.now (forms (map seen parts.now))) result }
 {
     match parts {
         [name, parameters, sort] => {
@@ -214,7 +222,7 @@ fn declare_fun(alloc: Global, symbols: &Symbols, parts: &[Sexpr]) -> Result<Comm
 /// The parameters of a macro as they stand in its body: under names with a backslash before them,
 /// which no symbol has.
 fn escaped(alloc: Global, variables: &[(Name, Sort)]) -> Result<Items<(Name, Sort)>, AllocError>
-    ensures { IfOk result (λ ps. ps ≡ map (λ p. (b.parameter_name p.0, p.1)) variables.now) }
+    ensures { IfOk result (λ ps. ps ≡ map (λ p. (terms.parameter_name p.0, p.1)) variables.now) }
 {
     let mut all = Items::new(alloc);
     for variable in variables {
@@ -231,7 +239,7 @@ fn pass_definition(
     sort: &Sexpr,
     body: &Sexpr,
 ) -> Result<(), CheckFault>
-    ensures { Answers (c.passed_definition (forms (map seen parameters.now)) (seen sort.now) (seen body.now)) result }
+    ensures { Answers (commands.passed_definition (forms (map seen parameters.now)) (seen sort.now) (seen body.now)) result }
 {
     if repeats(alloc, parameters)? {
         return Err(CheckFault::Declared);
@@ -255,7 +263,7 @@ fn defined(
     sort: Sort,
     body: Body,
 ) -> Result<Command, CheckFault>
-    ensures { (ps : Forms) → variables.now ≡ v.variables ps → Answers (c.defined name ps sort (body ∷ [])) result }
+    ensures { (ps : Forms) → variables.now ≡ binders.variables ps → Answers (commands.defined name ps sort (body ∷ [])) result }
 {
     if !same_sort(sort, body_sort(&body)) {
         return Err(CheckFault::Sort);
@@ -267,13 +275,13 @@ fn defined(
 #[tactic(auto, using(crate::proofs::Answering::answering))]
 fn settled_definition(
     alloc: Global,
-    symbols: &Symbols,
+    symbols: &Declarations,
     name: Name,
     parameters: &[Sexpr],
     sort: Sort,
     body: &Sexpr,
 ) -> Result<Command, CheckFault>
-    ensures { Answers (c.settled_definition symbols.now name (forms (map seen parameters.now)) (seen body.now) sort) result }
+    ensures { Answers (commands.settled_definition symbols.now name (forms (map seen parameters.now)) (seen body.now) sort) result }
 {
     let variables = variables(alloc, parameters)?;
     match settled_one(alloc, symbols, variables.as_slice(), body) {
@@ -285,13 +293,13 @@ fn settled_definition(
 #[tactic(auto, using(crate::proofs::Answering::answering))]
 fn definition(
     alloc: Global,
-    symbols: &Symbols,
+    symbols: &Declarations,
     text: &[u8],
     parameters: &[Sexpr],
     sort: &Sexpr,
     body: &Sexpr,
 ) -> Result<Command, CheckFault>
-    ensures { Answers (c.definition symbols.now (symbol_name text.now) (forms (map seen parameters.now)) (seen sort.now) (seen body.now)) result }
+    ensures { Answers (commands.definition symbols.now (symbol_name text.now) (forms (map seen parameters.now)) (seen sort.now) (seen body.now)) result }
 {
     match free(alloc, symbols, text) {
         Ok(name) => match pass_definition(alloc, parameters, sort, body) {
@@ -306,8 +314,8 @@ fn definition(
 }
 
 #[tactic(auto, using(crate::proofs::Counted::commands))]
-fn define_fun(alloc: Global, symbols: &Symbols, parts: &[Sexpr]) -> Result<Command, CheckFault>
-    ensures { Answers (c.define_fun symbols.now (forms (map seen parts.now))) result }
+fn define_fun(alloc: Global, symbols: &Declarations, parts: &[Sexpr]) -> Result<Command, CheckFault>
+    ensures { Answers (commands.define_fun symbols.now (forms (map seen parts.now))) result }
 {
     match parts {
         [name, parameters, sort, body] => match listed(parameters) {
@@ -330,11 +338,11 @@ fn define_fun(alloc: Global, symbols: &Symbols, parts: &[Sexpr]) -> Result<Comma
 #[tactic(auto, using(crate::proofs::Answering::answering))]
 fn machine(
     alloc: Global,
-    symbols: &Symbols,
+    symbols: &Declarations,
     description: &Description<'_>,
     text: &[u8],
 ) -> Result<Command, CheckFault>
-    ensures { Answers (c.machine symbols.now (w.description_seen description.now) (symbol_name text.now)) result }
+    ensures { Answers (commands.machine symbols.now (written.description_seen description.now) (symbol_name text.now)) result }
 {
     match free(alloc, symbols, text) {
         Ok(name) => match described(alloc, description) {
@@ -348,10 +356,10 @@ fn machine(
 #[tactic(auto, using(crate::proofs::Counted::commands))]
 fn define_transducer(
     alloc: Global,
-    symbols: &Symbols,
+    symbols: &Declarations,
     parts: &[Sexpr],
 ) -> Result<Command, CheckFault>
-    ensures { Answers (c.define_transducer symbols.now (forms (map seen parts.now))) result }
+    ensures { Answers (commands.define_transducer symbols.now (forms (map seen parts.now))) result }
 {
     match parts {
         [name, states, start, edges, ends] => {
@@ -368,7 +376,7 @@ fn define_transducer(
 }
 
 fn asserted(body: Body) -> Result<Command, CheckFault>
-    ensures { result ≡ c.asserted (body ∷ []) }
+    ensures { result ≡ commands.asserted (body ∷ []) }
 {
     if same_sort(Sort::Bool, body_sort(&body)) {
         Ok(Command::Assert(into_term(body)))
@@ -378,8 +386,8 @@ fn asserted(body: Body) -> Result<Command, CheckFault>
 }
 
 #[tactic(auto, using(crate::proofs::Answering::asserting))]
-fn assertion(alloc: Global, symbols: &Symbols, parts: &[Sexpr]) -> Result<Command, CheckFault>
-    ensures { Answers (c.assertion symbols.now (forms (map seen parts.now))) result }
+fn assertion(alloc: Global, symbols: &Declarations, parts: &[Sexpr]) -> Result<Command, CheckFault>
+    ensures { Answers (commands.assertion symbols.now (forms (map seen parts.now))) result }
 {
     match parts {
         [term] => match pass_over(alloc, parts) {
@@ -395,7 +403,7 @@ fn assertion(alloc: Global, symbols: &Symbols, parts: &[Sexpr]) -> Result<Comman
 
 /// A number of levels.
 fn levels(part: &Sexpr) -> Result<u32, CheckFault>
-    ensures { (make : ℕ → AnyCommand) → made_of make result ≡ c.levels make (t.digits (seen part.now)) }
+    ensures { (make : ℕ → AnyCommand) → made_of make result ≡ commands.levels make (tokens.digits (seen part.now)) }
 {
     match digits(part) {
         Some(digits) => match level(digits) {
@@ -408,7 +416,7 @@ fn levels(part: &Sexpr) -> Result<u32, CheckFault>
 
 #[tactic(auto, using(crate::proofs::Counted::commands))]
 fn stepped(parts: &[Sexpr]) -> Result<u32, CheckFault>
-    ensures { (make : ℕ → AnyCommand) → made_of make result ≡ c.stepped make (forms (map seen parts.now)) }
+    ensures { (make : ℕ → AnyCommand) → made_of make result ≡ commands.stepped make (forms (map seen parts.now)) }
 {
     match parts {
         [] => Ok(1),
@@ -420,7 +428,7 @@ fn stepped(parts: &[Sexpr]) -> Result<u32, CheckFault>
 /// Whether none is a regular expression.
 #[tactic(auto, using(crate::proofs::Sorts::sorts))]
 fn are_terms(bodies: &[Body]) -> bool
-    ensures { result ≡ list_all c.has_values (map b.body_sort bodies.now) }
+    ensures { result ≡ list_all commands.has_values (map terms.body_sort bodies.now) }
 {
     for body in bodies {
         if same_sort(Sort::RegLan, body_sort(body)) {
@@ -437,7 +445,7 @@ fn beside(
     items: &[Sexpr],
     bodies: Items<Body>,
 ) -> Result<Items<(Sexpr, Term)>, AllocError>
-    ensures { IfOk result (λ all. all ≡ c.beside (forms (map seen items.now)) bodies) }
+    ensures { IfOk result (λ all. all ≡ commands.beside (forms (map seen items.now)) bodies) }
 {
     let mut all = Items::new(alloc);
     for body in bodies.into_vec() {
@@ -452,7 +460,7 @@ fn beside(
 
 #[tactic(auto, using(crate::proofs::Answering::answering))]
 fn valued(alloc: Global, items: &[Sexpr], bodies: Items<Body>) -> Result<Command, CheckFault>
-    ensures { Answers (c.valued (forms (map seen items.now)) bodies) result }
+    ensures { Answers (commands.valued (forms (map seen items.now)) bodies) result }
 {
     if !are_terms(bodies.as_slice()) {
         return Err(CheckFault::Sort);
@@ -461,8 +469,8 @@ fn valued(alloc: Global, items: &[Sexpr], bodies: Items<Body>) -> Result<Command
 }
 
 #[tactic(auto, using(crate::proofs::Answering::valuing))]
-fn values(alloc: Global, symbols: &Symbols, items: &[Sexpr]) -> Result<Command, CheckFault>
-    ensures { Answers (c.values symbols.now (forms (map seen items.now))) result }
+fn values(alloc: Global, symbols: &Declarations, items: &[Sexpr]) -> Result<Command, CheckFault>
+    ensures { Answers (commands.values symbols.now (forms (map seen items.now))) result }
 {
     if items.is_empty() {
         return Err(CheckFault::Shape);
@@ -477,8 +485,8 @@ fn values(alloc: Global, symbols: &Symbols, items: &[Sexpr]) -> Result<Command, 
 }
 
 #[tactic(auto, using(crate::proofs::Counted::commands))]
-fn get_value(alloc: Global, symbols: &Symbols, parts: &[Sexpr]) -> Result<Command, CheckFault>
-    ensures { Answers (c.get_value symbols.now (forms (map seen parts.now))) result }
+fn get_value(alloc: Global, symbols: &Declarations, parts: &[Sexpr]) -> Result<Command, CheckFault>
+    ensures { Answers (commands.get_value symbols.now (forms (map seen parts.now))) result }
 {
     match parts {
         [terms] => match listed(terms) {
@@ -491,7 +499,7 @@ fn get_value(alloc: Global, symbols: &Symbols, parts: &[Sexpr]) -> Result<Comman
 
 #[tactic(auto, using(crate::proofs::Counted::commands))]
 fn get_info(alloc: Global, parts: &[Sexpr]) -> Result<Command, CheckFault>
-    ensures { Answers (c.get_info (forms (map seen parts.now))) result }
+    ensures { Answers (commands.get_info (forms (map seen parts.now))) result }
 {
     match parts {
         [part] => match keyword(part) {
@@ -504,7 +512,7 @@ fn get_info(alloc: Global, parts: &[Sexpr]) -> Result<Command, CheckFault>
 
 #[tactic(auto, using(crate::proofs::Counted::commands))]
 fn echo(alloc: Global, parts: &[Sexpr]) -> Result<Command, CheckFault>
-    ensures { Answers (c.echo (forms (map seen parts.now))) result }
+    ensures { Answers (commands.echo (forms (map seen parts.now))) result }
 {
     match parts {
         [part] => match literal_text(part) {
@@ -517,11 +525,11 @@ fn echo(alloc: Global, parts: &[Sexpr]) -> Result<Command, CheckFault>
 
 fn commanded(
     alloc: Global,
-    symbols: &Symbols,
+    symbols: &Declarations,
     verb: Verb,
     parts: &[Sexpr],
 ) -> Result<Command, CheckFault>
-    ensures { Answers (c.commanded symbols.now (Some verb) (forms (map seen parts.now))) result }
+    ensures { Answers (commands.commanded symbols.now (Some verb) (forms (map seen parts.now))) result }
 {
     match verb {
         Verb::SetLogic => set_logic(parts),
@@ -546,8 +554,8 @@ fn commanded(
 }
 
 #[tactic(auto, using(crate::proofs::Counted::commands))]
-fn begun(alloc: Global, symbols: &Symbols, items: &[Sexpr]) -> Result<Command, CheckFault>
-    ensures { Answers (c.begun symbols.now (forms (map seen items.now))) result }
+fn begun(alloc: Global, symbols: &Declarations, items: &[Sexpr]) -> Result<Command, CheckFault>
+    ensures { Answers (commands.begun symbols.now (forms (map seen items.now))) result }
 {
     match items {
         [] => Err(CheckFault::Shape),
@@ -564,7 +572,7 @@ fn begun(alloc: Global, symbols: &Symbols, items: &[Sexpr]) -> Result<Command, C
 }
 
 fn verb_of(first: &Sexpr) -> Option<Verb>
-    ensures { result ≡ verb_is (t.word (seen first.now)) }
+    ensures { result ≡ verb_is (tokens.word (seen first.now)) }
 {
     match word(first) {
         Some(word) => verb(word),
@@ -581,10 +589,9 @@ fn verb_of(first: &Sexpr) -> Option<Verb>
 /// left to right, and their sorts; Size; and the Sort of the whole (SMT-LIB 2.6, sections 3.6 and 3.9).
 /// A description of a transducer has its fault behind those of its form and its name.
 ///
-/// Time is linear in the item, the bodies of the macros that it calls, and the terms that it
-/// answers. Stack is linear in the nesting.
-pub fn command(alloc: Global, symbols: &Symbols, item: &Sexpr) -> Result<Command, CheckFault>
-    ensures { Answers (c.checked symbols.now (seen item.now)) result }
+/// Time is linear in the item and the terms that it answers. Stack is linear in the nesting.
+pub fn command(alloc: Global, symbols: &Declarations, item: &Sexpr) -> Result<Command, CheckFault>
+    ensures { Answers (commands.checked symbols.now (seen item.now)) result }
 {
     match listed(item) {
         Some(items) => begun(alloc, symbols, items),

@@ -2,6 +2,17 @@ use sexpr_reader::Sexpr;
 use sv_list::Items;
 use sv_terms::{Entry, Name, Sort, Term};
 
+/// What a check is asked to make by an option.
+#[derive(Clone, Copy, Debug, PartialEq, Eq)]
+pub enum Product {
+    /// `:produce-models`
+    Models,
+    /// `:produce-unsat-cores`
+    UnsatCores,
+    /// `:produce-proofs`
+    Proofs,
+}
+
 /// A command of SMT-LIB 2.6 with its sorted terms, `let` and macros put in.
 #[derive(Debug, Drop)]
 pub enum Command {
@@ -9,8 +20,8 @@ pub enum Command {
     Inform,
     /// `(set-option :print-success B)`
     PrintSuccess(bool),
-    /// `set-option` of `:produce-models`, `:produce-unsat-cores` or `:produce-proofs`.
-    Produce(bool),
+    /// `set-option` of what a check is asked to make.
+    Produce(Product, bool),
     /// `declare-const`, or `declare-fun` without parameters.
     Declare(Name, Sort),
     /// `define-fun`: the name and its macro. Each parameter `p` stands as `\\p`, in the list of the

@@ -5,32 +5,35 @@ ghost use Rattle.sv_terms.specs.Names.{symbol_name};
 ghost use Rattle.smt_names.specs.declared.check_fault.CheckFault.TheVariants.{Unknown};
 ghost use Rattle.smt_names.specs.Faults.{Answers, made_of, or_fault};
 ghost use Rattle.smt_names.specs.Form.{seen, forms};
-ghost use Rattle.sort_check.specs.Heads as h;
-ghost use Rattle.sort_check.specs.Meant as m;
+ghost use Rattle.sort_check.specs.Heads.{kept};
+ghost use Rattle.sort_check.specs.Meant as meaning;
 ghost use Rattle.smt_names.specs.Signature.{same_name};
-ghost use Rattle.smt_names.specs.Tokens as t;
+ghost use Rattle.smt_names.specs.Tokens as tokens;
 
-use crate::rank::{are_of, takes_count, takes_sorts};
-use crate::weight::Weight;
 use sexpr_reader::Sexpr;
 use smt_names::signature::{character, function, is_indexed, loop_from};
 use smt_names::token::{character_token, digits, number, opening, symbol, unquoted};
 use smt_names::{CheckFault, Function, Opening, Takes};
 use std::alloc::Global;
-use sv_terms::{Body, Entry, MOST_TIMES, Name, Sort, Symbols, Transducer};
+use sv_terms::{MOST_TIMES, Name, Sort, Transducer};
+use term_draft::{Declarations, Declared, Macro, are_of, takes_count, takes_sorts};
 
 /// What an identifier stands for where it is no variable.
 #[derive(Drop)]
 pub enum Head<'a> {
     Theory(Function),
     Constant(Name, Sort),
-    Macro(&'a [(Name, Sort)], &'a Body),
+    Macro(Macro<'a>),
     Machine(&'a Transducer),
 }
 
 /// The function of the theories, or what was declared, of this name. Time is linear in the name.
-pub fn named<'a>(alloc: Global, symbols: &'a Symbols, text: &[u8]) -> Result<Head<'a>, CheckFault>
-    ensures { Answers (m.named symbols.now (symbol_name text.now)) (made_of h.kept result) }
+pub fn named<'a>(
+    alloc: Global,
+    symbols: &'a Declarations,
+    text: &[u8],
+) -> Result<Head<'a>, CheckFault>
+    ensures { Answers (meaning.named symbols.now (symbol_name text.now)) (made_of kept result) }
 {
     if is_indexed(unquoted(text)) {
         return Err(CheckFault::Index);
@@ -41,20 +44,20 @@ pub fn named<'a>(alloc: Global, symbols: &'a Symbols, text: &[u8]) -> Result<Hea
     }
 }
 
-fn declared<'a>(symbols: &'a Symbols, name: Name) -> Result<Head<'a>, CheckFault>
-    ensures { made_of h.kept result ≡ or_fault Unknown (m.mapped (m.of_entry name) (lookup (same_name name) symbols.now)) }
+fn declared<'a>(symbols: &'a Declarations, name: Name) -> Result<Head<'a>, CheckFault>
+    ensures { made_of kept result ≡ or_fault Unknown (meaning.mapped (meaning.of_entry name) (lookup (same_name name) symbols.now)) }
 {
-    match symbols.get(&name) {
-        Some(Entry::Constant(sort)) => Ok(Head::Constant(name, *sort)),
-        Some(Entry::Macro { parameters, body }) => { Ok(Head::Macro(parameters.as_slice(), body)) }
-        Some(Entry::Machine(transducer)) => Ok(Head::Machine(transducer)),
+    match symbols.find(&name) {
+        Some(Declared::Constant(sort)) => Ok(Head::Constant(name, sort)),
+        Some(Declared::Macro(defined)) => Ok(Head::Macro(defined)),
+        Some(Declared::Machine(transducer)) => Ok(Head::Machine(transducer)),
         None => Err(CheckFault::Unknown),
     }
 }
 
 /// An index: a numeral up to 65,535.
 fn index(item: &Sexpr) -> Result<u32, CheckFault>
-    ensures { result ≡ m.index_of (t.digits (seen item.now)) }
+    ensures { result ≡ meaning.index_of (tokens.digits (seen item.now)) }
 {
     match digits(item) {
         Some(digits) => match number(digits) {
@@ -73,7 +76,7 @@ fn index(item: &Sexpr) -> Result<u32, CheckFault>
 
 #[tactic(auto, using(crate::proofs::Shapes::indices))]
 fn power(indices: &[Sexpr]) -> Result<Function, CheckFault>
-    ensures { result ≡ m.powered (forms (map seen indices.now)) }
+    ensures { result ≡ meaning.powered (forms (map seen indices.now)) }
 {
     match indices {
         [n] => {
@@ -86,7 +89,7 @@ fn power(indices: &[Sexpr]) -> Result<Function, CheckFault>
 
 #[tactic(auto, using(crate::proofs::Shapes::indices))]
 fn looped(indices: &[Sexpr]) -> Result<Function, CheckFault>
-    ensures { result ≡ m.looped (forms (map seen indices.now)) }
+    ensures { result ≡ meaning.looped (forms (map seen indices.now)) }
 {
     match indices {
         [i, j] => {
@@ -100,7 +103,7 @@ fn looped(indices: &[Sexpr]) -> Result<Function, CheckFault>
 
 #[tactic(auto, using(crate::proofs::Shapes::indices))]
 fn charred(indices: &[Sexpr]) -> Result<Function, CheckFault>
-    ensures { result ≡ m.charred (forms (map seen indices.now)) }
+    ensures { result ≡ meaning.charred (forms (map seen indices.now)) }
 {
     match indices {
         [token] => match character_token(token) {
@@ -113,8 +116,12 @@ fn charred(indices: &[Sexpr]) -> Result<Function, CheckFault>
 
 /// The function that stands behind `_`. An index that the symbol doesn't take is Index.
 #[tactic(auto, using(crate::proofs::Shapes::indices))]
-pub fn identified(alloc: Global, symbols: &Symbols, parts: &[Sexpr]) -> Result<Function, CheckFault>
-    ensures { Answers (m.identified symbols.now (forms (map seen parts.now))) result }
+pub fn identified(
+    alloc: Global,
+    symbols: &Declarations,
+    parts: &[Sexpr],
+) -> Result<Function, CheckFault>
+    ensures { Answers (meaning.identified symbols.now (forms (map seen parts.now))) result }
 {
     match parts {
         [] => Err(CheckFault::Shape),
@@ -127,11 +134,11 @@ pub fn identified(alloc: Global, symbols: &Symbols, parts: &[Sexpr]) -> Result<F
 
 fn indexed(
     alloc: Global,
-    symbols: &Symbols,
+    symbols: &Declarations,
     text: &[u8],
     indices: &[Sexpr],
 ) -> Result<Function, CheckFault>
-    ensures { Answers (m.indexed symbols.now (Some (symbol_name text.now)) (forms (map seen indices.now))) result }
+    ensures { Answers (meaning.indexed symbols.now (Some (symbol_name text.now)) (forms (map seen indices.now))) result }
 {
     let name = unquoted(text);
     if name == b"re.^".as_slice() {
@@ -152,10 +159,10 @@ fn indexed(
 /// What an application begins with.
 pub fn head_of<'a>(
     alloc: Global,
-    symbols: &'a Symbols,
+    symbols: &'a Declarations,
     first: &Sexpr,
 ) -> Result<Head<'a>, CheckFault>
-    ensures { Answers (m.head symbols.now (seen first.now)) (made_of h.kept result) }
+    ensures { Answers (meaning.head symbols.now (seen first.now)) (made_of kept result) }
 {
     match first {
         Sexpr::Atom(_, _) => match symbol(first) {
@@ -175,25 +182,25 @@ pub fn head_of<'a>(
 impl Head<'_> {
     /// Whether so many arguments are taken.
     pub fn takes_count(&self, n: usize) -> bool
-        ensures { result ≡ m.head_count (h.kept self.now) n }
+        ensures { result ≡ meaning.head_count (kept self.now) n }
     {
         match self {
             Head::Theory(function) => takes_count(function.takes, n),
             Head::Constant(_, _) => n == 0,
-            Head::Macro(parameters, _) => n == parameters.len(),
+            Head::Macro(defined) => n == defined.parameters.len(),
             Head::Machine(_) => n == 2,
         }
     }
 
-    /// Whether arguments of these weights are taken, by their sorts. Linear in their number.
-    pub fn takes_sorts(&self, weights: &[Weight]) -> bool
-        ensures { result ≡ m.head_sorts (h.kept self.now) (map (λ w. w.sort) weights.now) }
+    /// Whether arguments of these sorts are taken. Linear in their number.
+    pub fn takes_sorts(&self, sorts: &[Sort]) -> bool
+        ensures { result ≡ meaning.head_sorts (kept self.now) sorts.now }
     {
         match self {
-            Head::Theory(function) => takes_sorts(function.takes, weights),
-            Head::Constant(_, _) => takes_sorts(Takes::Nothing, weights),
-            Head::Macro(parameters, _) => are_of(parameters, weights),
-            Head::Machine(_) => { takes_sorts(Takes::Two(Sort::String, Sort::String), weights) }
+            Head::Theory(function) => takes_sorts(function.takes, sorts),
+            Head::Constant(_, _) => takes_sorts(Takes::Nothing, sorts),
+            Head::Macro(defined) => are_of(defined.parameters, sorts),
+            Head::Machine(_) => { takes_sorts(Takes::Two(Sort::String, Sort::String), sorts) }
         }
     }
 }

@@ -7,10 +7,9 @@
 //! table `signature` of smt_names, and what `define-transducer` describes is read by
 //! transducer_form.
 //!
-//! A term is walked once. Each part gets a place and a weight (its sort, its nodes and nesting once
-//! `let` and macros are put in, whether it is a literal), and a part that is used many times stands
-//! once. So Size is known before anything is put in, in time linear in the text and, for each call
-//! of a macro, in its body; only then is the term built, in time linear in what is built.
+//! Before a term is walked the whole item is looked over (item_passes). The walk goes over it once
+//! and adds each part to a draft (term_draft), which knows its sort and its size before anything is
+//! put in, in time linear in the text. Only then is the term built, in time linear in what is built.
 //!
 //! ```text
 //! // with x declared as a constant of sort String
@@ -19,33 +18,19 @@
 //! ```
 #![tactic(auto)]
 
-mod applying;
-mod binder;
-mod building;
 mod checking;
 mod commands;
-mod draft;
 mod head;
 mod laws;
-mod opacity;
-mod pass;
-mod passes;
-mod places;
-mod rank;
 mod scope;
 mod walk;
-mod weigh;
-mod weight;
 
 pub use checking::command;
-pub use commands::Command;
-pub use head::Head;
+pub use commands::{Command, Product};
 pub use laws::{
     constants_valued, terms_sorted, well_formed_entries, well_formed_first, well_formed_more,
 };
-pub use pass::Pass;
 pub use smt_names::CheckFault;
-pub use weight::{Factor, Weight};
 
 #[cfg(test)]
 mod shown;

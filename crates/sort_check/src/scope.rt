@@ -1,12 +1,12 @@
 ghost use Rattle.std.specs.Prelude.{◌≡◌, [], ◌∷◌, ◌++◌, ◌-◌, length, take, IfOk, OnOk};
-ghost use Rattle.sort_check.specs.Bodies as b;
-ghost use Rattle.sort_check.specs.Meant as m;
+ghost use Rattle.term_draft.specs.Bodies as bodies;
+ghost use Rattle.sort_check.specs.Meant as meaning;
 
-use crate::places::Places;
 use std::alloc::{AllocError, Global};
 use std::marker::Model;
 use sv_list::Items;
 use sv_terms::Name;
+use term_draft::Places;
 
 /// A name that is bound, the place of what it stands for, and what it hides.
 #[derive(Drop)]
@@ -61,7 +61,7 @@ impl Scope {
     /// The place of what the name stands for. Time is linear in the name, by its hash.
     #[tactic(auto, using(crate::proofs::Scoping::scoping))]
     pub fn latest(&self, name: &Name) -> Option<usize>
-        ensures { result ≡ m.latest name.now self.now }
+        ensures { result ≡ meaning.latest name.now self.now }
     {
         self.places.get(name)
     }
@@ -118,7 +118,7 @@ impl Scope {
 /// The name under which a parameter stands in the body of a macro: behind a backslash, which no
 /// symbol has. Linear.
 pub fn parameter_name(alloc: Global, name: &Name) -> Result<Name, AllocError>
-    ensures { IfOk result (λ n. n ≡ b.parameter_name name.now) }
+    ensures { IfOk result (λ n. n ≡ bodies.parameter_name name.now) }
 {
     let mut bytes = Vec::new(alloc);
     bytes.push(b'\\').map_err(|_| AllocError)?;

@@ -1,5 +1,5 @@
 // The printed form of commands in tests.
-use crate::commands::Command;
+use crate::commands::{Command, Product};
 use sexpr_reader::Sexpr;
 use smt_names::CheckFault;
 use std::alloc::{AllocError, Global};
@@ -254,7 +254,9 @@ fn made(alloc: Global, out: &mut Out, command: &Command) -> Result<(), AllocErro
     match command {
         Command::Inform => text(out, b"inform"),
         Command::PrintSuccess(b) => text(out, if *b { b"print" } else { b"quiet" }),
-        Command::Produce(_) => text(out, b"produce"),
+        Command::Produce(Product::Models, _) => text(out, b"produce models"),
+        Command::Produce(Product::UnsatCores, _) => text(out, b"produce cores"),
+        Command::Produce(Product::Proofs, _) => text(out, b"produce proofs"),
         Command::Declare(n, sort) => {
             text(out, b"declare ")?;
             name(out, n)?;

@@ -6,7 +6,8 @@ use sexpr_reader::{Kind, Reader, Sexpr};
 use std::alloc::{AllocError, Global};
 use std::process::Abort;
 use std::test::Fail;
-use sv_terms::{Entry, Name, Symbols};
+use sv_terms::{Entry, Name};
+use term_draft::Declarations;
 
 /// What each row may name.
 const NAMES: &[u8] = br#"
@@ -40,9 +41,9 @@ assert |shape|
 (set-option :print-success true) |print|
 (set-option :print-success |false|) |quiet|
 (set-option :print-success 5) |unsupported|
-(set-option :produce-models true) |produce|
-(set-option :produce-unsat-cores false) |produce|
-(set-option :produce-proofs true) |produce|
+(set-option :produce-models true) |produce models|
+(set-option :produce-unsat-cores false) |produce cores|
+(set-option :produce-proofs true) |produce proofs|
 (set-option :verbosity true) |unsupported|
 (set-option) |unsupported|
 (declare-const z String) |declare z String|
@@ -402,14 +403,14 @@ assert |shape|
 const COUNT: usize = 364;
 
 /// Declares what a command declares, where the name is new.
-fn declare(symbols: &mut Symbols, name: Name, entry: Entry) -> Result<(), AllocError> {
+fn declare(symbols: &mut Declarations, name: Name, entry: Entry) -> Result<(), AllocError> {
     if symbols.get(&name).is_none() {
         symbols.declare(name, entry)?;
     }
     Ok(())
 }
 
-fn follow(symbols: &mut Symbols, made: Command) -> Result<(), AllocError> {
+fn follow(symbols: &mut Declarations, made: Command) -> Result<(), AllocError> {
     match made {
         Command::Declare(name, sort) => declare(symbols, name, Entry::Constant(sort)),
         Command::Define(name, entry) => declare(symbols, name, entry),
@@ -418,7 +419,7 @@ fn follow(symbols: &mut Symbols, made: Command) -> Result<(), AllocError> {
 }
 
 /// The printed form of what the item is, once that is followed.
-fn answer(alloc: Global, symbols: &mut Symbols, item: &Sexpr) -> Result<Vec<u8>, AllocError> {
+fn answer(alloc: Global, symbols: &mut Declarations, item: &Sexpr) -> Result<Vec<u8>, AllocError> {
     let made = command(alloc, symbols, item);
     let out = show(alloc, &made)?;
     if let Ok(made) = made {
@@ -428,7 +429,7 @@ fn answer(alloc: Global, symbols: &mut Symbols, item: &Sexpr) -> Result<Vec<u8>,
 }
 
 /// What the last item of a script is, each before it being followed.
-fn last_of(alloc: Global, symbols: &mut Symbols, script: &[u8]) -> Result<Vec<u8>, Fail> {
+fn last_of(alloc: Global, symbols: &mut Declarations, script: &[u8]) -> Result<Vec<u8>, Fail> {
     let mut reader = Reader::new(alloc);
     reader.feed(script)?;
     let mut out = Vec::new(alloc);
@@ -444,7 +445,7 @@ fn last_of(alloc: Global, symbols: &mut Symbols, script: &[u8]) -> Result<Vec<u8
 /// How far the rows have passed.
 #[derive(Drop)]
 struct Progress {
-    symbols: Symbols,
+    symbols: Declarations,
     /// How many names there are before a row.
     named: usize,
     /// What the last item was.
@@ -453,7 +454,7 @@ struct Progress {
 }
 
 fn begin(alloc: Global) -> Result<Progress, Fail> {
-    let mut symbols = Symbols::new(alloc);
+    let mut symbols = Declarations::new(alloc);
     let last = last_of(alloc, &mut symbols, NAMES)?;
     let named = symbols.len();
     Ok(Progress {
@@ -543,7 +544,7 @@ fn nested(
 
 /// What an assertion of a term is, by its first byte: `a` where it is taken, `s` where it is Size.
 fn first_of(alloc: Global, term: &[u8]) -> Result<Option<u8>, Fail> {
-    let mut symbols = Symbols::new(alloc);
+    let mut symbols = Declarations::new(alloc);
     last_of(alloc, &mut symbols, NAMES)?;
     let script = [b"(assert ", term, b")"].concat(alloc)?;
     let out = last_of(alloc, &mut symbols, script.as_slice())?;

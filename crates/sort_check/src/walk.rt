@@ -1,37 +1,31 @@
 // The one walk over a term: it sorts and weighs each part, and puts nothing in.
 ghost use Rattle.std.specs.Prelude.{◌≡◌, ◌∷◌, ◌++◌, ◌||◌, not, [], Ok, Some, length, map, OnOk, IfOk};
-ghost use Rattle.sv_terms.specs.Names.{symbol_name};
-ghost use Rattle.sort_check.specs.Bodies as b;
-ghost use Rattle.sort_check.specs.Drafts as d;
-ghost use Rattle.smt_names.specs.Faults.{Answers, ◌>>◌, made_of, need};
-ghost use Rattle.smt_names.specs.Form.{seen, forms, group};
-ghost use Rattle.sort_check.specs.Heads.{kept};
-ghost use Rattle.sort_check.specs.Meant as m;
-ghost use Rattle.sort_check.specs.Ranks as r;
-ghost use Rattle.sort_check.specs.Walks as k;
-ghost use Rattle.sort_check.specs.Walks.{Reads, Here, Each, Bound};
-ghost use Rattle.sort_check.specs.Weights as w;
-ghost use Rattle.sort_check.specs.Sizes as z;
-ghost use Rattle.smt_names.specs.Tokens as tk;
 ghost use Rattle.std.specs.List.{list_all};
+ghost use Rattle.sv_terms.specs.Names.{symbol_name};
 ghost use Rattle.sv_terms.specs.declared.entry.Body.{Body as Meant};
-ghost use Rattle.smt_names.specs.declared.check_fault.CheckFault.TheVariants as fault;
+ghost use Rattle.smt_names.specs.Faults.{Answers, made_of};
+ghost use Rattle.smt_names.specs.Form.{seen, forms};
+ghost use Rattle.smt_names.specs.Tokens as tokens;
+ghost use Rattle.item_passes.specs.Binders as binders;
+ghost use Rattle.term_draft.specs.Bodies as bodies;
+ghost use Rattle.term_draft.specs.Drafts as drafts;
+ghost use Rattle.term_draft.specs.Ranks as ranks;
+ghost use Rattle.term_draft.specs.Sizes as sizes;
+ghost use Rattle.sort_check.specs.Heads.{kept};
+ghost use Rattle.sort_check.specs.Meant as meaning;
+ghost use Rattle.sort_check.specs.Walks as walks;
+ghost use Rattle.sort_check.specs.Walks.{Reads, Here, Each, Bound};
 
-use crate::binder::{are_bindings, are_variables, variables};
-use crate::building::built;
-use crate::draft::{Draft, Node};
 use crate::head::{Head, head_of, identified, named};
-use crate::opacity::{opacity, plain_weight};
-use crate::rank::same_sort;
 use crate::scope::{Scope, parameter_name};
-use crate::weigh::weigh_call;
-use crate::weight::{Factor, Weight, related_weight};
+use item_passes::{are_bindings, are_variables, variables};
 use sexpr_reader::{Kind, Sexpr};
 use smt_names::token::{literal_word, number, opening, symbol};
 use smt_names::{CheckFault, Function, Opening};
 use std::alloc::{AllocError, Global};
 use sv_list::Items;
-use sv_terms::{Body, Name, Sort, Symbols, Term, Transducer};
+use sv_terms::{Body, Name, Sort, Term, Transducer};
+use term_draft::{Declarations, Draft, Macro, built, same_sort};
 
 /// What is known in the middle of a walk over terms.
 #[derive(Drop)]
@@ -42,120 +36,69 @@ pub struct Walk<'a> {
     pub is_past: bool,
 }
 
-/// Adds a part of this weight.
-fn put<'a>(walk: &mut Walk<'a>, node: Node<'a>, weight: Weight) -> Result<usize, CheckFault>
-    requires { weight ≡ w.weight_of (d.sense walk.old.draft node) }
-    ensures { Reads Here (λ t. Ok (d.sense walk.old.draft node.entry)) walk.old walk.new result }
-{
-    match walk.draft.put(node, weight) {
-        Ok(place) => Ok(place),
-        Err(error) => Err(CheckFault::Memory(error)),
-    }
-}
-
-fn leaf(walk: &mut Walk<'_>, term: Term, weight: Weight) -> Result<usize, CheckFault>
-    requires { weight ≡ w.weight_of (Body.Term term) }
-    ensures { Reads Here (λ t. Ok (Body.Term term)) walk.old walk.new result }
-{
-    put(walk, Node::Leaf(Body::Term(term)), weight)
-}
-
-#[tactic(auto, using(crate::proofs::Layers::weights))]
 fn opaque(walk: &mut Walk<'_>, sort: Sort) -> Result<usize, CheckFault>
-    ensures { Reads Here (λ t. Ok (b.opaque sort)) walk.old walk.new result }
+    ensures { Reads Here (λ t. Ok (bodies.opaque sort)) walk.old walk.new result }
 {
-    leaf(walk, Term::Opaque(sort), Weight::opaque(sort))
+    Ok(walk.draft.put_opaque(sort)?)
 }
 
-#[tactic(auto, using(crate::proofs::Layers::weights))]
 fn constant(walk: &mut Walk<'_>, name: Name, sort: Sort) -> Result<usize, CheckFault>
     ensures { Reads Here (λ t. Ok (Body.Term (Term.Constant name sort))) walk.old walk.new result }
 {
-    let weight = Weight::leaf(sort, Factor::Unknown);
-    leaf(walk, Term::Constant(name, sort), weight)
+    Ok(walk.draft.put_constant(name, sort)?)
 }
 
-#[tactic(auto, using(crate::proofs::Layers::weights))]
 fn read_number(walk: &mut Walk<'_>, text: &[u8]) -> Result<usize, CheckFault>
-    ensures { (s : m.Scope) → Reads Here (λ t. m.meant_token [] s Kind.Numeral text.now) walk.old walk.new result }
+    ensures { (s : meaning.Scope) → Reads Here (λ t. meaning.meant_token [] s Kind.Numeral text.now) walk.old walk.new result }
 {
     match number(text) {
-        Some(n) => {
-            let weight = Weight::leaf(Sort::Int, Factor::Known);
-            leaf(walk, Term::Number(n), weight)
-        }
+        Some(n) => Ok(walk.draft.put_number(n)?),
         None => Err(CheckFault::Number),
     }
 }
 
-#[tactic(auto, using(crate::proofs::Layers::weights))]
 fn read_literal(alloc: Global, walk: &mut Walk<'_>, text: &[u8]) -> Result<usize, CheckFault>
-    ensures { (s : m.Scope) → Reads Here (λ t. m.meant_token [] s Kind.Literal text.now) walk.old walk.new result }
+    ensures { (s : meaning.Scope) → Reads Here (λ t. meaning.meant_token [] s Kind.Literal text.now) walk.old walk.new result }
 {
     let word = literal_word(alloc, text)?;
     match word {
-        Some(word) => {
-            let weight = Weight::leaf(Sort::String, Factor::Literal);
-            leaf(walk, Term::Text(word), weight)
-        }
+        Some(word) => Ok(walk.draft.put_word(word)?),
         None => Err(CheckFault::Shape),
     }
 }
 
 /// A function of the theories at arguments at these places.
 fn apply_function(
+    alloc: Global,
     walk: &mut Walk<'_>,
     function: Function,
     places: Items<usize>,
-    weights: &[Weight],
 ) -> Result<usize, CheckFault>
-    requires { weights.now ≡ map w.weight_of (d.at_places walk.old.draft places) }
-    ensures { Reads Here (λ t. Ok (r.applied function (d.at_places walk.old.draft places))) walk.old walk.new result }
+    ensures { Reads Here (λ t. Ok (ranks.applied function (drafts.at_places walk.old.draft places))) walk.old walk.new result }
 {
-    match opacity(function.gives, function.sense, weights) {
-        Some(sort) => opaque(walk, sort),
-        None => {
-            let weight = plain_weight(function.sense, weights);
-            put(walk, Node::Applied(function.sense, places), weight)
-        }
-    }
+    Ok(walk.draft.put_applied(alloc, function, places)?)
 }
 
 fn call<'a>(
     alloc: Global,
     walk: &mut Walk<'a>,
-    parameters: &'a [(Name, Sort)],
-    body: &'a Body,
+    defined: Macro<'a>,
     places: Items<usize>,
-    weights: &[Weight],
 ) -> Result<usize, CheckFault>
-    requires { weights.now ≡ map w.weight_of (d.at_places walk.old.draft places) }
-    ensures { Reads Here (λ t. Ok (b.called parameters.now body.now (d.at_places walk.old.draft places))) walk.old walk.new result }
+    ensures { Reads Here (λ t. Ok (bodies.called defined.entry.parameters.now defined.entry.body.now (drafts.at_places walk.old.draft places))) walk.old walk.new result }
 {
-    let weight = weigh_call(alloc, parameters, body, weights)?;
-    put(walk, Node::Called(parameters, body, places), weight)
-}
-
-fn pair_weight(weights: &[Weight]) -> Weight
-    ensures { result ≡ w.pair_weight weights.now }
-{
-    match weights {
-        [read, written] => related_weight(*read, *written),
-        _ => Weight::opaque(Sort::Bool),
-    }
+    Ok(walk.draft.put_called(alloc, defined, places)?)
 }
 
 fn relate<'a>(
+    alloc: Global,
     walk: &mut Walk<'a>,
     transducer: &'a Transducer,
     places: Items<usize>,
-    weights: &[Weight],
 ) -> Result<usize, CheckFault>
-    requires { weights.now ≡ map w.weight_of (d.at_places walk.old.draft places) }
-    ensures { Reads Here (λ t. Ok (m.related transducer.now (d.at_places walk.old.draft places))) walk.old walk.new result }
+    ensures { Reads Here (λ t. Ok (bodies.related transducer.now (drafts.at_places walk.old.draft places))) walk.old walk.new result }
 {
-    let weight = pair_weight(weights);
-    put(walk, Node::Related(transducer, places), weight)
+    Ok(walk.draft.put_related(alloc, transducer, places)?)
 }
 
 /// What the head is at arguments at these places, whose number it takes.
@@ -165,24 +108,23 @@ fn apply<'a>(
     head: Head<'a>,
     places: Items<usize>,
 ) -> Result<usize, CheckFault>
-    ensures { Reads Here (λ t. k.applied_head (kept head.entry) (d.at_places walk.old.draft places)) walk.old walk.new result }
+    ensures { Reads Here (λ t. walks.applied_head (kept head.entry) (drafts.at_places walk.old.draft places)) walk.old walk.new result }
 {
-    let weights = walk.draft.weights(alloc, places.as_slice())?;
-    let weights = weights.as_slice();
-    if !head.takes_sorts(weights) {
+    let sorts = walk.draft.sorts(alloc, places.as_slice())?;
+    if !head.takes_sorts(sorts.as_slice()) {
         return Err(CheckFault::Sort);
     }
     match head {
-        Head::Theory(function) => apply_function(walk, function, places, weights),
+        Head::Theory(function) => apply_function(alloc, walk, function, places),
         Head::Constant(name, sort) => constant(walk, name, sort),
-        Head::Macro(parameters, body) => call(alloc, walk, parameters, body, places, weights),
-        Head::Machine(transducer) => relate(walk, transducer, places, weights),
+        Head::Macro(defined) => call(alloc, walk, defined, places),
+        Head::Machine(transducer) => relate(alloc, walk, transducer, places),
     }
 }
 
 /// An identifier by itself.
 fn alone<'a>(alloc: Global, walk: &mut Walk<'a>, head: Head<'a>) -> Result<usize, CheckFault>
-    ensures { Reads Here (λ t. m.application (kept head.entry) 0 (Ok [])) walk.old walk.new result }
+    ensures { Reads Here (λ t. meaning.application (kept head.entry) 0 (Ok [])) walk.old walk.new result }
 {
     if !head.takes_count(0) {
         return Err(CheckFault::Arity);
@@ -193,11 +135,11 @@ fn alone<'a>(alloc: Global, walk: &mut Walk<'a>, head: Head<'a>) -> Result<usize
 fn read_name<'a>(
     alloc: Global,
     walk: &mut Walk<'a>,
-    symbols: &'a Symbols,
+    symbols: &'a Declarations,
     text: &[u8],
 ) -> Result<usize, CheckFault>
-    ensures { (s : m.Scope) → Bound walk.old.draft walk.old.scope s
-        → Reads Here (λ t. m.meant_name symbols.now s (symbol_name text.now)) walk.old walk.new result }
+    ensures { (s : meaning.Scope) → Bound walk.old.draft walk.old.scope s
+        → Reads Here (λ t. meaning.meant_name symbols.now s (symbol_name text.now)) walk.old walk.new result }
 {
     let name = Name::of(alloc, text)?;
     match walk.scope.latest(&name) {
@@ -212,12 +154,12 @@ fn read_name<'a>(
 fn read_token<'a>(
     alloc: Global,
     walk: &mut Walk<'a>,
-    symbols: &'a Symbols,
+    symbols: &'a Declarations,
     kind: Kind,
     text: &[u8],
 ) -> Result<usize, CheckFault>
-    ensures { (s : m.Scope) → Bound walk.old.draft walk.old.scope s
-        → Reads Here (λ t. m.meant_token symbols.now s kind text.now) walk.old walk.new result }
+    ensures { (s : meaning.Scope) → Bound walk.old.draft walk.old.scope s
+        → Reads Here (λ t. meaning.meant_token symbols.now s kind text.now) walk.old walk.new result }
 {
     match kind {
         Kind::Numeral => read_number(walk, text),
@@ -234,10 +176,10 @@ fn read_token<'a>(
 fn read_identifier<'a>(
     alloc: Global,
     walk: &mut Walk<'a>,
-    symbols: &'a Symbols,
+    symbols: &'a Declarations,
     parts: &[Sexpr],
 ) -> Result<usize, CheckFault>
-    ensures { Reads Here (λ t. m.alone (m.of_theory (m.identified symbols.now (forms (map seen parts.now))))) walk.old walk.new result }
+    ensures { Reads Here (λ t. meaning.alone (meaning.of_theory (meaning.identified symbols.now (forms (map seen parts.now))))) walk.old walk.new result }
 {
     match identified(alloc, symbols, parts) {
         Ok(function) => alone(alloc, walk, Head::Theory(function)),
@@ -250,11 +192,11 @@ fn read_identifier<'a>(
 fn read<'a>(
     alloc: Global,
     walk: &mut Walk<'a>,
-    symbols: &'a Symbols,
+    symbols: &'a Declarations,
     item: &Sexpr,
 ) -> Result<usize, CheckFault>
-    ensures { (s : m.Scope) → Bound walk.old.draft walk.old.scope s
-        → Reads Here (λ t. m.meant t symbols.now s (seen item.now)) walk.old walk.new result }
+    ensures { (s : meaning.Scope) → Bound walk.old.draft walk.old.scope s
+        → Reads Here (λ t. meaning.meant t symbols.now s (seen item.now)) walk.old walk.new result }
 {
     match item {
         Sexpr::Atom(kind, text) => read_token(alloc, walk, symbols, *kind, text.as_slice()),
@@ -276,11 +218,11 @@ fn read<'a>(
 fn read_all<'a>(
     alloc: Global,
     walk: &mut Walk<'a>,
-    symbols: &'a Symbols,
+    symbols: &'a Declarations,
     items: &[Sexpr],
 ) -> Result<Items<usize>, CheckFault>
-    ensures { (s : m.Scope) → Bound walk.old.draft walk.old.scope s
-        → Reads Each (λ t. m.meant_all t symbols.now s (forms (map seen items.now))) walk.old walk.new result }
+    ensures { (s : meaning.Scope) → Bound walk.old.draft walk.old.scope s
+        → Reads Each (λ t. meaning.meant_all t symbols.now s (forms (map seen items.now))) walk.old walk.new result }
 {
     let mut all = Items::new(alloc);
     for item in items {
@@ -296,12 +238,12 @@ fn read_all<'a>(
 fn read_application<'a>(
     alloc: Global,
     walk: &mut Walk<'a>,
-    symbols: &'a Symbols,
+    symbols: &'a Declarations,
     rest: &[Sexpr],
     first: &Sexpr,
 ) -> Result<usize, CheckFault>
-    ensures { (s : m.Scope) → Bound walk.old.draft walk.old.scope s
-        → Reads Here (λ t. m.in_parentheses (m.head symbols.now (seen first.now)) (length rest.now) (m.meant_all t symbols.now s (forms (map seen rest.now)))) walk.old walk.new result }
+    ensures { (s : meaning.Scope) → Bound walk.old.draft walk.old.scope s
+        → Reads Here (λ t. meaning.in_parentheses (meaning.head symbols.now (seen first.now)) (length rest.now) (meaning.meant_all t symbols.now s (forms (map seen rest.now)))) walk.old walk.new result }
 {
     match head_of(alloc, symbols, first) {
         Ok(head) => {
@@ -324,11 +266,11 @@ fn read_application<'a>(
 fn read_let<'a>(
     alloc: Global,
     walk: &mut Walk<'a>,
-    symbols: &'a Symbols,
+    symbols: &'a Declarations,
     parts: &[Sexpr],
 ) -> Result<usize, CheckFault>
-    ensures { (s : m.Scope) → Bound walk.old.draft walk.old.scope s
-        → Reads Here (λ t. m.meant_let t symbols.now s (forms (map seen parts.now))) walk.old walk.new result }
+    ensures { (s : meaning.Scope) → Bound walk.old.draft walk.old.scope s
+        → Reads Here (λ t. meaning.meant_let t symbols.now s (forms (map seen parts.now))) walk.old walk.new result }
 {
     match parts {
         [bindings, body] => match bindings {
@@ -353,11 +295,11 @@ fn read_let<'a>(
 fn read_values<'a>(
     alloc: Global,
     walk: &mut Walk<'a>,
-    symbols: &'a Symbols,
+    symbols: &'a Declarations,
     bindings: &[Sexpr],
 ) -> Result<Items<(Name, usize)>, CheckFault>
-    ensures { (s : m.Scope) → Bound walk.old.draft walk.old.scope s
-        → Reads Bound (λ t. m.meant_values t symbols.now s (forms (map seen bindings.now))) walk.old walk.new result }
+    ensures { (s : meaning.Scope) → Bound walk.old.draft walk.old.scope s
+        → Reads Bound (λ t. meaning.meant_values t symbols.now s (forms (map seen bindings.now))) walk.old walk.new result }
 {
     let mut all = Items::new(alloc);
     for binding in bindings {
@@ -374,11 +316,11 @@ fn read_values<'a>(
 fn read_value<'a>(
     alloc: Global,
     walk: &mut Walk<'a>,
-    symbols: &'a Symbols,
+    symbols: &'a Declarations,
     binding: &Sexpr,
 ) -> Result<Items<(Name, usize)>, CheckFault>
-    ensures { (s : m.Scope) → Bound walk.old.draft walk.old.scope s
-        → Reads Bound (λ t. m.meant_value t symbols.now s (seen binding.now)) walk.old walk.new result }
+    ensures { (s : meaning.Scope) → Bound walk.old.draft walk.old.scope s
+        → Reads Bound (λ t. meaning.meant_value t symbols.now s (seen binding.now)) walk.old walk.new result }
 {
     match binding {
         Sexpr::List(items) => match items.as_slice() {
@@ -397,12 +339,12 @@ fn read_value<'a>(
 fn read_within<'a>(
     alloc: Global,
     walk: &mut Walk<'a>,
-    symbols: &'a Symbols,
+    symbols: &'a Declarations,
     bound: Items<(Name, usize)>,
     body: &Sexpr,
 ) -> Result<usize, CheckFault>
-    ensures { (s : m.Scope) (q : m.Scope) → Bound walk.old.draft walk.old.scope s → Bound walk.old.draft bound q
-        → Reads Here (λ t. m.meant t symbols.now (s ++ q) (seen body.now)) walk.old walk.new result }
+    ensures { (s : meaning.Scope) (q : meaning.Scope) → Bound walk.old.draft walk.old.scope s → Bound walk.old.draft bound q
+        → Reads Here (λ t. meaning.meant t symbols.now (s ++ q) (seen body.now)) walk.old walk.new result }
 {
     let mark = walk.scope.len();
     bind(alloc, &mut walk.scope, bound.as_slice())?;
@@ -419,11 +361,11 @@ fn read_within<'a>(
 fn read_quantifier<'a>(
     alloc: Global,
     walk: &mut Walk<'a>,
-    symbols: &'a Symbols,
+    symbols: &'a Declarations,
     parts: &[Sexpr],
 ) -> Result<usize, CheckFault>
-    ensures { (s : m.Scope) → Bound walk.old.draft walk.old.scope s
-        → Reads Here (λ t. m.meant_quantifier t symbols.now s (forms (map seen parts.now))) walk.old walk.new result }
+    ensures { (s : meaning.Scope) → Bound walk.old.draft walk.old.scope s
+        → Reads Here (λ t. meaning.meant_quantifier t symbols.now s (forms (map seen parts.now))) walk.old walk.new result }
 {
     match parts {
         [bound, body] => match bound {
@@ -449,11 +391,11 @@ fn read_quantifier<'a>(
 fn read_annotated<'a>(
     alloc: Global,
     walk: &mut Walk<'a>,
-    symbols: &'a Symbols,
+    symbols: &'a Declarations,
     parts: &[Sexpr],
 ) -> Result<usize, CheckFault>
-    ensures { (s : m.Scope) → Bound walk.old.draft walk.old.scope s
-        → Reads Here (λ t. m.meant_annotated t symbols.now s (forms (map seen parts.now))) walk.old walk.new result }
+    ensures { (s : meaning.Scope) → Bound walk.old.draft walk.old.scope s
+        → Reads Here (λ t. meaning.meant_annotated t symbols.now s (forms (map seen parts.now))) walk.old walk.new result }
 {
     match parts {
         [] => Err(CheckFault::Shape),
@@ -467,7 +409,7 @@ fn bound_place(
     name: &Sexpr,
     place: usize,
 ) -> Result<Items<(Name, usize)>, AllocError>
-    ensures { IfOk result (λ q. q ≡ k.bound_place (tk.symbol (seen name.now)) place) }
+    ensures { IfOk result (λ q. q ≡ walks.bound_place (tokens.symbol (seen name.now)) place) }
 {
     let mut bound = Items::new(alloc);
     match symbol(name) {
@@ -489,9 +431,9 @@ fn either(a: bool, b: bool) -> bool
 fn note(walk: &mut Walk<'_>, place: usize)
     ensures scope { walk.new.scope ≡ walk.old.scope }
     ensures draft { walk.new.draft ≡ walk.old.draft }
-    ensures past { walk.new.is_past ≡ (walk.old.is_past || not (w.weight_fits (w.weight_of (d.at_place walk.old.draft place)))) }
+    ensures past { walk.new.is_past ≡ (walk.old.is_past || not (sizes.fits (drafts.at_place walk.old.draft place))) }
 {
-    let past = !walk.draft.weight(place).fits();
+    let past = !walk.draft.fits(place);
     walk.is_past = either(walk.is_past, past);
 }
 
@@ -503,7 +445,7 @@ fn noted(
     place: usize,
 ) -> Result<Items<(Name, usize)>, CheckFault>
     ensures { (x : Meant) → Here walk.old.draft place x
-        → Reads Bound (λ t. k.bound_to t (tk.symbol (seen name.now)) x) walk.old walk.new result }
+        → Reads Bound (λ t. walks.bound_to t (tokens.symbol (seen name.now)) x) walk.old walk.new result }
 {
     match bound_place(alloc, name, place) {
         Ok(bound) => {
@@ -526,7 +468,7 @@ fn bind(alloc: Global, scope: &mut Scope, bound: &[(Name, usize)]) -> Result<(),
 
 /// The name of the constant in the place of a variable, or of a parameter.
 fn constant_name(alloc: Global, name: &Name, is_parameter: bool) -> Result<Name, AllocError>
-    ensures { IfOk result (λ n. n ≡ m.renamed is_parameter name.now) }
+    ensures { IfOk result (λ n. n ≡ meaning.renamed is_parameter name.now) }
 {
     if is_parameter {
         Ok(parameter_name(alloc, name)?)
@@ -542,7 +484,7 @@ fn constants(
     variables: &[(Name, Sort)],
     are_parameters: bool,
 ) -> Result<Items<(Name, usize)>, CheckFault>
-    ensures { Reads Bound (λ t. Ok (m.as_constants (m.renamed are_parameters) variables.now)) walk.old walk.new result }
+    ensures { Reads Bound (λ t. Ok (meaning.as_constants (meaning.renamed are_parameters) variables.now)) walk.old walk.new result }
 {
     let mut all = Items::new(alloc);
     for variable in variables {
@@ -559,9 +501,9 @@ fn constants(
 /// A quantified term is read and sorted alone.
 fn quantified(walk: &mut Walk<'_>, place: usize) -> Result<usize, CheckFault>
     ensures { (x : Meant) → Here walk.old.draft place x
-        → Reads Here (λ t. m.quantified x) walk.old walk.new result }
+        → Reads Here (λ t. meaning.quantified x) walk.old walk.new result }
 {
-    if !same_sort(Sort::Bool, walk.draft.weight(place).sort) {
+    if !same_sort(Sort::Bool, walk.draft.sort(place)) {
         return Err(CheckFault::Sort);
     }
     opaque(walk, Sort::Bool)
@@ -571,11 +513,11 @@ fn quantified(walk: &mut Walk<'_>, place: usize) -> Result<usize, CheckFault>
 /// stands as a constant.
 pub fn settled(
     alloc: Global,
-    symbols: &Symbols,
+    symbols: &Declarations,
     parameters: &[(Name, Sort)],
     terms: &[Sexpr],
 ) -> Result<Items<Body>, CheckFault>
-    ensures { Answers (m.settled symbols.now (m.as_constants b.parameter_name parameters.now) (forms (map seen terms.now))) result }
+    ensures { Answers (meaning.settled symbols.now (meaning.as_constants bodies.parameter_name parameters.now) (forms (map seen terms.now))) result }
 {
     let mut walk = Walk {
         scope: Scope::new(alloc),
@@ -598,11 +540,11 @@ pub fn settled(
 /// What one term means, or its first fault; else as `settled`.
 pub fn settled_one(
     alloc: Global,
-    symbols: &Symbols,
+    symbols: &Declarations,
     parameters: &[(Name, Sort)],
     term: &Sexpr,
 ) -> Result<Body, CheckFault>
-    ensures { Answers (m.settled symbols.now (m.as_constants b.parameter_name parameters.now) (forms (seen term.now ∷ []))) (made_of (λ x. x ∷ []) result) }
+    ensures { Answers (meaning.settled symbols.now (meaning.as_constants bodies.parameter_name parameters.now) (forms (seen term.now ∷ []))) (made_of (λ x. x ∷ []) result) }
 {
     let mut walk = Walk {
         scope: Scope::new(alloc),
@@ -616,7 +558,7 @@ pub fn settled_one(
             if walk.is_past {
                 return Err(CheckFault::Size);
             }
-            if !walk.draft.weight(place).fits() {
+            if !walk.draft.fits(place) {
                 return Err(CheckFault::Size);
             }
             Ok(built(alloc, &walk.draft, place)?)
@@ -627,10 +569,10 @@ pub fn settled_one(
 
 /// Whether none at these places is too large.
 fn all_fit(draft: &Draft<'_>, places: &[usize]) -> bool
-    ensures { result ≡ list_all z.fits (d.at_places draft.now places.now) }
+    ensures { result ≡ list_all sizes.fits (drafts.at_places draft.now places.now) }
 {
     for place in places {
-        if !draft.weight(*place).fits() {
+        if !draft.fits(*place) {
             return false;
         }
     }
@@ -643,7 +585,7 @@ fn build_fitting(
     draft: &Draft<'_>,
     places: &[usize],
 ) -> Result<Items<Body>, CheckFault>
-    ensures { Answers (k.fitting (d.at_places draft.now places.now)) result }
+    ensures { Answers (walks.fitting (drafts.at_places draft.now places.now)) result }
 {
     if !all_fit(draft, places) {
         return Err(CheckFault::Size);

@@ -68,7 +68,7 @@ impl Meeting {
             Term::Constant(name, sort) => Ok(self.add_constant(alloc, name, *sort, positive)?),
             Term::InRe(tested, regex) => Ok(self.add_member(alloc, tested.get(), regex, positive)?),
             Term::Related(transducer, read, written) => {
-                Ok(self.add_pair(alloc, transducer, read.get(), written.get(), positive)?)
+                Ok(self.add_pair(alloc, transducer.get(), read.get(), written.get(), positive)?)
             }
             Term::Apply(op, terms) => Ok(self.add_applied(alloc, *op, terms.as_slice(), positive)?),
             _ => Ok(Kind::Outside),

@@ -148,7 +148,7 @@ fn value_of(alloc: Global, term: &Term, model: &Model) -> Result<Value, EvalFaul
         },
         Term::Related(transducer, read, written) => match value_of(alloc, read.get(), model) {
             Ok(read) => match value_of(alloc, written.get(), model) {
-                Ok(written) => relation(alloc, transducer, &read, &written),
+                Ok(written) => relation(alloc, transducer.get(), &read, &written),
                 Err(fault) => Err(fault),
             },
             Err(fault) => Err(fault),

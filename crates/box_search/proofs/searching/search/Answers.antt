@@ -1,7 +1,7 @@
 use Rattle.std.proofs.Common.{◌+◌, length}
 use Rattle.box_search.specs.Hits.{runs_total}
 use Rattle.box_search.specs.UnknownLaws.{have-sides}
-use Rattle.box_search.proofs.SearchLemmas.{hit-good, no-word, short-hit}
+use Rattle.box_search.proofs.SearchLemmas.{hit-good}
 use Rattle.box_search.proofs.searching.search.Goals as goal
 
 pub invariant_of-layers : goal.invariant_of-layers
@@ -12,12 +12,3 @@ invariant_of-layers c =
 pub returns-then-not-branch : goal.returns-then-not-branch
 returns-then-not-branch c = λ runs numbers h.
     c.in_ok-has_point.ensures c.if-not-branch.true (runs_total (length c.args.region.now.registers) runs) (hit-good c.args.machines.now c.args.integers c.args.rows.now c.args.region.now runs numbers h)
-
-pub returns-in_default : goal.returns-in_default
-returns-in_default c = λ runs numbers h.
-    no-word c.args.machines.now c.args.integers c.args.rows.now c.args.region.now (c.requires c.if-region.false).registers c.in_ok-built.built.machine c.in_ok-built.ensures.runs (rw c.in_default.is at c.in_ok-numbered.ensures) runs numbers h
-
-pub returns : goal.returns
-returns c =
-    short-hit c.args.machines.now c.args.integers c.args.rows.now c.args.region.now (c.requires c.if-region.false).registers c.in_ok-built.built.machine c.in_ok-built.ensures.runs c.in-Some.numbered c.in_ok-run.run' c.in_ok-hit_of.field-0.runs c.in_ok-hit_of.field-0.integers
-    (rw c.in-Some.is at c.in_ok-numbered.ensures) c.in_ok-run.ensures.word c.in_ok-hit_of.ensures.size (c.in_ok-hit_of.ensures.hit c.if-region.false)

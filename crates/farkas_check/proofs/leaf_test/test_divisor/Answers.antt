@@ -8,8 +8,8 @@ use Rattle.farkas_check.proofs.Covering.{equations_allowed}
 use Rattle.farkas_check.proofs.LeafSums.{divisor_of, divisor_back}
 use Rattle.farkas_check.proofs.leaf_test.test_divisor.Goals as goal
 
-pub sum_of-requires : goal.sum_of-requires
-sum_of-requires c =
+pub sum_of-requires-clause-allowed : goal.sum_of-requires-clause-allowed
+sum_of-requires-clause-allowed c =
     let e : OfEquations 0 (map constraint_of c.args.rows.now) c.args.multipliers.now = search rules in
     equations_allowed 0 _ _ e
 

@@ -1,27 +1,56 @@
-use Rattle.std.proofs.Common.{arith, ap, sym, subst, ◌∙◌, Err}
+use Rattle.std.proofs.Common.{◌≡◌, ℕ, zero, suc, ◌+◌, ◌*◌, ◌<◌, ◌≤◌, ◌∷◌, ◌++◌, [], List, length, true, false, inl, inr, refl, sym, ap, ◌∙◌, subst, arith, Err}
+use Rattle.std.proofs.Common.{map}
+use Rattle.machine_core.specs.declared.graph.Graph.{Graph}
 use Rattle.machine_meet.specs.Products.{multiplied}
 use Rattle.regex_machine.specs.Joined.{ArePlain, WordsOf}
 use Rattle.regex_machine.specs.Kinds.{states_of}
-use Rattle.sv_terms.specs.Language.{InAllOf}
-use Rattle.part_machines.specs.Parts.{AreOfParts}
-use Rattle.part_machines.proofs.PartLemmas.{joint-reads, made, of-plain, of-states, refused}
+use Rattle.sv_terms.specs.Bounds.{from_left, without_size}
+use Rattle.sv_terms.specs.Language.{InAllOf, InFirstOnly}
+use Rattle.part_machines.specs.Sides.{AreSides}
+use Rattle.part_machines.proofs.PartLemmas.{made, of-plain, refused}
+use Rattle.part_machines.proofs.SideLemmas.{met-below, sides-few, sides-met, sides-read}
 use Rattle.part_machines.proofs.own.joint_machine.Goals as goal
 
 pub all_of-requires : goal.all_of-requires
-all_of-requires c = subst ArePlain (sym c.as_slice.ensures) (of-plain c.args.parts.now c.in_ok-machines.machines c.in_ok-machines.ensures.machines)
+all_of-requires c =
+    subst ArePlain (sym c.as_slice.ensures) (of-plain c.in_ok-within.ensures.sides.met c.in_ok-within.field-0.within c.in_ok-within.ensures.sides.of_met)
 
-pub returns-clause-machine : goal.returns-clause-machine
-returns-clause-machine c =
+pub returns-in_err-met-clause-refused : goal.returns-in_err-met-clause-refused
+returns-in_err-met-clause-refused c = λ n e.
+    let d = rw e at c.from_residual-in_err-met.ensures.1 in
     let ms = c.as_slice.result.now in
-    let h = subst (AreOfParts c.args.parts.now) (sym c.as_slice.ensures) c.in_ok-machines.ensures.machines in
-    let o = made (InAllOf WordsOf ms) (multiplied states_of ms) 262144 c.all_of.result c.in_ok-machine-2.machine c.all_of.ensures c.in_ok-machine-2.was in
-    joint-reads c.args.parts.now ms c.in_ok-machine-2.machine h o.0 o.1
+    let f = refused (InAllOf WordsOf ms) (multiplied states_of ms) 262144 c.all_of.result n c.all_of.ensures (c.in_err-met.was ∙ ap Err (sym d)) in
+    let same = ap (multiplied states_of) c.as_slice.ensures in
+    let below = met-below c.args.parts.now c.in_ok-within.field-0.within c.in_ok-within.field-0.outside c.in_ok-within.ensures.sides in
+    omega (arith, f, same, below)
+
+pub returns-then-is_empty-clause-machine : goal.returns-then-is_empty-clause-machine
+returns-then-is_empty-clause-machine c =
+    let ms = c.as_slice.result.now in
+    let o = made (InAllOf WordsOf ms) (multiplied states_of ms) 262144 c.all_of.result c.in_ok-met.met c.all_of.ensures c.in_ok-met.was in
+    let p = rw c.as_slice.ensures at o in
+    sides-met c.args.parts.now c.in_ok-within.field-0.within c.in_ok-within.field-0.outside c.in_ok-met.met c.in_ok-within.ensures.sides ((c.is_empty.ensures).0 c.if-is_empty.true) p.0 p.1
+
+pub without-requires-clause-others : goal.without-requires-clause-others
+without-requires-clause-others c =
+    of-plain c.in_ok-within.ensures.sides.barred c.in_ok-within.field-0.outside c.in_ok-within.ensures.sides.of_barred
 
 pub returns-in_err-machine-2-clause-refused : goal.returns-in_err-machine-2-clause-refused
 returns-in_err-machine-2-clause-refused c = λ n e.
     let d = rw e at c.from_residual-in_err-machine-2.ensures.1 in
     let ms = c.as_slice.result.now in
-    let h = subst (AreOfParts c.args.parts.now) (sym c.as_slice.ensures) c.in_ok-machines.ensures.machines in
-    let s = of-states c.args.parts.now ms h in
-    let f = refused (InAllOf WordsOf ms) (multiplied states_of ms) 262144 c.all_of.result n c.all_of.ensures (c.in_err-machine-2.was ∙ ap Err (sym d)) in
-    omega (arith, s, f)
+    let o = made (InAllOf WordsOf ms) (multiplied states_of ms) 262144 c.all_of.result c.in_ok-met.met c.all_of.ensures c.in_ok-met.was in
+    let p = rw c.as_slice.ensures at o in
+    let all = c.in_ok-met.met ∷ c.in_ok-within.field-0.outside in
+    let f = refused (InFirstOnly WordsOf all) (from_left without_size (map states_of all)) 262144 c.without.result n c.without.ensures (c.in_err-machine-2.was ∙ ap Err (sym d)) in
+    let below = sides-few c.args.parts.now c.in_ok-within.field-0.within c.in_ok-within.field-0.outside c.in_ok-met.met c.in_ok-within.ensures.sides p.0 p.1 in
+    omega (arith, f, below)
+
+pub returns-clause-machine : goal.returns-clause-machine
+returns-clause-machine c =
+    let ms = c.as_slice.result.now in
+    let o = made (InAllOf WordsOf ms) (multiplied states_of ms) 262144 c.all_of.result c.in_ok-met.met c.all_of.ensures c.in_ok-met.was in
+    let p = rw c.as_slice.ensures at o in
+    let all = c.in_ok-met.met ∷ c.in_ok-within.field-0.outside in
+    let q = made (InFirstOnly WordsOf all) (from_left without_size (map states_of all)) 262144 c.without.result c.in_ok-machine-2.machine c.without.ensures c.in_ok-machine-2.was in
+    sides-read c.args.parts.now c.in_ok-within.field-0.within c.in_ok-within.field-0.outside c.in_ok-met.met c.in_ok-within.ensures.sides p.0 p.1 c.in_ok-machine-2.machine q.0 q.1

@@ -1,6 +1,6 @@
 use Rattle.std.proofs.Common.{◌≡◌, map, drop}
 use Rattle.std.specs.List.{list_all}
-use Rattle.sort_check.specs.Bodies.{body_sort}
+use Rattle.term_draft.specs.Bodies.{body_sort}
 use Rattle.sort_check.specs.Checking.{has_values}
 use Rattle.sort_check.proofs.checking.are_terms.Given as goal
 

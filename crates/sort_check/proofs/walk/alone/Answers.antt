@@ -1,5 +1,5 @@
 use Rattle.std.proofs.Common.{sym, subst, ◌∙◌, List, ℕ}
-use Rattle.sort_check.specs.Drafts.{at_places}
+use Rattle.term_draft.specs.Drafts.{at_places}
 use Rattle.sort_check.specs.Heads.{kept}
 use Rattle.sort_check.specs.Walks.{Reads, Here, applied_head}
 use Rattle.sort_check.proofs.Walking.{alone-so}

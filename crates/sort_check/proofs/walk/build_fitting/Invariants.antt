@@ -1,5 +1,5 @@
 use Rattle.std.proofs.Common.{◌≡◌, take}
-use Rattle.sort_check.specs.Drafts.{at_places}
+use Rattle.term_draft.specs.Drafts.{at_places}
 use Rattle.sort_check.proofs.walk.build_fitting.Given as goal
 
 abbrev pub invariant-loop-place : goal.invariant-loop-place

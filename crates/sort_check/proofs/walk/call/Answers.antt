@@ -1,8 +1,7 @@
-use Rattle.std.proofs.Common.{sym, ap, ◌∙◌}
-use Rattle.sort_check.specs.Drafts.{at_places}
-use Rattle.sort_check.specs.Weights.{call_weight}
-use Rattle.sort_check.proofs.Calling.{call-weighs}
+use Rattle.term_draft.specs.Bodies.{called}
+use Rattle.term_draft.specs.Drafts.{at_places}
+use Rattle.sort_check.proofs.Walking.{put-read}
 use Rattle.sort_check.proofs.walk.call.Goals as goal
 
-pub put-requires : goal.put-requires
-put-requires c = c.in_ok-weight.ensures ∙ ap (λ ws. call_weight c.args.parameters.now ws c.args.body.now) c.requires ∙ sym (call-weighs c.args.parameters.now c.args.body.now (at_places c.args.walk.now.draft c.args.places))
+pub returns : goal.returns
+returns c = put-read c.args.walk.now c.put_called.new.self (called c.args.defined.parameters.now c.args.defined.body.now (at_places c.args.walk.now.draft c.args.places)) c.in_ok-put_called.field-0 c.in_ok-put_called.ensures

@@ -2,7 +2,7 @@ use Rattle.std.proofs.Common.{sym, ap, ◌∙◌, true, false, Ok}
 use Rattle.sv_terms.specs.declared.sort.Sort.TheVariants as sort
 use Rattle.sv_terms.specs.Sorting.{same_sort}
 use Rattle.smt_names.specs.declared.check_fault.CheckFault.TheVariants as fault
-use Rattle.sort_check.specs.Bodies.{body_sort, opaque}
+use Rattle.term_draft.specs.Bodies.{body_sort, opaque}
 use Rattle.smt_names.specs.Faults.{need, ◌>>◌}
 use Rattle.sort_check.specs.Walks.{Here}
 use Rattle.sort_check.proofs.Reading.{tested}
@@ -10,7 +10,7 @@ use Rattle.sort_check.proofs.Walking.{quantified-so}
 use Rattle.sort_check.proofs.walk.quantified.Goals as goal
 
 pub returns : goal.returns
-returns c = λ x h. tested Here (λ t. Ok (opaque sort.Bool)) (same_sort sort.Bool (body_sort x)) fault.Sort c.args.walk.now c.opaque.new.walk c.opaque.result (quantified-so c.args.walk.now.draft c.args.place x true h (ap (λ z. same_sort sort.Bool z.sort) (sym c.weight.ensures) ∙ sym c.same_sort.ensures ∙ c.if-not-same_sort.false)) c.opaque.ensures
+returns c = λ x h. tested Here (λ t. Ok (opaque sort.Bool)) (same_sort sort.Bool (body_sort x)) fault.Sort c.args.walk.now c.opaque.new.walk c.opaque.result (quantified-so c.args.walk.now.draft c.args.place x true h (ap (same_sort sort.Bool) (sym c.sort.ensures) ∙ sym c.same_sort.ensures ∙ c.if-not-same_sort.false)) c.opaque.ensures
 
 pub returns-then-not-same_sort : goal.returns-then-not-same_sort
-returns-then-not-same_sort c = λ x h. ap (λ z. need z fault.Sort >> Ok (opaque sort.Bool)) (quantified-so c.args.walk.now.draft c.args.place x false h (ap (λ z. same_sort sort.Bool z.sort) (sym c.weight.ensures) ∙ sym c.same_sort.ensures ∙ c.if-not-same_sort.true))
+returns-then-not-same_sort c = λ x h. ap (λ z. need z fault.Sort >> Ok (opaque sort.Bool)) (quantified-so c.args.walk.now.draft c.args.place x false h (ap (same_sort sort.Bool) (sym c.sort.ensures) ∙ sym c.same_sort.ensures ∙ c.if-not-same_sort.true))

@@ -1,6 +1,7 @@
-use Rattle.sort_check.specs.Drafts.{at_places}
-use Rattle.sort_check.proofs.Walking.{pair-weighs}
+use Rattle.term_draft.specs.Bodies.{related}
+use Rattle.term_draft.specs.Drafts.{at_places}
+use Rattle.sort_check.proofs.Walking.{put-read}
 use Rattle.sort_check.proofs.walk.relate.Goals as goal
 
-pub put-requires : goal.put-requires
-put-requires c = pair-weighs c.args.transducer.now (at_places c.args.walk.now.draft c.args.places) c.args.weights.now c.pair_weight-weight.result c.requires c.pair_weight-weight.ensures
+pub returns : goal.returns
+returns c = put-read c.args.walk.now c.put_related.new.self (related c.args.transducer.now (at_places c.args.walk.now.draft c.args.places)) c.in_ok-put_related.field-0 c.in_ok-put_related.ensures

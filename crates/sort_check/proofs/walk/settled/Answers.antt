@@ -1,7 +1,7 @@
 use Rattle.std.proofs.Common.{refl, ap, subst, ◌∙◌, ◌++◌, map, false, List, ℕ}
 use Rattle.sort_check.specs.declared.walk.Walk.{Walk}
-use Rattle.sort_check.specs.Bodies.{parameter_name}
-use Rattle.sort_check.specs.Drafts.{at_places}
+use Rattle.term_draft.specs.Bodies.{parameter_name}
+use Rattle.term_draft.specs.Drafts.{at_places}
 use Rattle.smt_names.specs.Faults.{Answers}
 use Rattle.smt_names.specs.Form.{forms, seen}
 use Rattle.sort_check.specs.Meant.{as_constants}

@@ -1,9 +1,8 @@
 use Rattle.std.proofs.Common.{refl, sym, ap, ◌∙◌, ◌++◌, false}
 use Rattle.sort_check.specs.declared.walk.Walk.{Walk}
-use Rattle.sort_check.specs.Bodies.{parameter_name}
+use Rattle.term_draft.specs.Bodies.{parameter_name}
 use Rattle.smt_names.specs.Form.{seen}
 use Rattle.sort_check.specs.Meant.{as_constants}
-use Rattle.sort_check.specs.Weights.{weight_fits}
 use Rattle.sort_check.proofs.Termwise.{begin-bound, begin-past, one-settled, one-unfit, one-past}
 use Rattle.sort_check.proofs.walk.settled_one.Goals as goal
 
@@ -23,7 +22,7 @@ returns-then-not-fits c =
     let e = c.in_ok-bind.ensures ∙ ap (λ z. c.constants.new.walk.scope ++ z) c.as_slice.ensures in
     let b = begin-bound w0 c.constants.new.walk c.args.parameters.now c.in_ok-bound.bound c.in_ok-bound.ensures c.bind.new.scope c.new.ensures e in
     let p = begin-past w0 c.constants.new.walk c.args.parameters.now c.in_ok-bound.bound c.in_ok-bound.ensures refl in
-    one-unfit c.args.symbols.now s (seen c.args.term.now) (record c.constants.new.walk { scope = c.bind.new.scope }) c.read.new.walk c.in-Ok.place (c.in-Ok.ensures s b) p c.if-walk.false (ap weight_fits (sym c.weight.ensures) ∙ sym c.fits.ensures ∙ c.if-not-fits.true)
+    one-unfit c.args.symbols.now s (seen c.args.term.now) (record c.constants.new.walk { scope = c.bind.new.scope }) c.read.new.walk c.in-Ok.place (c.in-Ok.ensures s b) p c.if-walk.false (sym c.fits.ensures ∙ c.if-not-fits.true)
 
 pub returns-in-Ok : goal.returns-in-Ok
 returns-in-Ok c =
@@ -32,4 +31,4 @@ returns-in-Ok c =
     let e = c.in_ok-bind.ensures ∙ ap (λ z. c.constants.new.walk.scope ++ z) c.as_slice.ensures in
     let b = begin-bound w0 c.constants.new.walk c.args.parameters.now c.in_ok-bound.bound c.in_ok-bound.ensures c.bind.new.scope c.new.ensures e in
     let p = begin-past w0 c.constants.new.walk c.args.parameters.now c.in_ok-bound.bound c.in_ok-bound.ensures refl in
-    one-settled c.args.symbols.now s (seen c.args.term.now) (record c.constants.new.walk { scope = c.bind.new.scope }) c.read.new.walk c.in-Ok.place (c.in-Ok.ensures s b) p c.in_ok-built-in-Ok.field-0 c.if-walk.false (ap weight_fits (sym c.weight.ensures) ∙ sym c.fits.ensures ∙ c.if-not-fits.false) c.in_ok-built-in-Ok.ensures
+    one-settled c.args.symbols.now s (seen c.args.term.now) (record c.constants.new.walk { scope = c.bind.new.scope }) c.read.new.walk c.in-Ok.place (c.in-Ok.ensures s b) p c.in_ok-built-in-Ok.field-0 c.if-walk.false (sym c.fits.ensures ∙ c.if-not-fits.false) c.in_ok-built-in-Ok.ensures

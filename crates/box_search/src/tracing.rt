@@ -1,0 +1,191 @@
+//! The way back from a marked pair to the first one.
+
+use crate::arcs::{Arc, Arcs};
+use crate::marks::Marks;
+use std::alloc::{AllocError, Global};
+
+/// A row and a total.
+#[derive(Clone, Copy)]
+pub struct Pair {
+    pub row: usize,
+    pub total: u64,
+}
+
+// A row from which arcs of cost 0 lead on to where the search began: by which place of the search.
+#[derive(Clone, Copy)]
+struct Near {
+    row: usize,
+    by: usize,
+}
+
+// The pairs of a way, the last one first, and which rows the search for the next one has seen.
+#[derive(Drop)]
+struct Way {
+    back: Vec<Pair>,
+    seen: Vec<u64>,
+}
+
+/// Pairs from row 0 and the total 0 to this one, each with an arc to the next; `None` where none are found. On
+/// a way that is as marked as it should be no pair comes twice: costs lead to lesser totals, and where arcs cost
+/// nothing the search goes by breadth.
+pub fn trace(
+    alloc: Global,
+    marks: &Marks,
+    arcs: &Arcs,
+    rows: usize,
+    last: Pair,
+) -> Result<Option<Vec<Pair>>, AllocError> {
+    let mut way = Way {
+        back: Vec::new(alloc),
+        seen: unseen(alloc, rows)?,
+    };
+    way.back.push(last)?;
+    let mut at = last;
+    for round in 1..u64::MAX {
+        match step_back(alloc, marks, arcs, &mut way, at, round)? {
+            Step::To(before) => at = before,
+            Step::Begun => {
+                let Way { mut back, seen: _ } = way;
+                back.reverse();
+                return Ok(Some(back));
+            }
+            Step::Nowhere => return Ok(None),
+        }
+    }
+    Ok(None)
+}
+
+fn unseen(alloc: Global, rows: usize) -> Result<Vec<u64>, AllocError> {
+    let mut seen = Vec::with_capacity(alloc, rows)?;
+    for _ in 0..rows {
+        seen.push(0)?;
+    }
+    Ok(seen)
+}
+
+// Where a search back has led to.
+#[derive(Clone, Copy)]
+enum Step {
+    // a pair with a lesser total
+    To(Pair),
+    // the first pair
+    Begun,
+    Nowhere,
+}
+
+// The way back from this pair to one with a lesser total, or to the first one.
+fn step_back(
+    alloc: Global,
+    marks: &Marks,
+    arcs: &Arcs,
+    way: &mut Way,
+    from: Pair,
+    round: u64,
+) -> Result<Step, AllocError> {
+    let mut near = Vec::new(alloc);
+    near.push(Near {
+        row: from.row,
+        by: 0,
+    })?;
+    see(&mut way.seen, from.row, round);
+    for at in 0..usize::MAX {
+        let Some(next) = near.get(at).copied() else {
+            return Ok(Step::Nowhere);
+        };
+        if next.row == 0 && from.total == 0 {
+            push_near(alloc, &mut way.back, near.as_slice(), at, from.total)?;
+            return Ok(Step::Begun);
+        }
+        if let Some(arc) = look_back(
+            marks,
+            arcs,
+            &mut near,
+            &mut way.seen,
+            at,
+            next.row,
+            from.total,
+            round,
+        )? {
+            push_near(alloc, &mut way.back, near.as_slice(), at, from.total)?;
+            let before = Pair {
+                row: arc.from,
+                total: from.total.saturating_sub(arc.cost),
+            };
+            way.back.push(before)?;
+            return Ok(Step::To(before));
+        }
+    }
+    Ok(Step::Nowhere)
+}
+
+// Whether the row wasn't seen in this round.
+fn see(seen: &mut Vec<u64>, row: usize, round: u64) -> bool {
+    let Some(last) = seen.get_mut(row) else {
+        return false;
+    };
+    let new = *last != round;
+    *last = round;
+    new
+}
+
+// An arc to this row from a marked pair with a lesser total. Where there is none, the marked rows from which arcs
+// of cost 0 lead there are searched too.
+fn look_back(
+    marks: &Marks,
+    arcs: &Arcs,
+    near: &mut Vec<Near>,
+    seen: &mut Vec<u64>,
+    at: usize,
+    row: usize,
+    total: u64,
+    round: u64,
+) -> Result<Option<Arc>, AllocError> {
+    let mut next = arcs.to(row);
+    for _ in 0..arcs.count() {
+        let Some(arc) = next else {
+            return Ok(None);
+        };
+        if arc.cost <= total && marks.has(arc.from, total - arc.cost) {
+            if arc.cost > 0 {
+                return Ok(Some(arc));
+            }
+            if see(seen, arc.from, round) {
+                near.push(Near {
+                    row: arc.from,
+                    by: at,
+                })?;
+            }
+        }
+        next = arcs.next_to(arc);
+    }
+    Ok(None)
+}
+
+// The rows between where the search began and this place of it, its own row included.
+fn push_near(
+    alloc: Global,
+    back: &mut Vec<Pair>,
+    near: &[Near],
+    to: usize,
+    total: u64,
+) -> Result<(), AllocError> {
+    let mut between = Vec::new(alloc);
+    let mut at = to;
+    for _ in 0..near.len() {
+        if at == 0 {
+            break;
+        }
+        let Some(next) = near.get(at) else {
+            break;
+        };
+        between.push(Pair {
+            row: next.row,
+            total,
+        })?;
+        at = next.by;
+    }
+    for pair in between.iter().rev() {
+        back.push(*pair)?;
+    }
+    Ok(())
+}

@@ -1,0 +1,3 @@
+mod Bound
+mod Looking
+mod Names

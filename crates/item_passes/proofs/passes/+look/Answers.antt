@@ -1,0 +1,28 @@
+use Rattle.std.proofs.Common.{sym, ap, ◌∙◌, map, Err}
+use Rattle.sexpr_reader.specs.declared.sexpr.Sexpr.TheVariants as v
+use Rattle.item_passes.proofs.Bound.{let-value, let-body, quantifier-variable, quantifier-body, value-two, value-few, value-many}
+use Rattle.smt_names.specs.Form.{forms, seen}
+use Rattle.item_passes.specs.Passes.{looked_quantifier}
+use Rattle.smt_names.specs.Answering.{exact-answers}
+use Rattle.item_passes.proofs.passes.+look.Goals as goal
+
+pub look_value-returns-in-len2 : goal.look_value-returns-in-len2
+look_value-returns-in-len2 t c = value-two c.args.pass c.args.binding.now c.as_slice.result.now (c.in-List.is ∙ ap v.List (sym c.as_slice.ensures)) c.value-item.result c.look.result c.in-len2.len_at_least c.in-len2.len_below c.value-item.is c.look.ensures
+
+pub look_value-returns-in_default : goal.look_value-returns-in_default
+look_value-returns-in_default t c = value-few c.args.pass c.args.binding.now c.as_slice.result.now (c.in-List.is ∙ ap v.List (sym c.as_slice.ensures)) c.in_default.len_below
+
+pub look_value-returns-in_default-2 : goal.look_value-returns-in_default-2
+look_value-returns-in_default-2 t c = value-many c.args.pass c.args.binding.now c.as_slice.result.now (c.in-List.is ∙ ap v.List (sym c.as_slice.ensures)) c.in_default.len_at_least
+
+pub look_let-returns-in-Err-look_values : goal.look_let-returns-in-Err-look_values
+look_let-returns-in-Err-look_values t c = let-value c.args.pass c.args.parts.now c.bindings-item.result c.body-item.result c.in-len2.len_at_least c.in-len2.len_below c.bindings-item.is c.body-item.is c.as_slice-bindings.result.now (c.in-List.is ∙ ap v.List (sym c.as_slice-bindings.ensures)) c.in-Err-look_values.fault c.in-Ok.field-0 (sym c.if-not-are_bindings.ensures) c.in-Ok.ensures c.in-Err-look_values.ensures
+
+pub look_let-returns-in-Ok-look_values : goal.look_let-returns-in-Ok-look_values
+look_let-returns-in-Ok-look_values t c = let-body c.args.pass c.args.parts.now c.bindings-item.result c.body-item.result c.in-len2.len_at_least c.in-len2.len_below c.bindings-item.is c.body-item.is c.as_slice-bindings.result.now (c.in-List.is ∙ ap v.List (sym c.as_slice-bindings.ensures)) c.look.result c.in-Ok.field-0 c.in-Ok-look_values.field-0 (sym c.if-not-are_bindings.ensures) c.in-Ok.ensures c.in-Ok-look_values.ensures c.look.ensures
+
+pub look_quantifier-returns-in-Err : goal.look_quantifier-returns-in-Err
+look_quantifier-returns-in-Err t c = exact-answers (looked_quantifier c.args.pass (forms (map seen c.args.parts.now))) (Err c.in-Err.fault) (quantifier-variable c.args.pass c.args.parts.now c.variables-item.result c.body-item.result c.in-len2.len_at_least c.in-len2.len_below c.variables-item.is c.body-item.is c.as_slice-variables.result.now (c.in-List.is ∙ ap v.List (sym c.as_slice-variables.ensures)) c.in-Err.fault (sym c.if-not-are_variables.ensures) (sym c.in-Err.ensures))
+
+pub look_quantifier-returns-in-Ok : goal.look_quantifier-returns-in-Ok
+look_quantifier-returns-in-Ok t c = quantifier-body c.args.pass c.args.parts.now c.variables-item.result c.body-item.result c.in-len2.len_at_least c.in-len2.len_below c.variables-item.is c.body-item.is c.as_slice-variables.result.now (c.in-List.is ∙ ap v.List (sym c.as_slice-variables.ensures)) c.look.result c.in-Ok.field-0 (sym c.if-not-are_variables.ensures) (sym c.in-Ok.ensures) c.look.ensures

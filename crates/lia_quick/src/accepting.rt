@@ -1,0 +1,165 @@
+ghost use Rattle.std.specs.Prelude.{◌≡◌, ◌≢◌, map, List, [], ◌∷◌, ◌++◌, ◌+ℤ◌, pos, neg_ℤ, ◌^◌, ◌<◌, IsTrue, IfOk, OnOk};
+ghost use Rattle.sv_linear.specs.Rows.{NameUnknowns};
+ghost use Rattle.sv_linear.specs.Terms.{AscendsWithin};
+ghost use Rattle.farkas_check.specs.Closings.{Closes, FarkasRule, DivisorRule, at_most, at_least};
+ghost use Rattle.farkas_check.specs.Fitting.{SumsFit, LeafFits};
+ghost use Rattle.farkas_check.specs.NodeLaws.{Told};
+ghost use Rattle.farkas_check.specs.Systems.{constraint_of};
+ghost use Rattle.farkas_check.specs.declared.net.Net.{Net};
+
+use farkas_check::{LeafTest, System, Tree, test_divisor, test_farkas};
+use std::alloc::{AllocError, Global};
+use sv_linear::{Form, Row, RowKind};
+use sv_list::{Copied, Items};
+
+/// How many splits of a tree that is accepted may stand above one another.
+const MOST_DEPTH: u32 = 1024;
+
+/// Whether the checker takes the tree; false too where it has set splits, or more than 1,024 splits above one
+/// another.
+///
+/// As `closes`, with memory: the rows of the branches stand behind those of the system, and each leaf costs one
+/// merge for each multiplier. So a leaf of many multipliers isn't looked at once for each of its terms.
+pub(crate) fn accepts(alloc: Global, system: &System, tree: &Tree) -> Result<bool, AllocError>
+    requires { NameUnknowns system.now.unknowns system.now.rows }
+    ensures { IfOk result (λ b. IsTrue b → Closes system.now tree.now × SumsFit system.now tree.now) }
+{
+    let mut rows = system.rows.copy(alloc)?;
+    let accepted = accepts_over(alloc, system.unknowns, &mut rows, tree, MOST_DEPTH)?;
+    Ok(accepted)
+}
+
+/// Whether the tree closes these rows, which are left as they were.
+#[cycle(accepts_over)]
+fn accepts_over(
+    alloc: Global,
+    unknowns: u32,
+    rows: &mut Items<Row>,
+    tree: &Tree,
+    depth: u32,
+) -> Result<bool, AllocError>
+    requires { NameUnknowns unknowns rows.old }
+    ensures rows { OnOk result (rows.new ≡ rows.old) }
+    ensures told { IfOk result (λ b. IsTrue b → (nets : List Net) → Told nets (map constraint_of rows.old) tree.now) }
+{
+    match tree {
+        Tree::Farkas { multipliers } => {
+            let accepted = accepts_farkas(
+                alloc,
+                unknowns,
+                rows.as_slice(),
+                multipliers.as_slice(),
+            )?;
+            Ok(accepted)
+        }
+        Tree::Divisor {
+            multipliers,
+            divisor,
+        } => {
+            let accepted = accepts_divisor(
+                alloc,
+                unknowns,
+                rows.as_slice(),
+                multipliers.as_slice(),
+                *divisor,
+            )?;
+            Ok(accepted)
+        }
+        Tree::Split {
+            unknown,
+            at,
+            low,
+            high,
+        } => {
+            if depth == 0 || *unknown >= unknowns || *at == i128::MIN || *at == i128::MAX {
+                return Ok(false);
+            }
+            let row = at_most_row(alloc, *unknown, *at)?;
+            if !accepts_side(alloc, unknowns, rows, row, low.get(), depth - 1)? {
+                return Ok(false);
+            }
+            let row = at_least_row(alloc, *unknown, *at + 1)?;
+            let accepted = accepts_side(alloc, unknowns, rows, row, high.get(), depth - 1)?;
+            Ok(accepted)
+        }
+        Tree::SetSplit { .. } => Ok(false),
+        Tree::Open => Ok(false),
+    }
+}
+
+/// Whether the tree closes these rows and one more.
+#[cycle(accepts_over)]
+fn accepts_side(
+    alloc: Global,
+    unknowns: u32,
+    rows: &mut Items<Row>,
+    row: Row,
+    tree: &Tree,
+    depth: u32,
+) -> Result<bool, AllocError>
+    requires names { NameUnknowns unknowns rows.old }
+    requires row { AscendsWithin 0 unknowns row.form.coefficients }
+    ensures rows { OnOk result (rows.new ≡ rows.old) }
+    ensures told { IfOk result (λ b. IsTrue b → (nets : List Net) → Told nets (map constraint_of rows.old ++ constraint_of row ∷ []) tree.now) }
+{
+    rows.push(row)?;
+    let accepted = accepts_over(alloc, unknowns, rows, tree, depth)?;
+    let _row = rows.pop();
+    Ok(accepted)
+}
+
+fn accepts_farkas(
+    alloc: Global,
+    unknowns: u32,
+    rows: &[Row],
+    multipliers: &[(u32, i128)],
+) -> Result<bool, AllocError>
+    requires { NameUnknowns unknowns rows.now }
+    ensures { IfOk result (λ b. IsTrue b → FarkasRule (map constraint_of rows.now) multipliers.now × LeafFits (map constraint_of rows.now) multipliers.now) }
+{
+    match test_farkas(alloc, unknowns, rows, multipliers)? {
+        LeafTest::Closes => Ok(true),
+        LeafTest::Fails => Ok(false),
+        LeafTest::Past(_) => Ok(false),
+    }
+}
+
+fn accepts_divisor(
+    alloc: Global,
+    unknowns: u32,
+    rows: &[Row],
+    multipliers: &[(u32, i128)],
+    divisor: i128,
+) -> Result<bool, AllocError>
+    requires { NameUnknowns unknowns rows.now }
+    ensures { IfOk result (λ b. IsTrue b → DivisorRule (map constraint_of rows.now) multipliers.now divisor × LeafFits (map constraint_of rows.now) multipliers.now) }
+{
+    match test_divisor(alloc, unknowns, rows, multipliers, divisor)? {
+        LeafTest::Closes => Ok(true),
+        LeafTest::Fails => Ok(false),
+        LeafTest::Past(_) => Ok(false),
+    }
+}
+
+fn at_most_row(alloc: Global, unknown: u32, at: i128) -> Result<Row, AllocError>
+    requires { at ≢ neg_ℤ (pos (2 ^ 127)) }
+    ensures { IfOk result (λ r. constraint_of r ≡ at_most unknown at) }
+{
+    let mut form = Form::of_constant(alloc, -at);
+    form.push(unknown, 1)?;
+    Ok(Row {
+        form,
+        kind: RowKind::Le,
+    })
+}
+
+fn at_least_row(alloc: Global, unknown: u32, least: i128) -> Result<Row, AllocError>
+    ensures { IfOk result (λ r. constraint_of r ≡ at_least unknown least) }
+{
+    let mut form = Form::of_constant(alloc, least);
+    form.push(unknown, -1)?;
+    Ok(Row {
+        form,
+        kind: RowKind::Le,
+    })
+}

@@ -1,0 +1,108 @@
+ghost use Rattle.std.specs.Prelude.{◌≡◌, IfOk, IfSome};
+ghost use Rattle.sv_linear.specs.Rows.{NameUnknowns};
+ghost use Rattle.lia_quick.specs.Finds.{IsPointOf, IsTreeOf, IsFound};
+
+use crate::accepting::accepts;
+use crate::bound_search::{Ending, search};
+use crate::elimination::Elimination;
+use crate::filling::{fill, meets};
+use crate::lifting::{Reduction, lift};
+use crate::reducing::Reduced;
+use farkas_check::{System, Tree};
+use std::alloc::{AllocError, Global};
+use sv_list::Items;
+
+/// What a quick way finds of a system.
+#[derive(Debug, Drop)]
+pub enum Found {
+    /// A value for each unknown, which meet the rows.
+    Point(Items<i128>),
+    /// A tree that closes the system.
+    Closed(Tree),
+}
+
+/// The point of a reduced system with the values of the owned unknowns, where it meets the rows of the whole system.
+/// Linear in the rows' terms.
+pub fn restore_point(
+    system: &System,
+    elimination: &Elimination,
+    point: Items<i128>,
+) -> Option<Items<i128>>
+    ensures { IfSome result (IsPointOf system.now) }
+{
+    let mut point = point.into_vec();
+    if !fill(&mut point, elimination) {
+        return None;
+    }
+    if point.len() != system.unknowns as usize || !meets(system, &point) {
+        return None;
+    }
+    Some(Items::from_vec(point))
+}
+
+/// The tree of a reduced system as one of the whole system, where that closes it. Each leaf costs the rows of the
+/// whole, and a merge for each multiplier.
+pub fn restore_tree(
+    alloc: Global,
+    system: &System,
+    elimination: &Elimination,
+    reduced: &Reduced,
+    tree: &Tree,
+) -> Result<Option<Tree>, AllocError>
+    requires { NameUnknowns system.now.unknowns system.now.rows }
+    ensures { IfOk result (λ o. IfSome o (IsTreeOf system.now)) }
+{
+    let reduction = Reduction {
+        system,
+        elimination,
+        reduced,
+    };
+    match lift(alloc, reduction, tree)? {
+        None => Ok(None),
+        Some(tree) => Ok(accepted(alloc, system, tree)?),
+    }
+}
+
+/// The tree, where it closes the system.
+fn accepted(alloc: Global, system: &System, tree: Tree) -> Result<Option<Tree>, AllocError>
+    requires { NameUnknowns system.now.unknowns system.now.rows }
+    ensures { IfOk result (λ o. IfSome o (IsTreeOf system.now)) }
+{
+    if accepts(alloc, system, &tree)? {
+        Ok(Some(tree))
+    } else {
+        Ok(None)
+    }
+}
+
+/// Solves or closes a system by the bounds that the rows of its reduced system give one another.
+///
+/// A bound that isn't a whole number is rounded behind a split whose other side is closed at once; where no row
+/// narrows a range further, the narrowest range is cut in the middle, low side first. `None` behind 2,000 splits,
+/// where a number leaves 128 bits, or where 2^21 terms have been looked at and multipliers written down.
+pub fn solve_by_bounds(
+    alloc: Global,
+    system: &System,
+    elimination: &Elimination,
+    reduced: &Reduced,
+) -> Result<Option<Found>, AllocError>
+    requires { NameUnknowns system.now.unknowns system.now.rows }
+    ensures { IfOk result (λ o. IfSome o (IsFound system.now)) }
+{
+    let reduction = Reduction {
+        system,
+        elimination,
+        reduced,
+    };
+    match search(alloc, reduction)? {
+        None => Ok(None),
+        Some(Ending::Point(point)) => match restore_point(system, elimination, point) {
+            None => Ok(None),
+            Some(point) => Ok(Some(Found::Point(point))),
+        },
+        Some(Ending::Closed(tree)) => match accepted(alloc, system, tree)? {
+            None => Ok(None),
+            Some(tree) => Ok(Some(Found::Closed(tree))),
+        },
+    }
+}

@@ -1,0 +1,37 @@
+-- Parts by the machines of those that are met as they stand, and of the expressions that no word may be in.
+use Rattle.std.specs.Prelude.{◌≡◌, ℕ, ◌*◌, ◌^◌, ◌≤◌, ◌↔◌, ◌⊎◌, ⊤, Bool, true, false, List, [], ◌∷◌, ◌++◌}
+use Rattle.std.specs.List.{AllByRecursion}
+use Rattle.sv_word.specs.Words.{IsWord}
+use Rattle.sv_terms.specs.Language.{Word}
+use Rattle.sv_terms.specs.declared.regex.Regex.{Regex}
+use Rattle.machine_core.specs.declared.graph.Graph.{Graph}
+use Rattle.straight_line.specs.Bounds.{part_bound, product_by}
+use Rattle.straight_line.specs.Satisfying.{MeetsPart}
+use Rattle.straight_line.specs.declared.variable.Own.{Own}
+use Rattle.straight_line.specs.declared.variable.Own.TheVariants.{InRe}
+use Rattle.part_machines.specs.Kept.{IsMachineOf}
+use Rattle.part_machines.specs.Parts.{AreOfParts, IsOfPart}
+
+-- the word meets none of the parts
+abbrev pub MeetsNone : Word → List (Own × Bool) → Type 0
+MeetsNone w [] = ⊤
+MeetsNone w (part ∷ parts) = (MeetsPart w part → ⊥) × MeetsNone w parts
+
+-- how many sets of states the machine of a part has at most
+abbrev pub sets_bound : Own × Bool → ℕ
+sets_bound part = 2 ^ part_bound part
+
+-- machines of parts that are met, and of parts none of which is met, where a word meets all of some parts
+pub record AreSides (parts : List (Own × Bool)) (within outside : List Graph) : Type 0 where
+  pub met : List (Own × Bool)
+  pub barred : List (Own × Bool)
+  pub of_met : AreOfParts met within
+  pub of_barred : AreOfParts barred outside
+  pub words : (w : Word) → IsWord w → AllByRecursion (MeetsPart w) parts ↔ (AllByRecursion (MeetsPart w) met × MeetsNone w barred)
+  pub few : product_by part_bound met * product_by sets_bound barred ≤ product_by part_bound parts
+
+-- one part more: its machine is one more of those that are met, or of the others that of the expression that no word may be in
+abbrev pub AddsSide : Own × Bool → List Graph → List Graph → List Graph → List Graph → Type 0
+AddsSide part within more_within outside more_outside =
+    ((m : Graph) × IsOfPart part m × (more_within ≡ within ++ m ∷ []) × (more_outside ≡ outside))
+    ⊎ ((regex : Regex) × (m : Graph) × (part ≡ (InRe regex, false)) × IsMachineOf regex m × (more_within ≡ within) × (more_outside ≡ outside ++ m ∷ []))

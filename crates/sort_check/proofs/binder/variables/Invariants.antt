@@ -1,7 +1,0 @@
-use Rattle.std.proofs.Common.{◌≡◌, ◌++◌, map, drop}
-use Rattle.smt_names.specs.Form.{seen, forms}
-use Rattle.sort_check.specs.Binders.{variables}
-use Rattle.sort_check.proofs.binder.variables.Given as goal
-
-abbrev pub invariant-loop-item : goal.invariant-loop-item
-invariant-loop-item l = l.all ++ variables (forms (map seen (drop l.item-index l.items))) ≡ variables (forms (map seen l.items))

@@ -1,0 +1,13 @@
+mod Builds
+mod Calling
+mod Drafting
+mod Factors
+mod Keeping
+mod Layers
+mod Placing
+mod Settling
+mod Sharing
+mod Sorts
+mod Sums
+mod Tallying
+mod Telling

@@ -1,0 +1,59 @@
+-- What the parts of a draft are, with everything put in.
+use Rattle.std.specs.Prelude.{◌≡◌, ℕ, List, [], ◌∷◌, ◌++◌, length, map, get_or, Option, Some, None, Result, Ok, Err}
+use Rattle.std.specs.Map.{lookup}
+use Rattle.std.specs.Option.{option_map}
+use Rattle.sv_terms.specs.declared.entry.Body.{Body}
+use Rattle.sv_terms.specs.declared.sort.Sort.TheVariants as sort
+use Rattle.sv_terms.specs.declared.term.Term.{Term}
+use Rattle.term_draft.specs.declared.draft.Node.{Node}
+use Rattle.term_draft.specs.declared.draft.Node.TheVariants as node
+use Rattle.term_draft.specs.declared.draft.Part.{Part}
+use Rattle.term_draft.specs.declared.weight.Weight.{Weight}
+use Rattle.term_draft.specs.Bodies.{opaque, called, related, term_of}
+use Rattle.smt_names.specs.Signature.{Name, same_name}
+use Rattle.term_draft.specs.Weights.{plain, as_term, nth_if}
+
+-- what is at a place; past the end nothing is
+abbrev pub at_place : List Body → ℕ → Body
+at_place done p = get_or done p (opaque sort.Bool)
+
+abbrev pub at_places : List Body → List ℕ → List Body
+at_places done ps = map (at_place done) ps
+
+-- what a part is behind these
+abbrev pub sense : List Body → Node → Body
+sense done (node.Leaf b) = b
+sense done (node.Applied k ps) = plain k (at_places done ps)
+sense done (node.Called parameters b ps) = called parameters.now b.now (at_places done ps)
+sense done (node.Related t ps) = related t.now (at_places done ps)
+
+abbrev pub senses_from : List Body → List Part → List Body
+senses_from done [] = done
+senses_from done (p ∷ ps) = senses_from (done ++ sense done p.node ∷ []) ps
+
+-- what each part is
+abbrev pub senses : List Part → List Body
+senses ps = senses_from [] ps
+
+-- the answer of a draft to which this is added: its place, at the end; without memory the draft stays as it was
+abbrev pub Adds : {E : Type 0} → Body → List Body → List Body → Result ℕ E → Type 0
+Adds b old new (Ok place) = (place ≡ length old) × (new ≡ old ++ b ∷ [])
+Adds b old new (Err e) = new ≡ old
+
+-- the place that an index of names gives a name
+abbrev pub flat : Option (Option ℕ) → Option ℕ
+flat (Some o) = o
+flat None = None
+
+abbrev pub shown : Name → List (Name × Option ℕ) → Option ℕ
+shown n index = flat (lookup (same_name n) index)
+
+-- what the argument of a parameter is, by an index of the parameters
+abbrev pub place_found : List (Name × Option ℕ) → List ℕ → Name → Option ℕ
+place_found index arguments n = nth_if arguments (shown n index)
+
+abbrev pub weight_found : List (Name × Option ℕ) → List Weight → Name → Option Weight
+weight_found index weights n = option_map as_term (nth_if weights (shown n index))
+
+abbrev pub term_found : List Body → List (Name × Option ℕ) → List ℕ → Name → Option Term
+term_found done index arguments n = option_map (λ p. term_of (at_place done p)) (place_found index arguments n)

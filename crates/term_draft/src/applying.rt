@@ -1,0 +1,311 @@
+// What an application of a function is, once its arguments are built.
+ghost use Rattle.std.specs.Prelude.{◌≡◌, [], ◌∷◌, length, IfOk, MatchOption, map};
+ghost use Rattle.term_draft.specs.Bodies as b;
+ghost use Rattle.term_draft.specs.Ranks as r;
+ghost use Rattle.term_draft.specs.Weights as w;
+
+use crate::room::room;
+use crate::weight::op_sort;
+use smt_names::Sense;
+use std::alloc::{AllocError, Global};
+use sv_list::{Boxed, Copied, Items};
+use sv_terms::{Body, Op, Regex, Sort, Term, Transducer};
+use sv_word::{GREATEST_CHARACTER, Word};
+
+/// The sort of a sorted term, from its outermost function. Constant.
+#[tactic(auto, using(crate::proofs::Layers::sorts))]
+fn term_sort(term: &Term) -> Sort
+    ensures { result ≡ b.body_sort (Body.Term term.now) }
+{
+    match term {
+        Term::Truth(_) => Sort::Bool,
+        Term::Number(_) => Sort::Int,
+        Term::Text(_) => Sort::String,
+        Term::Constant(_, sort) => *sort,
+        Term::Apply(op, _) => op_sort(*op),
+        Term::InRe(_, _) => Sort::Bool,
+        Term::Related(_, _, _) => Sort::Bool,
+        Term::Opaque(sort) => *sort,
+    }
+}
+
+/// The sort of a sorted term, or RegLan. Constant.
+pub fn body_sort(body: &Body) -> Sort
+    ensures { result ≡ b.body_sort body.now }
+{
+    match body {
+        Body::Term(term) => term_sort(term),
+        Body::Language(_) => Sort::RegLan,
+    }
+}
+
+/// The term that it is; a regular expression is opaque where a term is wanted.
+pub fn into_term(body: Body) -> Term
+    ensures { result ≡ b.term_of body }
+{
+    match body {
+        Body::Term(term) => term,
+        Body::Language(_) => Term::Opaque(Sort::RegLan),
+    }
+}
+
+#[tactic(auto, using(crate::proofs::Layers::collecting))]
+fn into_terms(alloc: Global, bodies: Items<Body>) -> Result<Items<Term>, AllocError>
+    ensures { IfOk result (λ ts. ts ≡ map b.term_of bodies) }
+{
+    let mut all = room(alloc, bodies.len())?;
+    for body in bodies.into_vec() {
+        all.push(into_term(body))?;
+    }
+    Ok(all)
+}
+
+fn into_regex(body: Body) -> Regex
+    ensures { result ≡ b.regex_of body }
+{
+    match body {
+        Body::Term(_) => Regex::Empty,
+        Body::Language(regex) => regex,
+    }
+}
+
+#[tactic(auto, using(crate::proofs::Layers::collecting))]
+fn into_regexes(alloc: Global, bodies: Items<Body>) -> Result<Items<Regex>, AllocError>
+    ensures { IfOk result (λ rs. rs ≡ map b.regex_of bodies) }
+{
+    let mut all = room(alloc, bodies.len())?;
+    for body in bodies.into_vec() {
+        all.push(into_regex(body))?;
+    }
+    Ok(all)
+}
+
+pub fn opaque(sort: Sort) -> Body
+    ensures { result ≡ b.opaque sort }
+{
+    Body::Term(Term::Opaque(sort))
+}
+
+fn apply_op(alloc: Global, op: Op, bodies: Items<Body>) -> Result<Body, AllocError>
+    ensures { IfOk result (λ x. x ≡ r.apply op bodies) }
+{
+    Ok(Body::Term(Term::Apply(op, into_terms(alloc, bodies)?)))
+}
+
+/// The one of a list of one.
+#[tactic(auto, using(crate::proofs::Layers::few))]
+fn one<T: Drop>(mut items: Items<T>) -> Option<T>
+    ensures { MatchOption result (length items ≡ 1 → ⊥) (λ x. items ≡ x ∷ []) }
+{
+    if items.len() != 1 {
+        return None;
+    }
+    items.pop()
+}
+
+/// The two of a list of two.
+#[tactic(auto, using(crate::proofs::Layers::few))]
+fn two(mut bodies: Items<Body>) -> Option<(Body, Body)>
+    ensures { MatchOption result (length bodies ≡ 2 → ⊥) (λ p. bodies ≡ p.0 ∷ p.1 ∷ []) }
+{
+    if bodies.len() != 2 {
+        return None;
+    }
+    match bodies.pop() {
+        Some(second) => match bodies.pop() {
+            Some(first) => Some((first, second)),
+            None => None,
+        },
+        None => None,
+    }
+}
+
+#[tactic(auto, using(crate::proofs::Layers::shaped))]
+fn membership(alloc: Global, bodies: Items<Body>) -> Result<Body, AllocError>
+    ensures { IfOk result (λ x. x ≡ w.tested bodies) }
+{
+    match two(bodies) {
+        Some((word, regex)) => {
+            let word = Boxed::new(alloc, into_term(word))?;
+            Ok(Body::Term(Term::InRe(word, into_regex(regex))))
+        }
+        None => Ok(opaque(Sort::Bool)),
+    }
+}
+
+/// What a transducer relates.
+#[tactic(auto, using(crate::proofs::Layers::shaped))]
+#[inline(never)]
+pub fn relate(
+    alloc: Global,
+    transducer: &Transducer,
+    bodies: Items<Body>,
+) -> Result<Body, AllocError>
+    ensures { IfOk result (λ x. x ≡ b.related transducer.now bodies) }
+{
+    match two(bodies) {
+        Some((read, written)) => {
+            let transducer = Boxed::new(alloc, transducer.copy(alloc)?)?;
+            let read = Boxed::new(alloc, into_term(read))?;
+            let written = Boxed::new(alloc, into_term(written))?;
+            Ok(Body::Term(Term::Related(transducer, read, written)))
+        }
+        None => Ok(opaque(Sort::Bool)),
+    }
+}
+
+#[tactic(auto, using(crate::proofs::Layers::words))]
+fn term_word(term: Term) -> Option<Word>
+    ensures { result ≡ b.literal (Body.Term term) }
+{
+    match term {
+        Term::Text(word) => Some(word),
+        Term::Truth(_) => None,
+        Term::Number(_) => None,
+        Term::Constant(_, _) => None,
+        Term::Apply(_, _) => None,
+        Term::InRe(_, _) => None,
+        Term::Related(_, _, _) => None,
+        Term::Opaque(_) => None,
+    }
+}
+
+/// The word of a literal.
+fn literal(body: Body) -> Option<Word>
+    ensures { result ≡ b.literal body }
+{
+    match body {
+        Body::Term(term) => term_word(term),
+        Body::Language(_) => None,
+    }
+}
+
+fn text_of(word: Option<Word>) -> Body
+    ensures { result ≡ r.text_of word }
+{
+    match word {
+        Some(word) => Body::Language(Regex::Text(word)),
+        None => opaque(Sort::RegLan),
+    }
+}
+
+#[tactic(auto, using(crate::proofs::Layers::shaped))]
+fn worded(bodies: Items<Body>) -> Body
+    ensures { result ≡ w.worded bodies }
+{
+    match one(bodies) {
+        Some(body) => text_of(literal(body)),
+        None => opaque(Sort::RegLan),
+    }
+}
+
+/// The characters between two literals.
+#[tactic(auto, using(crate::proofs::Layers::shaped))]
+fn characters(low: &Word, high: &Word) -> Regex
+    ensures { result ≡ r.characters low.now high.now }
+{
+    match low.as_slice() {
+        [lo] => match high.as_slice() {
+            [hi] => {
+                if lo <= hi {
+                    Regex::Range(*lo, *hi)
+                } else {
+                    Regex::Empty
+                }
+            }
+            _ => Regex::Empty,
+        },
+        _ => Regex::Empty,
+    }
+}
+
+fn range_of(low: Option<Word>, high: Option<Word>) -> Body
+    ensures { result ≡ r.range_of low high }
+{
+    match low {
+        Some(low) => match high {
+            Some(high) => Body::Language(characters(&low, &high)),
+            None => opaque(Sort::RegLan),
+        },
+        None => opaque(Sort::RegLan),
+    }
+}
+
+#[tactic(auto, using(crate::proofs::Layers::shaped))]
+fn ranged(bodies: Items<Body>) -> Body
+    ensures { result ≡ w.ranged bodies }
+{
+    match two(bodies) {
+        Some((low, high)) => range_of(literal(low), literal(high)),
+        None => opaque(Sort::RegLan),
+    }
+}
+
+/// A regular expression of one part, by its sense.
+fn around(alloc: Global, sense: Sense, regex: Regex) -> Result<Regex, AllocError>
+    ensures { IfOk result (λ x. x ≡ w.around_one sense regex) }
+{
+    let regex = Boxed::new(alloc, regex)?;
+    match sense {
+        Sense::Star => Ok(Regex::Star(regex)),
+        Sense::Plus => Ok(Regex::Plus(regex)),
+        Sense::Opt => Ok(Regex::Opt(regex)),
+        Sense::Comp => Ok(Regex::Comp(regex)),
+        Sense::Loop(i, j) => Ok(Regex::Loop(regex, i, j)),
+        _ => Ok(Regex::Empty),
+    }
+}
+
+#[tactic(auto, using(crate::proofs::Layers::shaped))]
+fn combine_one(alloc: Global, sense: Sense, bodies: Items<Body>) -> Result<Body, AllocError>
+    ensures { IfOk result (λ x. x ≡ Body.Language (r.of_one (w.around_one sense) (map b.regex_of bodies))) }
+{
+    match one(bodies) {
+        Some(body) => Ok(Body::Language(around(alloc, sense, into_regex(body))?)),
+        None => Ok(Body::Language(Regex::Empty)),
+    }
+}
+
+/// The word of a character.
+fn one_character(alloc: Global, c: u32) -> Result<Word, AllocError>
+    ensures { IfOk result (λ x. x ≡ r.word_of c) }
+{
+    let mut word = Word::new(alloc);
+    if c <= GREATEST_CHARACTER {
+        word.push(c)?;
+        return Ok(word);
+    }
+    Ok(word)
+}
+
+/// An application that isn't opaque, in time linear in the number of arguments.
+#[inline(never)]
+pub fn apply(alloc: Global, sense: Sense, bodies: Items<Body>) -> Result<Body, AllocError>
+    ensures { IfOk result (λ x. x ≡ w.plain sense bodies) }
+{
+    match sense {
+        Sense::Truth(b) => Ok(Body::Term(Term::Truth(b))),
+        Sense::Meaning(op) => apply_op(alloc, op, bodies),
+        Sense::Equality(op) => apply_op(alloc, op, bodies),
+        Sense::Choice => apply_op(alloc, Op::IfThenElse, bodies),
+        Sense::Product => apply_op(alloc, Op::Multiply, bodies),
+        Sense::Replacement(op) => apply_op(alloc, op, bodies),
+        Sense::Opaque => Ok(opaque(Sort::Bool)),
+        Sense::Membership => membership(alloc, bodies),
+        Sense::TextOf => Ok(worded(bodies)),
+        Sense::Range => Ok(ranged(bodies)),
+        Sense::Empty => Ok(Body::Language(Regex::Empty)),
+        Sense::All => Ok(Body::Language(Regex::All)),
+        Sense::AnyChar => Ok(Body::Language(Regex::AnyChar)),
+        Sense::Character(c) => Ok(Body::Term(Term::Text(one_character(alloc, c)?))),
+        Sense::Concat => Ok(Body::Language(Regex::Concat(into_regexes(alloc, bodies)?))),
+        Sense::Union => Ok(Body::Language(Regex::Union(into_regexes(alloc, bodies)?))),
+        Sense::Inter => Ok(Body::Language(Regex::Inter(into_regexes(alloc, bodies)?))),
+        Sense::Diff => Ok(Body::Language(Regex::Diff(into_regexes(alloc, bodies)?))),
+        Sense::Star => combine_one(alloc, sense, bodies),
+        Sense::Plus => combine_one(alloc, sense, bodies),
+        Sense::Opt => combine_one(alloc, sense, bodies),
+        Sense::Comp => combine_one(alloc, sense, bodies),
+        Sense::Loop(_, _) => combine_one(alloc, sense, bodies),
+    }
+}

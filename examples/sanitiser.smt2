@@ -1,0 +1,11 @@
+; a page shows what was sought, once as it came and once escaped
+(declare-const sought String)
+(declare-const page String)
+(assert (str.contains page "<script"))
+(push)
+(assert (= page (str.++ "<p>You sought " sought "</p>")))
+(check-sat)
+(get-value (sought))
+(pop)
+(assert (= page (str.++ "<p>You sought " (str.replace_all sought "<" "&lt;") "</p>")))
+(check-sat)
