@@ -16,8 +16,6 @@
 mod fault;
 mod mark;
 mod stack;
-#[cfg(test)]
-mod tests;
 
 pub use fault::{Below, StackFault};
 pub use stack::Stack;

@@ -30,8 +30,6 @@ mod leaf_state;
 mod lifting;
 mod meeting;
 mod stepping;
-#[cfg(test)]
-mod tests;
 mod through;
 
 pub use carrying::carry_concat;

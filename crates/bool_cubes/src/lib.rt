@@ -31,8 +31,6 @@ mod planning;
 mod reading;
 mod roles;
 mod term_form;
-#[cfg(test)]
-mod tests;
 mod unknowns;
 
 pub use code::Written;

@@ -44,8 +44,6 @@ mod places;
 mod region;
 mod retracing;
 mod searching;
-#[cfg(test)]
-mod tests;
 mod tracing;
 
 pub use hit::Hit;

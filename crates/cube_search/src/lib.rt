@@ -40,8 +40,6 @@ mod spending;
 mod spreading;
 mod stepping;
 mod tally;
-#[cfg(test)]
-mod tests;
 mod trimming;
 
 pub use answer::{CubeAnswer, Refutation, answer_crosses};

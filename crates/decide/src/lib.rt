@@ -26,8 +26,6 @@ mod passing;
 mod spelling;
 mod splitting;
 mod tally;
-#[cfg(test)]
-mod tests;
 mod verdict;
 
 pub use checking::check;

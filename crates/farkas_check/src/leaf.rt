@@ -56,7 +56,8 @@ impl Leaf<'_> {
         true
     }
 
-    /// The sum of the multipliers times the rows' entries at a column, or none where a product or a partial sum isn't a number of 128 bits.
+    /// The sum of the multipliers times the rows' entries at a column, or none where a product or a partial sum isn't a
+    /// number of 128 bits.
     pub fn sum(&self, column: Column) -> Option<i128>
         requires { IsAllowed self.now }
         ensures { SomeIff result (SumFits (part_at column) (leaf_rows self.now) (pos 0) self.now.multipliers.now) (combined (part_at column) (leaf_rows self.now) self.now.multipliers.now) }

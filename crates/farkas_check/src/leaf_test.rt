@@ -25,8 +25,8 @@ pub enum LeafTest {
 
 /// Tests a Farkas leaf over these rows, which name unknowns below `unknowns` alone.
 ///
-/// Linear in the unknowns and in the terms of the rows that are named; only where a sum leaves 128 bits also a look at each row for each
-/// unknown. As `closes`, for a leaf of these rows.
+/// Linear in the unknowns and in the terms of the rows that are named; only where a sum leaves 128 bits also a look at
+/// each row for each unknown. As `closes`, for a leaf of these rows.
 pub fn test_farkas(
     alloc: Global,
     unknowns: u32,

@@ -30,8 +30,6 @@ mod leaf_test;
 mod net;
 mod rules;
 mod system;
-#[cfg(test)]
-mod tests;
 mod tree;
 
 pub use checker::closes;

@@ -25,8 +25,6 @@ mod question;
 mod rows;
 mod shortest;
 mod systems;
-#[cfg(test)]
-mod tests;
 mod words;
 
 pub use answering::leaf;

@@ -31,8 +31,6 @@ mod reduced_search;
 mod searching;
 mod solving;
 mod stop;
-#[cfg(test)]
-mod tests;
 mod visit;
 
 pub use evidence::Evidence;

@@ -1,5 +1,5 @@
--- Terms in ascending order: with a greater bound, with a term more, and looked at one by one; and rows with a row more.
-use Rattle.std.proofs.Common.{◌≡◌, ℕ, zero, suc, ◌+◌, ◌<◌, ◌≤◌, ◌^◌, ℤ, pos, ◌+ℤ◌, ◌*ℤ◌, List, [], ◌∷◌, ◌++◌, length, slice_get, get_or, Some, unsigned_abs, Bool, true, false, cond, eqb, ◌⊎◌, ⊎_elim, inl, inr, subst, sym, arith}
+-- Terms in ascending order: with a greater bound, with a term more, and looked at one by one.
+use Rattle.std.proofs.Common.{◌≡◌, ℕ, suc, ◌+◌, ◌<◌, ◌≤◌, ◌^◌, ℤ, pos, ◌+ℤ◌, ◌*ℤ◌, List, [], ◌∷◌, ◌++◌, length, get_or, unsigned_abs, Bool, true, false, cond, eqb, ◌⊎◌, inl, inr, subst, sym, arith}
 use Rattle.std.proofs.lemmas.Int.{ints}
 use Rattle.std.proofs.lemmas.Bool.Decides.{eqb_tells}
 use Rattle.sv_linear.specs.Combining.{IsSymmetric}
@@ -8,7 +8,6 @@ use Rattle.sv_linear.specs.TermLaws.{below_low}
 use Rattle.sv_linear.specs.Terms.{coefficient, terms_value, AscendsWithin}
 use Rattle.sv_linear.specs.declared.column.Column.TheVariants.{Unknown, Constant}
 use Rattle.sv_linear.specs.declared.form.Form.{Form}
-use Rattle.sv_linear.specs.declared.row.Row.{Row}
 
 pub wider : (low high more : ℕ) (ts : List (ℕ × ℤ)) → AscendsWithin low high ts → high ≤ more → AscendsWithin low more ts
 wider low high more [] a h = omega arith
@@ -48,12 +47,3 @@ coefficient_symmetric low high (t ∷ ts) a h u = by (eqb t.0 u) (eqb_tells t.0 
 pub entries_symmetric : (f : Form) → ((k : ℕ) → k < length f.coefficients → IsSymmetric (get_or f.coefficients k (0, pos 0)).1) → IsSymmetric f.constant → HasSymmetricEntries f
 entries_symmetric f h s (Unknown u) = coefficient_symmetric 0 (2 ^ 32) f.coefficients f.ascending h u
 entries_symmetric f h s Constant = s
-
-get_push_cases : {X : Type 0} (xs : List X) (y : X) (i : ℕ) (x : X) → slice_get (xs ++ y ∷ []) i ≡ Some x → (slice_get xs i ≡ Some x) ⊎ (y ≡ x)
-get_push_cases [] y zero x e = inr (cc)
-get_push_cases [] y (suc i) x e = cc
-get_push_cases (z ∷ zs) y zero x e = inl e
-get_push_cases (z ∷ zs) y (suc i) x e = get_push_cases zs y i x e
-
-pub each_pushed : (P : Row → Type 0) (rows : List Row) (row : Row) → ((i : ℕ) (r : Row) → slice_get rows i ≡ Some r → P r) → P row → (i : ℕ) (r : Row) → slice_get (rows ++ row ∷ []) i ≡ Some r → P r
-each_pushed P rows row h p i r g = ⊎_elim (λ l. h i r l) (λ e. subst P e p) (get_push_cases rows row i r g)

@@ -125,7 +125,8 @@ fn copy_of(alloc: Global, sum: &Sum) -> Result<Sum, AllocError> {
 struct Left {
     sums: Items<Sum>,
     kinds: Items<RowKind>,
-    /// Each place holds the number of a sum behind it by one, or 0; a sum stands at the place of its hash, or at the first free one behind it.
+    /// Each place holds the number of a sum behind it by one, or 0; a sum stands at the place of its hash, or at the
+    /// first free one behind it.
     table: Vec<usize>,
     terms: usize,
 }

@@ -40,8 +40,8 @@ pub fn restore_point(
     Some(Items::from_vec(point))
 }
 
-/// The tree of a reduced system as one of the whole system, where that closes it. Each leaf costs the rows of the
-/// whole, and a merge for each multiplier.
+/// The tree of a reduced system as one of the whole system, where that closes it. Each leaf costs the rows and unknowns
+/// of the whole, and the terms of the rows that it names.
 pub fn restore_tree(
     alloc: Global,
     system: &System,

@@ -35,8 +35,6 @@ mod status;
 mod table;
 mod tableau;
 mod terms;
-#[cfg(test)]
-mod tests;
 mod verdict;
 
 pub use bound::Bound;

@@ -35,8 +35,6 @@ mod laws;
 mod machine;
 mod run;
 mod state;
-#[cfg(test)]
-mod tests;
 
 pub use cost::Cost;
 pub use edge::Edge;

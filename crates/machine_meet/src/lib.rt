@@ -34,8 +34,6 @@ mod product;
 mod split;
 mod stars;
 mod sums;
-#[cfg(test)]
-mod tests;
 mod unions;
 
 pub use concats::concat;

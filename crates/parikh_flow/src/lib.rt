@@ -27,8 +27,6 @@ mod rows;
 mod running;
 mod sizes;
 mod terms;
-#[cfg(test)]
-mod tests;
 mod tour;
 
 pub use building::system_of;

@@ -32,8 +32,6 @@ mod part;
 mod pattern;
 mod pricing;
 mod table;
-#[cfg(test)]
-mod tests;
 
 pub use digests::{digest, digest_of_others};
 pub use keep::Keep;

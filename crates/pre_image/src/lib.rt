@@ -26,8 +26,6 @@ mod lifting;
 mod parts;
 mod pre;
 mod slice;
-#[cfg(test)]
-mod tests;
 mod ways;
 
 pub use joining::lift_concat;

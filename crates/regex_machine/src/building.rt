@@ -71,6 +71,7 @@ fn make(alloc: Global, regex: &Regex, limit: u64) -> Result<Explicit, BuildFault
 
 // One word of each, in their order.
 #[cycle(make)]
+#[inline(never)]
 fn make_turn(alloc: Global, rs: &[Regex], limit: u64) -> Result<Explicit, BuildFault>
     ensures { Builds (Together Turn In rs.now) (most_states Turn (weight Turn size rs.now)) limit result }
 {
@@ -82,6 +83,7 @@ fn make_turn(alloc: Global, rs: &[Regex], limit: u64) -> Result<Explicit, BuildF
 
 // A word of one at least.
 #[cycle(make)]
+#[inline(never)]
 fn make_one(alloc: Global, rs: &[Regex], limit: u64) -> Result<Explicit, BuildFault>
     ensures { Builds (Together One In rs.now) (most_states One (weight One size rs.now)) limit result }
 {
@@ -93,6 +95,7 @@ fn make_one(alloc: Global, rs: &[Regex], limit: u64) -> Result<Explicit, BuildFa
 
 // A word of the expression, and then what follows.
 #[cycle(make)]
+#[inline(never)]
 fn before(
     alloc: Global,
     regex: &Regex,
@@ -131,6 +134,7 @@ fn before(
 
 // One word of each, in their order, and then what follows: from the last one on.
 #[cycle(make)]
+#[inline(never)]
 fn before_each(
     alloc: Global,
     rs: &[Regex],
@@ -157,6 +161,7 @@ fn before_each(
 
 // A word of one at least, and then what follows, which all of them share.
 #[cycle(make)]
+#[inline(never)]
 fn before_one(
     alloc: Global,
     rs: &[Regex],
@@ -186,6 +191,7 @@ fn before_one(
 }
 
 #[cycle(make)]
+#[inline(never)]
 fn make_complement(alloc: Global, r: &Regex, limit: u64) -> Result<Explicit, BuildFault>
     ensures { Builds (λ w. IsWord w × (In r.now w → ⊥)) (2 ^ size r.now) limit result }
 {
@@ -207,6 +213,7 @@ fn make_loop(alloc: Global, r: &Regex, i: u32, j: u32, limit: u64) -> Result<Exp
 }
 
 #[cycle(make)]
+#[inline(never)]
 fn make_copies(
     alloc: Global,
     r: &Regex,
@@ -225,6 +232,7 @@ fn make_copies(
 }
 
 #[cycle(make)]
+#[inline(never)]
 fn make_difference(alloc: Global, rs: &[Regex], limit: u64) -> Result<Explicit, BuildFault>
     ensures { Builds (InFirstOnly In rs.now) (from_left without_size (map size rs.now)) limit result }
 {
@@ -234,6 +242,7 @@ fn make_difference(alloc: Global, rs: &[Regex], limit: u64) -> Result<Explicit, 
 
 // The machine of each expression.
 #[cycle(make)]
+#[inline(never)]
 fn make_all(alloc: Global, rs: &[Regex], limit: u64) -> Result<Items<Explicit>, BuildFault>
     ensures made { IfOk result (AreMade rs.now) }
     ensures beyond { (n : ℕ) → result ≡ Err (States n) → (limit < from_left without_size (map size rs.now)) × (limit < 2 ^ 32) }
@@ -248,6 +257,7 @@ fn make_all(alloc: Global, rs: &[Regex], limit: u64) -> Result<Items<Explicit>, 
 
 // A word of all.
 #[cycle(make)]
+#[inline(never)]
 fn make_inter(alloc: Global, rs: &[Regex], limit: u64) -> Result<Explicit, BuildFault>
     ensures { Builds (Together All In rs.now) (most_states All (weight All size rs.now)) limit result }
 {
@@ -258,6 +268,7 @@ fn make_inter(alloc: Global, rs: &[Regex], limit: u64) -> Result<Explicit, Build
 
 // Adds the machines of a list. A list of this kind within it counts as its elements.
 #[cycle(make)]
+#[inline(never)]
 fn add_parts(
     alloc: Global,
     parts: &mut Items<Explicit>,
@@ -274,6 +285,7 @@ fn add_parts(
 }
 
 #[cycle(make)]
+#[inline(never)]
 fn add_part(
     alloc: Global,
     parts: &mut Items<Explicit>,

@@ -22,6 +22,7 @@ use sv_list::Items;
 use trim_search::BuildFault;
 
 /// The words of all parts.
+#[inline(never)]
 pub fn all_of(alloc: Global, parts: &[Explicit], limit: u64) -> Result<Explicit, BuildFault>
     requires { ArePlain parts.now }
     ensures { Builds (Together All WordsOf parts.now) (most_states All (weight All states_of parts.now)) limit result }
@@ -32,6 +33,7 @@ pub fn all_of(alloc: Global, parts: &[Explicit], limit: u64) -> Result<Explicit,
 
 /// From `least` to `most` words of the part, one after another, or `least` and more where they may come
 /// `again`.
+#[inline(never)]
 pub fn copied(
     alloc: Global,
     part: &Explicit,
@@ -51,6 +53,7 @@ pub fn copied(
 }
 
 /// The words that aren't in the part.
+#[inline(never)]
 pub fn complement(alloc: Global, part: &Explicit, limit: u64) -> Result<Explicit, BuildFault>
     requires { part.now.registers ≡ 0 }
     ensures { Builds (λ w. IsWord w × (WordsOf part.now w → ⊥)) (2 ^ part.now.states) limit result }
@@ -73,6 +76,7 @@ fn outsides<'a>(alloc: Global, parts: &'a [Explicit]) -> Result<Items<Side<'a>>,
 }
 
 /// The words of the first part that are in no other, and none where there is no part.
+#[inline(never)]
 pub fn difference(alloc: Global, parts: &[Explicit], limit: u64) -> Result<Explicit, BuildFault>
     requires { ArePlain parts.now }
     ensures { Builds (InFirstOnly WordsOf parts.now) (from_left without_size (map states_of parts.now)) limit result }

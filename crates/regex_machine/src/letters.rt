@@ -11,6 +11,7 @@ use sv_word::{GREATEST_CHARACTER, Ranges, Word};
 use trim_search::BuildFault;
 
 /// What was made, and `States` where it has more than `limit` states.
+#[inline(never)]
 pub fn fit(made: Result<Explicit, AllocError>, limit: u64) -> Result<Explicit, BuildFault>
     ensures { Fits limit made result }
 {
@@ -26,6 +27,7 @@ pub fn fit(made: Result<Explicit, AllocError>, limit: u64) -> Result<Explicit, B
 }
 
 /// No word.
+#[inline(never)]
 pub fn nothing(alloc: Global) -> Result<Explicit, AllocError>
     ensures reads { IfOk result (Reads (λ w. ⊥)) }
     ensures states { IfOk result (λ m. m.states ≤ 1) }
@@ -35,6 +37,7 @@ pub fn nothing(alloc: Global) -> Result<Explicit, AllocError>
 }
 
 /// Every word.
+#[inline(never)]
 pub fn everything(alloc: Global) -> Result<Explicit, AllocError>
     ensures reads { IfOk result (Reads IsWord) }
     ensures states { IfOk result (λ m. m.states ≤ 1) }
@@ -66,6 +69,7 @@ pub fn one_of(alloc: Global, on: Ranges) -> Result<Explicit, AllocError>
 }
 
 /// The words of one character.
+#[inline(never)]
 pub fn any_character(alloc: Global) -> Result<Explicit, AllocError>
     ensures reads { IfOk result (Reads (λ w. (c : ℕ) × (c ≤ greatest_character) × (w ≡ c ∷ []))) }
     ensures states { IfOk result (λ m. m.states ≤ 2) }
@@ -83,6 +87,7 @@ fn cut_off_at_last(n: u32) -> u32
 }
 
 /// The characters between two.
+#[inline(never)]
 pub fn between(alloc: Global, lo: u32, hi: u32) -> Result<Ranges, AllocError>
     ensures { IfOk result (λ on. (c : ℕ) → in_ranges on c ≡ (nat_le lo c && nat_le c (min hi greatest_character))) }
 {
@@ -92,6 +97,7 @@ pub fn between(alloc: Global, lo: u32, hi: u32) -> Result<Ranges, AllocError>
 }
 
 /// The words of one character between two.
+#[inline(never)]
 pub fn range(alloc: Global, lo: u32, hi: u32) -> Result<Explicit, AllocError>
     ensures reads { IfOk result (Reads (λ w. (c : ℕ) × (lo ≤ c) × (c ≤ hi) × (c ≤ greatest_character) × (w ≡ c ∷ []))) }
     ensures states { IfOk result (λ m. m.states ≤ 2) }
@@ -103,6 +109,7 @@ pub fn range(alloc: Global, lo: u32, hi: u32) -> Result<Explicit, AllocError>
 }
 
 /// The empty word alone.
+#[inline(never)]
 pub fn empty_word(alloc: Global) -> Result<Explicit, AllocError>
     ensures reads { IfOk result (Reads (λ w. w ≡ [])) }
     ensures states { IfOk result (λ m. m.states ≤ 1) }
@@ -113,6 +120,7 @@ pub fn empty_word(alloc: Global) -> Result<Explicit, AllocError>
 }
 
 /// This word alone. Linear in its length.
+#[inline(never)]
 pub fn text(alloc: Global, word: &Word) -> Result<Explicit, AllocError>
     ensures reads { IfOk result (Reads (λ w. (w ≡ word.now) × IsWord w)) }
     ensures states { IfOk result (λ m. m.states ≤ length word.now + 1) }

@@ -26,8 +26,6 @@ mod letters;
 mod onward;
 mod sides;
 mod stepping;
-#[cfg(test)]
-mod tests;
 mod woven;
 mod written;
 

@@ -41,6 +41,7 @@ pub fn state_of(
 }
 
 /// One character of the set, and then what follows.
+#[inline(never)]
 pub fn letter(
     alloc: Global,
     states: &mut Items<Onward>,
@@ -75,6 +76,7 @@ pub fn alone(moves: Items<Move<u32>>, may_end: bool) -> Rest
 }
 
 /// This word, and then what follows. Linear in the word.
+#[inline(never)]
 pub fn text(
     alloc: Global,
     states: &mut Items<Onward>,
@@ -100,6 +102,7 @@ pub fn text(
 
 /// The words of the part, and then what follows. Each state of the part is one state more, which has
 /// what follows where a word of the part may end. Linear in the part, and in its ends times what follows.
+#[inline(never)]
 pub fn embed(
     alloc: Global,
     states: &mut Items<Onward>,
@@ -192,6 +195,7 @@ fn count_from(
 }
 
 /// Nothing, behind the whole.
+#[inline(never)]
 pub fn nothing_more(alloc: Global) -> Rest
     ensures moves { result.onward.moves ≡ [] }
     ensures may_end { result.onward.may_end ≡ true }
@@ -201,6 +205,7 @@ pub fn nothing_more(alloc: Global) -> Rest
 }
 
 /// The machine that reads what follows here, with the states that are reached.
+#[inline(never)]
 pub fn finish(
     alloc: Global,
     states: Items<Onward>,

@@ -16,7 +16,5 @@ mod contents;
 mod derivative;
 mod nullable;
 mod ordered;
-#[cfg(test)]
-mod tests;
 
 pub use contents::contains;

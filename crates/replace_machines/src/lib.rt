@@ -19,8 +19,6 @@
 mod edges;
 mod replacing;
 mod rows;
-#[cfg(test)]
-mod tests;
 
 pub use replacing::{replace_all, replace_first};
 pub use rows::{FailureAutomaton, Row, failure_automaton, row_at};

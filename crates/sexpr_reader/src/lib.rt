@@ -36,6 +36,3 @@ pub use laws::{formed_parts, list_whole, more_bytes, one_reading, pieces_join};
 pub use reader::Reader;
 pub use sexpr::Sexpr;
 pub use syntax_fault::SyntaxFault;
-
-#[cfg(test)]
-mod tests;

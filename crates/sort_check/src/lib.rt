@@ -31,8 +31,3 @@ pub use laws::{
     constants_valued, terms_sorted, well_formed_entries, well_formed_first, well_formed_more,
 };
 pub use smt_names::CheckFault;
-
-#[cfg(test)]
-mod shown;
-#[cfg(test)]
-mod tests;

@@ -23,7 +23,5 @@ mod marks;
 mod search;
 mod subset;
 mod targets;
-#[cfg(test)]
-mod tests;
 
 pub use subset::Subset;

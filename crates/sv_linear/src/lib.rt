@@ -23,8 +23,6 @@ mod form;
 mod number;
 mod row;
 mod terms;
-#[cfg(test)]
-mod tests;
 
 pub use column::Column;
 pub use fault::{CombineFault, FormFault};

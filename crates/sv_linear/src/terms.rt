@@ -21,7 +21,8 @@ pub(crate) fn coefficient_at(terms: &[(u32, i128)], unknown: u32) -> i128
     }
 }
 
-/// p times a and q times b added up, or the first unknown at which a product or the sum isn't a number of 128 bits or is below `least`.
+/// p times a and q times b added up, or the first unknown at which a product or the sum isn't a number of 128 bits or
+/// is below `least`.
 pub(crate) fn merged(
     alloc: Global,
     p: i128,

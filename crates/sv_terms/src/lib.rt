@@ -29,8 +29,6 @@ mod regex;
 mod sort;
 mod symbols;
 mod term;
-#[cfg(test)]
-mod tests;
 mod transducer;
 mod value;
 

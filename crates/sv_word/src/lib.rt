@@ -26,8 +26,6 @@ mod pieces;
 mod printing;
 mod ranges;
 mod reading;
-#[cfg(test)]
-mod tests;
 mod utf8;
 mod word;
 

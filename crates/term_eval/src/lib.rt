@@ -17,8 +17,6 @@ mod functions;
 mod laws;
 mod strings;
 mod sums;
-#[cfg(test)]
-mod tests;
 mod truths;
 
 pub use evaluation::{eval, has_opaque};

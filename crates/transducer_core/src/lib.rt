@@ -18,8 +18,6 @@ mod layers;
 mod node;
 mod output_words;
 mod reached;
-#[cfg(test)]
-mod tests;
 mod writing;
 
 pub use finding::run_pair;

@@ -1,0 +1,16 @@
+//! Tests of the public calls on families of machines: parts and their meetings, the way back, searches in a box, edge counts and leaves.
+//!
+//! A module for each crate that is called. They stand apart from what they call, so that proving them proves no crate
+//! a second time.
+#![tactic(auto)]
+
+#[cfg(test)]
+mod backward_calls;
+#[cfg(test)]
+mod box_search_calls;
+#[cfg(test)]
+mod leaf_solve_calls;
+#[cfg(test)]
+mod parikh_flow_calls;
+#[cfg(test)]
+mod part_machines_calls;

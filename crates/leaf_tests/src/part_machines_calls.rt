@@ -1,0 +1,164 @@
+//! Parts at concrete words, to hold and not to hold.
+ghost use Rattle.std.specs.Prelude.{◌≡◌, ◌∷◌, [], IfOk};
+
+use lang_pool::Found;
+use machine_core::{Cost, Explicit};
+use part_machines::{Machines, digest, digest_of_others, own_machine, part_machine};
+use std::alloc::{AllocError, Global};
+use straight_line::Own;
+use sv_list::{Boxed, Items};
+use sv_terms::Regex;
+use sv_word::Word;
+use trim_search::BuildFault;
+
+// The word "a".
+fn letter(alloc: Global) -> Result<Word, AllocError>
+    ensures { IfOk result (λ w. w ≡ 97 ∷ []) }
+{
+    let mut word = Word::new(alloc);
+    word.push(97)?;
+    Ok(word)
+}
+
+// Where a state leads on a byte.
+fn step(machine: &Explicit, at: u32, byte: u8) -> Option<u32> {
+    for edge in machine.edges() {
+        if edge.from == at && edge.on.holds(u32::from(byte)) {
+            return Some(edge.to);
+        }
+    }
+    None
+}
+
+fn ends(machine: &Explicit, at: u32) -> bool {
+    for end in machine.finals() {
+        if end.at == at {
+            return true;
+        }
+    }
+    false
+}
+
+// Whether a deterministic machine reads the text.
+fn reads(machine: &Explicit, text: &str) -> bool {
+    let mut at = 0;
+    for byte in text.as_bytes() {
+        match step(machine, at, *byte) {
+            Some(to) => at = to,
+            None => return false,
+        }
+    }
+    ends(machine, at)
+}
+
+// Whether the machine of a part reads the first text, and not the second.
+fn tells(alloc: Global, own: Own, holds: bool, yes: &str, no: &str) -> Result<bool, BuildFault> {
+    let part = (own, holds);
+    let kept = Machines::new(alloc, Vec::new(alloc))?;
+    let machine = part_machine(alloc, &part, &kept)?;
+    let first = reads(&machine, yes);
+    let second = reads(&machine, no);
+    Ok(first && !second)
+}
+
+#[test]
+fn digits(rt: HostRuntime) -> Result<(), BuildFault> {
+    let alloc = rt.alloc();
+    assert!(rt; tells(alloc, Own::Digit, true, "9", ":")?);
+    assert!(rt; tells(alloc, Own::Digit, false, "00", "0")?);
+    Ok(())
+}
+
+#[test]
+fn patterns(rt: HostRuntime) -> Result<(), BuildFault> {
+    let alloc = rt.alloc();
+    assert!(rt; tells(alloc, Own::Contains(letter(alloc)?), true, "bab", "bb")?);
+    assert!(rt; tells(alloc, Own::Suffix(letter(alloc)?), false, "ab", "ba")?);
+    assert!(rt; tells(alloc, Own::Prefix(letter(alloc)?), true, "ab", "ba")?);
+    Ok(())
+}
+
+// Whether the machine of the expression is kept.
+fn is_kept(alloc: Global, kept: &Machines, expression: &Regex) -> Result<bool, BuildFault> {
+    let found = kept.kept(alloc, expression)?;
+    Ok(matches!(found, Found::Shared(_)))
+}
+
+fn digests_of(alloc: Global, expressions: &[Regex]) -> Result<Vec<u64>, AllocError> {
+    let mut digests = Vec::new(alloc);
+    for expression in expressions {
+        digests.push(digest(expression))?;
+    }
+    Ok(digests)
+}
+
+#[test]
+fn machines_are_kept_where_they_have_a_place(rt: HostRuntime) -> Result<(), BuildFault> {
+    let alloc = rt.alloc();
+    let kept = Machines::new(alloc, digests_of(alloc, &[Regex::All, Regex::All])?)?;
+    let part = (Own::InRe(Regex::All), true);
+    part_machine(alloc, &part, &kept)?;
+    assert!(rt; is_kept(alloc, &kept, &Regex::All)?);
+    assert!(rt; !is_kept(alloc, &kept, &Regex::AnyChar)?);
+    Ok(())
+}
+
+// An expression is kept though others were before it: its place is its own.
+#[test]
+fn each_expression_has_one_place(rt: HostRuntime) -> Result<(), BuildFault> {
+    let alloc = rt.alloc();
+    let expressions = [Regex::All, Regex::AnyChar, Regex::All, Regex::Empty];
+    let kept = Machines::new(alloc, digests_of(alloc, &expressions)?)?;
+    assert!(rt; is_kept(alloc, &kept, &Regex::All)?);
+    assert!(rt; is_kept(alloc, &kept, &Regex::AnyChar)?);
+    assert!(rt; is_kept(alloc, &kept, &Regex::Empty)?);
+    Ok(())
+}
+
+fn others_alone(alloc: Global, expression: &Regex) -> Result<Vec<u64>, AllocError> {
+    let mut digests = Vec::new(alloc);
+    digests.push(digest_of_others(expression))?;
+    Ok(digests)
+}
+
+// The complement of an expression is kept as one, though the expression isn't asked for.
+#[test]
+fn complements_are_kept(rt: HostRuntime) -> Result<(), BuildFault> {
+    let alloc = rt.alloc();
+    let kept = Machines::new(alloc, others_alone(alloc, &Regex::AnyChar)?)?;
+    let part = (Own::InRe(Regex::AnyChar), false);
+    part_machine(alloc, &part, &kept)?;
+    let others = Regex::Comp(Boxed::new(alloc, Regex::AnyChar)?);
+    assert!(rt; is_kept(alloc, &kept, &others)?);
+    assert!(rt; !is_kept(alloc, &kept, &Regex::AnyChar)?);
+    Ok(())
+}
+
+fn a_or_b(alloc: Global) -> Result<Regex, AllocError> {
+    let mut letters = Items::new(alloc);
+    letters.push(Regex::Range(97, 98))?;
+    Ok(Regex::Union(letters))
+}
+
+// The words over "a" and "b" in which the last letter but 20 is "a": a complete machine of sets has 2^21 states.
+fn a_before_twenty(alloc: Global) -> Result<Regex, AllocError> {
+    let mut parts = Items::new(alloc);
+    parts.push(Regex::Star(Boxed::new(alloc, a_or_b(alloc)?)?))?;
+    parts.push(Regex::Text(letter(alloc)?))?;
+    parts.push(Regex::Loop(Boxed::new(alloc, a_or_b(alloc)?)?, 20, 20))?;
+    Ok(Regex::Concat(parts))
+}
+
+// A word that may not be in an expression takes the sets that it leads to alone.
+#[test]
+fn others_are_met_as_far_as_a_word_leads(rt: HostRuntime) -> Result<(), BuildFault> {
+    let alloc = rt.alloc();
+    let kept = Machines::new(alloc, Vec::new(alloc))?;
+    let mut parts = Items::new(alloc);
+    parts.push((Own::InRe(a_before_twenty(alloc)?), false))?;
+    parts.push((Own::Word(letter(alloc)?), true))?;
+    let machine = own_machine(alloc, parts.as_slice(), &Cost::new(alloc), &kept)?;
+    assert!(rt; reads(&machine, "a"));
+    assert!(rt; machine.states() <= 3);
+    Ok(())
+}

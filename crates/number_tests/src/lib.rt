@@ -1,0 +1,14 @@
+//! Tests of the public calls on whole numbers: linear forms, certificates, the tableau, quick ways and splits.
+//!
+//! A module for each crate that is called. They stand apart from what they call, so that proving them proves no crate
+//! a second time.
+#![tactic(auto)]
+
+#[cfg(test)]
+mod farkas_check_calls;
+#[cfg(test)]
+mod lia_branch_calls;
+#[cfg(test)]
+mod lia_tableau_calls;
+#[cfg(test)]
+mod sv_linear_calls;

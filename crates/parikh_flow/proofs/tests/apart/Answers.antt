@@ -1,7 +1,0 @@
-use Rattle.parikh_flow.proofs.TestCounts.{apart-balances}
-use Rattle.parikh_flow.proofs.tests.apart.Goals as goal
-
-pub run_of-requires-clause-balanced : goal.run_of-requires-clause-balanced
-run_of-requires-clause-balanced c =
-    let e = c.in_ok-machine.ensures in
-    apart-balances c.in_ok-machine.machine e.sources e.targets e.ends

@@ -1,0 +1,248 @@
+use sexpr_reader::{Kind, Reader, Sexpr, SyntaxFault};
+use std::alloc::{AllocError, Global};
+
+/// One letter a kind.
+fn letter(kind: Kind) -> u8 {
+    match kind {
+        Kind::Numeral => b'N',
+        Kind::Decimal => b'D',
+        Kind::Hexadecimal => b'H',
+        Kind::Binary => b'B',
+        Kind::Symbol => b'S',
+        Kind::Quoted => b'Q',
+        Kind::Keyword => b'K',
+        Kind::Literal => b'L',
+    }
+}
+
+/// The items one after another: an atom as its kind's letter, a colon, its bytes and a space, a list between brackets.
+#[cycle(write)]
+fn write_items(out: &mut Vec<u8>, items: &[Sexpr]) -> Result<(), AllocError> {
+    for item in items {
+        write_item(out, item)?;
+    }
+    Ok(())
+}
+
+#[cycle(write)]
+fn write_item(out: &mut Vec<u8>, item: &Sexpr) -> Result<(), AllocError> {
+    match item {
+        Sexpr::Atom(kind, bytes) => {
+            out.extend_from_slice(&[letter(*kind), b':'])?;
+            out.extend_from_slice(bytes.as_slice())?;
+            out.extend_from_slice(b" ")
+        }
+        Sexpr::List(items) => {
+            out.extend_from_slice(b"[")?;
+            write_items(out, items.as_slice())?;
+            out.extend_from_slice(b"]")
+        }
+    }
+}
+
+fn write_fault(alloc: Global, out: &mut Vec<u8>, fault: SyntaxFault) -> Result<(), AllocError> {
+    let text = match fault {
+        SyntaxFault::Token(place) => format!(in alloc; "token {place}")?,
+        SyntaxFault::Close(place) => format!(in alloc; "close {place}")?,
+        SyntaxFault::Depth(place) => format!(in alloc; "depth {place}")?,
+        SyntaxFault::Literal(place) => format!(in alloc; "literal {place}")?,
+        SyntaxFault::Incomplete => format!(in alloc; "incomplete")?,
+        SyntaxFault::Memory(error) => return Err(error),
+    };
+    out.extend_from_slice(text.as_bytes())
+}
+
+/// Writes the items that are whole, and answers whether a fault stands behind them.
+fn drain(alloc: Global, reader: &mut Reader, out: &mut Vec<u8>) -> Result<bool, AllocError> {
+    for _ in 0..u64::MAX {
+        match reader.next() {
+            Ok(Some(item)) => write_item(out, &item.copy(alloc)?)?,
+            Ok(None) => return Ok(false),
+            Err(fault) => {
+                write_fault(alloc, out, fault)?;
+                return Ok(true);
+            }
+        }
+    }
+    Ok(false)
+}
+
+/// What the end of the input brings.
+fn drain_end(alloc: Global, reader: &mut Reader, out: &mut Vec<u8>) -> Result<(), AllocError> {
+    for _ in 0..u64::MAX {
+        match reader.end() {
+            Ok(Some(item)) => write_item(out, &item)?,
+            Ok(None) => return Ok(()),
+            Err(fault) => return write_fault(alloc, out, fault),
+        }
+    }
+    Ok(())
+}
+
+/// What the input is read as, in pieces of this size.
+fn reading(alloc: Global, input: &[u8], size: usize) -> Result<Vec<u8>, AllocError> {
+    let mut reader = Reader::new(alloc);
+    let mut out = Vec::new(alloc);
+    for piece in input.chunks(size.max(1)) {
+        reader.feed(piece)?;
+        if drain(alloc, &mut reader, &mut out)? {
+            return Ok(out);
+        }
+    }
+    drain_end(alloc, &mut reader, &mut out)?;
+    Ok(out)
+}
+
+#[test]
+fn inputs_are_read_in_any_pieces(rt: HostRuntime) -> Result<(), AllocError> {
+    let alloc = rt.alloc();
+    for (input, expected) in [
+        ("", ""),
+        (" \t\r\n", ""),
+        (
+            "a 0 1.50 #xFf #b01 |q q| :k \"l\"",
+            "S:a N:0 D:1.50 H:#xFf B:#b01 Q:|q q| K::k L:\"l\" ",
+        ),
+        ("(a (b) ())", "[S:a [S:b ][]]"),
+        ("(check-sat))(check-sat)", "[S:check-sat ]close 11"),
+        ("(assert (", "incomplete"),
+        ("(push 1)(pop 01)", "[S:push N:1 ]token 13"),
+        ("x#1", "token 0"),
+        ("1a", "token 0"),
+        ("1. ", "token 0"),
+        ("00.1", "token 0"),
+        (".5 -1 +", "S:.5 S:-1 S:+ "),
+        ("a #x", "S:a token 2"),
+        ("#X1", "token 0"),
+        ("#b2", "token 0"),
+        (":", "token 0"),
+        (":1", "token 0"),
+        ("a:b", "token 0"),
+        ("|a\\", "token 0"),
+        ("(|a| |b\\c| ))", "token 5"),
+        ("|a|b|c|", "Q:|a| S:b Q:|c| "),
+        ("|a;\"(\r\n|", "Q:|a;\"(\r\n| "),
+        ("|a", "incomplete"),
+        ("ab\"c\"\"d\"e;f", "S:ab L:\"c\"\"d\" S:e "),
+        ("\"\"", "L:\"\" "),
+        ("\"a\"\"", "incomplete"),
+        ("\"a\"\"\"", "L:\"a\"\"\" "),
+        ("a;b\rc;d\ne;f", "S:a S:c S:e "),
+        ("(a ; )", "incomplete"),
+        ("(a ; )\n)", "[S:a ]"),
+        ("a\x0b", "token 0"),
+        ("({", "token 1"),
+    ] {
+        for size in [1, 2, 3, 4096, usize::MAX] {
+            let read = reading(alloc, input.as_bytes(), size)?;
+            assert_eq!(rt; read.as_slice(), expected.as_bytes(), "{input} by {size}");
+        }
+    }
+    Ok(())
+}
+
+#[test]
+fn any_byte_may_stand_in_a_comment_or_quoted_symbol(rt: HostRuntime) -> Result<(), AllocError> {
+    let alloc = rt.alloc();
+    let rows: [(&[u8], &[u8]); 15] = [
+        (b";\0\x80\xff\nx", b"S:x "),
+        (b"|\0\x80\xff|", b"Q:|\0\x80\xff| "),
+        (b"\"\0\"", b"L:\"\0\" "),
+        (b"\"\xc3\xa9\"", b"L:\"\xc3\xa9\" "),
+        (
+            b"\"\\x\\u{2ffff}\\u{30000}\"",
+            b"L:\"\\x\\u{2ffff}\\u{30000}\" ",
+        ),
+        (b"\"\xf0\xaf\xbf\xbf\"", b"L:\"\xf0\xaf\xbf\xbf\" "),
+        (b"(\"\xf0\xb0\x80\x80\")", b"literal 1"),
+        (b"x \"\xff\"", b"S:x literal 2"),
+        (b"x \"\xff", b"S:x incomplete"),
+        (b"a\0", b"token 0"),
+        (b" a\x80", b"token 1"),
+        (b"1\0", b"token 0"),
+        (b"1.0\x80", b"token 0"),
+        (b"#x1\0", b"token 0"),
+        (b":a\xff", b"token 0"),
+    ];
+    for (input, expected) in rows {
+        for size in [1, 2, 3, 4096] {
+            let read = reading(alloc, input, size)?;
+            assert_eq!(rt; read.as_slice(), expected, "{input:?} by {size}");
+        }
+    }
+    Ok(())
+}
+
+#[test]
+fn lists_are_nested_up_to_the_limit(rt: HostRuntime) -> Result<(), AllocError> {
+    let alloc = rt.alloc();
+    let mut input = Vec::new(alloc);
+    let mut expected = Vec::new(alloc);
+    for _ in 0..1_000 {
+        input.push(b'(')?;
+        expected.push(b'[')?;
+    }
+    assert_eq!(rt;
+        reading(alloc, &input, 7)?.as_slice(),
+        b"incomplete".as_slice()
+    );
+    for _ in 0..1_000 {
+        input.push(b')')?;
+        expected.push(b']')?;
+    }
+    assert_eq!(rt;
+        reading(alloc, &input, 4_096)?.as_slice(),
+        expected.as_slice()
+    );
+    input.insert(0, b'(')?;
+    assert_eq!(rt;
+        reading(alloc, &input, 3)?.as_slice(),
+        b"depth 1000".as_slice()
+    );
+    Ok(())
+}
+
+#[test]
+fn a_fault_stays_and_little_is_kept(rt: HostRuntime) -> Result<(), AllocError> {
+    let alloc = rt.alloc();
+    let mut reader = Reader::new(alloc);
+    reader.feed(b"(a \"bc\" ; comment")?;
+    assert!(rt; matches!(reader.next(), Ok(None)));
+    assert_eq!(rt; reader.held(), 0);
+    reader.feed(b"\n def")?;
+    assert!(rt; matches!(reader.next(), Ok(None)));
+    assert_eq!(rt; reader.held(), 3);
+    reader.feed(b") )")?;
+    assert!(rt; matches!(reader.next(), Ok(Some(Sexpr::List(_)))));
+    for more in ["", "x", "("] {
+        assert!(rt; matches!(reader.next(), Err(SyntaxFault::Close(24))));
+        reader.feed(more.as_bytes())?;
+        assert!(rt; matches!(reader.end(), Err(SyntaxFault::Close(24))));
+    }
+    Ok(())
+}
+
+#[test]
+fn a_long_script_is_read_in_small_pieces(rt: HostRuntime) -> Result<(), AllocError> {
+    let alloc = rt.alloc();
+    let line =
+        b"(assert (= |quoted name| (str.++ \"a literal\" variable (str.replace x \"<\" \"&lt;\"))) ) ; 1\n";
+    let mut script = Vec::new(alloc);
+    for _ in 0..1_000 {
+        script.extend_from_slice(line)?;
+    }
+    let mut reader = Reader::new(alloc);
+    let mut count = 0_u64;
+    for piece in script.chunks(4_096) {
+        reader.feed(piece)?;
+        for _ in 0..u64::MAX {
+            match reader.next() {
+                Ok(Some(_)) => count = count.wrapping_add(1),
+                _ => break,
+            }
+        }
+    }
+    assert_eq!(rt; count, 1_000);
+    assert_eq!(rt; reader.held(), 0);
+    Ok(())
+}
