@@ -11,7 +11,6 @@ pub mod KeptLemmas
 pub mod LoopLemmas
 pub mod RunsBack
 pub mod MadeLemmas
-pub mod TestLemmas
 pub mod CutBackLemmas
 pub mod OrderLemmas
 pub mod StateLemmas

@@ -9,7 +9,6 @@ mod TrimLemmas
 mod FoundLemmas
 mod FirstLemmas
 mod CoverLemmas
-mod Samples
 mod SearchLemmas
 mod RowLemmas
 mod AskLemmas

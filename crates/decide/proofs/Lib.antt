@@ -7,7 +7,6 @@ pub mod Going
 pub mod Listed
 pub mod Models
 pub mod Rightness
-pub mod Samples
 pub mod Sharing
 pub mod Sorts
 pub mod Tallying

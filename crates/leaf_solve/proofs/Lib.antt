@@ -3,4 +3,3 @@ pub mod RegionLemmas
 pub mod SystemLemmas
 pub mod CountLemmas
 pub mod AnswerLemmas
-pub mod TestRows

@@ -12,4 +12,3 @@ pub mod PlaceLemmas
 pub mod OptionLemmas
 pub mod PickLemmas
 pub mod SplitLemmas
-pub mod TestLemmas

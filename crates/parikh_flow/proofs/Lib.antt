@@ -21,4 +21,3 @@ mod RowLemmas
 mod WithinLemmas
 mod EdgeCountLemmas
 pub mod ReachLemmas
-pub mod TestCounts

@@ -49,6 +49,11 @@ fits-builds P size limit (Err e) (Ok n) reads few h = absurd h
 fits-builds P size limit (Err e) (Err (fault.States n)) reads few h = absurd h
 fits-builds P size limit (Err e) (Err (fault.Memory f)) reads few h = tt
 
+-- a fault within a part's size is one within a greater size, whatever the words
+pub builds-more : (P Q : Word → Type 0) (s more limit : ℕ) (f : BuildFault) → s ≤ more → Builds P s limit (Err f) → Builds Q more limit (Err f)
+builds-more P Q s more limit (fault.States n) le h = (let low = h.0 in omega arith, h.1)
+builds-more P Q s more limit (fault.Memory e) le h = tt
+
 -- the words and the size of an expression of a known form
 pub builds-form : (r q : Regex) (P : Word → Type 0) (s limit : ℕ) (x : Result Graph BuildFault) → r ≡ q → ((w : Word) → In q w ≡ P w) → s ≤ size q
     → Builds P s limit x → Builds (In r) (size r) limit x

@@ -13,8 +13,8 @@ ghost use Rattle.regex_machine.specs.declared.kind.Kind.TheVariants.{Turn, One, 
 ghost use Rattle.trim_search.specs.declared.build_fault.BuildFault.TheVariants.{States};
 
 use crate::joining::{all_of, complement, copied, difference};
-use crate::letters;
-use crate::letters::{any_character, between, empty_word, everything, fit, nothing, range};
+use crate::leaves::{any_word, no_character, no_word, one_between, one_character, one_word};
+use crate::letters::between;
 use crate::onward::{Onward, Rest};
 use crate::written::{alone, either, embed, finish, letter, nothing_more, text};
 use machine_core::Explicit;
@@ -52,11 +52,11 @@ fn make(alloc: Global, regex: &Regex, limit: u64) -> Result<Explicit, BuildFault
     ensures { Builds (In regex.now) (size regex.now) limit result }
 {
     match regex {
-        Regex::Empty => fit(nothing(alloc), limit),
-        Regex::All => fit(everything(alloc), limit),
-        Regex::AnyChar => fit(any_character(alloc), limit),
-        Regex::Text(word) => fit(letters::text(alloc, word), limit),
-        Regex::Range(lo, hi) => fit(range(alloc, *lo, *hi), limit),
+        Regex::Empty => no_word(alloc, limit),
+        Regex::All => any_word(alloc, limit),
+        Regex::AnyChar => one_character(alloc, limit),
+        Regex::Text(word) => one_word(alloc, word, limit),
+        Regex::Range(lo, hi) => one_between(alloc, *lo, *hi, limit),
         Regex::Concat(rs) => make_turn(alloc, rs.as_slice(), limit),
         Regex::Union(rs) => make_one(alloc, rs.as_slice(), limit),
         Regex::Inter(rs) => make_inter(alloc, rs.as_slice(), limit),
@@ -195,8 +195,10 @@ fn before_one(
 fn make_complement(alloc: Global, r: &Regex, limit: u64) -> Result<Explicit, BuildFault>
     ensures { Builds (λ w. IsWord w × (In r.now w → ⊥)) (2 ^ size r.now) limit result }
 {
-    let part = make(alloc, r, limit)?;
-    complement(alloc, &part, limit)
+    match make(alloc, r, limit) {
+        Ok(part) => complement(alloc, &part, limit),
+        Err(fault) => Err(fault),
+    }
 }
 
 #[cycle(make)]
@@ -204,10 +206,10 @@ fn make_loop(alloc: Global, r: &Regex, i: u32, j: u32, limit: u64) -> Result<Exp
     ensures { Builds (λ w. (n : ℕ) × (i ≤ n) × (n ≤ j) × Power (In r.now) n w) (j * size r.now + 1) limit result }
 {
     if i > j {
-        return fit(nothing(alloc), limit);
+        return no_word(alloc, limit);
     }
     if j == 0 {
-        return fit(empty_word(alloc), limit);
+        return no_character(alloc, limit);
     }
     make_copies(alloc, r, i, j, false, limit)
 }
@@ -227,8 +229,10 @@ fn make_copies(
     requires once { IsTrue again → most ≡ 1 }
     ensures { Builds (InCopies (In r.now) least most again) (copies_size least most (size r.now)) limit result }
 {
-    let part = make(alloc, r, limit)?;
-    copied(alloc, &part, least, most, again, limit)
+    match make(alloc, r, limit) {
+        Ok(part) => copied(alloc, &part, least, most, again, limit),
+        Err(fault) => Err(fault),
+    }
 }
 
 #[cycle(make)]

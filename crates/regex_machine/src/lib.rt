@@ -22,6 +22,7 @@ mod copies;
 mod explored;
 mod joining;
 mod kind;
+mod leaves;
 mod letters;
 mod onward;
 mod sides;

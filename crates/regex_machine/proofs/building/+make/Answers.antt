@@ -7,7 +7,7 @@ use Rattle.sv_terms.specs.Bounds.{size}
 use Rattle.regex_machine.specs.Joined.{ArePlain, AreMade}
 use Rattle.regex_machine.specs.Parts.{AddsParts}
 use Rattle.regex_machine.specs.declared.kind.Kind.TheVariants as kind
-use Rattle.regex_machine.proofs.BuiltLemmas.{builds-as, builds-form, builds-err, built-beyond, onok-as, fits-builds}
+use Rattle.regex_machine.proofs.BuiltLemmas.{builds-as, builds-form, builds-err, builds-more, built-beyond, onok-as}
 use Rattle.regex_machine.proofs.FormLemmas.{builds-list, builds-Diff, builds-Star, builds-Plus, builds-Opt, builds-Comp, builds-Loop, complement-made, copies-made, difference-made, loop-made, list-made, copies-least}
 use Rattle.regex_machine.proofs.KindLemmas.{formed, power-above, first-size, part-size, inner-size, adds-none, adds-next, adds-all, adds-inner, adds-one, adds-plain}
 use Rattle.regex_machine.proofs.LanguageLemmas.{range-all, made-plain, made-more, made-all, no-order, no-copy}
@@ -22,30 +22,30 @@ use Rattle.regex_machine.proofs.building.+make.Goals as goal
 
 pub make-returns-in-Empty : goal.make-returns-in-Empty
 make-returns-in-Empty t c =
-    builds-form c.args.regex.now v.Empty (λ w. ⊥) 1 c.args.limit c.fit.result c.in-Empty.is In-Empty (let e = size-Empty in omega arith)
-    (fits-builds (λ w. ⊥) 1 c.args.limit c.nothing.result c.fit.result c.nothing.ensures.reads c.nothing.ensures.states c.fit.ensures)
+    builds-form c.args.regex.now v.Empty (λ w. ⊥) 1 c.args.limit c.no_word.result c.in-Empty.is In-Empty (let e = size-Empty in omega arith)
+    c.no_word.ensures
 
 pub make-returns-in-All : goal.make-returns-in-All
 make-returns-in-All t c =
-    builds-form c.args.regex.now v.All IsWord 1 c.args.limit c.fit-in-All.result c.in-All.is In-All (let e = size-All in omega arith)
-    (fits-builds IsWord 1 c.args.limit c.everything.result c.fit-in-All.result c.everything.ensures.reads c.everything.ensures.states c.fit-in-All.ensures)
+    builds-form c.args.regex.now v.All IsWord 1 c.args.limit c.any_word.result c.in-All.is In-All (let e = size-All in omega arith)
+    c.any_word.ensures
 
 pub make-returns-in-AnyChar : goal.make-returns-in-AnyChar
 make-returns-in-AnyChar t c =
-    builds-form c.args.regex.now v.AnyChar _ 2 c.args.limit c.fit-in-AnyChar.result c.in-AnyChar.is In-AnyChar (let e = size-AnyChar in omega arith)
-    (fits-builds _ 2 c.args.limit c.any_character.result c.fit-in-AnyChar.result c.any_character.ensures.reads c.any_character.ensures.states c.fit-in-AnyChar.ensures)
+    builds-form c.args.regex.now v.AnyChar _ 2 c.args.limit c.one_character.result c.in-AnyChar.is In-AnyChar (let e = size-AnyChar in omega arith)
+    c.one_character.ensures
 
 pub make-returns-in-Text : goal.make-returns-in-Text
 make-returns-in-Text t c =
-    builds-form c.args.regex.now (v.Text c.in-Text.word) (λ w. (w ≡ c.in-Text.word) × IsWord w) (length c.in-Text.word + 1) c.args.limit c.fit-in-Text.result c.in-Text.is (In-Text c.in-Text.word)
+    builds-form c.args.regex.now (v.Text c.in-Text.word) (λ w. (w ≡ c.in-Text.word) × IsWord w) (length c.in-Text.word + 1) c.args.limit c.one_word.result c.in-Text.is (In-Text c.in-Text.word)
     (let e = size-Text c.in-Text.word in omega arith)
-    (fits-builds _ _ c.args.limit c.text.result c.fit-in-Text.result c.text.ensures.reads c.text.ensures.states c.fit-in-Text.ensures)
+    c.one_word.ensures
 
 pub make-returns-in-Range : goal.make-returns-in-Range
 make-returns-in-Range t c =
-    builds-form c.args.regex.now (v.Range c.in-Range.lo c.in-Range.hi) _ 2 c.args.limit c.fit-in-Range.result c.in-Range.is (In-Range c.in-Range.lo c.in-Range.hi)
+    builds-form c.args.regex.now (v.Range c.in-Range.lo c.in-Range.hi) _ 2 c.args.limit c.one_between.result c.in-Range.is (In-Range c.in-Range.lo c.in-Range.hi)
     (let e = size-Range c.in-Range.lo c.in-Range.hi in omega arith)
-    (fits-builds _ 2 c.args.limit c.range.result c.fit-in-Range.result c.range.ensures.reads c.range.ensures.states c.fit-in-Range.ensures)
+    c.one_between.ensures
 
 pub make-returns-in-Concat : goal.make-returns-in-Concat
 make-returns-in-Concat t c = builds-list c.args.regex.now c.args.limit c.make_turn.result kind.Turn c.in-Concat.rs c.as_slice.result.now c.as_slice.ensures c.in-Concat.is c.make_turn.ensures
@@ -76,29 +76,27 @@ pub make-returns-in-Loop : goal.make-returns-in-Loop
 make-returns-in-Loop t c = builds-Loop c.args.regex.now c.args.limit c.make_loop.result c.in-Loop.r c.get-in-Loop.result.now c.get-in-Loop.ensures c.in-Loop.i c.in-Loop.j c.in-Loop.is c.make_loop.ensures
 
 pub make_complement-complement-requires : goal.make_complement-complement-requires
-make_complement-complement-requires t c = c.in_ok-part.ensures.0.plain
+make_complement-complement-requires t c = c.in-Ok.ensures.0.plain
 
-pub make_complement-returns : goal.make_complement-returns
-make_complement-returns t c = complement-made c.args.limit c.complement.result c.args.r.now c.in_ok-part.part c.in_ok-part.ensures.0 c.in_ok-part.ensures.1 c.complement.ensures
+pub make_complement-returns-in-Ok : goal.make_complement-returns-in-Ok
+make_complement-returns-in-Ok t c = complement-made c.args.limit c.complement.result c.args.r.now c.in-Ok.part c.in-Ok.ensures.0 c.in-Ok.ensures.1 c.complement.ensures
 
 pub make_loop-returns-then-i-j : goal.make_loop-returns-then-i-j
 make_loop-returns-then-i-j t c =
-    builds-as (λ w. ⊥) _ 1 _ c.args.limit (no-order _ c.args.i c.args.j (omega arith)) (omega arith) c.fit.result
-    (fits-builds (λ w. ⊥) 1 c.args.limit c.nothing.result c.fit.result c.nothing.ensures.reads c.nothing.ensures.states c.fit.ensures)
+    builds-as (λ w. ⊥) _ 1 _ c.args.limit (no-order _ c.args.i c.args.j (omega arith)) (omega arith) c.no_word.result c.no_word.ensures
 
 pub make_loop-returns-then-j-eq0 : goal.make_loop-returns-then-j-eq0
 make_loop-returns-then-j-eq0 t c =
-    builds-as (λ w. w ≡ []) _ 1 _ c.args.limit (no-copy _ c.args.i c.args.j (omega arith) (omega arith)) (omega arith) c.fit-then-j-eq0.result
-    (fits-builds (λ w. w ≡ []) 1 c.args.limit c.empty_word.result c.fit-then-j-eq0.result c.empty_word.ensures.reads c.empty_word.ensures.states c.fit-then-j-eq0.ensures)
+    builds-as (λ w. w ≡ []) _ 1 _ c.args.limit (no-copy _ c.args.i c.args.j (omega arith) (omega arith)) (omega arith) c.no_character.result c.no_character.ensures
 
 pub make_loop-returns : goal.make_loop-returns
 make_loop-returns t c = loop-made c.args.limit c.make_copies.result c.args.r.now c.args.i c.args.j c.make_copies.ensures
 
 pub make_copies-copied-requires-clause-plain : goal.make_copies-copied-requires-clause-plain
-make_copies-copied-requires-clause-plain t c = c.in_ok-part.ensures.0.plain
+make_copies-copied-requires-clause-plain t c = c.in-Ok.ensures.0.plain
 
-pub make_copies-returns : goal.make_copies-returns
-make_copies-returns t c = copies-made c.args.limit c.copied.result c.args.r.now c.in_ok-part.part c.args.least c.args.most c.args.again c.in_ok-part.ensures.0 c.in_ok-part.ensures.1 c.copied.ensures
+pub make_copies-returns-in-Ok : goal.make_copies-returns-in-Ok
+make_copies-returns-in-Ok t c = copies-made c.args.limit c.copied.result c.args.r.now c.in-Ok.part c.args.least c.args.most c.args.again c.in-Ok.ensures.0 c.in-Ok.ensures.1 c.copied.ensures
 
 pub make_difference-difference-requires : goal.make_difference-difference-requires
 make_difference-difference-requires t c = subst ArePlain (sym c.as_slice.ensures) (made-plain _ _ c.in_ok-parts.ensures.made)
@@ -114,21 +112,12 @@ make_all-loop-r-preserved t c =
 pub make_all-returns-clause-made : goal.make_all-returns-clause-made
 make_all-returns-clause-made t c = made-all c.args.rs.now c.loop-r.r-index c.loop-r.parts c.loop-r-test.false c.loop-r.invariant
 
-pub make_complement-returns-in_err-part : goal.make_complement-returns-in_err-part
-make_complement-returns-in_err-part t c = builds-err _ _ c.args.limit c.from_residual.result c.from_residual.ensures.0 (λ n e.
-    let d = rw e at c.from_residual.ensures.1 in
-    let b = built-beyond (In c.args.r.now) (size c.args.r.now) c.args.limit _ c.in_err-part.ensures n (ap Err (sym d)) in
-    let more = power-above (size c.args.r.now) in
-    let low = b.0 in
-    (omega arith, b.1))
+pub make_complement-returns-in-Err : goal.make_complement-returns-in-Err
+make_complement-returns-in-Err t c = builds-more (In c.args.r.now) _ (size c.args.r.now) _ c.args.limit c.in-Err.fault (let more = power-above (size c.args.r.now) in omega arith) c.in-Err.ensures
 
-pub make_copies-returns-in_err-part : goal.make_copies-returns-in_err-part
-make_copies-returns-in_err-part t c = builds-err _ _ c.args.limit c.from_residual.result c.from_residual.ensures.0 (λ n e.
-    let d = rw e at c.from_residual.ensures.1 in
-    let b = built-beyond (In c.args.r.now) (size c.args.r.now) c.args.limit _ c.in_err-part.ensures n (ap Err (sym d)) in
-    let more = copies-least c.args.least c.args.most (size c.args.r.now) c.requires.some in
-    let low = b.0 in
-    (omega arith, b.1))
+pub make_copies-returns-in-Err : goal.make_copies-returns-in-Err
+make_copies-returns-in-Err t c =
+    builds-more (In c.args.r.now) _ (size c.args.r.now) _ c.args.limit c.in-Err.fault (let more = copies-least c.args.least c.args.most (size c.args.r.now) c.requires.some in omega arith) c.in-Err.ensures
 
 pub make_difference-returns-in_err-parts : goal.make_difference-returns-in_err-parts
 make_difference-returns-in_err-parts t c = builds-err _ _ c.args.limit c.from_residual.result c.from_residual.ensures.0 (λ n e.

@@ -1,0 +1,3 @@
+pub mod BackwardLemmas
+pub mod LeafSolveRows
+pub mod ParikhFlowCounts

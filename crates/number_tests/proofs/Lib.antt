@@ -1,0 +1,4 @@
+pub mod FarkasCheckRows
+pub mod LiaBranchLoops
+pub mod LiaBranchRows
+pub mod LiaTableauRows

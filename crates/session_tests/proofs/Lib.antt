@@ -1,0 +1,2 @@
+pub mod CubeSearchSamples
+pub mod DecideSamples
