@@ -6,9 +6,9 @@ ghost use Rattle.lia_branch.specs.Nodes.{IsRowOf};
 ghost use Rattle.sv_linear.specs.Rows.{IsRowWithin};
 ghost use Rattle.sv_linear.specs.declared.row.Row.{Row as AnyRow};
 
+use crate::systems::{row_of, system_over};
 use farkas_check::{Cutter, Net, NetEdge, System, Tree, closes};
 use lia_branch::{Evidence, NoCut, Outcome, solve};
-use lia_quick::is_within;
 use std::alloc::{AllocError, Global};
 use std::test::Fail;
 use sv_linear::{Form, Row, RowKind};
@@ -39,38 +39,6 @@ enum Ending {
     Branches(u32),
     PastRow,
     PastSum,
-}
-
-/// The row of these terms.
-fn row_of(
-    alloc: Global,
-    kind: RowKind,
-    terms: &[(u32, i128)],
-    constant: i128,
-) -> Result<Row, Fail> {
-    let mut form = Form::of_constant(alloc, constant);
-    for (unknown, coefficient) in terms {
-        let term = Form::of_unknown(alloc, *unknown)?.scale(alloc, *coefficient)?;
-        form = form.add(alloc, &term)?;
-    }
-    Ok(Row { form, kind })
-}
-
-/// The system of these rows, where they name unknowns of it alone.
-fn system_over(alloc: Global, unknowns: u32, rows: Items<Row>) -> Result<System, Fail>
-    ensures nets { IfOk result (λ s. s.nets ≡ []) }
-    ensures rows { IfOk result (λ s. (i : ℕ) (r : AnyRow) → slice_get s.rows i ≡ Some r → IsRowWithin s.unknowns r) }
-{
-    for row in rows.as_slice() {
-        if !is_within(row, unknowns) {
-            return Err(Fail::new("a row past its bounds"));
-        }
-    }
-    Ok(System {
-        unknowns,
-        rows,
-        nets: Items::new(alloc),
-    })
 }
 
 fn system_of(alloc: Global, table: &[Entries]) -> Result<System, Fail>

@@ -9,6 +9,10 @@ mod farkas_check_calls;
 #[cfg(test)]
 mod lia_branch_calls;
 #[cfg(test)]
+mod lia_quick_calls;
+#[cfg(test)]
 mod lia_tableau_calls;
 #[cfg(test)]
 mod sv_linear_calls;
+#[cfg(test)]
+mod systems;

@@ -1,9 +1,10 @@
-use Rattle.std.proofs.Common.{◌≡◌, ℕ, suc, false, ◌+◌, ◌-◌, ◌<◌, ◌≤◌, ◌∷◌, [], min, max, length, Err, ap, refl, sym, ◌∙◌, subst, arith}
+use Rattle.std.proofs.Common.{◌≡◌, ℕ, suc, false, ◌+◌, ◌-◌, ◌<◌, ◌≤◌, ◌^◌, ◌∷◌, [], min, max, length, Err, ap, refl, sym, ◌∙◌, subst, arith}
 use Rattle.sv_word.specs.Words.{IsWord, greatest_character}
 use Rattle.sv_terms.specs.declared.regex.Regex.TheVariants as v
 use Rattle.sv_terms.specs.Opened.{In-Empty, In-All, In-AnyChar, In-Text, In-Range}
 use Rattle.sv_terms.specs.Language.{In, InOneOf}
 use Rattle.sv_terms.specs.Bounds.{size}
+use Rattle.regex_machine.specs.Copied.{InCopies, copies_size}
 use Rattle.regex_machine.specs.Joined.{ArePlain, AreMade}
 use Rattle.regex_machine.specs.Parts.{AddsParts}
 use Rattle.regex_machine.specs.declared.kind.Kind.TheVariants as kind
@@ -113,11 +114,13 @@ pub make_all-returns-clause-made : goal.make_all-returns-clause-made
 make_all-returns-clause-made t c = made-all c.args.rs.now c.loop-r.r-index c.loop-r.parts c.loop-r-test.false c.loop-r.invariant
 
 pub make_complement-returns-in-Err : goal.make_complement-returns-in-Err
-make_complement-returns-in-Err t c = builds-more (In c.args.r.now) _ (size c.args.r.now) _ c.args.limit c.in-Err.fault (let more = power-above (size c.args.r.now) in omega arith) c.in-Err.ensures
+make_complement-returns-in-Err t c = builds-more (In c.args.r.now) (λ w. IsWord w × (In c.args.r.now w → ⊥)) (size c.args.r.now) (2 ^ size c.args.r.now) c.args.limit c.in-Err.fault
+    (let more = power-above (size c.args.r.now) in omega arith) c.in-Err.ensures
 
 pub make_copies-returns-in-Err : goal.make_copies-returns-in-Err
 make_copies-returns-in-Err t c =
-    builds-more (In c.args.r.now) _ (size c.args.r.now) _ c.args.limit c.in-Err.fault (let more = copies-least c.args.least c.args.most (size c.args.r.now) c.requires.some in omega arith) c.in-Err.ensures
+    builds-more (In c.args.r.now) (InCopies (In c.args.r.now) c.args.least c.args.most c.args.again) (size c.args.r.now) (copies_size c.args.least c.args.most (size c.args.r.now)) c.args.limit c.in-Err.fault
+    (let more = copies-least c.args.least c.args.most (size c.args.r.now) c.requires.some in omega arith) c.in-Err.ensures
 
 pub make_difference-returns-in_err-parts : goal.make_difference-returns-in_err-parts
 make_difference-returns-in_err-parts t c = builds-err _ _ c.args.limit c.from_residual.result c.from_residual.ensures.0 (λ n e.

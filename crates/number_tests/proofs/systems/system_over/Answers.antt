@@ -3,7 +3,7 @@ use Rattle.std.proofs.lemmas.Option.{slice_get_within}
 use Rattle.sv_linear.specs.Rows.{IsRowWithin}
 use Rattle.sv_linear.specs.declared.row.Row.{Row}
 use Rattle.number_tests.proofs.LiaBranchRows.{each_more}
-use Rattle.number_tests.proofs.lia_branch_calls.system_over.Goals as goal
+use Rattle.number_tests.proofs.systems.system_over.Goals as goal
 
 pub loop-row-preserved : goal.loop-row-preserved
 loop-row-preserved c = each_more (IsRowWithin c.args.unknowns) c.as_slice-row-items.result.now c.loop-row.row-index c.row-item.result c.row-item.is c.loop-row.invariant (c.if-not-is_within.ensures refl)

@@ -1,0 +1,68 @@
+//! Quick ways at coins of 6 and 10: a sum that 2 doesn't divide, one that is reached and one that isn't.
+ghost use Rattle.std.specs.Prelude.{◌≡◌, ℕ, Some, slice_get, IfOk};
+ghost use Rattle.sv_linear.specs.Rows.{IsRowWithin};
+ghost use Rattle.sv_linear.specs.declared.row.Row.{Row as AnyRow};
+
+use crate::systems::{row_of, system_over};
+use farkas_check::{System, Tree};
+use lia_quick::{Elimination, Found, close_by_divisor, reduce, solve_by_bounds};
+use std::alloc::Global;
+use std::test::Fail;
+use sv_linear::RowKind;
+use sv_list::Items;
+
+#[derive(Clone, Copy, Debug, PartialEq, Eq)]
+enum Answer {
+    Point,
+    Closed,
+    Nothing,
+}
+
+/// Coins that together with the constant make 0.
+fn coins(alloc: Global, constant: i128) -> Result<System, Fail>
+    ensures { IfOk result (λ s. (i : ℕ) (r : AnyRow) → slice_get s.rows i ≡ Some r → IsRowWithin s.unknowns r) }
+{
+    let mut rows = Items::new(alloc);
+    rows.push(row_of(alloc, RowKind::Eq, &[(0, 6), (1, 10)], constant)?)?;
+    rows.push(row_of(alloc, RowKind::Le, &[(0, -1)], 0)?)?;
+    rows.push(row_of(alloc, RowKind::Le, &[(1, -1)], 0)?)?;
+    system_over(alloc, 2, rows)
+}
+
+/// Whether a divisor closes them.
+fn is_divided(alloc: Global, constant: i128) -> Result<bool, Fail> {
+    let system = coins(alloc, constant)?;
+    let Some(elimination) = Elimination::of(alloc, &system)? else {
+        return Ok(false);
+    };
+    match close_by_divisor(alloc, &system, &elimination)? {
+        Some(Tree::Divisor { .. }) => Ok(true),
+        _ => Ok(false),
+    }
+}
+
+/// What their bounds show.
+fn bounded(alloc: Global, constant: i128) -> Result<Answer, Fail> {
+    let system = coins(alloc, constant)?;
+    let Some(elimination) = Elimination::of(alloc, &system)? else {
+        return Ok(Answer::Nothing);
+    };
+    let Some(reduced) = reduce(alloc, &system, &elimination)? else {
+        return Ok(Answer::Nothing);
+    };
+    match solve_by_bounds(alloc, &system, &elimination, &reduced)? {
+        Some(Found::Point(_)) => Ok(Answer::Point),
+        Some(Found::Closed(_)) => Ok(Answer::Closed),
+        None => Ok(Answer::Nothing),
+    }
+}
+
+#[test]
+fn coins_of_6_and_10(rt: HostRuntime) -> Result<(), Fail> {
+    let alloc = rt.alloc();
+    assert_eq!(rt; is_divided(alloc, -27)?, true);
+    assert_eq!(rt; is_divided(alloc, -14)?, false);
+    assert_eq!(rt; bounded(alloc, -28)?, Answer::Point);
+    assert_eq!(rt; bounded(alloc, -14)?, Answer::Closed);
+    Ok(())
+}

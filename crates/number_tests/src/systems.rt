@@ -1,0 +1,43 @@
+//! Systems of rows for tests.
+ghost use Rattle.std.specs.Prelude.{◌≡◌, ℕ, [], Some, slice_get, IfOk, IsTrue};
+ghost use Rattle.sv_linear.specs.Rows.{IsRowWithin};
+ghost use Rattle.sv_linear.specs.declared.row.Row.{Row as AnyRow};
+
+use farkas_check::System;
+use lia_quick::is_within;
+use std::alloc::Global;
+use std::test::Fail;
+use sv_linear::{Form, Row, RowKind};
+use sv_list::Items;
+
+/// The row of these terms.
+pub(crate) fn row_of(
+    alloc: Global,
+    kind: RowKind,
+    terms: &[(u32, i128)],
+    constant: i128,
+) -> Result<Row, Fail> {
+    let mut form = Form::of_constant(alloc, constant);
+    for (unknown, coefficient) in terms {
+        let term = Form::of_unknown(alloc, *unknown)?.scale(alloc, *coefficient)?;
+        form = form.add(alloc, &term)?;
+    }
+    Ok(Row { form, kind })
+}
+
+/// The system of these rows, where they name unknowns of it alone.
+pub(crate) fn system_over(alloc: Global, unknowns: u32, rows: Items<Row>) -> Result<System, Fail>
+    ensures nets { IfOk result (λ s. s.nets ≡ []) }
+    ensures rows { IfOk result (λ s. (i : ℕ) (r : AnyRow) → slice_get s.rows i ≡ Some r → IsRowWithin s.unknowns r) }
+{
+    for row in rows.as_slice() {
+        if !is_within(row, unknowns) {
+            return Err(Fail::new("a row past its bounds"));
+        }
+    }
+    Ok(System {
+        unknowns,
+        rows,
+        nets: Items::new(alloc),
+    })
+}
