@@ -28,8 +28,6 @@ mod stop;
 mod straight;
 mod table;
 mod terms;
-#[cfg(test)]
-mod tests;
 mod text;
 
 use crate::running::run;

@@ -199,7 +199,7 @@ fn multiples(alloc: Global, states: u32, cost: u64) -> Result<Explicit, AllocErr
 }
 
 // Words that cost 3 a piece, words that cost 5 a piece and words that cost nothing, which are to cost so much together.
-fn pieces(alloc: Global, total: u64) -> Result<Pieces, AllocError>
+fn made_pieces(alloc: Global, total: u64) -> Result<Pieces, AllocError>
     ensures { IfOk result (λ p. IsQuestion p.machines 0 [] p.region) }
 {
     let mut machines = Items::new(alloc);
@@ -216,7 +216,7 @@ fn pieces(alloc: Global, total: u64) -> Result<Pieces, AllocError>
 
 // Whether there are such words.
 fn is_reached(alloc: Global, total: u64) -> Result<bool, AllocError> {
-    let pieces = pieces(alloc, total)?;
+    let pieces = made_pieces(alloc, total)?;
     let machines = pieces.machines.as_slice();
     match search(alloc, machines, 0, &[], &pieces.region)? {
         Some(hit) => Ok(hit.runs.len() == 3),

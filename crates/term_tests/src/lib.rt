@@ -1,4 +1,4 @@
-//! Tests of the public calls on words, s-expressions, terms and their meaning, cubes, the stack of assertions and the checked commands.
+//! Tests of the public calls on words, s-expressions, terms and their meaning, the stack of assertions and the checked commands.
 //!
 //! A module for each crate that is called. They stand apart from what they call, so that proving them proves no crate
 //! a second time.
@@ -6,8 +6,6 @@
 
 #[cfg(test)]
 mod assert_stack_calls;
-#[cfg(test)]
-mod bool_cubes_calls;
 #[cfg(test)]
 mod regex_match_calls;
 #[cfg(test)]

@@ -5,7 +5,7 @@ use Rattle.sv_linear.specs.declared.row.Row.{Row}
 use Rattle.machine_core.specs.declared.graph.Graph.{Graph}
 use Rattle.box_search.specs.declared.region.Region.{Region}
 use Rattle.box_search.specs.Regions.{FitsRegion, IsQuestion}
-use Rattle.leaf_tests.proofs.box_search_calls.pieces.Goals as goal
+use Rattle.leaf_tests.proofs.box_search_calls.made_pieces.Goals as goal
 
 -- a question of three machines and no row
 asked : (a b d : Graph) (none one two machines : List Graph) (region : Region) (total : ℕ) → none ≡ [] → one ≡ none ++ a ∷ [] → two ≡ one ++ b ∷ [] → machines ≡ two ++ d ∷ []
