@@ -7,4 +7,3 @@ pub mod LeafSums
 pub mod Multiples
 pub mod Soundness
 pub mod Summing
-pub mod TestRows
