@@ -13,8 +13,6 @@ pub mod LeafSums
 pub mod Paths
 pub mod Roots
 pub mod SumLemmas
-pub mod TestLoops
-pub mod TestRows
 pub mod Waiting
 pub mod WholePoints
 pub mod WholeValues
