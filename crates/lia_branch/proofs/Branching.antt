@@ -1,11 +1,10 @@
 -- What is found at a node, from what is found at its two sides.
-use Rattle.std.proofs.Common.{◌≡◌, ℕ, zero, suc, ◌+◌, ◌<◌, ◌≤◌, ℤ, neg_ℤ, List, [], ◌∷◌, ◌++◌, length, length-append, slice_get, Some, FitsSigned, ◌↔◌, ◌⊎◌, inl, inr, refl, ap, sym, ◌∙◌, subst, arith}
+use Rattle.std.proofs.Common.{◌≡◌, ℕ, zero, suc, ◌+◌, ◌<◌, ℤ, neg_ℤ, List, [], ◌∷◌, ◌++◌, length, length-append, slice_get, Some, FitsSigned, ◌↔◌, ◌⊎◌, inl, inr, refl, ap, sym, ◌∙◌, subst, arith}
 use Rattle.std.specs.Int.{w128}
 use Rattle.std.proofs.lemmas.Int.{ints}
 use Rattle.std.specs.Prelude.{All, get_or}
 use Rattle.std.proofs.lemmas.List.Elements.{All-get_or, All-from_get_or}
 use Rattle.sv_linear.specs.Combining.{IsSymmetric}
-use Rattle.sv_linear.specs.Terms.{AscendsWithin}
 use Rattle.sv_linear.specs.declared.row.Row.{Row}
 use Rattle.farkas_check.specs.Systems.{Constraint, no_constraint, Meets}
 use Rattle.farkas_check.specs.Cuts.{values_of}
@@ -20,6 +19,7 @@ use Rattle.lia_tableau.specs.Crossing.{IsPast}
 use Rattle.lia_tableau.specs.Pivoting.{IsPastPivot}
 use Rattle.lia_tableau.specs.declared.fault.TableauFault.{TableauFault}
 use Rattle.lia_tableau.specs.declared.fault.TableauFault.TheVariants.{Past, Memory}
+use Rattle.lia_quick.specs.RowTerms.{wider}
 use Rattle.lia_branch.specs.EvidenceHolds.{IsPastAt}
 use Rattle.lia_tableau.specs.Trails.{Trail, stay, pivot}
 use Rattle.lia_branch.specs.Nodes.{Node, BeginsAt, ComesTo, GoesOn, IsRowOf, child_of}
@@ -142,10 +142,6 @@ pub past_in_addition : (node : Node) (t : Table) (c : Constraint) (row : Row) (f
     IsPast (λ first second at column. IsPastAt first second at column (child_of node t c)) fault
 past_in_addition node t c row (Past f s a col) m h = inr (record { row = row; is_row = m; past = h })
 past_in_addition node t c row (Memory m) k h = tt
-
-pub wider : (low high more : ℕ) (ts : List (ℕ × ℤ)) → AscendsWithin low high ts → high ≤ more → AscendsWithin low more ts
-wider low high more [] a h = omega arith
-wider low high more (t ∷ ts) a h = (a.0, (a.1.0, wider (t.0 + 1) high more ts a.1.1 h))
 
 pub row_within : (u n : ℕ) (row : Row) → u < n → IsRowWithin (suc u) row → IsRowWithin n row
 row_within u n row h w = record { unknowns = wider 0 (suc u) n row.form.coefficients w.unknowns (omega arith); symmetric = w.symmetric }

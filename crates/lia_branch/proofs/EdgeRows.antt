@@ -22,11 +22,6 @@ use Rattle.lia_branch.specs.EdgeSums.{side_terms, side_sign, picks, AreMarks, Is
 use Rattle.lia_branch.specs.declared.edge_sums.Side.{Side}
 use Rattle.lia_branch.specs.declared.edge_sums.Side.TheVariants.{Out, In}
 
--- a term at the end
-pub pushed_value : (x : ℕ → ℤ) (ts : List (ℕ × ℤ)) (u : ℕ) (a : ℤ) → terms_value x (ts ++ (u, a) ∷ []) ≡ terms_value x ts +ℤ a *ℤ x u
-pushed_value x [] u a = omega (arith, ints)
-pushed_value x (t ∷ ts) u a = omega (arith, ints, pushed_value x ts u a)
-
 pushed_coefficient : (v : ℕ) (ts : List (ℕ × ℤ)) (u : ℕ) (a : ℤ) → coefficient v (ts ++ (u, a) ∷ []) ≡ coefficient v ts +ℤ cond (nat_eq u v) a (pos 0)
 pushed_coefficient v [] u a = omega (arith, ints)
 pushed_coefficient v (t ∷ ts) u a = omega (arith, ints, pushed_coefficient v ts u a)
@@ -39,10 +34,6 @@ pub pushed_small : (f r : Form) (u : ℕ) (a : ℤ) → r.coefficients ≡ f.coe
 pushed_small f r u a e k s (Unknown v) =
     subst (λ z. unsigned_abs z ≤ suc (unsigned_abs (coefficient v f.coefficients))) (sym (ap (coefficient v) e ∙ pushed_coefficient v f.coefficients u a)) (one_more (coefficient v f.coefficients) a (nat_eq u v) s)
 pushed_small f r u a e k s Constant = subst (λ z. unsigned_abs z ≤ suc (unsigned_abs f.constant)) (sym k) (omega arith)
-
-pub pushed_ascends : (low u : ℕ) (a : ℤ) (ts : List (ℕ × ℤ)) → AscendsWithin low u ts → 0 < unsigned_abs a → AscendsWithin low (suc u) (ts ++ (u, a) ∷ [])
-pushed_ascends low u a [] h e = (h, (e, omega arith))
-pushed_ascends low u a (t ∷ ts) h e = (h.0, (h.1.0, pushed_ascends (t.0 + 1) u a ts h.1.1 e))
 
 sum_small : (y z : ℤ) → unsigned_abs z ≤ 1 → unsigned_abs (y +ℤ z) ≤ suc (unsigned_abs y)
 sum_small y z h = omega (arith, ints)

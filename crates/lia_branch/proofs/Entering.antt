@@ -9,6 +9,8 @@ use Rattle.farkas_check.specs.declared.system.System.{System}
 use Rattle.farkas_check.specs.declared.tree.Tree.{Tree}
 use Rattle.farkas_check.specs.declared.tree.Tree.TheVariants as v
 use Rattle.lia_tableau.specs.declared.table.Table.{Table}
+use Rattle.lia_pack.specs.Tables.{IsPackedOf}
+use Rattle.lia_pack.specs.declared.packed.PackedTableau.{PackedTableau}
 use Rattle.lia_branch.specs.Nodes.{Node, IsRowOf, child_of}
 use Rattle.lia_branch.specs.Founds.{IsReady, IsNodeClosing}
 use Rattle.lia_branch.specs.Forks.{fork_tree, AreSides, IsForkWithin, IsForkAt, Path, IsClosing, IsResumed, IsStopping, EnteredHolds, EnteredBy, next_of, NextHolds, IsNextSmaller, is_first}
@@ -28,12 +30,12 @@ entered_by : (s : System) (node : Node) (t : Table) (fork : Fork) (c : Constrain
 entered_by s node t fork c row at ready means within levels left path p (entered.Node after) h = side_searched s node t after fork c row at ready means within h.0 h.1.0 h.1.1 levels left path p
 entered_by s node t fork c row at ready means within levels left path p (entered.Past stop) h = record { node = child_of node t c; left = left; path = path; stops = h node c means left }
 
-pub entered_first : (s : System) (node : Node) (t copy : Table) (fork : Fork) (row : Row) (below levels : List Level) (left : ℕ) → Path s below node left → 1 < left → IsForkAt s node t fork → IsReady s t.rows t → copy ≡ t → levels ≡ below ++ First fork t ∷ [] →
-    ((c d : Constraint) → AreSides s.nets fork c d → IsRowOf c row) → IsRowWithin s.unknowns row → (e : Entered) → EnteredHolds copy row e → EnteredBy s levels (left - 1) e
-entered_first s node t copy fork row below levels left path more at ready same grown means within e h =
+pub entered_first : (s : System) (node : Node) (t : Table) (packed : PackedTableau) (fork : Fork) (row : Row) (below levels : List Level) (left : ℕ) → Path s below node left → 1 < left → IsForkAt s node t fork → IsReady s t.rows t → IsPackedOf t packed → levels ≡ below ++ First fork packed ∷ [] →
+    ((c d : Constraint) → AreSides s.nets fork c d → IsRowOf c row) → IsRowWithin s.unknowns row → (e : Entered) → EnteredHolds t row e → EnteredBy s levels (left - 1) e
+entered_first s node t packed fork row below levels left path more at ready is_packed grown means within e h =
     let k = sides_of s node t fork at in
     entered_by s node t fork k.0 row at ready (means k.0 k.1.0 k.1.1) within levels (left - 1)
-    (first_path s below levels node left t fork k.0 k.1.0 grown (omega (arith, more)) path at k.1.1 ready) (omega (arith, more)) e (subst (λ (w : Table). EnteredHolds w row e) same h)
+    (first_path s below levels node left t packed fork k.0 k.1.0 grown (omega (arith, more)) path is_packed at k.1.1 ready) (omega (arith, more)) e h
 
 pub entered_second : (s : System) (t : Table) (fork : Fork) (tree : Tree) (row : Row) (below levels : List Level) (left : ℕ) → (k : IsResumed s below left t fork tree) → 0 < left → levels ≡ below ++ Second fork tree ∷ [] →
     ((c d : Constraint) → AreSides s.nets fork c d → IsRowOf d row) → IsRowWithin s.unknowns row → (e : Entered) → EnteredHolds t row e → EnteredBy s levels left e

@@ -7,6 +7,8 @@ use Rattle.farkas_check.specs.declared.tree.Tree.{Tree}
 use Rattle.farkas_check.specs.declared.tree.Tree.TheVariants as v
 use Rattle.lia_tableau.specs.Adding.{IsRowAdded}
 use Rattle.lia_tableau.specs.declared.table.Table.{Table}
+use Rattle.lia_pack.specs.Tables.{IsPackedOf}
+use Rattle.lia_pack.specs.declared.packed.PackedTableau.{PackedTableau}
 use Rattle.lia_branch.specs.Nodes.{Node, IsRowOf, root_of, child_of}
 use Rattle.lia_branch.specs.EvidenceHolds.{split_limit}
 use Rattle.lia_branch.specs.Founds.{IsReady, IsNodeOf, IsNodeSolution, IsNodeClosing, IsNodeStop}
@@ -33,22 +35,24 @@ no_end : {X : Type 0} (xs : List X) (x : X) → xs ++ x ∷ [] ≡ [] → ⊥
 no_end {X} xs x e = absurd (omega (arith, ap length e, length-append xs (x ∷ [])))
 
 abbrev fork_of : Level → Fork
-fork_of (First f t) = f
+fork_of (First f packed) = f
 fork_of (Second f tree) = f
 
-abbrev table_of : Table → Level → Table
-table_of d (First f t) = t
-table_of d (Second f tree) = d
+abbrev packed_of : PackedTableau → Level → PackedTableau
+packed_of d (First f packed) = packed
+packed_of d (Second f tree) = d
 
 abbrev tree_of : Level → Tree
-tree_of (First f t) = v.Open
+tree_of (First f packed) = v.Open
 tree_of (Second f tree) = tree
 
-pub record IsInFirst (s : System) (below : List Level) (node : Node) (left : ℕ) (t : Table) (fork : Fork) : Type 0 where
+pub record IsInFirst (s : System) (below : List Level) (node : Node) (left : ℕ) (packed : PackedTableau) (fork : Fork) : Type 0 where
   pub above : Node
+  pub t : Table
   pub first : Constraint
   pub second : Constraint
   pub path : Path s below above (suc left)
+  pub is_packed : IsPackedOf t packed
   pub waiting : IsWaiting s above t fork first second
   pub is : child_of above t first ≡ node
 
@@ -63,24 +67,24 @@ pub record IsInSecond (s : System) (below : List Level) (node : Node) (left : �
   pub closing : IsNodeClosing (child_of above t first) tree splits
   pub is : child_of above t second ≡ node
 
-up_first : (s : System) (levels below : List Level) (node : Node) (left : ℕ) (t : Table) (fork : Fork) → levels ≡ below ++ First fork t ∷ [] → Path s levels node left → IsInFirst s below node left t fork
-up_first s levels below node left t fork e (top r) = absurd (no_end below (First fork t) (sym e))
-up_first s levels below node left t fork e (in_first r b l above k u f c d g p w) =
-    let same = ends_same b below (First f u) (First fork t) (sym g ∙ e) in
+up_first : (s : System) (levels below : List Level) (node : Node) (left : ℕ) (packed : PackedTableau) (fork : Fork) → levels ≡ below ++ First fork packed ∷ [] → Path s levels node left → IsInFirst s below node left packed fork
+up_first s levels below node left packed fork e (top r) = absurd (no_end below (First fork packed) (sym e))
+up_first s levels below node left packed fork e (in_first r b l above k u x f c d g p q w) =
+    let same = ends_same b below (First f x) (First fork packed) (sym g ∙ e) in
     let forks : f ≡ fork = ap fork_of same.1 in
-    let tables : u ≡ t = ap (table_of t) same.1 in
-    subst (λ (x : List Level). IsInFirst s x node left t fork) same.0
-    (subst (λ (x : Fork). IsInFirst s b node left t x) forks
-    (subst (λ (x : Table). IsInFirst s b node left x f) tables
-    (record { above = above; first = c; second = d; path = p; waiting = w; is = refl })))
-up_first s levels below node left t fork e (in_second r b l above k n u f tree c d g p w cl) =
-    let same = ends_same b below (Second f tree) (First fork t) (sym g ∙ e) in
+    let tables : x ≡ packed = ap (packed_of packed) same.1 in
+    subst (λ (z : List Level). IsInFirst s z node left packed fork) same.0
+    (subst (λ (z : Fork). IsInFirst s b node left packed z) forks
+    (subst (λ (z : PackedTableau). IsInFirst s b node left z f) tables
+    (record { above = above; t = u; first = c; second = d; path = p; is_packed = q; waiting = w; is = refl })))
+up_first s levels below node left packed fork e (in_second r b l above k n u f tree c d g p w cl) =
+    let same = ends_same b below (Second f tree) (First fork packed) (sym g ∙ e) in
     absurd (let z = ap is_first same.1 in cc)
 
 up_second : (s : System) (levels below : List Level) (node : Node) (left : ℕ) (fork : Fork) (tree : Tree) → levels ≡ below ++ Second fork tree ∷ [] → Path s levels node left → IsInSecond s below node left fork tree
 up_second s levels below node left fork tree e (top r) = absurd (no_end below (Second fork tree) (sym e))
-up_second s levels below node left fork tree e (in_first r b l above k u f c d g p w) =
-    let same = ends_same b below (First f u) (Second fork tree) (sym g ∙ e) in
+up_second s levels below node left fork tree e (in_first r b l above k u x f c d g p q w) =
+    let same = ends_same b below (First f x) (Second fork tree) (sym g ∙ e) in
     absurd (let z = ap is_first same.1 in cc)
 up_second s levels below node left fork tree e (in_second r b l above k n u f own c d g p w cl) =
     let same = ends_same b below (Second f own) (Second fork tree) (sym g ∙ e) in
@@ -91,7 +95,7 @@ up_second s levels below node left fork tree e (in_second r b l above k n u f ow
 
 pub at_top : (s : System) (levels : List Level) (node : Node) (left : ℕ) → levels ≡ [] → Path s levels node left → (root_of s ≡ node) × (split_limit ≡ left)
 at_top s levels node left e (top r) = (refl, refl)
-at_top s levels node left e (in_first r b l above k u f c d g p w) = absurd (no_end b (First f u) (sym g ∙ e))
+at_top s levels node left e (in_first r b l above k u x f c d g p q w) = absurd (no_end b (First f x) (sym g ∙ e))
 at_top s levels node left e (in_second r b l above k n u f own c d g p w cl) = absurd (no_end b (Second f own) (sym g ∙ e))
 
 pub closing_up : (s : System) (levels below : List Level) (left : ℕ) (fork : Fork) (first tree : Tree) → levels ≡ below ++ Second fork first ∷ [] → IsClosing s levels left tree → IsClosing s below left (fork_tree fork first tree)
@@ -106,30 +110,36 @@ closing_up s levels below left fork first tree e k =
       closing = fork_closed s u.above u.t fork u.first u.second u.waiting.at u.waiting.sides first tree u.splits k.splits u.closing inner;
     }
 
-pub closing_first : (s : System) (levels below : List Level) (left : ℕ) (fork : Fork) (t : Table) (tree : Tree) → levels ≡ below ++ First fork t ∷ [] → IsClosing s levels left tree → IsResumed s below left t fork tree
-closing_first s levels below left fork t tree e k =
-    let u = up_first s levels below k.node (k.splits + left) t fork e k.path in
-    record {
-      node = u.above;
-      splits = k.splits;
-      first = u.first;
-      second = u.second;
-      path = u.path;
-      waiting = u.waiting;
-      closing = subst (λ (x : Node). IsNodeClosing x tree k.splits) (sym u.is) k.closing;
-    }
+pub closing_first : (s : System) (levels below : List Level) (left : ℕ) (fork : Fork) (packed : PackedTableau) (tree : Tree) → levels ≡ below ++ First fork packed ∷ [] → IsClosing s levels left tree →
+    (t : Table) × (IsPackedOf t packed × IsResumed s below left t fork tree)
+closing_first s levels below left fork packed tree e k =
+    let u = up_first s levels below k.node (k.splits + left) packed fork e k.path in (
+      u.t,
+      (
+        u.is_packed,
+        record {
+          node = u.above;
+          splits = k.splits;
+          first = u.first;
+          second = u.second;
+          path = u.path;
+          waiting = u.waiting;
+          closing = subst (λ (x : Node). IsNodeClosing x tree k.splits) (sym u.is) k.closing;
+        },
+      ),
+    )
 
 pub closing_top : (s : System) (levels : List Level) (left : ℕ) (tree : Tree) → levels ≡ [] → IsClosing s levels left tree → (splits : ℕ) × IsNodeClosing (root_of s) tree splits
 closing_top s levels left tree e k = (k.splits, subst (λ (x : Node). IsNodeClosing x tree k.splits) (sym (at_top s levels k.node (k.splits + left) e k.path).0) k.closing)
 
-pub stopping_first : (s : System) (levels below : List Level) (fork : Fork) (t : Table) (tree : Tree) (stop : Stop) → levels ≡ below ++ First fork t ∷ [] → IsStopping s levels tree stop → IsStopping s below (fork_tree fork tree v.Open) stop
-stopping_first s levels below fork t tree stop e k =
-    let u = up_first s levels below k.node k.left t fork e k.path in
+pub stopping_first : (s : System) (levels below : List Level) (fork : Fork) (packed : PackedTableau) (tree : Tree) (stop : Stop) → levels ≡ below ++ First fork packed ∷ [] → IsStopping s levels tree stop → IsStopping s below (fork_tree fork tree v.Open) stop
+stopping_first s levels below fork packed tree stop e k =
+    let u = up_first s levels below k.node k.left packed fork e k.path in
     record {
       node = u.above;
       left = suc k.left;
       path = u.path;
-      stops = stopped_first s u.above t fork u.first u.second u.waiting.at u.waiting.sides k.left tree stop (subst (λ (x : Node). IsNodeStop x k.left tree stop) (sym u.is) k.stops);
+      stops = stopped_first s u.above u.t fork u.first u.second u.waiting.at u.waiting.sides k.left tree stop (subst (λ (x : Node). IsNodeStop x k.left tree stop) (sym u.is) k.stops);
     }
 
 pub stopping_second : (s : System) (levels below : List Level) (fork : Fork) (first tree : Tree) (stop : Stop) → levels ≡ below ++ Second fork first ∷ [] → IsStopping s levels tree stop → IsStopping s below (fork_tree fork first tree) stop
@@ -149,7 +159,7 @@ stopping_top s levels tree stop e k =
 
 pub path_solution : (s : System) (levels : List Level) (node : Node) (left : ℕ) (point : List ℤ) → Path s levels node left → IsNodeSolution node point → IsNodeSolution (root_of s) point
 path_solution s levels node left point (top r) h = h
-path_solution s levels node left point (in_first r b l above k u f c d g p w) h = path_solution s b above (suc k) point p (solution_above above u c point h)
+path_solution s levels node left point (in_first r b l above k u x f c d g p q w) h = path_solution s b above (suc k) point p (solution_above above u c point h)
 path_solution s levels node left point (in_second r b l above k n u f own c d g p w cl) h = path_solution s b above (suc (n + k)) point p (solution_above above u d point h)
 
 -- the row of one side of a split, added to the basis of the split's node
@@ -165,11 +175,11 @@ module _ (s : System) (node : Node) (t after : Table) (fork : Fork) (c : Constra
     positive = positive;
   }
 
-pub first_path : (s : System) (below levels : List Level) (node : Node) (left : ℕ) (t : Table) (fork : Fork) (c d : Constraint) → levels ≡ below ++ First fork t ∷ [] → 0 < left → Path s below node left → IsForkAt s node t fork → AreSides s.nets fork c d → IsReady s t.rows t →
+pub first_path : (s : System) (below levels : List Level) (node : Node) (left : ℕ) (t : Table) (packed : PackedTableau) (fork : Fork) (c d : Constraint) → levels ≡ below ++ First fork packed ∷ [] → 0 < left → Path s below node left → IsPackedOf t packed → IsForkAt s node t fork → AreSides s.nets fork c d → IsReady s t.rows t →
     Path s levels (child_of node t c) (left - 1)
-first_path s below levels node left t fork c d e p path at sides ready =
+first_path s below levels node left t packed fork c d e p path is_packed at sides ready =
     let same : left ≡ suc (left - 1) = omega (arith, p) in
-    in_first s below levels node (left - 1) t fork c d e (subst (Path s below node) same path) (record { at = at; sides = sides; ready = ready })
+    in_first s below levels node (left - 1) t packed fork c d e (subst (Path s below node) same path) is_packed (record { at = at; sides = sides; ready = ready })
 
 pub second_path : (s : System) (below levels : List Level) (left : ℕ) (t : Table) (fork : Fork) (tree : Tree) → levels ≡ below ++ Second fork tree ∷ [] → (k : IsResumed s below left t fork tree) → Path s levels (child_of k.node t k.second) left
 second_path s below levels left t fork tree e k = in_second s below levels k.node left k.splits t fork tree k.first k.second e k.path k.waiting k.closing

@@ -21,10 +21,11 @@ use crate::points::{Fraction, first_fraction, whole_point};
 use crate::stop::Stop;
 use crate::visit::Visit;
 use farkas_check::{Cutter, System, Tree};
+use lia_pack::PackedTableau;
 use lia_tableau::{Status, Tableau, TableauFault, settle};
 use std::alloc::{AllocError, Global};
 use sv_linear::Row;
-use sv_list::{Copied, Items};
+use sv_list::Items;
 
 /// How many splits a search may have.
 const SPLIT_LIMIT: u32 = 2000;
@@ -107,9 +108,9 @@ fn descend(
     ensures waiting { IfOk result (λ _. count_by is_first levels.new ≡ suc (count_by is_first levels.old)) }
 {
     let row = fork.first_row(alloc, system)?;
-    let copy = tableau.copy(alloc)?;
-    levels.push(Level::First { fork, tableau })?;
-    enter(alloc, copy, row)
+    let packed = PackedTableau::of(alloc, &tableau)?;
+    levels.push(Level::First { fork, packed })?;
+    enter(alloc, tableau, row)
 }
 
 /// Goes to the second side of a split whose first the tree closes.
@@ -165,11 +166,8 @@ fn next(
         }
         Visit::Closed(leaf) => match resume(alloc, levels, leaf)? {
             Resumed::Whole(tree) => Ok(Next::Closed(tree)),
-            Resumed::Waiting {
-                fork,
-                tree,
-                tableau: waiting,
-            } => {
+            Resumed::Waiting { fork, tree, packed } => {
+                let waiting = packed.unpack(alloc)?;
                 let entered = cross(alloc, system, levels, waiting, fork, tree)?;
                 Ok(entered.next(left))
             }

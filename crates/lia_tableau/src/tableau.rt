@@ -12,7 +12,7 @@ use crate::shown::{Sought, due_exchange, least_row};
 use crate::standing::Standing;
 use crate::status::Status;
 use crate::table::Table;
-use crate::verdict::{Verdict, no_verdicts, verdict_of};
+use crate::verdict::{Verdict, no_verdicts, verdict_of, verdicts_of};
 use std::alloc::{AllocError, Global};
 use std::marker::Model;
 use std::mem;
@@ -108,6 +108,26 @@ impl Tableau {
         }
         self.push(alloc, row, line)?;
         Ok(())
+    }
+
+    /// The tableau of a table; what each of its lines shows is found anew. Linear in the terms of the lines.
+    pub fn of_table(alloc: Global, table: Table) -> Result<Tableau, AllocError>
+        ensures { IfOk result (λ t. t ≡ table) }
+    {
+        let verdicts = verdicts_of(
+            alloc,
+            table.unknowns,
+            table.rows.as_slice(),
+            table.lines.as_slice(),
+        )?;
+        Ok(Tableau { table, verdicts })
+    }
+
+    /// What contracts see of the tableau.
+    pub fn table(&self) -> &Table
+        ensures { result.now ≡ self.now }
+    {
+        &self.table
     }
 
     /// The rows, in the order in which they were added.

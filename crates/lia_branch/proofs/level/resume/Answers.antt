@@ -11,10 +11,10 @@ up-init c = record { closing = λ s left k. k; waiting = refl }
 
 pub returns-in-First-clause-found : goal.returns-in-First-clause-found
 returns-in-First-clause-found c = λ s left k.
-    closing_first s c.up.levels c.pop.new.self left c.in-First.fork c.in-First.tableau c.up.tree (c.in-Some.ensures ∙ ap (λ (l : Level). c.pop.new.self ++ l ∷ []) c.in-First.is) (c.up.invariant.closing s left k)
+    closing_first s c.up.levels c.pop.new.self left c.in-First.fork c.in-First.packed c.up.tree (c.in-Some.ensures ∙ ap (λ (l : Level). c.pop.new.self ++ l ∷ []) c.in-First.is) (c.up.invariant.closing s left k)
 
 pub returns-in-First-clause-less : goal.returns-in-First-clause-less
-returns-in-First-clause-less c = c.up.invariant.waiting ∙ first_counted c.up.levels c.pop.new.self c.in-First.fork c.in-First.tableau (c.in-Some.ensures ∙ ap (λ (l : Level). c.pop.new.self ++ l ∷ []) c.in-First.is)
+returns-in-First-clause-less c = c.up.invariant.waiting ∙ first_counted c.up.levels c.pop.new.self c.in-First.fork c.in-First.packed (c.in-Some.ensures ∙ ap (λ (l : Level). c.pop.new.self ++ l ∷ []) c.in-First.is)
 
 pub up-smaller : goal.up-smaller
 up-smaller c = let e = ap length c.in-Some.ensures in omega (arith, e, length-append c.pop.new.self (c.in-Some.level ∷ []))

@@ -1,4 +1,4 @@
-use Rattle.std.proofs.Common.{◌≡◌, ◌∙◌, List, length, refl, sym, ap, subst}
+use Rattle.std.proofs.Common.{◌≡◌, ◌∙◌, List, length, sym, ap, subst}
 use Rattle.std.specs.Prelude.{All, ℤ, pos, ◌≤ℤ◌}
 use Rattle.farkas_check.specs.Cuts.{values_of, IsCutAnswer, IsNetWithin}
 use Rattle.farkas_check.specs.Systems.{Joined}
