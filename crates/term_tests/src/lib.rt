@@ -1,4 +1,4 @@
-//! Tests of the public calls on words, s-expressions, terms and their meaning, cubes, the stack of assertions and the checked commands.
+//! Tests of the public calls on words, s-expressions, terms and their meaning, drafts and passes, cubes, the stack of assertions and the checked commands.
 //!
 //! A module for each crate that is called. They stand apart from what they call, so that proving them proves no crate
 //! a second time.
@@ -8,6 +8,8 @@
 mod assert_stack_calls;
 #[cfg(test)]
 mod bool_cubes_calls;
+#[cfg(test)]
+mod item_passes_calls;
 #[cfg(test)]
 mod regex_match_calls;
 #[cfg(test)]
@@ -20,5 +22,7 @@ mod sort_check_calls;
 mod sv_terms_calls;
 #[cfg(test)]
 mod sv_word_calls;
+#[cfg(test)]
+mod term_draft_calls;
 #[cfg(test)]
 mod term_eval_calls;
