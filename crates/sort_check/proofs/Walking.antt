@@ -16,7 +16,7 @@ use Rattle.smt_names.specs.declared.check_fault.CheckFault.{CheckFault}
 use Rattle.smt_names.specs.declared.check_fault.CheckFault.TheVariants as fault
 use Rattle.sort_check.specs.declared.walk.Walk.{Walk}
 use Rattle.term_draft.specs.Bodies.{body_sort}
-use Rattle.term_draft.specs.Drafts.{at_place, at_places}
+use Rattle.term_draft.specs.Drafts.{Calls, at_place, at_places}
 use Rattle.smt_names.specs.Faults.{Answers, ◌>>◌, need, refuse, or_fault}
 use Rattle.sort_check.specs.Meant.{Scope, Names, Head, any_size, latest, variable_or, alone, named, application, head_count, head_sorts, head_applied, meant_name, meant_token, mapped, bind, as_constants}
 use Rattle.smt_names.specs.Signature.{Name}
@@ -64,6 +64,12 @@ there-read old b place e = record {
     append-none : (xs : List Body) → xs ++ [] ≡ xs
     append-none [] = refl
     append-none (x ∷ xs) = ap (λ z. x ∷ z) (append-none xs)
+
+-- a call, which was added or was there
+pub call-read : (E : Type 0) (old : Walk) (draft : List Body) (there : Option ℕ) (b : Body) (place : ℕ) → Calls {E = E} there b old.draft draft (Ok place) → Read Here (λ t. Ok b) old (record old { draft = draft }) place
+call-read E old draft None b place added = put-read old draft b place added
+call-read E old draft (Some p) b place (e, here, same) =
+    subst (λ (ds : List Body). slice_get ds place ≡ Some b → Read Here (λ t. Ok b) old (record old { draft = ds }) place) (sym same) (there-read old b place) here
 
 pub number-so : (s : Scope) (ds : List ℕ) (n : ℤ) → value ds < 2 ^ 127 → n ≡ pos (value ds) → meant_token [] s Numeral ds ≡ Ok (body.Term (term.Number n))
 number-so s ds n h e = let t : nat_le (2 ^ 127) (value ds) ≡ false = grind (arith, nat_tests) in ap (λ b. refuse b fault.Number >> Ok (body.Term (term.Number (pos (value ds))))) t ∙ ap (λ z. Ok (body.Term (term.Number z))) (sym e)

@@ -1,6 +1,6 @@
 -- Macros at arguments: what they weigh, and what they are.
-use Rattle.std.proofs.Common.{◌≡◌, refl, sym, ap, ◌∙◌, subst, ℕ, zero, suc, Bool, true, false, cond, List, [], ◌∷◌, map, Option, Some, None}
-use Rattle.std.specs.Prelude.{slice_get}
+use Rattle.std.proofs.Common.{◌≡◌, refl, sym, ap, ◌∙◌, subst, ℕ, zero, suc, ◌≤◌, Bool, true, false, cond, List, [], ◌∷◌, length, map, Option, Some, None, Result, Ok, arith}
+use Rattle.std.specs.Prelude.{slice_get, if◌then◌else◌}
 use Rattle.std.specs.Option.{option_map}
 use Rattle.std.specs.Map.{lookup}
 use std.Path.{fun_ext}
@@ -9,12 +9,14 @@ use Rattle.sv_terms.specs.declared.entry.Body.TheVariants as body
 use Rattle.sv_terms.specs.declared.sort.Sort.{Sort}
 use Rattle.sv_terms.specs.declared.term.Term.{Term}
 use Rattle.sv_terms.specs.declared.term.Term.TheOpen.{Term-F}
-use Rattle.sv_terms.specs.declared.term.Term.TheFolds.{fold-roll-Term, map-Term, ind-Term}
+use Rattle.sv_terms.specs.declared.term.Term.TheFolds.{fold-Term, fold-roll-Term, map-Term, ind-Term}
+use Rattle.term_draft.specs.declared.draft.Part.{Part}
 use Rattle.term_draft.specs.declared.weight.Weight.{Weight}
-use Rattle.term_draft.specs.Bodies.{term_of, or_constant, put_in, put_in_layer, arguments_for, called}
-use Rattle.term_draft.specs.Drafts.{shown, term_found, at_place, at_places}
+use Rattle.term_draft.specs.Bodies.{is_language, term_of, or_constant, put_in, put_in_layer, arguments_for, called}
+use Rattle.term_draft.specs.Drafts.{Adds, Calls, argument_place, at_place, at_places, if_term, layer_name, name_alone, named_by, parameter_alone, senses, shown, term_found, term_place}
 use Rattle.smt_names.specs.Signature.{Name, same_name}
 use Rattle.term_draft.specs.Weights.{weight_of, as_term, op_weight, in_weight, related_weight, regex_weight, weigh_layer, weighed, or_leaf, place_of, nth_if, argument_weight, call_weight}
+use Rattle.term_draft.proofs.Drafting.{get-none, length-senses}
 use Rattle.term_draft.proofs.Layers.{weight-Truth, weight-Number, weight-Text, weight-Constant, weight-Opaque, weight-Apply, weight-InRe, weight-Related, weight-term_of}
 
 abbrev term_weight : Term → Weight
@@ -94,3 +96,112 @@ put-index ps index done arguments t u e f =
     ∙ sym (map-map term_of (at_place done) (nth_if arguments (place_of n ps)))
     ∙ ap (option_map term_of) (sym (nth-map (at_place done) arguments (place_of n ps)))
     ∙ sym (argument-at n ps (at_places done arguments)))))
+
+pub named-alike : (f g : Name → Option ℕ) → ((n : Name) → f n ≡ g n) → (o : Option Name) → named_by f o ≡ named_by g o
+named-alike f g h None = refl
+named-alike f g h (Some n) = h n
+
+-- a body that is a parameter alone is its argument
+module _ (ps : List (Name × Sort)) (bs : List Body) (i : ℕ) (d : Body) (there : slice_get bs i ≡ Some d) where
+  abbrev given : Name → Option Term
+  given n = lookup (same_name n) (arguments_for ps bs)
+
+  abbrev place : Name → Option ℕ
+  place n = place_of n ps
+
+  abbrev Alone : Term → Type 0
+  Alone t = named_by place (name_alone t) ≡ Some i → put_in given t ≡ term_of d
+
+  layer-alone : (x : Term-F Term) → named_by place (layer_name (map-Term Term (Option Name) (fold-Term (Option Name) layer_name) x)) ≡ Some i → put_in_layer given (map-Term Term Term (put_in given) x) ≡ term_of d
+  layer-alone (Term-F.Truth b) e = absurd (cc)
+  layer-alone (Term-F.Number n) e = absurd (cc)
+  layer-alone (Term-F.Text w) e = absurd (cc)
+  layer-alone (Term-F.Constant n s) e = ap (or_constant n s) (argument-at n ps bs ∙ ap (λ o. option_map term_of (nth_if bs o)) e ∙ ap (option_map term_of) there)
+  layer-alone (Term-F.Apply o ts) e = absurd (cc)
+  layer-alone (Term-F.InRe t r) e = absurd (cc)
+  layer-alone (Term-F.Related m t u) e = absurd (cc)
+  layer-alone (Term-F.Opaque s) e = absurd (cc)
+
+  put-alone : (t : Term) → Alone t
+  put-alone = ind-Term Alone (λ x y is e.
+      fold-roll-Term Term (put_in_layer given) x
+      ∙ layer-alone x (ap (named_by place) (sym (fold-roll-Term (Option Name) layer_name x)) ∙ e))
+
+get-at : (done : List Body) (q : ℕ) (b : Body) → slice_get done q ≡ Some b → at_place done q ≡ b
+get-at [] q b e = absurd (cc)
+get-at (c ∷ done) zero b e = cc
+get-at (c ∷ done) (suc q) b e = get-at done q b e
+
+module _ (done : List Body) (ps : List (Name × Sort)) (t : Term) (arguments : List ℕ) (p : ℕ) where
+  abbrev There : Type 0
+  There = slice_get done p ≡ Some (called ps (body.Term t) (at_places done arguments))
+
+  there-body : (i q : ℕ) (o : Option Body) → named_by (λ n. place_of n ps) (name_alone t) ≡ Some i → slice_get arguments i ≡ Some q → slice_get done q ≡ o → if_term q o ≡ Some p → There
+  there-body i q None h a s e = absurd (cc)
+  there-body i q (Some (body.Language r)) h a s e = absurd (cc)
+  there-body i q (Some (body.Term u)) h a s e =
+      let g : p ≡ q = cc in
+      let there : slice_get (at_places done arguments) i ≡ Some (body.Term u) = get-map (at_place done) arguments i ∙ ap (option_map (at_place done)) a ∙ ap Some (get-at done q (body.Term u) s) in
+      ap (slice_get done) g ∙ s ∙ ap (λ (z : Term). Some (body.Term z)) (sym (put-alone ps (at_places done arguments) i (body.Term u) there t h))
+
+  there-argument : (i : ℕ) (o : Option ℕ) → named_by (λ n. place_of n ps) (name_alone t) ≡ Some i → slice_get arguments i ≡ o → term_place done o ≡ Some p → There
+  there-argument i None h a e = absurd (cc)
+  there-argument i (Some q) h a e = there-body i q (slice_get done q) h a refl e
+
+  there-parameter : (o : Option ℕ) → named_by (λ n. place_of n ps) (name_alone t) ≡ o → term_place done (nth_if arguments o) ≡ Some p → There
+  there-parameter None h e = absurd (cc)
+  there-parameter (Some i) h e = there-argument i (slice_get arguments i) h refl e
+
+called-there : (done : List Body) (ps : List (Name × Sort)) (b : Body) (arguments : List ℕ) (p : ℕ) → argument_place done ps b arguments ≡ Some p → slice_get done p ≡ Some (called ps b (at_places done arguments))
+called-there done ps (body.Language r) arguments p e = absurd (cc)
+called-there done ps (body.Term t) arguments p e = there-parameter done ps t arguments p (named_by (λ n. place_of n ps) (name_alone t)) refl e
+
+-- a call that is an argument stands, any other is added
+pub calls-there : (E : Type 0) (done : List Body) (ps : List (Name × Sort)) (b : Body) (arguments : List ℕ) (p : ℕ) → Some p ≡ argument_place done ps b arguments → Calls {E = E} (argument_place done ps b arguments) (called ps b (at_places done arguments)) done done (Ok p)
+calls-there E done ps b arguments p e = subst (λ (o : Option ℕ). Calls {E = E} o (called ps b (at_places done arguments)) done done (Ok p)) e (refl, called-there done ps b arguments p (sym e), refl)
+
+pub calls-added : {E : Type 0} (o : Option ℕ) (b : Body) (old new : List Body) (r : Result ℕ E) → None ≡ o → Adds {E = E} b old new r → Calls {E = E} o b old new r
+calls-added {E = E} o b old new r e a = subst (λ (o : Option ℕ). Calls {E = E} o b old new r) e a
+
+-- the argument of a parameter
+pub argument-some : (done : List Body) (ps : List (Name × Sort)) (b : Body) (arguments : List ℕ) (i q : ℕ) (r : Option ℕ) → Some i ≡ parameter_alone ps b → Some q ≡ slice_get arguments i → r ≡ if_term q (slice_get done q) → r ≡ argument_place done ps b arguments
+argument-some done ps b arguments i q r e g h = h ∙ ap (term_place done) (g ∙ ap (nth_if arguments) e)
+
+pub argument-missing : (done : List Body) (ps : List (Name × Sort)) (b : Body) (arguments : List ℕ) (i : ℕ) → Some i ≡ parameter_alone ps b → None ≡ slice_get arguments i → None ≡ argument_place done ps b arguments
+argument-missing done ps b arguments i e g = ap (term_place done) (g ∙ ap (nth_if arguments) e)
+
+pub argument-none : (done : List Body) (ps : List (Name × Sort)) (b : Body) (arguments : List ℕ) → None ≡ parameter_alone ps b → None ≡ argument_place done ps b arguments
+argument-none done ps b arguments e = ap (λ o. term_place done (nth_if arguments o)) e
+
+-- whether a term is at a place, by the weight there
+term-if : (k : ℕ) (b : Body) → if_term k (Some b) ≡ (if is_language b then None else Some k)
+term-if k (body.Term t) = refl
+term-if k (body.Language r) = refl
+
+get-term : (ps : List Part) (bs : List Body) (i k : ℕ) (p : Part) → map (λ p. p.weight) ps ≡ map weight_of bs → slice_get ps i ≡ Some p → if_term k (slice_get bs i) ≡ (if p.weight.is_language then None else Some k)
+get-term [] bs i k p e f = absurd (cc)
+get-term (q ∷ ps) [] i k p e f = absurd (cc)
+get-term (q ∷ ps) (b ∷ bs) zero k p e f =
+    let g : q ≡ p = cc in
+    let h : q.weight ≡ weight_of b = cc in
+    term-if k b ∙ ap (λ (w : Weight). if w.is_language then None else Some k) (sym h ∙ ap (λ (z : Part). z.weight) g)
+get-term (q ∷ ps) (b ∷ bs) (suc i) k p e f = get-term ps bs i k p (cc) f
+
+get-past : {A : Type 0} (as_ : List A) (i : ℕ) → length as_ ≤ i → slice_get as_ i ≡ None
+get-past [] i h = refl
+get-past (a ∷ as_) zero h = absurd (omega arith)
+get-past (a ∷ as_) (suc i) h = get-past as_ i (omega arith)
+
+pub term-stands : (ps : List Part) (bs : List Body) (i : ℕ) (p : Part) (l : Bool) → map (λ p. p.weight) ps ≡ map weight_of (senses ps) → senses ps ≡ bs → Some p ≡ slice_get ps i → p.weight.is_language ≡ l → (if l then None else Some i) ≡ if_term i (slice_get bs i)
+term-stands ps bs i p l e f g h = ap (λ (b : Bool). if b then None else Some i) (sym h) ∙ sym (get-term ps (senses ps) i i p e (sym g)) ∙ ap (λ z. if_term i (slice_get z i)) f
+
+pub none-stands : (ps : List Part) (bs : List Body) (i : ℕ) → senses ps ≡ bs → None ≡ slice_get ps i → None ≡ if_term i (slice_get bs i)
+none-stands ps bs i f g =
+    let h : length bs ≤ i = subst (λ n. n ≤ i) (sym (length-senses ps) ∙ ap length f) (get-none ps i (sym g)) in
+    ap (if_term i) (sym (get-past bs i h))
+
+pub ruleset calling = (calls-there, calls-added)
+
+pub ruleset arguing = (argument-some, argument-missing, argument-none)
+
+pub ruleset standing = (term-stands, none-stands)

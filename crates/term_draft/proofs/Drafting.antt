@@ -51,7 +51,7 @@ past-end [] i h = refl
 past-end (b ∷ bs) zero h = absurd (omega arith)
 past-end (b ∷ bs) (suc i) h = past-end bs i (omega arith)
 
-get-none : {A : Type 0} (as_ : List A) (i : ℕ) → slice_get as_ i ≡ None → length as_ ≤ i
+pub get-none : {A : Type 0} (as_ : List A) (i : ℕ) → slice_get as_ i ≡ None → length as_ ≤ i
 get-none [] i e = omega arith
 get-none (a ∷ as_) zero e = absurd (cc)
 get-none (a ∷ as_) (suc i) e = let h = get-none as_ i e in omega arith

@@ -20,6 +20,8 @@ use Rattle.term_draft.specs.declared.weight.Factor.{Factor}
 use Rattle.term_draft.specs.declared.weight.Factor.TheVariants.{Literal, Known, Unknown}
 use Rattle.term_draft.specs.declared.weight.Weight.{Weight}
 use Rattle.term_draft.specs.Bodies.{body_sort, literal, factor, layer_sort, layer_word, layer_factor, op_sort, applied_factor, holds, is_unknown, term_of, regex_of, opaque, related}
+use Rattle.term_draft.specs.Drafts.{layer_name, name_alone}
+use Rattle.smt_names.specs.Signature.{Name}
 use Rattle.term_draft.specs.Ranks.{characters, of_one}
 use Rattle.term_draft.specs.Sizes.{total, greatest, one_more, one_deeper, term_measure, regex_measure, regex_nodes, regex_nesting}
 use Rattle.term_draft.specs.Weights.{capped, weight_of, leaf, opaque_weight, language, regex_weight, as_term, op_weight, in_weight, related_weight, combined_weight, weigh_layer, weighed, or_leaf, tested, ranged, worded}
@@ -82,6 +84,35 @@ pub word-Opaque : (s : Sort) → literal (body.Term (term.Opaque s)) ≡ None
 word-Opaque s = word-at _ (Term-F.Opaque s) (term.rolls-Opaque s)
 
 pub ruleset words = (word-Truth, word-Number, word-Text, word-Constant, word-Apply, word-InRe, word-Related, word-Opaque)
+
+name-at : (t : Term) (x : Term-F Term) → roll-Term x ≡ t → name_alone t ≡ layer_name (map-Term Term (Option Name) (fold-Term (Option Name) layer_name) x)
+name-at t x e = fold-at (Option Name) layer_name t x e
+
+pub name-Truth : (b : Bool) → name_alone (term.Truth b) ≡ None
+name-Truth b = name-at _ (Term-F.Truth b) (term.rolls-Truth b)
+
+pub name-Number : (n : ℤ) → name_alone (term.Number n) ≡ None
+name-Number n = name-at _ (Term-F.Number n) (term.rolls-Number n)
+
+pub name-Text : (w : List ℕ) → name_alone (term.Text w) ≡ None
+name-Text w = name-at _ (Term-F.Text w) (term.rolls-Text w)
+
+pub name-Constant : (n : Name) (s : Sort) → name_alone (term.Constant n s) ≡ Some n
+name-Constant n s = name-at _ (Term-F.Constant n s) (term.rolls-Constant n s)
+
+pub name-Apply : (o : Op) (ts : List Term) → name_alone (term.Apply o ts) ≡ None
+name-Apply o ts = name-at _ (Term-F.Apply o ts) (term.rolls-Apply o ts)
+
+pub name-InRe : (t : Term) (r : Regex) → name_alone (term.InRe t r) ≡ None
+name-InRe t r = name-at _ (Term-F.InRe t r) (term.rolls-InRe t r)
+
+pub name-Related : (m : Transducer) (t u : Term) → name_alone (term.Related m t u) ≡ None
+name-Related m t u = name-at _ (Term-F.Related m t u) (term.rolls-Related m t u)
+
+pub name-Opaque : (s : Sort) → name_alone (term.Opaque s) ≡ None
+name-Opaque s = name-at _ (Term-F.Opaque s) (term.rolls-Opaque s)
+
+pub ruleset names = (name-Truth, name-Number, name-Text, name-Constant, name-Apply, name-InRe, name-Related, name-Opaque)
 
 -- one more element of a list
 pub map-snoc : {A B : Type 0} (f : A → B) (as_ : List A) (a : A) → map f (as_ ++ a ∷ []) ≡ map f as_ ++ f a ∷ []

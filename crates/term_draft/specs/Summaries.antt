@@ -16,7 +16,7 @@ use Rattle.term_draft.specs.declared.summary.Summary.TheVariants as summary
 use Rattle.smt_names.specs.Signature.{Name}
 use Rattle.sv_terms.specs.declared.entry.Body.{Body}
 use Rattle.term_draft.specs.Bodies.{is_unknown, holds}
-use Rattle.term_draft.specs.Drafts.{shown, weight_found}
+use Rattle.term_draft.specs.Drafts.{shown, weight_found, parameter_alone}
 use Rattle.term_draft.specs.Weights.{capped, as_term, opaque_weight, is_literal, or_leaf, weighed, call_weight}
 
 -- what a part of this weight adds to what it stands in, that deep
@@ -102,6 +102,12 @@ weight_at (summary.Same w) ws = w
 weight_at (summary.Parameter i s) ws = or_leaf s (option_map as_term (slice_get ws i))
 weight_at (summary.Term s tally) ws = of_total s (total tally ws)
 
+-- the parameter that it is of, where the body is one alone
+abbrev pub parameter_of : Summary → Option ℕ
+parameter_of (summary.Same w) = None
+parameter_of (summary.Parameter i s) = Some i
+parameter_of (summary.Term s tally) = None
+
 -- whether these factors of a function's parts make a length unknown that is unknown by no part
 abbrev pub is_measure : Op → List Factor → Bool
 is_measure op.Length (f ∷ []) = not (is_literal f)
@@ -137,3 +143,4 @@ pub record Tells (places : List (Name × Option ℕ)) (parameters : ℕ) (x : Su
 -- a summary is that of a macro with these parameters and this body
 pub record Summarises (x : Summary) (parameters : List (Name × Sort)) (body : Body) : Type 0 where
   pub tells : (ws : List Weight) → weight_at x ws ≡ call_weight parameters ws body
+  pub alone : parameter_of x ≡ parameter_alone parameters body

@@ -108,10 +108,3 @@ impl Declarations {
         self.summaries.forget(&self.symbols);
     }
 }
-
-fn crosses<T: Send + Sync>() {}
-
-/// Declarations may go to another thread, and threads may share them.
-pub fn declarations_cross() {
-    crosses::<Declarations>()
-}

@@ -1,6 +1,6 @@
-ghost use Rattle.std.specs.Prelude.{◌≡◌, [], map, IfOk};
+ghost use Rattle.std.specs.Prelude.{◌≡◌, [], map, slice_get, IfOk};
 ghost use Rattle.term_draft.specs.Bodies.{body_sort as sort_of, opaque as no_meaning, called, related};
-ghost use Rattle.term_draft.specs.Drafts.{Adds, sense, senses, at_place, at_places};
+ghost use Rattle.term_draft.specs.Drafts.{Adds, Calls, argument_place, if_term, sense, senses, at_place, at_places};
 ghost use Rattle.term_draft.specs.Ranks.{applied};
 ghost use Rattle.term_draft.specs.Sizes.{fits as is_fit};
 ghost use Rattle.term_draft.specs.Weights.{weight_of};
@@ -147,9 +147,27 @@ impl<'a> Draft<'a> {
         }
     }
 
-    /// Adds the body of a macro with the arguments at these places in the place of its parameters,
-    /// and answers its place. Linear in the parameters and the arguments.
+    /// The place of the body of a macro with the arguments at these places in the place of its
+    /// parameters. It is added, but where the body is a parameter alone: then it is the argument, a
+    /// term, and its place is the answer, so that a chain of such calls goes no deeper than what it
+    /// means. Linear in the parameters and the arguments.
+    #[tactic(auto, using(crate::proofs::Calling::calling))]
     pub fn put_called(
+        &mut self,
+        alloc: Global,
+        defined: Macro<'a>,
+        places: Items<usize>,
+    ) -> Result<usize, AllocError>
+        ensures { Calls (argument_place self.old defined.entry.parameters.now defined.entry.body.now places) (called defined.entry.parameters.now defined.entry.body.now (at_places self.old places)) self.old self.new result }
+    {
+        match self.argument(defined, places.as_slice()) {
+            Some(place) => Ok(place),
+            None => self.put_call(alloc, defined, places),
+        }
+    }
+
+    /// Adds a call, whatever it is.
+    fn put_call(
         &mut self,
         alloc: Global,
         defined: Macro<'a>,
@@ -163,6 +181,37 @@ impl<'a> Draft<'a> {
             Node::Called(defined.parameters, defined.body, places),
             weight,
         )
+    }
+
+    /// The place of the argument that a call is, if it is one.
+    #[tactic(auto, using(crate::proofs::Calling::arguing))]
+    fn argument(&self, defined: Macro<'_>, places: &[usize]) -> Option<usize>
+        ensures { result ≡ argument_place self.now defined.entry.parameters.now defined.entry.body.now places.now }
+    {
+        match defined.summary.parameter() {
+            Some(parameter) => match places.get(parameter) {
+                Some(place) => self.term_place(*place),
+                None => None,
+            },
+            None => None,
+        }
+    }
+
+    /// This place, if a term is there.
+    #[tactic(auto, using(crate::proofs::Calling::standing))]
+    fn term_place(&self, place: usize) -> Option<usize>
+        ensures { result ≡ if_term place (slice_get self.now place) }
+    {
+        match self.parts.get(place) {
+            Some(part) => {
+                if part.weight.is_language {
+                    None
+                } else {
+                    Some(place)
+                }
+            }
+            None => None,
+        }
     }
 
     /// Adds that a transducer may write the second of two terms where it reads the first, and

@@ -1,5 +1,5 @@
 // What a macro's body weighs at arguments of any weights.
-ghost use Rattle.std.specs.Prelude.{◌≡◌, IfOk};
+ghost use Rattle.std.specs.Prelude.{◌≡◌, None, IfOk};
 ghost use Rattle.term_draft.specs.Drafts as drafts;
 ghost use Rattle.term_draft.specs.Summaries as sums;
 ghost use Rattle.term_draft.specs.Weights as weighing;
@@ -43,19 +43,22 @@ fn function(
     sort: Sort,
     term: &Term,
 ) -> Result<Summary, AllocError>
-    ensures { IfOk result (λ x. sums.Tells places.now parameters x (λ ws. sums.of_total sort (sums.share 0 (sums.part places.now ws term.now)))) }
+    ensures tells { IfOk result (λ x. sums.Tells places.now parameters x (λ ws. sums.of_total sort (sums.share 0 (sums.part places.now ws term.now)))) }
+    ensures alone { IfOk result (λ x. sums.parameter_of x ≡ None) }
 {
     let tally = tally_of(alloc, parameters, places, term)?;
     Ok(Summary::Term(sort, tally))
 }
 
+#[tactic(auto, using(crate::proofs::Layers::names))]
 fn of_term(
     alloc: Global,
     parameters: usize,
     places: &Places,
     term: &Term,
 ) -> Result<Summary, AllocError>
-    ensures { IfOk result (λ x. sums.Tells places.now parameters x (λ ws. weighing.weighed (drafts.weight_found places.now ws) term.now)) }
+    ensures tells { IfOk result (λ x. sums.Tells places.now parameters x (λ ws. weighing.weighed (drafts.weight_found places.now ws) term.now)) }
+    ensures alone { IfOk result (λ x. sums.parameter_of x ≡ drafts.named_by (λ n. drafts.shown n places.now) (drafts.name_alone term.now)) }
 {
     match term {
         Term::Truth(_) => Ok(Summary::Same(Weight::leaf(Sort::Bool, Factor::Known))),
@@ -88,6 +91,17 @@ impl Summary {
                 Ok(of_term(alloc, parameters.len(), &places, term)?)
             }
             Body::Language(regex) => Ok(Summary::Same(weigh_regex(alloc, regex)?)),
+        }
+    }
+
+    /// The parameter that the body is, where it is one alone.
+    pub fn parameter(&self) -> Option<usize>
+        ensures { result ≡ sums.parameter_of self.now }
+    {
+        match self {
+            Summary::Same(_) => None,
+            Summary::Parameter(place, _) => Some(*place),
+            Summary::Term(_, _) => None,
         }
     }
 

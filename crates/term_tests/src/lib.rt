@@ -1,4 +1,5 @@
-//! Tests of the public calls on words, s-expressions, terms and their meaning, the stack of assertions and the checked commands.
+//! Tests of the public calls on words, s-expressions, terms and their meaning, the stack of assertions and the checked
+//! commands.
 //!
 //! A module for each crate that is called. They stand apart from what they call, so that proving them proves no crate
 //! a second time.
@@ -6,6 +7,8 @@
 
 #[cfg(test)]
 mod assert_stack_calls;
+#[cfg(test)]
+mod item_passes_calls;
 #[cfg(test)]
 mod regex_match_calls;
 #[cfg(test)]
@@ -18,5 +21,7 @@ mod sort_check_calls;
 mod sv_terms_calls;
 #[cfg(test)]
 mod sv_word_calls;
+#[cfg(test)]
+mod term_draft_calls;
 #[cfg(test)]
 mod term_eval_calls;

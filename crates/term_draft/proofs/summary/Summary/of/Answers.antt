@@ -1,6 +1,9 @@
-use Rattle.std.proofs.Common.{sym, subst}
+use Rattle.std.proofs.Common.{sym, subst, ◌∙◌}
 use Rattle.sv_terms.specs.declared.entry.Body.{Body}
+use Rattle.term_draft.specs.Drafts.{name_alone, shown}
 use Rattle.term_draft.specs.Summaries.{Summarises}
+use Rattle.term_draft.specs.Weights.{place_of}
+use Rattle.term_draft.proofs.Calling.{named-alike}
 use Rattle.term_draft.proofs.Telling.{tells-call}
 use Rattle.term_draft.proofs.summary.Summary.of.Goals as goal
 
@@ -9,4 +12,7 @@ returns-in_ok-of_term-in-Term c =
     let ps = c.args.parameters.now in
     let x = c.in_ok-of_term-in-Term.field-0 in
     subst (λ (b : Body). Summarises x ps b) (sym c.in-Term.is)
-    (record { tells = tells-call ps c.in_ok-places-in-Term.places x c.in-Term.term c.in_ok-places-in-Term.ensures c.in_ok-of_term-in-Term.ensures })
+    (record {
+      tells = tells-call ps c.in_ok-places-in-Term.places x c.in-Term.term c.in_ok-places-in-Term.ensures c.in_ok-of_term-in-Term.ensures.tells;
+      alone = c.in_ok-of_term-in-Term.ensures.alone ∙ named-alike (λ n. shown n c.in_ok-places-in-Term.places) (λ n. place_of n ps) c.in_ok-places-in-Term.ensures (name_alone c.in-Term.term);
+    })

@@ -2,7 +2,7 @@ use Rattle.std.proofs.Common.{sym, ap, ◌∙◌, map}
 use Rattle.term_draft.specs.Drafts.{at_places}
 use Rattle.term_draft.specs.Weights.{weight_of, call_weight}
 use Rattle.term_draft.proofs.Calling.{call-weighs}
-use Rattle.term_draft.proofs.draft.Draft.put_called.Goals as goal
+use Rattle.term_draft.proofs.draft.Draft.put_call.Goals as goal
 
 pub put-requires : goal.put-requires
 put-requires c =
