@@ -18,7 +18,7 @@ impl PackedTableau {
     ghost use Rattle.lia_tableau.specs.declared.table.Table.{Table as AnyTable};
     ghost use Rattle.lia_pack.specs.Tables.{IsPackedOf};
 
-    /// Packs a tableau. Linear in the terms of its rows and lines.
+    /// Packs a tableau. Linear in the terms of its rows and lines; the only refusal is want of memory.
     pub fn of(alloc: Global, tableau: &Tableau) -> Result<PackedTableau, AllocError>
         ensures { IfOk result (IsPackedOf tableau.now) }
     {
@@ -34,7 +34,7 @@ impl PackedTableau {
         })
     }
 
-    /// The tableau that was packed. Linear in the bytes.
+    /// The tableau that was packed. Linear in the bytes; the only refusal is want of memory.
     pub fn unpack(&self, alloc: Global) -> Result<Tableau, AllocError>
         requires { (t : AnyTable) × IsPackedOf t self.now }
         ensures { (t : AnyTable) → IsPackedOf t self.now → IfOk result (λ r. r ≡ t) }
