@@ -71,6 +71,6 @@ build() {
 export -f build_crate
 export root program
 is_built || build
-# Terms may stand 1,000 deep in one another, which takes up to 4 MB of stack.
+# Terms may stand 1,000 deep in one another, which takes up to 2 MB of stack.
 ulimit -S -s 65536 2>/dev/null || true
 exec "$program" "$@"
