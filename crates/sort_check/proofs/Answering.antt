@@ -17,7 +17,7 @@ use Rattle.smt_names.specs.Answering.{answers-same, fault-passes}
 use Rattle.smt_names.specs.Shapes.{seen-Atom, seen-List, none-seen, one-seen}
 use Rattle.sort_check.proofs.Counted.{assertion-few, assertion-many}
 use Rattle.item_passes.specs.Passes.{passed}
-use Rattle.sort_check.specs.Meant.{Names, settled}
+use Rattle.sort_check.specs.Meant.{Names, settled_sorts}
 
 -- a fault of what is looked for first
 pub first-fault : {A : Type 0} (m : Result Unit CheckFault) (w : Result A CheckFault) (f : CheckFault) → Answers m (Err f) → Answers (m >> w) (Err f)
@@ -57,11 +57,17 @@ raw-layer x y is = ap (λ (q : Sexpr-F Sexpr). raw (seen (roll-Sexpr q))) (sym i
 pub raw-seen : (s : Sexpr) → raw (seen s) ≡ s
 raw-seen = ind-Sexpr Same raw-layer
 
-pub values-is : (symbols : Names) (xs : List Sexpr) → 1 ≤ length xs → values symbols (forms (map seen xs)) ≡ (passed (forms (map seen xs)) >> and_then (valued (forms (map seen xs))) (settled symbols [] (forms (map seen xs))))
+pub raws-all : (xs : List Sexpr) → raws (forms (map seen xs)) ≡ xs
+raws-all [] = refl
+raws-all (x ∷ xs) = λ i. raw-seen x i ∷ raws-all xs i
+
+pub values-is : (symbols : Names) (xs : List Sexpr) → 1 ≤ length xs → values symbols (forms (map seen xs)) ≡ (passed (forms (map seen xs)) >> and_then (valued (forms (map seen xs))) (settled_sorts symbols [] (forms (map seen xs))))
 values-is symbols [] h = absurd (omega arith)
 values-is symbols (x ∷ xs) h = refl
 
 pub ruleset answering = (first-fault, first-passes, then-fault, then-passes)
+
+pub ruleset reading = (raws-all)
 
 pub ruleset asserting = (one-seen, assertion-few, assertion-many, first-fault, first-passes, then-fault, then-passes)
 

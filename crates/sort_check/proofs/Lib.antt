@@ -1,10 +1,9 @@
 mod Answering
+mod Asked
 mod Counted
-mod Pairing
 mod Reading
 mod Scoping
 mod Shapes
-mod Sorts
 mod Termwise
 mod Walking
 mod WellApplied

@@ -15,11 +15,12 @@ use Rattle.smt_names.specs.declared.check_fault.CheckFault.TheVariants as fault
 use Rattle.smt_names.specs.declared.opening.Opening.{Opening}
 use Rattle.sort_check.specs.declared.walk.Walk.{Walk}
 use Rattle.item_passes.specs.Binders.{are_some, is_binding, is_variable, variables}
-use Rattle.term_draft.specs.Bodies.{parameter_name}
+use Rattle.term_draft.specs.Bodies.{body_sort, parameter_name}
 use Rattle.term_draft.specs.Drafts.{at_place, at_places}
-use Rattle.smt_names.specs.Faults.{Answers, and_then, ◌>>◌, need}
+use Rattle.smt_names.specs.Faults.{Answers, and_then, ◌>>◌, need, made_of}
+use Rattle.smt_names.specs.Answering.{fault-passes}
 use Rattle.smt_names.specs.Form.{Form, Forms, forms, seen, token, group, end, ◌⨾◌, count}
-use Rattle.sort_check.specs.Meant.{Scope, Names, Head, any_size, alone, of_theory, identified, head, head_count, in_parentheses, application, meant, meant_all, meant_let, meant_values, meant_value, meant_quantifier, meant_annotated, meant_token, quantified, quantified_over, as_constants, renamed, settled}
+use Rattle.sort_check.specs.Meant.{Scope, Names, Head, any_size, alone, of_theory, identified, head, head_count, in_parentheses, application, meant, meant_all, meant_let, meant_values, meant_value, meant_quantifier, meant_annotated, meant_token, quantified, quantified_over, as_constants, renamed, settled, settled_sorts}
 use Rattle.smt_names.specs.Tokens.{chosen}
 use Rattle.smt_names.specs.Signature.{Name}
 use Rattle.term_draft.specs.Sizes.{fits}
@@ -341,13 +342,13 @@ module _ (w0 w1 : Walk) (params : List (Name × Sort)) (bound : List (Name × �
 pub read-past : {X Y : Type 0} (stands : List Body → X → Y → Type 0) (m : Meaning Y) (w2 w3 : Walk) (x : X) (b : Bool) (a : Read stands m w2 w3 x) → w2.is_past ≡ false → w3.is_past ≡ b → a.past ≡ b
 read-past stands m w2 w3 x b a e f = sym (ap (λ z. z || a.past) e) ∙ sym a.noted ∙ f
 
-pub settled-places : (symbols : Names) (s : Scope) (fs : Forms) (w2 w3 : Walk) (places : List ℕ) (r : Result (List Body) CheckFault) (a : Read Each (λ t. meant_all t symbols s fs) w2 w3 places) → w2.is_past ≡ false → w3.is_past ≡ false → Answers (fitting (at_places w3.draft places)) r → Answers (settled symbols s fs) r
-settled-places symbols s fs w2 w3 places r a e f g =
-    subst (λ (z : Result (List Body) CheckFault). Answers z r)
+pub sorts-places : (symbols : Names) (s : Scope) (fs : Forms) (w2 w3 : Walk) (places : List ℕ) (r : Result (List Sort) CheckFault) (a : Read Each (λ t. meant_all t symbols s fs) w2 w3 places) → w2.is_past ≡ false → w3.is_past ≡ false → Answers (made_of (map body_sort) (fitting (at_places w3.draft places))) r → Answers (settled_sorts symbols s fs) r
+sorts-places symbols s fs w2 w3 places r a e f g =
+    subst (λ (z : Result (List Body) CheckFault). Answers (made_of (map body_sort) z) r)
     (sym (settled-fitting symbols s fs a.what a.past a.means a.limits (read-past Each (λ t. meant_all t symbols s fs) w2 w3 places false a e f) ∙ ap fitting (sym (each-are w3.draft places a.what a.there)))) g
 
-pub settled-size : (symbols : Names) (s : Scope) (fs : Forms) (w2 w3 : Walk) (places : List ℕ) (a : Read Each (λ t. meant_all t symbols s fs) w2 w3 places) → w2.is_past ≡ false → w3.is_past ≡ true → settled symbols s fs ≡ Err fault.Size
-settled-size symbols s fs w2 w3 places a e f = settled-past symbols s fs a.what a.past a.means a.limits (read-past Each (λ t. meant_all t symbols s fs) w2 w3 places true a e f)
+pub sorts-size : (symbols : Names) (s : Scope) (fs : Forms) (w2 w3 : Walk) (places : List ℕ) (a : Read Each (λ t. meant_all t symbols s fs) w2 w3 places) → w2.is_past ≡ false → w3.is_past ≡ true → settled_sorts symbols s fs ≡ Err fault.Size
+sorts-size symbols s fs w2 w3 places a e f = ap (made_of (map body_sort)) (settled-past symbols s fs a.what a.past a.means a.limits (read-past Each (λ t. meant_all t symbols s fs) w2 w3 places true a e f))
 
 pub settled-err : (symbols : Names) (s : Scope) (fs : Forms) (w2 w3 : Walk) (f : CheckFault) → Reads Each (λ t. meant_all t symbols s fs) w2 w3 (Err f) → Answers (settled symbols s fs) (Err f)
 settled-err symbols s fs w2 w3 fault.Unknown a = settled-fault symbols s fs fault.Unknown a
@@ -361,6 +362,9 @@ settled-err symbols s fs w2 w3 fault.Transducer a = settled-fault symbols s fs f
 settled-err symbols s fs w2 w3 fault.Index a = settled-fault symbols s fs fault.Index a
 settled-err symbols s fs w2 w3 fault.Size a = settled-fault symbols s fs fault.Size a
 settled-err symbols s fs w2 w3 (fault.Memory x) a = tt
+
+pub sorts-err : (symbols : Names) (s : Scope) (fs : Forms) (w2 w3 : Walk) (f : CheckFault) → Reads Each (λ t. meant_all t symbols s fs) w2 w3 (Err f) → Answers (settled_sorts symbols s fs) (Err f)
+sorts-err symbols s fs w2 w3 f a = fault-passes (settled symbols s fs) (settled_sorts symbols s fs) f (λ e. ap (made_of (map body_sort)) e) (settled-err symbols s fs w2 w3 f a)
 
 -- one term
 module _ (symbols : Names) (s : Scope) (f : Form) (w2 w3 : Walk) (place : ℕ) (a : Read Here (λ t. meant t symbols s f) w2 w3 place) (begun : w2.is_past ≡ false) where

@@ -1,10 +1,9 @@
 -- The terms of a command have sorts, and what it declares keeps the names well formed.
-use Rattle.std.proofs.Common.{◌≡◌, refl, ap, ◌∙◌, map, Bool, true, false, ◌&&◌, ◌||◌, IsTrue, ℕ, List, [], ◌∷◌, ◌++◌, Option, Some, None, Result, codes, if◌then◌else◌}
+use Rattle.std.proofs.Common.{◌≡◌, refl, ap, ◌∙◌, map, Bool, true, false, ◌&&◌, ◌||◌, IsTrue, ℕ, List, [], ◌∷◌, ◌++◌, Option, Some, None, Result, Ok, Err, codes, if◌then◌else◌}
 use Rattle.std.specs.List.{list_all, list_any}
 use Rattle.std.specs.Map.{lookup}
 use Rattle.std.specs.Option.{option_to_list}
 use mathlib.Core.Bool.{cond}
-use Rattle.sexpr_reader.specs.declared.sexpr.Sexpr.{Sexpr}
 use Rattle.sv_terms.specs.Sorting.{same_sort, sort_of}
 use Rattle.sv_terms.specs.declared.entry.Body.{Body}
 use Rattle.sv_terms.specs.declared.entry.Body.TheVariants as body
@@ -12,7 +11,6 @@ use Rattle.sv_terms.specs.declared.entry.Entry.{Entry}
 use Rattle.sv_terms.specs.declared.entry.Entry.TheVariants as entry
 use Rattle.sv_terms.specs.declared.sort.Sort.{Sort}
 use Rattle.sv_terms.specs.declared.sort.Sort.TheVariants as sort
-use Rattle.sv_terms.specs.declared.term.Term.{Term}
 use Rattle.smt_names.specs.declared.check_fault.CheckFault.{CheckFault}
 use Rattle.smt_names.specs.declared.check_fault.CheckFault.TheVariants as fault
 use Rattle.sort_check.specs.declared.commands.Command.{Command}
@@ -32,6 +30,7 @@ use Rattle.smt_names.specs.Signature.{Name, same_name, is_reserved, is_some}
 use Rattle.term_draft.specs.Sizes.{fits}
 use Rattle.smt_names.specs.Tokens as t
 use Rattle.sort_check.specs.WellFormed.{is_constant_of, is_declared, IsTermOf, IsWritten, hidden_by, is_bound, is_sort, constants_are, has_formed, is_entry, is_well_formed, IsAdded}
+use Rattle.sort_check.proofs.Asked.{all-asked}
 use Rattle.sort_check.proofs.WellApplied.{same-is, same-self, IsWell}
 use Rattle.sort_check.proofs.WellMeant.{Knows, AreWell, Scoped, Any, any-gives, constants-well, all-well}
 use Rattle.sort_check.proofs.WellNames.{same-name-self, sound-entry, one-more, not-true, not-false}
@@ -42,7 +41,7 @@ use Rattle.transducer_form.specs.Formed.{described-gives}
 use Rattle.transducer_form.specs.Written.{DescriptionForm, description_form}
 use Rattle.smt_names.specs.Giving.{Gives, need-gives, refuse-gives, after-gives, then-gives}
 use Rattle.sort_check.proofs.WellSteps.{each-both}
-use Rattle.sort_check.proofs.WellTerms.{both, both-make, Each}
+use Rattle.sort_check.proofs.WellTerms.{both-make, Each}
 
 -- a name that isn't one of a parameter
 abbrev pub Open : Name → Type 0
@@ -51,7 +50,7 @@ Open n = is_escaped n ≡ false
 -- what is known of a command under these names
 abbrev pub IsSound : Names → Command → Type 0
 IsSound symbols (command.Assert u) = IsTermOf symbols sort.Bool u
-IsSound symbols (command.GetValue items) = Each (λ p. IsWritten symbols p.1) items
+IsSound symbols (command.GetValue items) = Each (c.IsAskable symbols) items
 IsSound symbols (command.Declare n s) = IsAdded symbols n (entry.Constant s)
 IsSound symbols (command.Define n e) = IsAdded symbols n e
 IsSound symbols _ = Unit {0}
@@ -66,6 +65,15 @@ or-left false b e = refl
 or-right : (a b : Bool) → (a || b) ≡ false → b ≡ false
 or-right true b e = absurd (cc)
 or-right false b e = e
+
+-- what comes after nothing was found, and an answer that is itself
+past-gives : {A : Type 0} (P : A → Type 0) (r : Result Unit CheckFault) (s : Result A CheckFault) → (r ≡ Ok tt → Gives P s) → Gives P (r >> s)
+past-gives P (Ok u) s h = h refl
+past-gives P (Err f) s h = tt
+
+self-gives : {A : Type 0} (r : Result A CheckFault) → Gives (λ x. r ≡ Ok x) r
+self-gives (Ok x) = refl
+self-gives (Err f) = tt
 
 -- parameters with names apart
 abbrev escaped : List (Name × Sort) → List (Name × Sort)
@@ -167,18 +175,20 @@ module _ (symbols : Names) (wf : IsTrue (is_well_formed symbols)) where
   assertion-sound (u ⨾ w ⨾ fs) = tt
 
   -- terms whose values are asked for
-  each-written : (ts : Forms) (bs : List Body) → Each (IsWell (is_declared symbols)) bs → IsTrue (list_all c.has_values (map body_sort bs)) → Each (λ (p : Sexpr × Term). IsWritten symbols p.1) (c.beside ts bs)
-  each-written end bs w h = tt
-  each-written (u ⨾ ts) [] w h = tt
-  each-written (u ⨾ ts) (b ∷ bs) w h =
-      let k = both (c.has_values (body_sort b)) (list_all c.has_values (map body_sort bs)) h in
-      ((body_sort b, written (body_sort b) b w.0 refl, not-true (same_sort sort.RegLan (body_sort b)) k.0), each-written ts bs w.1 k.1)
+  asked-well : (bs : List Body) → Each (IsWell (is_declared symbols)) bs → Gives (IsWritten symbols) (c.asked bs)
+  asked-well [] w = tt
+  asked-well (b ∷ []) w = need-gives (IsWritten symbols) (c.has_values (body_sort b)) fault.Sort _ (λ h. (body_sort b, written (body_sort b) b w.0 refl, not-true (same_sort sort.RegLan (body_sort b)) h))
+  asked-well (b ∷ d ∷ bs) w = tt
+
+  pub asked-sound : (f : Form) → Gives (IsWritten symbols) (c.asked_term symbols f)
+  asked-sound f = after-gives (IsWritten symbols) (c.passed_term f) _
+      (then-gives (AreWell (is_declared symbols) 1) (IsWritten symbols) c.asked (m.settled symbols [] (f ⨾ end)) (settled-well (is_declared symbols) declared-knows [] tt (f ⨾ end)) (λ bs a. asked-well bs a.well))
 
   values-sound : (ts : Forms) → Gives Sound (c.values symbols ts)
   values-sound end = tt
-  values-sound (u ⨾ ts) = after-gives Sound (passed (u ⨾ ts)) _
-      (then-gives (AreWell (is_declared symbols) (count (u ⨾ ts))) Sound (c.valued (u ⨾ ts)) (m.settled symbols [] (u ⨾ ts)) (settled-well (is_declared symbols) declared-knows [] tt (u ⨾ ts))
-      (λ bs a. need-gives Sound (list_all c.has_values (map body_sort bs)) fault.Sort _ (λ h. each-written (u ⨾ ts) bs a.well h)))
+  values-sound (u ⨾ ts) = past-gives Sound (passed (u ⨾ ts)) _ (λ p.
+      then-gives (λ ss. m.settled_sorts symbols [] (u ⨾ ts) ≡ Ok ss) Sound (c.valued (u ⨾ ts)) (m.settled_sorts symbols [] (u ⨾ ts)) (self-gives (m.settled_sorts symbols [] (u ⨾ ts)))
+      (λ ss e. need-gives Sound (list_all c.has_values ss) fault.Sort _ (λ h. all-asked symbols (u ⨾ ts) ss p e h)))
 
   get-sound : (fs : Forms) → Gives Sound (c.get_value symbols fs)
   get-sound end = tt

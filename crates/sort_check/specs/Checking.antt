@@ -1,5 +1,5 @@
 -- The command that an item is, or its first fault (SMT-LIB 2.6, section 3.9). What is looked for stands in this order, each over the whole item: its written form; declared names; sorts; numerals; the walk over its terms; the size of the terms; their sorts; the description of a transducer.
-use Rattle.std.specs.Prelude.{ℕ, Bool, true, false, ◌&&◌, not, List, [], ◌∷◌, map, Option, Some, None, Result, Ok, Err, codes, if◌then◌else◌}
+use Rattle.std.specs.Prelude.{◌≡◌, ℕ, Bool, true, false, ◌&&◌, not, List, [], ◌∷◌, map, Option, Some, None, Result, Ok, Err, codes, if◌then◌else◌}
 use Rattle.std.specs.List.{list_all}
 use Rattle.std.specs.Map.{lookup}
 use Rattle.sexpr_reader.specs.declared.sexpr.Sexpr.{Sexpr}
@@ -21,8 +21,8 @@ use Rattle.item_passes.specs.Binders.{is_variable, bound_names, repeats, variabl
 use Rattle.smt_names.specs.Form.{are_all}
 use Rattle.term_draft.specs.Bodies.{body_sort, term_of, parameter_name, is_escaped}
 use Rattle.smt_names.specs.Faults.{and_then, ◌>>◌, need, refuse, or_fault}
-use Rattle.smt_names.specs.Form.{Form, Forms, end, ◌⨾◌, raw}
-use Rattle.sort_check.specs.Meant.{Names, settled, parameters_of}
+use Rattle.smt_names.specs.Form.{Form, Forms, end, ◌⨾◌, seen, raws}
+use Rattle.sort_check.specs.Meant.{Names, settled, settled_sorts, parameters_of}
 use Rattle.item_passes.specs.Passes.{at_variables, looked, passed}
 use Rattle.smt_names.specs.Signature.{Name, same_name, is_reserved, is_some}
 use Rattle.smt_names.specs.Tokens.{symbol, word, digits, keyword, literal_text, listed, truth, is_too_large, level, is_sort_form, sort_of}
@@ -139,21 +139,33 @@ stepped make end = Ok (make 1)
 stepped make (n ⨾ end) = levels make (digits n)
 stepped make _ = Err fault.Shape
 
--- the terms beside their s-expressions
-abbrev pub beside : Forms → List Body → List (Sexpr × Term)
-beside (t ⨾ ts) (b ∷ bs) = (raw t, term_of b) ∷ beside ts bs
-beside _ _ = []
-
 abbrev pub has_values : Sort → Bool
 has_values s = not (same_sort sort.RegLan s)
 
-abbrev pub valued : Forms → List Body → Result Command CheckFault
-valued ts bs = need (list_all has_values (map body_sort bs)) fault.Sort >> Ok (command.GetValue (beside ts bs))
+-- terms of these sorts, which stay as they were read
+abbrev pub valued : Forms → List Sort → Result Command CheckFault
+valued ts ss = need (list_all has_values ss) fault.Sort >> Ok (command.GetValue (raws ts))
 
 -- one or more terms
 abbrev pub values : Names → Forms → Result Command CheckFault
 values symbols end = Err fault.Shape
-values symbols (t ⨾ ts) = passed (t ⨾ ts) >> and_then (valued (t ⨾ ts)) (settled symbols [] (t ⨾ ts))
+values symbols (t ⨾ ts) = passed (t ⨾ ts) >> and_then (valued (t ⨾ ts)) (settled_sorts symbols [] (t ⨾ ts))
+
+-- what is looked for in one term before it is walked
+abbrev pub passed_term : Form → Result Unit CheckFault
+passed_term t = looked pass.Names t >> looked pass.Sorts t >> looked pass.Languages t >> looked pass.Numbers t
+
+abbrev pub asked : List Body → Result Term CheckFault
+asked (b ∷ []) = need (has_values (body_sort b)) fault.Sort >> Ok (term_of b)
+asked _ = Err fault.Shape
+
+-- one of the terms whose values are asked for
+abbrev pub asked_term : Names → Form → Result Term CheckFault
+asked_term symbols t = passed_term t >> and_then asked (settled symbols [] (t ⨾ end))
+
+-- an s-expression is such a term
+abbrev pub IsAskable : Names → Sexpr → Type 0
+IsAskable symbols s = (t : Term) × (asked_term symbols (seen s) ≡ Ok t)
 
 abbrev pub get_value : Names → Forms → Result Command CheckFault
 get_value symbols (ts ⨾ end) = and_then (values symbols) (or_fault fault.Shape (listed ts))

@@ -21,7 +21,7 @@ use Rattle.smt_names.specs.declared.function.Function.{Function}
 use Rattle.smt_names.specs.declared.function.Takes.TheVariants.{Nothing, Two}
 use Rattle.item_passes.specs.Binders.{is_binding, is_variable, are_some, variables}
 use Rattle.term_draft.specs.Bodies.{body_sort, opaque, called, related, parameter_name}
-use Rattle.smt_names.specs.Faults.{and_then, ◌>>◌, need, refuse, or_fault}
+use Rattle.smt_names.specs.Faults.{and_then, ◌>>◌, need, refuse, or_fault, made_of}
 use Rattle.smt_names.specs.Form.{Form, Forms, token, group, end, ◌⨾◌, count}
 use Rattle.term_draft.specs.Ranks.{takes_count, takes_sorts, are_of, applied}
 use Rattle.smt_names.specs.Signature.{Name, same_name, stands_in, signature, indexed_names, power, loop, character}
@@ -228,3 +228,7 @@ any_size b = true
 -- what terms mean, and that neither they nor the values of `let` in them are too large
 abbrev pub settled : Names → Scope → Forms → Result (List Body) CheckFault
 settled symbols scope ts = and_then (λ bs. and_then (λ _. need (list_all fits bs) fault.Size >> Ok bs) (meant_all fits symbols scope ts)) (meant_all any_size symbols scope ts)
+
+-- the sorts of what they mean, where they aren't too large
+abbrev pub settled_sorts : Names → Scope → Forms → Result (List Sort) CheckFault
+settled_sorts symbols scope ts = made_of (map body_sort) (settled symbols scope ts)

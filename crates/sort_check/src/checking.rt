@@ -14,7 +14,7 @@ ghost use Rattle.transducer_form.specs.Written as written;
 
 use crate::commands::{Command, Product};
 use crate::scope::parameter_name;
-use crate::walk::{settled, settled_one};
+use crate::walk::{settled_one, settled_sorts};
 use item_passes::{Pass, are_parameters, at_variables, look, pass_over, repeats, variables};
 use sexpr_reader::Sexpr;
 use smt_names::signature::{is_reserved, sort_of, truth, verb};
@@ -425,47 +425,43 @@ fn stepped(parts: &[Sexpr]) -> Result<u32, CheckFault>
     }
 }
 
-/// Whether none is a regular expression.
-#[tactic(auto, using(crate::proofs::Sorts::sorts))]
-fn are_terms(bodies: &[Body]) -> bool
-    ensures { result ≡ list_all commands.has_values (map terms.body_sort bodies.now) }
+fn has_values(sort: Sort) -> bool
+    ensures { result ≡ commands.has_values sort }
 {
-    for body in bodies {
-        if same_sort(Sort::RegLan, body_sort(body)) {
+    !same_sort(Sort::RegLan, sort)
+}
+
+/// Whether none is RegLan.
+fn all_have_values(sorts: &[Sort]) -> bool
+    ensures { result ≡ list_all commands.has_values sorts.now }
+{
+    for sort in sorts {
+        if !has_values(*sort) {
             return false;
         }
     }
     true
 }
 
-/// Each term beside its s-expression.
-#[tactic(auto, using(crate::proofs::Pairing::pairing))]
-fn beside(
-    alloc: Global,
-    items: &[Sexpr],
-    bodies: Items<Body>,
-) -> Result<Items<(Sexpr, Term)>, AllocError>
-    ensures { IfOk result (λ all. all ≡ commands.beside (forms (map seen items.now)) bodies) }
+/// The s-expressions as they were read.
+fn copies(alloc: Global, items: &[Sexpr]) -> Result<Items<Sexpr>, AllocError>
+    ensures { IfOk result (λ all. all ≡ items.now) }
 {
     let mut all = Items::new(alloc);
-    for body in bodies.into_vec() {
-        let i = all.len();
-        if i >= items.len() {
-            return Ok(all);
-        }
-        all.push((items[i].copy(alloc)?, into_term(body)))?;
+    for item in items {
+        all.push(item.copy(alloc)?)?;
     }
     Ok(all)
 }
 
-#[tactic(auto, using(crate::proofs::Answering::answering))]
-fn valued(alloc: Global, items: &[Sexpr], bodies: Items<Body>) -> Result<Command, CheckFault>
-    ensures { Answers (commands.valued (forms (map seen items.now)) bodies) result }
+#[tactic(auto, using(crate::proofs::Answering::reading))]
+fn valued(alloc: Global, items: &[Sexpr], sorts: &[Sort]) -> Result<Command, CheckFault>
+    ensures { Answers (commands.valued (forms (map seen items.now)) sorts.now) result }
 {
-    if !are_terms(bodies.as_slice()) {
+    if !all_have_values(sorts) {
         return Err(CheckFault::Sort);
     }
-    Ok(Command::GetValue(beside(alloc, items, bodies)?))
+    Ok(Command::GetValue(copies(alloc, items)?))
 }
 
 #[tactic(auto, using(crate::proofs::Answering::valuing))]
@@ -476,8 +472,47 @@ fn values(alloc: Global, symbols: &Declarations, items: &[Sexpr]) -> Result<Comm
         return Err(CheckFault::Shape);
     }
     match pass_over(alloc, items) {
-        Ok(()) => match settled(alloc, symbols, &[], items) {
-            Ok(bodies) => valued(alloc, items, bodies),
+        Ok(()) => match settled_sorts(alloc, symbols, items) {
+            Ok(sorts) => valued(alloc, items, sorts.as_slice()),
+            Err(fault) => Err(fault),
+        },
+        Err(fault) => Err(fault),
+    }
+}
+
+/// What is looked for in one term before it is walked.
+#[tactic(auto, using(crate::proofs::Answering::answering))]
+fn pass_term(alloc: Global, term: &Sexpr) -> Result<(), CheckFault>
+    ensures { Answers (commands.passed_term (seen term.now)) result }
+{
+    look(alloc, Pass::Names, term)?;
+    look(alloc, Pass::Sorts, term)?;
+    look(alloc, Pass::Languages, term)?;
+    look(alloc, Pass::Numbers, term)
+}
+
+fn asked(body: Body) -> Result<Term, CheckFault>
+    ensures { result ≡ commands.asked (body ∷ []) }
+{
+    if has_values(body_sort(&body)) {
+        Ok(into_term(body))
+    } else {
+        Err(CheckFault::Sort)
+    }
+}
+
+/// The term of one of the s-expressions of `Command::GetValue`, under the symbols under which the
+/// command was checked. Then it has no fault but want of memory (`terms_asked`); else its fault is
+/// the one that `get-value` of it alone has.
+///
+/// Time is linear in the item and the term that it answers. Stack is linear in the nesting.
+#[tactic(auto, using(crate::proofs::Answering::asserting))]
+pub fn asked_term(alloc: Global, symbols: &Declarations, item: &Sexpr) -> Result<Term, CheckFault>
+    ensures { Answers (commands.asked_term symbols.now (seen item.now)) result }
+{
+    match pass_term(alloc, item) {
+        Ok(()) => match settled_one(alloc, symbols, &[], item) {
+            Ok(body) => asked(body),
             Err(fault) => Err(fault),
         },
         Err(fault) => Err(fault),

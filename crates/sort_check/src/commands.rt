@@ -36,8 +36,9 @@ pub enum Command {
     Pop(u32),
     CheckSat,
     GetModel,
-    /// `get-value` of one or more terms, each beside its s-expression as it was read.
-    GetValue(Items<(Sexpr, Term)>),
+    /// `get-value` of one or more terms, each the s-expression as it was read. `asked_term` builds
+    /// them one by one, so that no more than one need be in memory.
+    GetValue(Items<Sexpr>),
     /// `get-info` of this keyword, colon included.
     GetInfo(Items<u8>),
     /// `echo` of this literal as it stood, quotes included.

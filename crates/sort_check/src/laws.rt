@@ -10,7 +10,7 @@ ghost use Rattle.sv_terms.specs.declared.sort.Sort.{Sort as AnySort};
 ghost use Rattle.sv_terms.specs.declared.sort.Sort.TheVariants as sort;
 ghost use Rattle.sv_terms.specs.declared.term.Term.{Term as AnyTerm};
 ghost use Rattle.sort_check.specs.declared.commands.Command.TheVariants as command;
-ghost use Rattle.sort_check.specs.Checking.{checked};
+ghost use Rattle.sort_check.specs.Checking.{checked, asked_term, IsAskable};
 ghost use Rattle.smt_names.specs.Form.{Form};
 ghost use Rattle.sort_check.specs.Meant.{Names};
 ghost use Rattle.smt_names.specs.Signature.{Name, same_name};
@@ -31,10 +31,15 @@ pub fn well_formed_entries()
 {}
 
 /// Under well formed names a term that is asserted has sort Bool, and one whose value is asked for
-/// has a sort other than RegLan; its constants are declared, and no transducer stands in it.
+/// has a sort other than RegLan; its constants are declared, and its transducers are formed.
 pub fn terms_sorted()
     ensures asserted { (symbols : Names) (item : Form) (term : AnyTerm) → IsTrue (is_well_formed symbols) → checked symbols item ≡ Ok (command.Assert term) → IsTermOf symbols sort.Bool term }
-    ensures values { (symbols : Names) (item : Form) (terms : List (AnySexpr × AnyTerm)) → IsTrue (is_well_formed symbols) → checked symbols item ≡ Ok (command.GetValue terms) → All (λ p. IsWritten symbols p.1) terms }
+    ensures asked { (symbols : Names) (item : Form) (term : AnyTerm) → IsTrue (is_well_formed symbols) → asked_term symbols item ≡ Ok term → IsWritten symbols term }
+{}
+
+/// The terms that a `get-value` takes together under well formed names are taken one by one.
+pub fn terms_asked()
+    ensures { (symbols : Names) (item : Form) (asked : List AnySexpr) → IsTrue (is_well_formed symbols) → checked symbols item ≡ Ok (command.GetValue asked) → All (IsAskable symbols) asked }
 {}
 
 /// A name that an item declares or defines is new, and well formed names stay so with it.

@@ -25,9 +25,10 @@ mod laws;
 mod scope;
 mod walk;
 
-pub use checking::command;
+pub use checking::{asked_term, command};
 pub use commands::{Command, Product};
 pub use laws::{
-    constants_valued, terms_sorted, well_formed_entries, well_formed_first, well_formed_more,
+    constants_valued, terms_asked, terms_sorted, well_formed_entries, well_formed_first,
+    well_formed_more,
 };
 pub use smt_names::CheckFault;

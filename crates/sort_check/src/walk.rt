@@ -509,35 +509,32 @@ fn quantified(walk: &mut Walk<'_>, place: usize) -> Result<usize, CheckFault>
     opaque(walk, Sort::Bool)
 }
 
-/// What terms mean, or their first fault, Size included; of parameters bound around them each
-/// stands as a constant.
-pub fn settled(
+/// The sorts of what terms mean, or their first fault, Size included. None is built.
+pub fn settled_sorts(
     alloc: Global,
     symbols: &Declarations,
-    parameters: &[(Name, Sort)],
     terms: &[Sexpr],
-) -> Result<Items<Body>, CheckFault>
-    ensures { Answers (meaning.settled symbols.now (meaning.as_constants bodies.parameter_name parameters.now) (forms (map seen terms.now))) result }
+) -> Result<Items<Sort>, CheckFault>
+    ensures { Answers (meaning.settled_sorts symbols.now [] (forms (map seen terms.now))) result }
 {
     let mut walk = Walk {
         scope: Scope::new(alloc),
         draft: Draft::new(alloc),
         is_past: false,
     };
-    let bound = constants(alloc, &mut walk, parameters, true)?;
-    bind(alloc, &mut walk.scope, bound.as_slice())?;
     match read_all(alloc, &mut walk, symbols, terms) {
         Ok(places) => {
             if walk.is_past {
                 return Err(CheckFault::Size);
             }
-            build_fitting(alloc, &walk.draft, places.as_slice())
+            fitting_sorts(alloc, &walk.draft, places.as_slice())
         }
         Err(fault) => Err(fault),
     }
 }
 
-/// What one term means, or its first fault; else as `settled`.
+/// What one term means, or its first fault, Size included; of parameters bound around it each stands
+/// as a constant.
 pub fn settled_one(
     alloc: Global,
     symbols: &Declarations,
@@ -579,20 +576,16 @@ fn all_fit(draft: &Draft<'_>, places: &[usize]) -> bool
     true
 }
 
-/// What stands at these places, or Size.
-fn build_fitting(
+/// The sorts of what stands at these places, or Size.
+fn fitting_sorts(
     alloc: Global,
     draft: &Draft<'_>,
     places: &[usize],
-) -> Result<Items<Body>, CheckFault>
-    ensures { Answers (walks.fitting (drafts.at_places draft.now places.now)) result }
+) -> Result<Items<Sort>, CheckFault>
+    ensures { Answers (made_of (map bodies.body_sort) (walks.fitting (drafts.at_places draft.now places.now))) result }
 {
     if !all_fit(draft, places) {
         return Err(CheckFault::Size);
     }
-    let mut all = Items::new(alloc);
-    for place in places {
-        all.push(built(alloc, draft, *place)?)?;
-    }
-    Ok(all)
+    Ok(draft.sorts(alloc, places)?)
 }

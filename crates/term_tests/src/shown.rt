@@ -1,10 +1,11 @@
 // The printed form of commands in tests.
 use sexpr_reader::Sexpr;
 use smt_names::CheckFault;
-use sort_check::{Command, Product};
+use sort_check::{Command, Product, asked_term};
 use std::alloc::{AllocError, Global};
 use sv_terms::{Body, Entry, Item, Name, Op, Regex, Sort, Term, TransEdge, Transducer};
 use sv_word::Word;
+use term_draft::Declarations;
 
 type Out = Vec<u8>;
 
@@ -242,15 +243,37 @@ fn entry(alloc: Global, out: &mut Out, entry: &Entry) -> Result<(), AllocError> 
     }
 }
 
-fn values(alloc: Global, out: &mut Out, all: &[(Sexpr, Term)]) -> Result<(), AllocError> {
-    for (_, t) in all {
+/// The printed form of a term that was built, or of its fault.
+pub fn show_term(
+    alloc: Global,
+    out: &mut Out,
+    built: &Result<Term, CheckFault>,
+) -> Result<(), AllocError> {
+    match built {
+        Ok(t) => term(alloc, out, t),
+        Err(fault) => text(out, fault_name(fault)),
+    }
+}
+
+fn values(
+    alloc: Global,
+    out: &mut Out,
+    symbols: &Declarations,
+    all: &[Sexpr],
+) -> Result<(), AllocError> {
+    for item in all {
         text(out, b" ")?;
-        term(alloc, out, t)?;
+        show_term(alloc, out, &asked_term(alloc, symbols, item))?;
     }
     Ok(())
 }
 
-fn made(alloc: Global, out: &mut Out, command: &Command) -> Result<(), AllocError> {
+fn made(
+    alloc: Global,
+    out: &mut Out,
+    symbols: &Declarations,
+    command: &Command,
+) -> Result<(), AllocError> {
     match command {
         Command::Inform => text(out, b"inform"),
         Command::PrintSuccess(b) => text(out, if *b { b"print" } else { b"quiet" }),
@@ -285,7 +308,7 @@ fn made(alloc: Global, out: &mut Out, command: &Command) -> Result<(), AllocErro
         Command::GetModel => text(out, b"get-model"),
         Command::GetValue(all) => {
             text(out, b"get-value")?;
-            values(alloc, out, all.as_slice())
+            values(alloc, out, symbols, all.as_slice())
         }
         Command::GetInfo(keyword) => text(out, keyword.as_slice()),
         Command::Echo(l) => text(out, l.as_slice()),
@@ -312,11 +335,16 @@ fn fault_name(fault: &CheckFault) -> &'static [u8] {
     }
 }
 
-/// The printed form of an answer.
-pub fn show(alloc: Global, answer: &Result<Command, CheckFault>) -> Result<Vec<u8>, AllocError> {
+/// The printed form of an answer under these symbols, under which its terms are built where it
+/// holds s-expressions.
+pub fn show(
+    alloc: Global,
+    symbols: &Declarations,
+    answer: &Result<Command, CheckFault>,
+) -> Result<Vec<u8>, AllocError> {
     let mut out = Vec::new(alloc);
     match answer {
-        Ok(command) => made(alloc, &mut out, command)?,
+        Ok(command) => made(alloc, &mut out, symbols, command)?,
         Err(fault) => text(&mut out, fault_name(fault))?,
     }
     Ok(out)

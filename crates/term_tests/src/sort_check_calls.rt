@@ -1,7 +1,7 @@
 // Items of SMT-LIB with what they are. The table names no byte that Rust or SMT-LIB escapes.
-use crate::shown::show;
+use crate::shown::{show, show_term};
 use sexpr_reader::{Kind, Reader, Sexpr};
-use sort_check::{Command, command};
+use sort_check::{Command, asked_term, command};
 use std::alloc::{AllocError, Global};
 use std::process::Abort;
 use std::test::Fail;
@@ -75,6 +75,7 @@ assert |shape|
 (check-sat p) |shape|
 (get-model) |get-model|
 (get-value (p (str.len x))) |get-value p (len x)|
+(get-value ((let ((a x)) (str.len a)) (f n y) (exists ((p Int)) (= p n)))) |get-value (len x) (= n (len y)) opaque-Bool|
 (get-value ()) |shape|
 (get-value p) |shape|
 (get-info :name) |:name|
@@ -399,7 +400,7 @@ assert |shape|
 "#;
 
 /// How many rows there are.
-const COUNT: usize = 364;
+const COUNT: usize = 365;
 
 /// Declares what a command declares, where the name is new.
 fn declare(symbols: &mut Declarations, name: Name, entry: Entry) -> Result<(), AllocError> {
@@ -420,7 +421,7 @@ fn follow(symbols: &mut Declarations, made: Command) -> Result<(), AllocError> {
 /// The printed form of what the item is, once that is followed.
 fn answer(alloc: Global, symbols: &mut Declarations, item: &Sexpr) -> Result<Vec<u8>, AllocError> {
     let made = command(alloc, symbols, item);
-    let out = show(alloc, &made)?;
+    let out = show(alloc, symbols, &made)?;
     if let Ok(made) = made {
         follow(symbols, made)?;
     }
@@ -583,6 +584,37 @@ fn nesting(rt: HostRuntime) -> Result<(), Fail> {
         .concat(alloc)?;
         let is = first_of(alloc, term.as_slice())?;
         assert!(rt; is == expected, "{times} {is:?}");
+    }
+    Ok(())
+}
+
+/// The term of an s-expression alone, or its fault.
+fn asked(alloc: Global, item: &[u8]) -> Result<Vec<u8>, Fail> {
+    let mut symbols = Declarations::new(alloc);
+    last_of(alloc, &mut symbols, NAMES)?;
+    let mut reader = Reader::new(alloc);
+    reader.feed(item)?;
+    let mut out = Vec::new(alloc);
+    if let Ok(Some(item)) = reader.next() {
+        show_term(alloc, &mut out, &asked_term(alloc, &symbols, &item))?;
+    }
+    Ok(out)
+}
+
+#[test]
+fn terms_alone(rt: HostRuntime) -> Result<(), Fail> {
+    let alloc = rt.alloc();
+    let rows: [(&[u8], &[u8]); 6] = [
+        (b"(let ((a x)) (str.len a)) ", b"(len x)"),
+        (b"(and q (g)) ", b"arity"),
+        (b"(and q g) ", b"(and q (not p))"),
+        (b"(re.++ r r) ", b"sort"),
+        (b"(let ((a 1) (a x)) (unknown a)) ", b"declared"),
+        (b"(and n (unknown)) ", b"unknown"),
+    ];
+    for (item, expected) in rows {
+        let is = asked(alloc, item)?;
+        assert!(rt; is.as_slice() == expected);
     }
     Ok(())
 }
