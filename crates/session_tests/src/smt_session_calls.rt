@@ -73,6 +73,14 @@ fn verdicts_are_kept_until_something_changes(rt: HostRuntime) -> Result<(), Fail
             "sat\n(error \"no such level\")\n(((str.len |a b|) 2) ((- n 1) (- 1)))\n(\n  (define-fun |a b| () String \"ab\")\n  (define-fun n () Int 0)\n)\n",
         ),
         (
+            "(declare-const x String)(define-fun f ((a String)) Int (str.len a))(assert (str.in_re x (str.to_re \"ab\")))(check-sat)
+            (get-value ((f x) (let ((y (str.++ x x))) (f y)) (= x \"ab\")))
+            (get-value (x (forall ((n Int)) (= n 0)) (+ 170141183460469231731687303715884105727 (f x))))
+            (get-value (x (+ 170141183460469231731687303715884105727 (f x)) (forall ((n Int)) (= n 0))))
+            (get-value (x (f x x) y))(define-fun g () Int (f x))(get-value (g))",
+            "sat\n(((f x) 2) ((let ((y (str.++ x x))) (f y)) 4) ((= x \"ab\") true))\n(error \"opaque value\")\n(error \"number\")\n(error \"arity\")\n(error \"no model\")\n",
+        ),
+        (
             "(declare-const n Int)(check-sat)(assert (= n 7))(get-model)(check-sat)(get-model)",
             "sat\n(error \"no model\")\nsat\n(\n  (define-fun n () Int 7)\n)\n",
         ),

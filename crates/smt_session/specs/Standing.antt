@@ -1,9 +1,11 @@
 -- What holds of the levels and the kept verdict of each session. Nothing public rests on it.
-use Rattle.std.specs.Prelude.{IsTrue, IsSome, All, ⊤, List, [], ◌∷◌, Option, Some, None}
+use Rattle.std.specs.Prelude.{◌≡◌, IsTrue, IsSome, All, ⊤, List, [], ◌∷◌, Option, Some, None, Ok}
 use Rattle.std.specs.List.{AllByRecursion}
-use Rattle.assert_stack.specs.Levels.{Level, symbols_of}
+use Rattle.assert_stack.specs.Levels.{Level, Symbol, symbols_of}
 use Rattle.sexpr_reader.specs.declared.sexpr.Sexpr.{Sexpr}
-use Rattle.sort_check.specs.WellFormed.{is_well_formed, AreGiven, IsTermOf, IsWritten, IsAdded}
+use Rattle.smt_names.specs.Form.{seen}
+use Rattle.sort_check.specs.Checking.{asked_term, IsAskable}
+use Rattle.sort_check.specs.WellFormed.{is_well_formed, AreGiven, IsTermOf, IsAdded}
 use Rattle.sort_check.specs.declared.commands.Command.{Command}
 use Rattle.sort_check.specs.declared.commands.Command.TheVariants as command
 use Rattle.sv_terms.specs.Meaning.{Named}
@@ -31,10 +33,14 @@ abbrev pub Fits : List Level → Command → Type 0
 Fits levels (command.Declare name s) = IsAdded (symbols_of levels) name (entry.Constant s)
 Fits levels (command.Define name e) = IsAdded (symbols_of levels) name e
 Fits levels (command.Assert term) = IsTermOf (symbols_of levels) sort.Bool term
-Fits levels (command.GetValue items) = All (λ (p : Sexpr × Term). IsWritten (symbols_of levels) p.1) items
+Fits levels (command.GetValue items) = All (IsAskable (symbols_of levels)) items
 Fits levels _ = ⊤
 
 -- a term that may be evaluated
 pub record IsAsked (values : Named) (term : Term) : Type 0 where
   pub sorted : IsSome (sort_of term)
   pub valued : IsTrue (is_valued values term)
+
+-- an s-expression of such a term under these declarations
+abbrev pub IsAskedAt : List Symbol → Named → Sexpr → Type 0
+IsAskedAt symbols values item = (t : Term) × (asked_term symbols (seen item) ≡ Ok t) × IsAsked values t

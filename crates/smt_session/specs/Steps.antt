@@ -1,9 +1,9 @@
 -- What a session answers to an item and what it is afterwards, a row for each command (SMT-LIB 2.6, sections 4.1 and 4.2). Of `check-sat` a right verdict is asked; every other reply is a function of the session and the item.
 use Rattle.std.specs.Prelude.{◌≡◌, ℕ, ◌+◌, ◌-◌, Bool, true, false, nat_eq, nat_le, nat_lt, List, [], ◌∷◌, ◌++◌, length, drop, map, Option, None, Some, Result, Ok, Err, codes, if◌then◌else◌}
 use Rattle.std.specs.Cmp.Lexicographic.{pointwise}
-use Rattle.assert_stack.specs.Levels.{Level, empty, symbols_of, live, pushed, declared, asserted}
+use Rattle.assert_stack.specs.Levels.{Level, Symbol, empty, symbols_of, live, pushed, declared, asserted}
 use Rattle.sexpr_reader.specs.declared.sexpr.Sexpr.{Sexpr}
-use Rattle.sort_check.specs.Checking.{checked}
+use Rattle.sort_check.specs.Checking.{asked_term, checked}
 use Rattle.smt_names.specs.Form.{seen}
 use Rattle.smt_names.specs.declared.check_fault.CheckFault.{CheckFault}
 use Rattle.sort_check.specs.declared.commands.Command.{Command}
@@ -110,34 +110,36 @@ info_reply s k =
     if same_keyword k (codes ":assertion-stack-levels") then reply.Info (info.AssertionStackLevels (length s.levels - 1)) else
     if same_keyword k (codes ":reason-unknown") then reason_reply s.verdict else reply.Unsupported
 
--- the terms' values, each beside the s-expression as it was read
-abbrev pub AreValued : Named → List (Sexpr × Term) → List (Sexpr × Value) → Type 0
-AreValued values [] vs = vs ≡ []
-AreValued values (item ∷ items) vs = (v : Value) × (rest : List (Sexpr × Value)) × (value_or_fault values item.1 ≡ Ok v) × AreValued values items rest × (vs ≡ (item.0, v) ∷ rest)
+-- the terms' values under these declarations, each beside the s-expression as it was read
+abbrev pub AreValued : List Symbol → Named → List Sexpr → List (Sexpr × Value) → Type 0
+AreValued symbols values [] vs = vs ≡ []
+AreValued symbols values (item ∷ items) vs = (t : Term) × (v : Value) × (rest : List (Sexpr × Value)) × (asked_term symbols (seen item) ≡ Ok t) × (value_or_fault values t ≡ Ok v) × AreValued symbols values items rest × (vs ≡ (item, v) ∷ rest)
 
 -- the first term from the left that has no value, and why
-pub record IsFirstFault (values : Named) (items : List (Sexpr × Term)) (kind : ErrorKind) : Type 0 where
-  pub before : List (Sexpr × Term)
-  pub item : Sexpr × Term
-  pub after : List (Sexpr × Term)
+pub record IsFirstFault (symbols : List Symbol) (values : Named) (items : List Sexpr) (kind : ErrorKind) : Type 0 where
+  pub before : List Sexpr
+  pub item : Sexpr
+  pub after : List Sexpr
   pub parts : items ≡ before ++ item ∷ after
   pub earlier : List (Sexpr × Value)
-  pub valued : AreValued values before earlier
+  pub valued : AreValued symbols values before earlier
+  pub asked : Term
+  pub asks : asked_term symbols (seen item) ≡ Ok asked
   pub fault : EvalFault
-  pub faulty : value_or_fault values item.1 ≡ Err fault
+  pub faulty : value_or_fault values asked ≡ Err fault
   pub told : of_value fault ≡ Some kind
 
-abbrev pub AnswersValues : Named → List (Sexpr × Term) → Reply → Type 0
-AnswersValues values items (reply.Values vs) = AreValued values items vs
-AnswersValues values items (reply.Error kind) = IsFirstFault values items kind
-AnswersValues values items _ = ⊥
+abbrev pub AnswersValues : List Symbol → Named → List Sexpr → Reply → Type 0
+AnswersValues symbols values items (reply.Values vs) = AreValued symbols values items vs
+AnswersValues symbols values items (reply.Error kind) = IsFirstFault symbols values items kind
+AnswersValues symbols values items _ = ⊥
 
 -- the values need a kept `sat`
-abbrev pub AnswersTerms : Option Kept → List (Sexpr × Term) → Reply → Type 0
-AnswersTerms (Some (kept.Sat values)) items r = AnswersValues values items r
-AnswersTerms (Some kept.Unsat) items r = r ≡ reply.Error error.NoModel
-AnswersTerms (Some (kept.Unknown c)) items r = r ≡ reply.Error error.NoModel
-AnswersTerms None items r = r ≡ reply.Error error.NoModel
+abbrev pub AnswersTerms : List Symbol → Option Kept → List Sexpr → Reply → Type 0
+AnswersTerms symbols (Some (kept.Sat values)) items r = AnswersValues symbols values items r
+AnswersTerms symbols (Some kept.Unsat) items r = r ≡ reply.Error error.NoModel
+AnswersTerms symbols (Some (kept.Unknown c)) items r = r ≡ reply.Error error.NoModel
+AnswersTerms symbols None items r = r ≡ reply.Error error.NoModel
 
 -- the verdict that a reply tells
 abbrev pub Tells : Reply → Verdict → Type 0
@@ -173,7 +175,7 @@ Does s (command.Push n) r t = Gives (pushes n s) r t
 Does s (command.Pop n) r t = Gives (pops n s) r t
 Does s command.CheckSat r t = Checks s r t
 Does s command.GetModel r t = Gives (model_reply s.verdict, s) r t
-Does s (command.GetValue items) r t = AnswersTerms s.verdict items r × (t ≡ s)
+Does s (command.GetValue items) r t = AnswersTerms (symbols_of s.levels) s.verdict items r × (t ≡ s)
 Does s (command.GetInfo k) r t = Gives (info_reply s k, s) r t
 Does s (command.Echo text) r t = Gives (reply.Echo text, s) r t
 Does s command.Reset r t = Gives (succeeds opened) r t

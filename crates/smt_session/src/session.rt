@@ -1,10 +1,9 @@
 //! The session, and what it does at each command.
 ghost use Rattle.std.specs.Prelude.{◌≡◌, ◌≤◌, [], ◌∷◌, All, IfOk, OnErr};
-ghost use Rattle.sexpr_reader.specs.declared.sexpr.Sexpr.{Sexpr as AnySexpr};
-ghost use Rattle.sort_check.specs.WellFormed.{IsAdded, IsTermOf, IsWritten};
+ghost use Rattle.sort_check.specs.Checking.{IsAskable};
+ghost use Rattle.sort_check.specs.WellFormed.{IsAdded, IsTermOf};
 ghost use Rattle.assert_stack.specs.Levels.{asserted, declared, empty, symbols_of};
 ghost use Rattle.sv_terms.specs.declared.sort.Sort.TheVariants as sort;
-ghost use Rattle.sv_terms.specs.declared.term.Term.{Term as AnyTerm};
 ghost use Rattle.smt_session.specs.Standing.{Fits};
 ghost use Rattle.smt_session.specs.Steps.{AnswersTerms, Checks, Does, Gives, Steps, after_exit, changed, info_reply, model_reply, opened, pops, printing, pushes, reason_reply, succeeds};
 ghost use Rattle.smt_session.specs.declared.reply.Reply.TheVariants.{Success};
@@ -19,7 +18,8 @@ use assert_stack::{Stack, StackFault};
 use decide::Verdict;
 use sexpr_reader::Sexpr;
 use sort_check::{
-    Command, command, constants_valued, terms_sorted, well_formed_entries, well_formed_more,
+    Command, command, constants_valued, terms_asked, terms_sorted, well_formed_entries,
+    well_formed_more,
 };
 use std::alloc::{AllocError, Global};
 use std::thread::Threads;
@@ -92,7 +92,8 @@ impl Session {
     ///
     /// It costs what checking the item and its command cost: `push` and `pop` what they put and take
     /// away, `check-sat` what `decide` takes for the live assertions, and the symbols, `get-model` and
-    /// `get-value` what they answer.
+    /// `get-value` what they answer. `get-value` builds each term, evaluates and drops it before the
+    /// next one.
     pub fn step<R: Threads + Sync>(
         &mut self,
         rt: &R,
@@ -103,6 +104,7 @@ impl Session {
         ensures err { OnErr result (self.new ≡ self.old) }
     {
         terms_sorted();
+        terms_asked();
         well_formed_more();
         match command(alloc, self.stack.symbols(), item) {
             Ok(command) => self.perform(rt, alloc, command),
@@ -242,16 +244,17 @@ impl Session {
         }
     }
 
-    fn values(&self, alloc: Global, items: Items<(Sexpr, Term)>) -> Result<Reply, AllocError>
-        requires { All (λ (p : AnySexpr × AnyTerm). IsWritten (symbols_of self.now.levels) p.1) items }
-        ensures { IfOk result (AnswersTerms self.now.verdict items) }
+    fn values(&self, alloc: Global, items: Items<Sexpr>) -> Result<Reply, AllocError>
+        requires { All (IsAskable (symbols_of self.now.levels)) items }
+        ensures { IfOk result (AnswersTerms (symbols_of self.now.levels) self.now.verdict items) }
     {
         constants_valued();
+        terms_sorted();
         let Some(kept) = &self.verdict else {
             return Ok(Reply::Error(ErrorKind::NoModel));
         };
         match kept {
-            Kept::Sat(model) => values(alloc, model, items),
+            Kept::Sat(model) => values(alloc, self.stack.symbols(), model, items),
             Kept::Unsat => Ok(Reply::Error(ErrorKind::NoModel)),
             Kept::Unknown(_) => Ok(Reply::Error(ErrorKind::NoModel)),
         }

@@ -1,7 +1,7 @@
 -- Verdicts come from `check-sat` alone.
 use Rattle.std.proofs.Common.{◌≡◌, ℕ, List, [], ◌∷◌, ◌++◌, Bool, true, false, if◌then◌else◌, Result, Ok, Err, Option, Some, None, refl, sym, ap, ◌∙◌, subst, ◌⊎◌, inl, inr, length, length-append, arith, ◌-◌}
 use Rattle.std.specs.Prelude.{codes}
-use Rattle.assert_stack.specs.Levels.{symbols_of, live}
+use Rattle.assert_stack.specs.Levels.{Symbol, symbols_of, live}
 use Rattle.decide.specs.Completeness.{IsComplete, MustDecide}
 use Rattle.decide.specs.Verdicts.{RightVerdict}
 use Rattle.decide.specs.declared.verdict.Open.{Open}
@@ -89,21 +89,21 @@ no_info s k =
     let version = either (same_keyword k (codes ":version")) (Info info.Version) _ (told_info info.Version) behavior in
     either (same_keyword k (codes ":name")) (Info info.Name) _ (told_info info.Name) version
 
-no_terms : (k : Option Kept) (items : List (Sexpr × Term)) (r : Reply) → AnswersTerms k items r → is_verdict r ≡ false
+no_terms : (symbols : List Symbol) (k : Option Kept) (items : List Sexpr) (r : Reply) → AnswersTerms symbols k items r → is_verdict r ≡ false
 unfolding is_verdict
-no_terms (Some (kept.Sat values)) items (Values vs) h = refl
-no_terms (Some (kept.Sat values)) items (Error kind) h = refl
-no_terms (Some (kept.Sat values)) items (Success p) h = refl
-no_terms (Some (kept.Sat values)) items Unsupported h = refl
-no_terms (Some (kept.Sat values)) items (Echo t) h = refl
-no_terms (Some (kept.Sat values)) items (Sat vs) h = absurd h
-no_terms (Some (kept.Sat values)) items Unsat h = absurd h
-no_terms (Some (kept.Sat values)) items (Unknown why) h = absurd h
-no_terms (Some (kept.Sat values)) items (Definitions ds) h = refl
-no_terms (Some (kept.Sat values)) items (Info i) h = refl
-no_terms (Some kept.Unsat) items r h = ap is_verdict h
-no_terms (Some (kept.Unknown c)) items r h = ap is_verdict h
-no_terms None items r h = ap is_verdict h
+no_terms symbols (Some (kept.Sat values)) items (Values vs) h = refl
+no_terms symbols (Some (kept.Sat values)) items (Error kind) h = refl
+no_terms symbols (Some (kept.Sat values)) items (Success p) h = refl
+no_terms symbols (Some (kept.Sat values)) items Unsupported h = refl
+no_terms symbols (Some (kept.Sat values)) items (Echo t) h = refl
+no_terms symbols (Some (kept.Sat values)) items (Sat vs) h = absurd h
+no_terms symbols (Some (kept.Sat values)) items Unsat h = absurd h
+no_terms symbols (Some (kept.Sat values)) items (Unknown why) h = absurd h
+no_terms symbols (Some (kept.Sat values)) items (Definitions ds) h = refl
+no_terms symbols (Some (kept.Sat values)) items (Info i) h = refl
+no_terms symbols (Some kept.Unsat) items r h = ap is_verdict h
+no_terms symbols (Some (kept.Unknown c)) items r h = ap is_verdict h
+no_terms symbols None items r h = ap is_verdict h
 
 module _ (s t : State) (r : Reply) (told : is_verdict r ≡ true) where
   does : (c : Command) → Does s c r t → Checks s r t
@@ -117,7 +117,7 @@ module _ (s t : State) (r : Reply) (told : is_verdict r ≡ true) where
   does (command.Pop n) h = other _ _ _ h.0 (either_outcome _ _ _ (success _) (failure _)) told
   does command.CheckSat h = h
   does command.GetModel h = other _ _ _ h.0 (no_model s.verdict) told
-  does (command.GetValue items) h = other _ r r refl (no_terms s.verdict items r h.0) told
+  does (command.GetValue items) h = other _ r r refl (no_terms (symbols_of s.levels) s.verdict items r h.0) told
   does (command.GetInfo k) h = other _ _ _ h.0 (no_info s k) told
   does (command.Echo text) h = other _ _ _ h.0 (echo _) told
   does command.Reset h = other _ _ _ h.0 (success _) told
