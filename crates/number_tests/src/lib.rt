@@ -9,6 +9,8 @@ mod farkas_check_calls;
 #[cfg(test)]
 mod lia_branch_calls;
 #[cfg(test)]
+mod lia_pack_calls;
+#[cfg(test)]
 mod lia_quick_calls;
 #[cfg(test)]
 mod lia_tableau_calls;
