@@ -9,7 +9,7 @@ use crate::mark::Mark;
 use std::alloc::{AllocError, Global};
 use sv_list::Items;
 use sv_terms::{Entry, MOST_LEVELS, Name, Term};
-use term_draft::Declarations;
+use term_weight::Declarations;
 
 /// The levels of a session, with their symbols and assertions.
 ///

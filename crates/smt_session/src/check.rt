@@ -16,7 +16,7 @@ use sort_check::{constants_valued, well_formed_entries};
 use std::alloc::{AllocError, Global};
 use std::thread::Threads;
 use sv_terms::{Entry, Model, Name, Term};
-use term_draft::Declarations;
+use term_weight::Declarations;
 
 // One more symbol: its value, where it is a constant.
 fn add(

@@ -14,8 +14,8 @@ use Rattle.smt_names.specs.declared.check_fault.CheckFault.TheVariants as fault
 use Rattle.sort_check.proofs.WellTerms.{both, Each}
 use Rattle.sort_check.specs.Checking.{asked, asked_term, has_values, passed_term, IsAskable}
 use Rattle.sort_check.specs.Meant.{Names, any_size, meant, meant_all, settled, settled_sorts}
-use Rattle.term_draft.specs.Bodies.{body_sort, term_of}
-use Rattle.term_draft.specs.Sizes.{fits}
+use Rattle.term_weight.specs.Bodies.{body_sort, term_of}
+use Rattle.term_weight.specs.Sizes.{fits}
 
 -- what an answer that is no fault was made of
 need-ok : (b : Bool) (f : CheckFault) → need b f ≡ Ok tt → b ≡ true

@@ -10,7 +10,7 @@ use Rattle.smt_names.specs.Faults.{and_then, ◌>>◌, need}
 use Rattle.smt_names.specs.Form.{Form, forms}
 use Rattle.sort_check.specs.Meant.{Scope, Names, any_size, latest, or_else, meant, meant_all, meant_values, meant_value}
 use Rattle.smt_names.specs.Signature.{Name, same_name}
-use Rattle.term_draft.specs.Sizes.{fits}
+use Rattle.term_weight.specs.Sizes.{fits}
 use Rattle.sort_check.specs.Walks.{Each, Bound, sized, Meaning, Read, Reads}
 
 append-none : {A : Type 0} (xs : List A) → xs ++ [] ≡ xs

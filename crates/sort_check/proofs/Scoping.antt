@@ -7,7 +7,7 @@ use Rattle.std.proofs.Math.ListN.{length-append}
 use Rattle.std.proofs.Math.Seq.{take-append_seam}
 use Rattle.std.proofs.lemmas.Cmp.{nat_list_eq_equiv}
 use Rattle.sort_check.specs.declared.scope.Binding.{Binding}
-use Rattle.term_draft.specs.Drafts.{shown}
+use Rattle.term_weight.specs.Places.{shown}
 use Rattle.sort_check.specs.Meant.{latest, or_else}
 use Rattle.sort_check.specs.Scopes.{bound_pairs, HidesFrom, IsIndexed}
 use Rattle.smt_names.specs.Signature.{Name, same_name}

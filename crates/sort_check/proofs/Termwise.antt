@@ -15,7 +15,7 @@ use Rattle.smt_names.specs.declared.check_fault.CheckFault.TheVariants as fault
 use Rattle.smt_names.specs.declared.opening.Opening.{Opening}
 use Rattle.sort_check.specs.declared.walk.Walk.{Walk}
 use Rattle.item_passes.specs.Binders.{are_some, is_binding, is_variable, variables}
-use Rattle.term_draft.specs.Bodies.{body_sort, parameter_name}
+use Rattle.term_weight.specs.Bodies.{body_sort, parameter_name}
 use Rattle.term_draft.specs.Drafts.{at_place, at_places}
 use Rattle.smt_names.specs.Faults.{Answers, and_then, ◌>>◌, need, made_of}
 use Rattle.smt_names.specs.Answering.{fault-passes}
@@ -23,7 +23,7 @@ use Rattle.smt_names.specs.Form.{Form, Forms, forms, seen, token, group, end, �
 use Rattle.sort_check.specs.Meant.{Scope, Names, Head, any_size, alone, of_theory, identified, head, head_count, in_parentheses, application, meant, meant_all, meant_let, meant_values, meant_value, meant_quantifier, meant_annotated, meant_token, quantified, quantified_over, as_constants, renamed, settled, settled_sorts}
 use Rattle.smt_names.specs.Tokens.{chosen}
 use Rattle.smt_names.specs.Signature.{Name}
-use Rattle.term_draft.specs.Sizes.{fits}
+use Rattle.term_weight.specs.Sizes.{fits}
 use Rattle.smt_names.specs.Tokens.{symbol, opening}
 use Rattle.sort_check.specs.Walks.{Here, Each, Bound, sized, Meaning, Read, Reads, applied_head, bound_to, fitting}
 use Rattle.sort_check.proofs.Reading.{alike, fault-first, then-reads, bound-grow, joined, gathered, single, all-gathered, values-gathered, gathered-snoc, gathered-append}

@@ -15,12 +15,12 @@ use Rattle.sv_terms.specs.Sorting.{same_sort}
 use Rattle.smt_names.specs.declared.check_fault.CheckFault.{CheckFault}
 use Rattle.smt_names.specs.declared.check_fault.CheckFault.TheVariants as fault
 use Rattle.sort_check.specs.declared.walk.Walk.{Walk}
-use Rattle.term_draft.specs.Bodies.{body_sort}
+use Rattle.term_weight.specs.Bodies.{body_sort}
 use Rattle.term_draft.specs.Drafts.{Calls, at_place, at_places}
 use Rattle.smt_names.specs.Faults.{Answers, ◌>>◌, need, refuse, or_fault}
 use Rattle.sort_check.specs.Meant.{Scope, Names, Head, any_size, latest, variable_or, alone, named, application, head_count, head_sorts, head_applied, meant_name, meant_token, mapped, bind, as_constants}
 use Rattle.smt_names.specs.Signature.{Name}
-use Rattle.term_draft.specs.Sizes.{fits}
+use Rattle.term_weight.specs.Sizes.{fits}
 use Rattle.smt_names.specs.Tokens.{value, literal_word}
 use Rattle.sort_check.specs.Walks.{Here, Each, Bound, sized, Meaning, Read, Reads, applied_head, bound_to, bound_place}
 use Rattle.sort_check.proofs.Reading.{alike, Stands, stands-latest, bound-grow, bound-append}

@@ -21,8 +21,8 @@ use Rattle.smt_names.specs.declared.function.Takes.{Takes}
 use Rattle.smt_names.specs.declared.function.Takes.TheVariants.{Nothing, One, Two, Three, Each as Each_of, Many, Alike, Choice}
 use Rattle.smt_names.specs.declared.function.Sense.{Sense}
 use Rattle.smt_names.specs.declared.function.Sense.TheVariants as is
-use Rattle.term_draft.specs.Bodies.{op_sort, body_sort, literal, term_of, is_language, regex_of, opaque}
-use Rattle.term_draft.specs.Ranks.{takes_count, takes_sorts, apply, equality, choice, unknowns, product, replacement, membership, text_of, characters, range_of, combined, of_one, applied_as, applied}
+use Rattle.term_weight.specs.Bodies.{op_sort, body_sort, literal, term_of, is_language, regex_of, opaque}
+use Rattle.term_weight.specs.Ranks.{takes_count, takes_sorts, apply, equality, choice, unknowns, product, replacement, membership, text_of, characters, range_of, combined, of_one, applied_as, applied}
 use Rattle.smt_names.specs.Signature.{Name, Rows, signature, is_some}
 use Rattle.sort_check.proofs.WellTerms.{both, both-make, Each, Fit, Fits, fit-truth, fit-text, fit-opaque, fit-member, fit-apply}
 

@@ -19,7 +19,7 @@ use Rattle.smt_names.specs.declared.verb.Verb.{Verb}
 use Rattle.smt_names.specs.declared.verb.Verb.TheVariants as verb
 use Rattle.item_passes.specs.Binders.{is_variable, bound_name, bound_names, repeats, variable_of, variable_sort, variables}
 use Rattle.smt_names.specs.Form.{are_all}
-use Rattle.term_draft.specs.Bodies.{body_sort, term_of, parameter_name, is_escaped}
+use Rattle.term_weight.specs.Bodies.{body_sort, term_of, parameter_name, is_escaped}
 use Rattle.item_passes.specs.Passes.{passed}
 use Rattle.sort_check.specs.Checking as c
 use Rattle.smt_names.specs.Faults.{◌>>◌, refuse, or_fault}
@@ -27,7 +27,7 @@ use Rattle.smt_names.specs.Form.{Form, Forms, token, group, end, ◌⨾◌, coun
 use Rattle.sort_check.specs.Meant as m
 use Rattle.sort_check.specs.Meant.{Scope, Names, meant_all, any_size, parameters_of}
 use Rattle.smt_names.specs.Signature.{Name, same_name, is_reserved, is_some}
-use Rattle.term_draft.specs.Sizes.{fits}
+use Rattle.term_weight.specs.Sizes.{fits}
 use Rattle.smt_names.specs.Tokens as t
 use Rattle.sort_check.specs.WellFormed.{is_constant_of, is_declared, IsTermOf, IsWritten, hidden_by, is_bound, is_sort, constants_are, has_formed, is_entry, is_well_formed, IsAdded}
 use Rattle.sort_check.proofs.Asked.{all-asked}

@@ -19,7 +19,7 @@ use Rattle.smt_names.specs.declared.verb.Verb.{Verb}
 use Rattle.smt_names.specs.declared.verb.Verb.TheVariants as verb
 use Rattle.item_passes.specs.Binders.{is_variable, bound_names, repeats, variables}
 use Rattle.smt_names.specs.Form.{are_all}
-use Rattle.term_draft.specs.Bodies.{body_sort, term_of, parameter_name, is_escaped}
+use Rattle.term_weight.specs.Bodies.{body_sort, term_of, parameter_name, is_escaped}
 use Rattle.smt_names.specs.Faults.{and_then, ◌>>◌, need, refuse, or_fault}
 use Rattle.smt_names.specs.Form.{Form, Forms, end, ◌⨾◌, seen, raws}
 use Rattle.sort_check.specs.Meant.{Names, settled, settled_sorts, parameters_of}

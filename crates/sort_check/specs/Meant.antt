@@ -20,12 +20,12 @@ use Rattle.smt_names.specs.declared.check_fault.CheckFault.TheVariants as fault
 use Rattle.smt_names.specs.declared.function.Function.{Function}
 use Rattle.smt_names.specs.declared.function.Takes.TheVariants.{Nothing, Two}
 use Rattle.item_passes.specs.Binders.{is_binding, is_variable, are_some, variables}
-use Rattle.term_draft.specs.Bodies.{body_sort, opaque, called, related, parameter_name}
+use Rattle.term_weight.specs.Bodies.{body_sort, opaque, called, related, parameter_name}
 use Rattle.smt_names.specs.Faults.{and_then, ◌>>◌, need, refuse, or_fault, made_of}
 use Rattle.smt_names.specs.Form.{Form, Forms, token, group, end, ◌⨾◌, count}
-use Rattle.term_draft.specs.Ranks.{takes_count, takes_sorts, are_of, applied}
+use Rattle.term_weight.specs.Ranks.{takes_count, takes_sorts, are_of, applied}
 use Rattle.smt_names.specs.Signature.{Name, same_name, stands_in, signature, indexed_names, power, loop, character}
-use Rattle.term_draft.specs.Sizes.{fits}
+use Rattle.term_weight.specs.Sizes.{fits}
 use Rattle.smt_names.specs.Tokens.{symbol, digits, value, is_too_large, literal_word, character_token, opening, is_identifier, chosen}
 
 abbrev pub Scope : Type 0

@@ -1,7 +1,7 @@
 -- The bindings of a scope, and an index of them by their names.
 use Rattle.std.specs.Prelude.{◌≡◌, ℕ, List, [], ◌∷◌, ◌++◌, map, Option}
 use Rattle.sort_check.specs.declared.scope.Binding.{Binding}
-use Rattle.term_draft.specs.Drafts.{shown}
+use Rattle.term_weight.specs.Places.{shown}
 use Rattle.sort_check.specs.Meant.{latest}
 use Rattle.smt_names.specs.Signature.{Name}
 

@@ -5,11 +5,11 @@ use Rattle.sv_terms.specs.declared.entry.Body.{Body}
 use Rattle.smt_names.specs.declared.check_fault.CheckFault.{CheckFault}
 use Rattle.smt_names.specs.declared.check_fault.CheckFault.TheVariants as fault
 use Rattle.sort_check.specs.declared.walk.Walk.{Walk}
-use Rattle.term_draft.specs.Bodies.{body_sort}
+use Rattle.term_weight.specs.Bodies.{body_sort}
 use Rattle.smt_names.specs.Faults.{◌>>◌, need}
 use Rattle.sort_check.specs.Meant.{Scope, Head, any_size, head_sorts, head_applied, bind}
 use Rattle.smt_names.specs.Signature.{Name}
-use Rattle.term_draft.specs.Sizes.{fits}
+use Rattle.term_weight.specs.Sizes.{fits}
 
 -- a place where this is
 abbrev pub Here : List Body → ℕ → Body → Type 0

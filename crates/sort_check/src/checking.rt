@@ -4,7 +4,7 @@ ghost use Rattle.std.specs.List.{list_all};
 ghost use Rattle.sv_terms.specs.Names.{symbol_name};
 ghost use Rattle.sort_check.specs.declared.commands.Command.{Command as AnyCommand};
 ghost use Rattle.item_passes.specs.Binders as binders;
-ghost use Rattle.term_draft.specs.Bodies as terms;
+ghost use Rattle.term_weight.specs.Bodies as terms;
 ghost use Rattle.sort_check.specs.Checking as commands;
 ghost use Rattle.smt_names.specs.Faults.{Answers, made_of};
 ghost use Rattle.smt_names.specs.Form.{Forms, seen, forms};
@@ -25,7 +25,8 @@ use smt_names::{CheckFault, Verb};
 use std::alloc::{AllocError, Global};
 use sv_list::{Copied, Items};
 use sv_terms::{Body, Entry, Name, Sort, Term};
-use term_draft::{Declarations, body_sort, into_term, same_sort};
+use term_draft::{body_sort, into_term};
+use term_weight::{Declarations, same_sort};
 use transducer_form::{Description, described};
 
 #[tactic(auto, using(crate::proofs::Counted::commands))]

@@ -16,7 +16,7 @@ use smt_names::token::{character_token, digits, number, opening, symbol, unquote
 use smt_names::{CheckFault, Function, Opening, Takes};
 use std::alloc::Global;
 use sv_terms::{MOST_TIMES, Name, Sort, Transducer};
-use term_draft::{Declarations, Declared, Macro, are_of, takes_count, takes_sorts};
+use term_weight::{Declarations, Declared, Macro, are_of, takes_count, takes_sorts};
 
 /// What an identifier stands for where it is no variable.
 #[derive(Drop)]

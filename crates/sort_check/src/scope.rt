@@ -1,12 +1,12 @@
 ghost use Rattle.std.specs.Prelude.{◌≡◌, [], ◌∷◌, ◌++◌, ◌-◌, length, take, IfOk, OnOk};
-ghost use Rattle.term_draft.specs.Bodies as bodies;
+ghost use Rattle.term_weight.specs.Bodies as bodies;
 ghost use Rattle.sort_check.specs.Meant as meaning;
 
 use std::alloc::{AllocError, Global};
 use std::marker::Model;
 use sv_list::Items;
 use sv_terms::Name;
-use term_draft::Places;
+use term_weight::Places;
 
 /// A name that is bound, the place of what it stands for, and what it hides.
 #[derive(Drop)]

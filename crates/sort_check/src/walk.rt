@@ -7,10 +7,10 @@ ghost use Rattle.smt_names.specs.Faults.{Answers, made_of};
 ghost use Rattle.smt_names.specs.Form.{seen, forms};
 ghost use Rattle.smt_names.specs.Tokens as tokens;
 ghost use Rattle.item_passes.specs.Binders as binders;
-ghost use Rattle.term_draft.specs.Bodies as bodies;
+ghost use Rattle.term_weight.specs.Bodies as bodies;
 ghost use Rattle.term_draft.specs.Drafts as drafts;
-ghost use Rattle.term_draft.specs.Ranks as ranks;
-ghost use Rattle.term_draft.specs.Sizes as sizes;
+ghost use Rattle.term_weight.specs.Ranks as ranks;
+ghost use Rattle.term_weight.specs.Sizes as sizes;
 ghost use Rattle.sort_check.specs.Heads.{kept};
 ghost use Rattle.sort_check.specs.Meant as meaning;
 ghost use Rattle.sort_check.specs.Walks as walks;
@@ -25,7 +25,8 @@ use smt_names::{CheckFault, Function, Opening};
 use std::alloc::{AllocError, Global};
 use sv_list::Items;
 use sv_terms::{Body, Name, Sort, Term, Transducer};
-use term_draft::{Declarations, Draft, Macro, built, same_sort};
+use term_draft::{Draft, built};
+use term_weight::{Declarations, Macro, same_sort};
 
 /// What is known in the middle of a walk over terms.
 #[derive(Drop)]

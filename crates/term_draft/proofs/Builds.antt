@@ -13,12 +13,12 @@ use Rattle.sv_terms.specs.declared.transducer.Transducer.{Transducer}
 use Rattle.term_draft.specs.declared.draft.Node.{Node}
 use Rattle.term_draft.specs.declared.draft.Node.TheVariants as node
 use Rattle.term_draft.specs.declared.draft.Part.{Part}
-use Rattle.term_draft.specs.Bodies.{or_constant, put_in, put_in_layer}
+use Rattle.term_weight.specs.Bodies.{or_constant, put_in, put_in_layer}
 use Rattle.std.proofs.lemmas.List.{take_more}
 use Rattle.smt_names.specs.Signature.{Name}
-use Rattle.term_draft.specs.Sizes.{total}
+use Rattle.term_weight.specs.Sizes.{total}
 use Rattle.term_draft.proofs.Drafting.{sense-at, sense-past}
-use Rattle.term_draft.proofs.Layers.{map-snoc}
+use Rattle.term_weight.specs.LayerLaws.{map-snoc}
 
 -- terms at hand count more than what stands in them
 abbrev size_layer : Term-F ℕ → ℕ

@@ -11,13 +11,14 @@ use Rattle.sv_terms.specs.declared.term.Term.{Term}
 use Rattle.sv_terms.specs.declared.term.Term.TheOpen.{Term-F}
 use Rattle.sv_terms.specs.declared.term.Term.TheFolds.{fold-Term, fold-roll-Term, map-Term, ind-Term}
 use Rattle.term_draft.specs.declared.draft.Part.{Part}
-use Rattle.term_draft.specs.declared.weight.Weight.{Weight}
-use Rattle.term_draft.specs.Bodies.{is_language, term_of, or_constant, put_in, put_in_layer, arguments_for, called}
-use Rattle.term_draft.specs.Drafts.{Adds, Calls, argument_place, at_place, at_places, if_term, layer_name, name_alone, named_by, parameter_alone, senses, shown, term_found, term_place}
+use Rattle.term_weight.specs.declared.weight.Weight.{Weight}
+use Rattle.term_weight.specs.Bodies.{is_language, term_of, or_constant, put_in, put_in_layer, arguments_for, called}
+use Rattle.term_draft.specs.Drafts.{Adds, Calls, argument_place, at_place, at_places, if_term, senses, term_found, term_place}
+use Rattle.term_weight.specs.Places.{layer_name, name_alone, named_by, parameter_alone, shown}
 use Rattle.smt_names.specs.Signature.{Name, same_name}
-use Rattle.term_draft.specs.Weights.{weight_of, as_term, op_weight, in_weight, related_weight, regex_weight, weigh_layer, weighed, or_leaf, place_of, nth_if, argument_weight, call_weight}
+use Rattle.term_weight.specs.Weights.{weight_of, as_term, op_weight, in_weight, related_weight, regex_weight, weigh_layer, weighed, or_leaf, place_of, nth_if, argument_weight, call_weight}
 use Rattle.term_draft.proofs.Drafting.{get-none, length-senses}
-use Rattle.term_draft.proofs.Layers.{weight-Truth, weight-Number, weight-Text, weight-Constant, weight-Opaque, weight-Apply, weight-InRe, weight-Related, weight-term_of}
+use Rattle.term_weight.specs.LayerLaws.{weight-Truth, weight-Number, weight-Text, weight-Constant, weight-Opaque, weight-Apply, weight-InRe, weight-Related, weight-term_of}
 
 abbrev term_weight : Term → Weight
 term_weight t = weight_of (body.Term t)
@@ -96,10 +97,6 @@ put-index ps index done arguments t u e f =
     ∙ sym (map-map term_of (at_place done) (nth_if arguments (place_of n ps)))
     ∙ ap (option_map term_of) (sym (nth-map (at_place done) arguments (place_of n ps)))
     ∙ sym (argument-at n ps (at_places done arguments)))))
-
-pub named-alike : (f g : Name → Option ℕ) → ((n : Name) → f n ≡ g n) → (o : Option Name) → named_by f o ≡ named_by g o
-named-alike f g h None = refl
-named-alike f g h (Some n) = h n
 
 -- a body that is a parameter alone is its argument
 module _ (ps : List (Name × Sort)) (bs : List Body) (i : ℕ) (d : Body) (there : slice_get bs i ≡ Some d) where
@@ -205,3 +202,8 @@ pub ruleset calling = (calls-there, calls-added)
 pub ruleset arguing = (argument-some, argument-missing, argument-none)
 
 pub ruleset standing = (term-stands, none-stands)
+
+pub nth-some : {A : Type 0} (as_ : List A) (o : Option ℕ) (i : ℕ) (r : Option A) → o ≡ Some i → r ≡ slice_get as_ i → r ≡ nth_if as_ o
+nth-some as_ o i r e f = f ∙ ap (nth_if as_) (sym e)
+
+pub ruleset finding = (nth-some)

@@ -9,12 +9,12 @@ use Rattle.sv_terms.specs.declared.sort.Sort.TheVariants as sort
 use Rattle.sv_terms.specs.declared.transducer.Transducer.{Transducer}
 use Rattle.term_draft.specs.declared.draft.Node.{Node}
 use Rattle.term_draft.specs.declared.draft.Part.{Part}
-use Rattle.term_draft.specs.declared.weight.Weight.{Weight}
-use Rattle.term_draft.specs.Bodies.{opaque, related, term_of}
+use Rattle.term_weight.specs.declared.weight.Weight.{Weight}
+use Rattle.term_weight.specs.Bodies.{opaque, related, term_of}
 use Rattle.term_draft.specs.Drafts.{at_place, sense, senses, senses_from}
-use Rattle.term_draft.specs.Weights.{weight_of, weight_fits, capped, opaque_weight, pair_weight, related_weight}
-use Rattle.term_draft.specs.Sizes.{fits, nodes, nesting}
-use Rattle.term_draft.proofs.Layers.{map-snoc, weight-Opaque, weight-Related, weight-term_of}
+use Rattle.term_weight.specs.Weights.{weight_of, weight_fits, capped, opaque_weight, pair_weight, related_weight}
+use Rattle.term_weight.specs.Sizes.{fits, nodes, nesting}
+use Rattle.term_weight.specs.LayerLaws.{map-snoc, weight-Opaque, weight-Related, weight-term_of}
 
 senses-after : (done : List Body) (ps : List Part) (p : Part) → senses_from done (ps ++ p ∷ []) ≡ senses_from done ps ++ sense (senses_from done ps) p.node ∷ []
 senses-after done [] p = refl

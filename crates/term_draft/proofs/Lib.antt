@@ -1,13 +1,4 @@
 mod Builds
 mod Calling
 mod Drafting
-mod Factors
-mod Keeping
-mod Layers
-mod Placing
-mod Settling
-mod Sharing
-mod Sorts
-mod Sums
-mod Tallying
-mod Telling
+mod Shapes

@@ -1,21 +1,18 @@
 -- What the parts of a draft are, with everything put in.
 use Rattle.std.specs.Prelude.{◌≡◌, ℕ, List, [], ◌∷◌, ◌++◌, length, map, get_or, slice_get, Option, Some, None, Result, Ok, Err}
-use Rattle.std.specs.Map.{lookup}
 use Rattle.std.specs.Option.{option_map}
 use Rattle.sv_terms.specs.declared.entry.Body.{Body}
 use Rattle.sv_terms.specs.declared.entry.Body.TheVariants as body
 use Rattle.sv_terms.specs.declared.sort.Sort.{Sort}
 use Rattle.sv_terms.specs.declared.sort.Sort.TheVariants as sort
 use Rattle.sv_terms.specs.declared.term.Term.{Term}
-use Rattle.sv_terms.specs.declared.term.Term.TheOpen.{Term-F}
-use Rattle.sv_terms.specs.declared.term.Term.TheFolds.{fold-Term}
 use Rattle.term_draft.specs.declared.draft.Node.{Node}
 use Rattle.term_draft.specs.declared.draft.Node.TheVariants as node
 use Rattle.term_draft.specs.declared.draft.Part.{Part}
-use Rattle.term_draft.specs.declared.weight.Weight.{Weight}
-use Rattle.term_draft.specs.Bodies.{opaque, called, related, term_of}
-use Rattle.smt_names.specs.Signature.{Name, same_name}
-use Rattle.term_draft.specs.Weights.{plain, as_term, nth_if, place_of}
+use Rattle.term_weight.specs.Bodies.{opaque, called, related, term_of}
+use Rattle.smt_names.specs.Signature.{Name}
+use Rattle.term_weight.specs.Weights.{plain, nth_if}
+use Rattle.term_weight.specs.Places.{parameter_alone, shown}
 
 -- what is at a place; past the end nothing is
 abbrev pub at_place : List Body → ℕ → Body
@@ -44,23 +41,6 @@ abbrev pub Adds : {E : Type 0} → Body → List Body → List Body → Result �
 Adds b old new (Ok place) = (place ≡ length old) × (new ≡ old ++ b ∷ [])
 Adds b old new (Err e) = new ≡ old
 
-abbrev pub layer_name : {X : Type 0} → Term-F X → Option Name
-layer_name (Term-F.Constant n s) = Some n
-layer_name _ = None
-
--- the name of a constant that stands alone
-abbrev pub name_alone : Term → Option Name
-name_alone = fold-Term (Option Name) layer_name
-
-abbrev pub named_by : (Name → Option ℕ) → Option Name → Option ℕ
-named_by place None = None
-named_by place (Some n) = place n
-
--- which parameter the body of a macro is, where it is one alone
-abbrev pub parameter_alone : List (Name × Sort) → Body → Option ℕ
-parameter_alone ps (body.Term t) = named_by (λ n. place_of n ps) (name_alone t)
-parameter_alone ps (body.Language r) = None
-
 -- this place, where a term is there
 abbrev pub if_term : ℕ → Option Body → Option ℕ
 if_term p (Some (body.Term t)) = Some p
@@ -81,20 +61,9 @@ Calls (Some p) b old new (Ok place) = (place ≡ p) × (slice_get new place ≡ 
 Calls (Some p) b old new (Err e) = ⊥
 Calls {E = E} None b old new r = Adds {E = E} b old new r
 
--- the place that an index of names gives a name
-abbrev pub flat : Option (Option ℕ) → Option ℕ
-flat (Some o) = o
-flat None = None
-
-abbrev pub shown : Name → List (Name × Option ℕ) → Option ℕ
-shown n index = flat (lookup (same_name n) index)
-
 -- what the argument of a parameter is, by an index of the parameters
 abbrev pub place_found : List (Name × Option ℕ) → List ℕ → Name → Option ℕ
 place_found index arguments n = nth_if arguments (shown n index)
-
-abbrev pub weight_found : List (Name × Option ℕ) → List Weight → Name → Option Weight
-weight_found index weights n = option_map as_term (nth_if weights (shown n index))
 
 abbrev pub term_found : List Body → List (Name × Option ℕ) → List ℕ → Name → Option Term
 term_found done index arguments n = option_map (λ p. term_of (at_place done p)) (place_found index arguments n)

@@ -1,19 +1,18 @@
 // What an application of a function is, once its arguments are built.
 ghost use Rattle.std.specs.Prelude.{◌≡◌, [], ◌∷◌, length, IfOk, MatchOption, map};
-ghost use Rattle.term_draft.specs.Bodies as b;
-ghost use Rattle.term_draft.specs.Ranks as r;
-ghost use Rattle.term_draft.specs.Weights as w;
+ghost use Rattle.term_weight.specs.Bodies as b;
+ghost use Rattle.term_weight.specs.Ranks as r;
+ghost use Rattle.term_weight.specs.Weights as w;
 
-use crate::room::room;
-use crate::weight::op_sort;
 use smt_names::Sense;
 use std::alloc::{AllocError, Global};
 use sv_list::{Boxed, Copied, Items};
 use sv_terms::{Body, Op, Regex, Sort, Term, Transducer};
 use sv_word::{GREATEST_CHARACTER, Word};
+use term_weight::{op_sort, room};
 
 /// The sort of a sorted term, from its outermost function. Constant.
-#[tactic(auto, using(crate::proofs::Layers::sorts))]
+#[tactic(auto, using(term_weight::specs::LayerLaws::sorts))]
 fn term_sort(term: &Term) -> Sort
     ensures { result ≡ b.body_sort (Body.Term term.now) }
 {
@@ -49,7 +48,7 @@ pub fn into_term(body: Body) -> Term
     }
 }
 
-#[tactic(auto, using(crate::proofs::Layers::collecting))]
+#[tactic(auto, using(term_weight::specs::LayerLaws::collecting))]
 fn into_terms(alloc: Global, bodies: Items<Body>) -> Result<Items<Term>, AllocError>
     ensures { IfOk result (λ ts. ts ≡ map b.term_of bodies) }
 {
@@ -69,7 +68,7 @@ fn into_regex(body: Body) -> Regex
     }
 }
 
-#[tactic(auto, using(crate::proofs::Layers::collecting))]
+#[tactic(auto, using(term_weight::specs::LayerLaws::collecting))]
 fn into_regexes(alloc: Global, bodies: Items<Body>) -> Result<Items<Regex>, AllocError>
     ensures { IfOk result (λ rs. rs ≡ map b.regex_of bodies) }
 {
@@ -93,7 +92,7 @@ fn apply_op(alloc: Global, op: Op, bodies: Items<Body>) -> Result<Body, AllocErr
 }
 
 /// The one of a list of one.
-#[tactic(auto, using(crate::proofs::Layers::few))]
+#[tactic(auto, using(crate::proofs::Shapes::few))]
 fn one<T: Drop>(mut items: Items<T>) -> Option<T>
     ensures { MatchOption result (length items ≡ 1 → ⊥) (λ x. items ≡ x ∷ []) }
 {
@@ -104,7 +103,7 @@ fn one<T: Drop>(mut items: Items<T>) -> Option<T>
 }
 
 /// The two of a list of two.
-#[tactic(auto, using(crate::proofs::Layers::few))]
+#[tactic(auto, using(crate::proofs::Shapes::few))]
 fn two(mut bodies: Items<Body>) -> Option<(Body, Body)>
     ensures { MatchOption result (length bodies ≡ 2 → ⊥) (λ p. bodies ≡ p.0 ∷ p.1 ∷ []) }
 {
@@ -120,7 +119,7 @@ fn two(mut bodies: Items<Body>) -> Option<(Body, Body)>
     }
 }
 
-#[tactic(auto, using(crate::proofs::Layers::shaped))]
+#[tactic(auto, using(crate::proofs::Shapes::shaped))]
 fn membership(alloc: Global, bodies: Items<Body>) -> Result<Body, AllocError>
     ensures { IfOk result (λ x. x ≡ w.tested bodies) }
 {
@@ -134,7 +133,7 @@ fn membership(alloc: Global, bodies: Items<Body>) -> Result<Body, AllocError>
 }
 
 /// What a transducer relates.
-#[tactic(auto, using(crate::proofs::Layers::shaped))]
+#[tactic(auto, using(crate::proofs::Shapes::shaped))]
 #[inline(never)]
 pub fn relate(
     alloc: Global,
@@ -154,7 +153,7 @@ pub fn relate(
     }
 }
 
-#[tactic(auto, using(crate::proofs::Layers::words))]
+#[tactic(auto, using(term_weight::specs::LayerLaws::words))]
 fn term_word(term: Term) -> Option<Word>
     ensures { result ≡ b.literal (Body.Term term) }
 {
@@ -189,7 +188,7 @@ fn text_of(word: Option<Word>) -> Body
     }
 }
 
-#[tactic(auto, using(crate::proofs::Layers::shaped))]
+#[tactic(auto, using(crate::proofs::Shapes::shaped))]
 fn worded(bodies: Items<Body>) -> Body
     ensures { result ≡ w.worded bodies }
 {
@@ -200,7 +199,7 @@ fn worded(bodies: Items<Body>) -> Body
 }
 
 /// The characters between two literals.
-#[tactic(auto, using(crate::proofs::Layers::shaped))]
+#[tactic(auto, using(crate::proofs::Shapes::shaped))]
 fn characters(low: &Word, high: &Word) -> Regex
     ensures { result ≡ r.characters low.now high.now }
 {
@@ -231,7 +230,7 @@ fn range_of(low: Option<Word>, high: Option<Word>) -> Body
     }
 }
 
-#[tactic(auto, using(crate::proofs::Layers::shaped))]
+#[tactic(auto, using(crate::proofs::Shapes::shaped))]
 fn ranged(bodies: Items<Body>) -> Body
     ensures { result ≡ w.ranged bodies }
 {
@@ -256,7 +255,7 @@ fn around(alloc: Global, sense: Sense, regex: Regex) -> Result<Regex, AllocError
     }
 }
 
-#[tactic(auto, using(crate::proofs::Layers::shaped))]
+#[tactic(auto, using(crate::proofs::Shapes::shaped))]
 fn combine_one(alloc: Global, sense: Sense, bodies: Items<Body>) -> Result<Body, AllocError>
     ensures { IfOk result (λ x. x ≡ Body.Language (r.of_one (w.around_one sense) (map b.regex_of bodies))) }
 {

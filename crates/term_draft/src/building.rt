@@ -2,18 +2,17 @@
 // the stack in its nesting: what a recursion calls that doesn't recurse stands in functions of its
 // own, so that their frames are gone before it goes deeper.
 ghost use Rattle.std.specs.Prelude.{◌≡◌, map, IfOk};
-ghost use Rattle.term_draft.specs.Bodies as bodies;
+ghost use Rattle.term_weight.specs.Bodies as bodies;
 ghost use Rattle.term_draft.specs.Drafts as drafts;
-ghost use Rattle.term_draft.specs.Weights as weights;
+ghost use Rattle.term_weight.specs.Weights as weights;
 
 use crate::applying::{apply, into_term, opaque, relate};
 use crate::draft::{Draft, Node, Part};
-use crate::places::Places;
-use crate::room::room;
 use smt_names::Sense;
 use std::alloc::{AllocError, Global};
 use sv_list::{Boxed, Copied, Items};
 use sv_terms::{Body, Name, Op, Regex, Sort, Term, Transducer};
+use term_weight::{Places, room};
 
 #[inline(never)]
 fn copy_body(alloc: Global, body: &Body) -> Result<Body, AllocError>
@@ -280,7 +279,7 @@ fn put_in_related(
 }
 
 /// The place of the argument of a parameter of this name.
-#[tactic(auto, using(crate::proofs::Placing::finding))]
+#[tactic(auto, using(crate::proofs::Calling::finding))]
 #[inline(never)]
 fn argument(index: &Places, arguments: &[usize], name: &Name) -> Option<usize>
     ensures { result ≡ drafts.place_found index.now arguments.now name.now }

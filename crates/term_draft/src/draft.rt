@@ -1,20 +1,17 @@
 ghost use Rattle.std.specs.Prelude.{◌≡◌, [], map, slice_get, IfOk};
-ghost use Rattle.term_draft.specs.Bodies.{body_sort as sort_of, opaque as no_meaning, called, related};
+ghost use Rattle.term_weight.specs.Bodies.{body_sort as sort_of, opaque as no_meaning, called, related};
 ghost use Rattle.term_draft.specs.Drafts.{Adds, Calls, argument_place, if_term, sense, senses, at_place, at_places};
-ghost use Rattle.term_draft.specs.Ranks.{applied};
-ghost use Rattle.term_draft.specs.Sizes.{fits as is_fit};
-ghost use Rattle.term_draft.specs.Weights.{weight_of};
+ghost use Rattle.term_weight.specs.Ranks.{applied};
+ghost use Rattle.term_weight.specs.Sizes.{fits as is_fit};
+ghost use Rattle.term_weight.specs.Weights.{weight_of};
 
-use crate::declared::Macro;
-use crate::opacity::{opacity, pair_weight, plain_weight};
-use crate::room::room;
-use crate::weight::{Factor, Weight};
 use smt_names::{Function, Sense};
 use std::alloc::{AllocError, Global};
 use std::marker::Model;
 use sv_list::Items;
 use sv_terms::{Body, Name, Sort, Term, Transducer};
 use sv_word::Word;
+use term_weight::{Factor, Macro, Weight, opacity, pair_weight, plain_weight, room};
 
 /// A part of a term that is read and not built yet. Parts are named by their places; a part names
 /// parts before it alone.
@@ -53,7 +50,7 @@ impl<'a> Model for Draft<'a> {
     ghost use Rattle.sv_terms.specs.contracts.term.Term as term;
     ghost use Rattle.sv_terms.specs.declared.entry.Body.{Body as Meaning};
     ghost use Rattle.term_draft.specs.Drafts.{senses};
-    ghost use Rattle.term_draft.specs.Weights.{weight_of};
+    ghost use Rattle.term_weight.specs.Weights.{weight_of};
 
     ghost Value = { List Meaning };
 
@@ -93,7 +90,7 @@ impl<'a> Draft<'a> {
     }
 
     /// Adds an opaque part, and answers its place.
-    #[tactic(auto, using(crate::proofs::Layers::weights))]
+    #[tactic(auto, using(term_weight::specs::LayerLaws::weights))]
     pub fn put_opaque(&mut self, sort: Sort) -> Result<usize, AllocError>
         ensures { Adds (no_meaning sort) self.old self.new result }
     {
@@ -101,7 +98,7 @@ impl<'a> Draft<'a> {
     }
 
     /// Adds a constant, and answers its place.
-    #[tactic(auto, using(crate::proofs::Layers::weights))]
+    #[tactic(auto, using(term_weight::specs::LayerLaws::weights))]
     pub fn put_constant(&mut self, name: Name, sort: Sort) -> Result<usize, AllocError>
         ensures { Adds (Body.Term (Term.Constant name sort)) self.old self.new result }
     {
@@ -110,7 +107,7 @@ impl<'a> Draft<'a> {
     }
 
     /// Adds a number, and answers its place.
-    #[tactic(auto, using(crate::proofs::Layers::weights))]
+    #[tactic(auto, using(term_weight::specs::LayerLaws::weights))]
     pub fn put_number(&mut self, n: i128) -> Result<usize, AllocError>
         ensures { Adds (Body.Term (Term.Number n)) self.old self.new result }
     {
@@ -118,7 +115,7 @@ impl<'a> Draft<'a> {
     }
 
     /// Adds a literal, and answers its place.
-    #[tactic(auto, using(crate::proofs::Layers::weights))]
+    #[tactic(auto, using(term_weight::specs::LayerLaws::weights))]
     pub fn put_word(&mut self, word: Word) -> Result<usize, AllocError>
         ensures { Adds (Body.Term (Term.Text word)) self.old self.new result }
     {

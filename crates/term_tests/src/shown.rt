@@ -5,7 +5,7 @@ use sort_check::{Command, Product, asked_term};
 use std::alloc::{AllocError, Global};
 use sv_terms::{Body, Entry, Item, Name, Op, Regex, Sort, Term, TransEdge, Transducer};
 use sv_word::Word;
-use term_draft::Declarations;
+use term_weight::Declarations;
 
 type Out = Vec<u8>;
 

@@ -6,7 +6,7 @@ use std::alloc::{AllocError, Global};
 use std::process::Abort;
 use std::test::Fail;
 use sv_terms::{Entry, Name};
-use term_draft::Declarations;
+use term_weight::Declarations;
 
 /// What each row may name.
 const NAMES: &[u8] = br#"

@@ -5,7 +5,8 @@ use std::test::Fail;
 use sv_list::Items;
 use sv_terms::{Body, Entry, Name, Op, Sort, Term};
 use sv_word::Word;
-use term_draft::{Declarations, Declared, Draft, built};
+use term_draft::{Draft, built};
+use term_weight::{Declarations, Declared};
 
 fn word(alloc: Global, text: &str) -> Result<Word, AllocError> {
     let mut word = Word::new(alloc);

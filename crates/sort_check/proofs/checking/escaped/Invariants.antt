@@ -1,5 +1,5 @@
 use Rattle.std.proofs.Common.{◌≡◌, map, take}
-use Rattle.term_draft.specs.Bodies.{parameter_name}
+use Rattle.term_weight.specs.Bodies.{parameter_name}
 use Rattle.sort_check.proofs.checking.escaped.Given as goal
 
 abbrev pub invariant-loop-variable : goal.invariant-loop-variable

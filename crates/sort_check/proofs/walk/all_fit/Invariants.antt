@@ -1,7 +1,7 @@
 use Rattle.std.proofs.Common.{◌≡◌, drop}
 use Rattle.std.specs.List.{list_all}
 use Rattle.term_draft.specs.Drafts.{at_places}
-use Rattle.term_draft.specs.Sizes.{fits}
+use Rattle.term_weight.specs.Sizes.{fits}
 use Rattle.sort_check.proofs.walk.all_fit.Given as goal
 
 abbrev pub invariant-loop-place : goal.invariant-loop-place

@@ -1,11 +1,11 @@
 use Rattle.std.proofs.Common.{sym, ap, ◌∙◌, map}
 use Rattle.sv_terms.specs.declared.entry.Body.TheVariants as body
 use Rattle.sv_terms.specs.declared.term.Term.TheVariants as term
-use Rattle.term_draft.specs.Bodies.{body_sort, called, related}
+use Rattle.term_weight.specs.Bodies.{body_sort, called, related}
 use Rattle.term_draft.specs.Drafts.{at_places}
 use Rattle.sort_check.specs.Heads.{kept}
 use Rattle.sort_check.specs.Meant.{head_applied}
-use Rattle.term_draft.specs.Ranks.{applied}
+use Rattle.term_weight.specs.Ranks.{applied}
 use Rattle.sort_check.proofs.Walking.{applied-so, ill-sorted}
 use Rattle.sort_check.proofs.walk.apply.Goals as goal
 

@@ -1,5 +1,5 @@
 use Rattle.term_draft.specs.Drafts.{at_places}
-use Rattle.term_draft.specs.Ranks.{applied}
+use Rattle.term_weight.specs.Ranks.{applied}
 use Rattle.sort_check.proofs.Walking.{put-read}
 use Rattle.sort_check.proofs.walk.apply_function.Goals as goal
 

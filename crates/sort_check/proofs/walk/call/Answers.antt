@@ -1,4 +1,4 @@
-use Rattle.term_draft.specs.Bodies.{called}
+use Rattle.term_weight.specs.Bodies.{called}
 use Rattle.term_draft.specs.Drafts.{argument_place, at_places}
 use Rattle.sort_check.proofs.Walking.{call-read}
 use Rattle.sort_check.proofs.walk.call.Goals as goal

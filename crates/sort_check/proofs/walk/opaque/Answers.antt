@@ -1,4 +1,4 @@
-use Rattle.term_draft.specs.Bodies.{opaque}
+use Rattle.term_weight.specs.Bodies.{opaque}
 use Rattle.sort_check.proofs.Walking.{put-read}
 use Rattle.sort_check.proofs.walk.opaque.Goals as goal
 

@@ -2,7 +2,7 @@ use Rattle.std.proofs.Common.{sym, ap, ◌∙◌, true, false, Ok}
 use Rattle.sv_terms.specs.declared.sort.Sort.TheVariants as sort
 use Rattle.sv_terms.specs.Sorting.{same_sort}
 use Rattle.smt_names.specs.declared.check_fault.CheckFault.TheVariants as fault
-use Rattle.term_draft.specs.Bodies.{body_sort, opaque}
+use Rattle.term_weight.specs.Bodies.{body_sort, opaque}
 use Rattle.smt_names.specs.Faults.{need, ◌>>◌}
 use Rattle.sort_check.specs.Walks.{Here}
 use Rattle.sort_check.proofs.Reading.{tested}

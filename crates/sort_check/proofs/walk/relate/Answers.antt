@@ -1,4 +1,4 @@
-use Rattle.term_draft.specs.Bodies.{related}
+use Rattle.term_weight.specs.Bodies.{related}
 use Rattle.term_draft.specs.Drafts.{at_places}
 use Rattle.sort_check.proofs.Walking.{put-read}
 use Rattle.sort_check.proofs.walk.relate.Goals as goal

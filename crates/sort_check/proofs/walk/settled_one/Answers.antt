@@ -1,6 +1,6 @@
 use Rattle.std.proofs.Common.{refl, sym, ap, ◌∙◌, ◌++◌, false}
 use Rattle.sort_check.specs.declared.walk.Walk.{Walk}
-use Rattle.term_draft.specs.Bodies.{parameter_name}
+use Rattle.term_weight.specs.Bodies.{parameter_name}
 use Rattle.smt_names.specs.Form.{seen}
 use Rattle.sort_check.specs.Meant.{as_constants}
 use Rattle.sort_check.proofs.Termwise.{begin-bound, begin-past, one-settled, one-unfit, one-past}

@@ -1,6 +1,6 @@
 use Rattle.std.proofs.Common.{refl, sym, subst, [], map, false, List, ℕ}
 use Rattle.sort_check.specs.declared.walk.Walk.{Walk}
-use Rattle.term_draft.specs.Bodies.{body_sort}
+use Rattle.term_weight.specs.Bodies.{body_sort}
 use Rattle.term_draft.specs.Drafts.{at_places}
 use Rattle.smt_names.specs.Faults.{Answers, made_of}
 use Rattle.smt_names.specs.Form.{forms, seen}

@@ -2,8 +2,8 @@ use Rattle.std.proofs.Common.{rules, sym, ap, ◌∙◌, List, ◌++◌, [], ◌
 use Rattle.std.specs.Vec.Iter.{into_iter_items}
 use Rattle.sv_terms.specs.declared.entry.Body.{Body}
 use Rattle.sv_terms.specs.declared.regex.Regex.{Regex}
-use Rattle.term_draft.specs.Bodies.{regex_of}
-use Rattle.term_draft.proofs.Layers.{map-snoc}
+use Rattle.term_weight.specs.Bodies.{regex_of}
+use Rattle.term_weight.specs.LayerLaws.{map-snoc}
 use Rattle.term_draft.proofs.applying.into_regexes.Goals as goal
 
 pub loop-body-preserved : goal.loop-body-preserved

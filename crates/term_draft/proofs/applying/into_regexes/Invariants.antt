@@ -1,6 +1,6 @@
 use Rattle.std.proofs.Common.{◌≡◌, ◌++◌, map}
 use Rattle.std.specs.Vec.Iter.{into_iter_items}
-use Rattle.term_draft.specs.Bodies.{regex_of}
+use Rattle.term_weight.specs.Bodies.{regex_of}
 use Rattle.term_draft.proofs.applying.into_regexes.Given as goal
 
 abbrev pub invariant-loop-body : goal.invariant-loop-body

@@ -2,9 +2,9 @@ use Rattle.std.proofs.Common.{rules, ◌≡◌, IfOk, length, sym, ap, ◌∙◌
 use Rattle.sv_terms.specs.declared.entry.Body.{Body}
 use Rattle.sv_terms.specs.declared.term.Term.{Term}
 use Rattle.term_draft.specs.declared.draft.Part.{Part}
-use Rattle.term_draft.specs.Bodies.{called, put_in}
+use Rattle.term_weight.specs.Bodies.{called, put_in}
 use Rattle.term_draft.specs.Drafts.{at_places, sense, senses, term_found}
-use Rattle.term_draft.specs.Sizes.{total}
+use Rattle.term_weight.specs.Sizes.{total}
 use Rattle.term_draft.proofs.Builds.{cost, node_cost, size, cost-before, size-of-one, one-more}
 use Rattle.term_draft.proofs.Calling.{put-index}
 use Rattle.term_draft.proofs.building.+build.Goals as goal

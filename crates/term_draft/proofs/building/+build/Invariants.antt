@@ -1,5 +1,5 @@
 use Rattle.std.proofs.Common.{◌≡◌, ◌+◌, map, take}
-use Rattle.term_draft.specs.Bodies.{put_in}
+use Rattle.term_weight.specs.Bodies.{put_in}
 use Rattle.term_draft.specs.Drafts.{at_places, senses, term_found}
 use Rattle.term_draft.proofs.Builds.{cost, node_cost, size, sizes}
 use Rattle.term_draft.proofs.building.+build.Given as goal

@@ -1,8 +1,8 @@
 use Rattle.std.proofs.Common.{sym, ap, subst, ◌∙◌, map}
 use Rattle.sv_terms.specs.declared.entry.Body.{Body}
 use Rattle.term_draft.specs.Drafts.{Adds, at_places}
-use Rattle.term_draft.specs.Weights.{weight_of, opacity, plain_weight}
-use Rattle.term_draft.proofs.Settling.{opaque-so, plain-so, plain-weighs}
+use Rattle.term_weight.specs.Weights.{weight_of, opacity, plain_weight}
+use Rattle.term_weight.specs.SettlingLaws.{opaque-so, plain-so, plain-weighs}
 use Rattle.term_draft.proofs.draft.Draft.put_applied.Goals as goal
 
 pub put-requires : goal.put-requires

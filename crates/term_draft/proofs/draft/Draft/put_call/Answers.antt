@@ -1,6 +1,6 @@
 use Rattle.std.proofs.Common.{sym, ap, ◌∙◌, map}
 use Rattle.term_draft.specs.Drafts.{at_places}
-use Rattle.term_draft.specs.Weights.{weight_of, call_weight}
+use Rattle.term_weight.specs.Weights.{weight_of, call_weight}
 use Rattle.term_draft.proofs.Calling.{call-weighs}
 use Rattle.term_draft.proofs.draft.Draft.put_call.Goals as goal
 

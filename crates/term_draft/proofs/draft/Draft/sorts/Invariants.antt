@@ -1,5 +1,5 @@
 use Rattle.std.proofs.Common.{◌≡◌, map, take}
-use Rattle.term_draft.specs.Bodies.{body_sort}
+use Rattle.term_weight.specs.Bodies.{body_sort}
 use Rattle.term_draft.specs.Drafts.{at_places}
 use Rattle.term_draft.proofs.draft.Draft.sorts.Given as goal
 

@@ -1,6 +1,6 @@
 use Rattle.std.proofs.Common.{◌≡◌, map, take}
 use Rattle.term_draft.specs.Drafts.{at_places}
-use Rattle.term_draft.specs.Weights.{weight_of}
+use Rattle.term_weight.specs.Weights.{weight_of}
 use Rattle.term_draft.proofs.draft.Draft.weights.Given as goal
 
 abbrev pub invariant-loop-place : goal.invariant-loop-place

@@ -1,7 +1,0 @@
-use Rattle.std.proofs.Common.{arith}
-use Rattle.term_draft.specs.Weights.{counted}
-use Rattle.term_draft.proofs.Sums.{total-end}
-use Rattle.term_draft.proofs.weight.nodes.Goals as goal
-
-pub returns : goal.returns
-returns c = total-end (counted c.args.as_terms) (λ x. x.nodes) c.args.weights.now c.loop-weight.weight-index c.loop-weight.n _ (omega arith) c.loop-weight.invariant.1 c.loop-weight.invariant.0

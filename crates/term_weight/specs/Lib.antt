@@ -1,0 +1,10 @@
+pub mod Bodies
+pub mod FactorLaws
+pub mod LayerLaws
+pub mod Macros
+pub mod Places
+pub mod Ranks
+pub mod SettlingLaws
+pub mod Sizes
+pub mod Summaries
+pub mod Weights
