@@ -8,6 +8,8 @@
 #[cfg(test)]
 mod assert_stack_calls;
 #[cfg(test)]
+mod expressions;
+#[cfg(test)]
 mod item_passes_calls;
 #[cfg(test)]
 mod regex_match_calls;

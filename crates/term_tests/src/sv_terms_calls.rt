@@ -1,29 +1,11 @@
 //! Names, models, terms and symbols at concrete values.
+use crate::expressions::{letters, pair, word};
 use std::alloc::{AllocError, Global};
 use sv_list::{Boxed, Items};
 use sv_terms::{
     Entry, Item, Model, Name, Op, Regex, Sort, Symbols, Term, TransEdge, Transducer, Value,
 };
 use sv_word::Word;
-
-fn word(alloc: Global, text: &str) -> Result<Word, AllocError> {
-    let mut word = Word::new(alloc);
-    for byte in text.as_bytes() {
-        word.push(u32::from(*byte))?;
-    }
-    Ok(word)
-}
-
-fn letters(alloc: Global, text: &str) -> Result<Regex, AllocError> {
-    Ok(Regex::Text(word(alloc, text)?))
-}
-
-fn pair(alloc: Global, first: Regex, second: Regex) -> Result<Items<Regex>, AllocError> {
-    let mut parts = Items::new(alloc);
-    parts.push(first)?;
-    parts.push(second)?;
-    Ok(parts)
-}
 
 fn in_turn(alloc: Global, first: &str, second: &str) -> Result<Regex, AllocError> {
     let first = letters(alloc, first)?;
