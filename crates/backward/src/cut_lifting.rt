@@ -68,7 +68,7 @@ pub fn lift_cut(
         cuts,
         meetings: meetings.as_slice(),
     };
-    let whole = standing(alloc, target.registers())?;
+    let whole = standing_run(alloc, target.registers())?;
     let taken = TakenBack { runs, whole };
     let all = lift_pieces(alloc, &cut, taken)?;
     let TakenBack { runs, whole } = all;
@@ -78,7 +78,7 @@ pub fn lift_cut(
 }
 
 // The run on no character, which stands at the start.
-fn standing(alloc: Global, registers: usize) -> Result<Run<u32>, AllocError>
+fn standing_run(alloc: Global, registers: usize) -> Result<Run<u32>, AllocError>
     ensures word { IfOk result (λ r. r.word ≡ []) }
     ensures states { IfOk result (λ r. r.states ≡ 0 ∷ []) }
     ensures costs { IfOk result (λ r. r.costs ≡ []) }

@@ -51,7 +51,7 @@ impl Written {
     }
 
     #[tactic(auto, using(crate::proofs::Spelled::two))]
-    fn signed(&mut self, number: i128) -> Result<(), AllocError>
+    fn put_signed(&mut self, number: i128) -> Result<(), AllocError>
         ensures { OnOk result (self.new.numbers ≡ self.old.numbers ++ pos 0 ∷ number ∷ []) }
     {
         self.numbers.push(0)?;
@@ -96,7 +96,7 @@ impl Written {
             }
             Term::Number(n) => {
                 self.open(1)?;
-                self.signed(*n)?;
+                self.put_signed(*n)?;
                 Ok(())
             }
             Term::Text(w) => {

@@ -22,7 +22,7 @@ pub struct Counts {
 }
 
 impl Counts {
-    fn settled(b: bool) -> Counts
+    fn of_truth(b: bool) -> Counts
         ensures { result ≡ counts_of (fixed b) }
     {
         if b {
@@ -150,7 +150,7 @@ pub fn count_both(term: &Term) -> Counts
     ensures { result ≡ counts_of (formula (seen term.now)) }
 {
     match term {
-        Term::Truth(b) => Counts::settled(*b),
+        Term::Truth(b) => Counts::of_truth(*b),
         Term::Apply(op, terms) => applied_counts(*op, terms.as_slice()),
         _ => Counts::atom(),
     }
@@ -217,7 +217,7 @@ fn choice_counts(terms: &[Term]) -> Counts
 fn all_counts(terms: &[Term]) -> Counts
     ensures { result ≡ counts_of (conjunction (formulas_of terms.now)) }
 {
-    let mut all = Counts::settled(true);
+    let mut all = Counts::of_truth(true);
     for term in terms {
         all = all.and(count_both(term));
     }
@@ -229,7 +229,7 @@ fn all_counts(terms: &[Term]) -> Counts
 fn any_counts(terms: &[Term]) -> Counts
     ensures { result ≡ counts_of (disjunction (formulas_of terms.now)) }
 {
-    let mut any = Counts::settled(false);
+    let mut any = Counts::of_truth(false);
     for term in terms {
         any = any.or(count_both(term));
     }
@@ -243,7 +243,7 @@ fn exclusive_counts(terms: &[Term]) -> Counts
     ensures { result ≡ counts_of (exclusive (formulas_of terms.now)) }
 {
     if terms.is_empty() {
-        return Counts::settled(false);
+        return Counts::of_truth(false);
     }
     let mut odd = count_both(&terms[0]);
     for i in 1..terms.len() {
@@ -259,10 +259,10 @@ fn implied_counts(terms: &[Term]) -> Counts
     ensures { result ≡ counts_of (implied (formulas_of terms.now)) }
 {
     if terms.is_empty() {
-        return Counts::settled(true);
+        return Counts::of_truth(true);
     }
     let last = terms.len() - 1;
-    let mut any = Counts::settled(false);
+    let mut any = Counts::of_truth(false);
     for i in 0..last {
         any = any.or(count_both(&terms[i]).not());
     }
@@ -274,7 +274,7 @@ fn implied_counts(terms: &[Term]) -> Counts
 fn neighbour_counts(terms: &[Term]) -> Counts
     ensures { result ≡ counts_of (conjunction (neighbours equal (parts_of terms.now))) }
 {
-    let mut all = Counts::settled(true);
+    let mut all = Counts::of_truth(true);
     if terms.len() < 2 {
         return all;
     }
@@ -293,7 +293,7 @@ fn neighbour_counts(terms: &[Term]) -> Counts
 fn first_counts(terms: &[Term], at: usize) -> Counts
     ensures { (t : AnyTerm) → slice_get terms.now at ≡ Some t → result ≡ counts_of (conjunction (first_pairs t (drop (at + 1) terms.now))) }
 {
-    let mut all = Counts::settled(true);
+    let mut all = Counts::of_truth(true);
     if at < terms.len() {
         let term = &terms[at];
         let sort = head_sort(term);
@@ -312,7 +312,7 @@ fn first_counts(terms: &[Term], at: usize) -> Counts
 fn distinct_counts(terms: &[Term]) -> Counts
     ensures { result ≡ counts_of (conjunction (pairs (λ p q. negated (equal p q)) (parts_of terms.now))) }
 {
-    let mut all = Counts::settled(true);
+    let mut all = Counts::of_truth(true);
     for i in (0..terms.len()).rev() {
         all = first_counts(terms, i).and(all);
     }

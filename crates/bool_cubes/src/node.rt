@@ -28,7 +28,7 @@ impl Sides {
     ghost use Rattle.std.specs.Prelude.{◌≡◌};
 
     /// The sides of the negation.
-    pub fn turned(self) -> Sides
+    pub fn negation(self) -> Sides
         ensures holding { result.holding ≡ self.failing }
         ensures failing { result.failing ≡ self.holding }
     {

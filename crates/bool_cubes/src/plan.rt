@@ -104,7 +104,7 @@ impl Plan {
         let holding = self.always()?;
         let failing = self.never()?;
         let sides = Sides { holding, failing };
-        Ok(if value { sides } else { sides.turned() })
+        Ok(if value { sides } else { sides.negation() })
     }
 
     /// The nodes of a term that is a literal.
@@ -136,11 +136,11 @@ impl Plan {
         requires { IsPlan self.old.nodes }
         ensures { IfOk result (λ s. IsPlanned self.old.nodes self.new.nodes s (comparison op left.now right.now)) }
     {
-        let term = compared(alloc, op, left, right)?;
+        let term = comparison_of(alloc, op, left, right)?;
         Ok(self.atom(alloc, term)?)
     }
 
-    fn comparing(
+    fn plan_comparison(
         &mut self,
         alloc: Global,
         op: Op,
@@ -150,7 +150,7 @@ impl Plan {
         requires { IsPlan self.old.nodes }
         ensures { IfOk result (λ k. IsAdded self.old.nodes self.new.nodes k (comparison op left.now right.now true)) }
     {
-        let atom = compared(alloc, op, left, right)?;
+        let atom = comparison_of(alloc, op, left, right)?;
         Ok(self.one(Literal {
             atom,
             positive: true,
@@ -168,9 +168,9 @@ impl Plan {
         requires { IsPlan self.old.nodes }
         ensures { IfOk result (λ s. IsPlanned self.old.nodes self.new.nodes s (equal_numbers left.now right.now)) }
     {
-        let holding = self.comparing(alloc, Op::Equal, left, right)?;
-        let less = self.comparing(alloc, Op::Less, left, right)?;
-        let greater = self.comparing(alloc, Op::Greater, left, right)?;
+        let holding = self.plan_comparison(alloc, Op::Equal, left, right)?;
+        let less = self.plan_comparison(alloc, Op::Less, left, right)?;
+        let greater = self.plan_comparison(alloc, Op::Greater, left, right)?;
         let failing = self.either(less, greater)?;
         Ok(Sides { holding, failing })
     }
@@ -215,7 +215,7 @@ impl Plan {
     {
         let never = self.settle(false)?;
         let last = self.or(right, never)?;
-        Ok(self.or(left.turned(), last)?)
+        Ok(self.or(left.negation(), last)?)
     }
 
     /// The nodes of an equality of two formulas.
@@ -246,7 +246,7 @@ impl Plan {
     }
 }
 
-fn compared(alloc: Global, op: Op, left: &Term, right: &Term) -> Result<Term, AllocError>
+fn comparison_of(alloc: Global, op: Op, left: &Term, right: &Term) -> Result<Term, AllocError>
     ensures { IfOk result (λ t. t ≡ any_term.Apply op (left.now ∷ right.now ∷ [])) }
 {
     let mut terms = Items::new(alloc);

@@ -81,7 +81,7 @@ fn opposite_sides(
     ensures { IfOk result (λ s. IsPlanned plan.old.nodes plan.new.nodes s (applied op.Not (parts_of terms.now) term.now)) }
 {
     if terms.len() == 1 {
-        Ok(term_sides(plan, alloc, &terms[0])?.turned())
+        Ok(term_sides(plan, alloc, &terms[0])?.negation())
     } else {
         Ok(plan.atom(alloc, term.copy(alloc)?)?)
     }
@@ -150,7 +150,7 @@ fn exclusive_sides(plan: &mut Plan, alloc: Global, terms: &[Term]) -> Result<Sid
     let mut odd = term_sides(plan, alloc, &terms[0])?;
     for i in 1..terms.len() {
         let next = term_sides(plan, alloc, &terms[i])?;
-        odd = plan.agreement(odd, next)?.turned();
+        odd = plan.agreement(odd, next)?.negation();
     }
     Ok(odd)
 }
@@ -279,7 +279,7 @@ fn first_sides(
     let first = &terms[i];
     let mut all = rest;
     for j in (i + 1..terms.len()).rev() {
-        let next = pair_sides(plan, alloc, first, &terms[j], sides, i, j)?.turned();
+        let next = pair_sides(plan, alloc, first, &terms[j], sides, i, j)?.negation();
         all = plan.and(next, all)?;
     }
     Ok(all)

@@ -30,7 +30,7 @@ fn no_arcs(alloc: Global, rows: usize) -> Result<Vec<usize>, AllocError> {
 }
 
 // What stands at the row, where `new` stands from now on.
-fn replaced(first: &mut Vec<usize>, row: usize, new: usize) -> usize {
+fn replace_row(first: &mut Vec<usize>, row: usize, new: usize) -> usize {
     let Some(place) = first.get_mut(row) else {
         return 0;
     };
@@ -81,8 +81,8 @@ impl Arcs {
 
     fn add(&mut self, from: usize, to: usize, cost: u64) -> Result<(), AllocError> {
         let place = self.arcs.len().saturating_add(1);
-        let after_from = replaced(&mut self.first_from, from, place);
-        let after_to = replaced(&mut self.first_to, to, place);
+        let after_from = replace_row(&mut self.first_from, from, place);
+        let after_to = replace_row(&mut self.first_to, to, place);
         self.arcs.push(Arc {
             from,
             to,

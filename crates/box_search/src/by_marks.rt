@@ -60,7 +60,7 @@ fn size_of(machines: &[Explicit], most: u64) -> Option<Size>
 }
 
 // The marks of all pairs that are reached; `None` where not all are marked.
-fn reached(
+fn reach_marks(
     alloc: Global,
     machines: &[Explicit],
     arcs: &Arcs,
@@ -127,7 +127,7 @@ fn are_few(machines: &[Explicit], most: u64, characters: usize) -> bool
 }
 
 // A hit with this total; `None` where none is found.
-fn traced(
+fn trace_marks(
     alloc: Global,
     layers: &Layers,
     marks: &Marks,
@@ -157,7 +157,7 @@ fn traced(
 }
 
 // What the marks tell.
-fn told_by(
+fn tell_by(
     alloc: Global,
     layers: &Layers,
     marks: &Marks,
@@ -178,7 +178,7 @@ fn told_by(
     let Some(total) = first_good(alloc, layers, words, side.0, side.1)? else {
         return Ok(Told::Nothing);
     };
-    match traced(alloc, layers, marks, arcs, size, side, total)? {
+    match trace_marks(alloc, layers, marks, arcs, size, side, total)? {
         Some(hit) => Ok(Told::Found(hit)),
         None => Ok(Told::Unknown),
     }
@@ -208,8 +208,8 @@ pub fn by_marks(alloc: Global, layers: &Layers) -> Result<Told, AllocError>
         return Ok(Told::Unknown);
     };
     let arcs = Arcs::of(alloc, layers.machines, size.states, size.rows)?;
-    match reached(alloc, layers.machines, &arcs, size, side.1)? {
-        Some(marks) => told_by(alloc, layers, &marks, &arcs, size, side),
+    match reach_marks(alloc, layers.machines, &arcs, size, side.1)? {
+        Some(marks) => tell_by(alloc, layers, &marks, &arcs, size, side),
         None => Ok(Told::Unknown),
     }
 }

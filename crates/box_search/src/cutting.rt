@@ -11,7 +11,7 @@ use sv_list::{Copied, Items};
 use sv_word::Word;
 
 // The run of no characters, which has just begun.
-fn opened(alloc: Global) -> Result<Run<u32>, AllocError>
+fn open_run(alloc: Global) -> Result<Run<u32>, AllocError>
     ensures { IfOk result IsOpened }
 {
     let mut states = Items::new(alloc);
@@ -61,7 +61,7 @@ fn cut_step(
         costs,
         last: paid,
     })?;
-    opened(alloc)
+    open_run(alloc)
 }
 
 /// The layer at this place of a run.
@@ -94,7 +94,7 @@ pub fn cut(alloc: Global, layers: &Layers, run: &Run<Layer>) -> Result<Items<Run
 {
     let _machines = layers.machines;
     let mut runs = Items::new(alloc);
-    let mut current = opened(alloc)?;
+    let mut current = open_run(alloc)?;
     for place in 0..run.word.len() {
         let from = layer_at(run.states.as_slice(), place);
         let to = layer_at(run.states.as_slice(), place + 1);

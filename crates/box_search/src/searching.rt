@@ -77,7 +77,7 @@ fn by_layers(alloc: Global, layers: &Layers) -> Result<Option<Hit>, AllocError>
         ((runs : List (Run ℕ)) (numbers : List ℤ) → IsHitWithin layers.now.machines.now layers.now.integers layers.now.rows.now layers.now.region.now runs numbers → ⊥)
         (λ hit. IsShortHit layers.now.machines.now layers.now.integers layers.now.rows.now layers.now.region.now hit.runs hit.integers)) }
 {
-    let built = explored(alloc, layers)?;
+    let built = explore_layers(alloc, layers)?;
     let Some(numbered) = shortest(alloc, &built.machine)? else {
         return Ok(None);
     };
@@ -86,7 +86,7 @@ fn by_layers(alloc: Global, layers: &Layers) -> Result<Option<Hit>, AllocError>
 }
 
 // All layers that are reached.
-fn explored(alloc: Global, layers: &Layers) -> Result<Built<Layer>, AllocError>
+fn explore_layers(alloc: Global, layers: &Layers) -> Result<Built<Layer>, AllocError>
     ensures runs { IfOk result (λ b. SameRuns
         (LayerEnd layers.now.machines.now (uppers_of layers.now.region.now) (IsGood layers.now.rows.now layers.now.region.now))
         (LayerStep layers.now.machines.now (uppers_of layers.now.region.now) (IsGood layers.now.rows.now layers.now.region.now))

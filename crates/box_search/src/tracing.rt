@@ -37,7 +37,7 @@ pub fn trace(
 ) -> Result<Option<Vec<Pair>>, AllocError> {
     let mut way = Way {
         back: Vec::new(alloc),
-        seen: unseen(alloc, rows)?,
+        seen: empty_marks(alloc, rows)?,
     };
     way.back.push(last)?;
     let mut at = last;
@@ -55,7 +55,7 @@ pub fn trace(
     Ok(None)
 }
 
-fn unseen(alloc: Global, rows: usize) -> Result<Vec<u64>, AllocError> {
+fn empty_marks(alloc: Global, rows: usize) -> Result<Vec<u64>, AllocError> {
     let mut seen = Vec::with_capacity(alloc, rows)?;
     for _ in 0..rows {
         seen.push(0)?;

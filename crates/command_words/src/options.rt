@@ -49,7 +49,7 @@ fn command<'a>(alloc: Global) -> Result<Command<'a>, AllocError>
     third.arg(file)
 }
 
-fn parsed<'a>(alloc: Global, words: &'a [String]) -> Result<ArgMatches<'a>, Error>
+fn parse<'a>(alloc: Global, words: &'a [String]) -> Result<ArgMatches<'a>, Error>
     ensures rows { IfOk result (λ found. rows_of (found_of found) ≡ matches_of form_app (map string_bytes words.entry.now)) }
     ensures ok { IfOk result (λ found. fault_of form_app (map string_bytes words.entry.now) ≡ []) }
     ensures err { IfErr result (λ error. kind_of error ≢ ErrorKind.OutOfMemory → fault_of form_app (map string_bytes words.entry.now) ≢ []) }
@@ -114,7 +114,7 @@ pub fn read_options<'a>(alloc: Global, words: &'a [String]) -> Result<Options<'a
     ensures file { IfOk result (λ options. option_map (λ text. text.now) options.file ≡ given (codes "file") (map string_bytes words.entry.now)) }
     ensures outside { IsErrOf result WordsFault.Outside → are_options (map string_bytes words.entry.now) ≡ false }
 {
-    let found = match parsed(alloc, words) {
+    let found = match parse(alloc, words) {
         Ok(found) => found,
         Err(error) => {
             if error.kind() == ErrorKind::OutOfMemory {

@@ -45,7 +45,7 @@ pub fn cube_answer(
     ensures decided { MustDecideFlat flat.now → IfOk result IsDecided }
 {
     if flat.broken {
-        return Ok(CubeAnswer::Unsat(nothing_closed()));
+        return Ok(CubeAnswer::Unsat(empty_refutation()));
     }
     match past_limit(flat, numbers) {
         None => answer_within(alloc, flat, numbers, kept),
@@ -53,7 +53,7 @@ pub fn cube_answer(
     }
 }
 
-fn nothing_closed() -> Refutation {
+fn empty_refutation() -> Refutation {
     Refutation {
         empty: 0,
         trees: 0,
@@ -146,19 +146,19 @@ fn answer_by_search(
     let mut tally = Tally {
         given: None,
         long: None,
-        closed: nothing_closed(),
+        closed: empty_refutation(),
     };
     let mut spent = 0;
     let state = first_state(alloc, flat, kept)?;
     let left = flat.definitions.len() as u32;
     match descend(&search, alloc, &state, left, &mut tally, &mut spent)? {
         Some(found) => Ok(CubeAnswer::Sat(model_of(alloc, flat, &found)?)),
-        None => Ok(left_of(tally)),
+        None => Ok(open_answer(tally)),
     }
 }
 
 // What is answered where no leaf has a hit.
-fn left_of(tally: Tally) -> CubeAnswer
+fn open_answer(tally: Tally) -> CubeAnswer
     ensures { result ≡ left_of tally }
 {
     let Tally {

@@ -14,7 +14,7 @@ use crate::searching::Search;
 use crate::settling::settle;
 use crate::spreading::spread;
 use crate::tally::Tally;
-use crate::trimming::{lift_runs, machines_of, trimmed};
+use crate::trimming::{lift_runs, machines_of, trim_family};
 use backward::{LeafState, families_become_leaves};
 use box_search::Hit;
 use leaf_solve::{LeafAnswer, LongShown, leaf};
@@ -42,7 +42,7 @@ pub fn answer_leaf(
 {
     families_become_leaves(state);
     states_solved();
-    let trims = trimmed(alloc, state)?;
+    let trims = trim_family(alloc, state)?;
     let machines = machines_of(alloc, trims.as_slice())?;
     let answer = ask(alloc, search, machines.as_slice())?;
     match settle(tally, machines, answer) {
@@ -84,7 +84,7 @@ fn past_words(alloc: Global, answer: LeafAnswer) -> Result<LeafAnswer, AllocErro
     ensures { IfOk result (λ a. a ≡ past_words answer) }
 {
     match answer {
-        LeafAnswer::Sat(hit) => Ok(LeafAnswer::Long(shown_of(alloc, &hit)?)),
+        LeafAnswer::Sat(hit) => Ok(LeafAnswer::Long(evidence_of(alloc, &hit)?)),
         other => Ok(other),
     }
 }
@@ -98,7 +98,7 @@ fn characters(reach: i64) -> u64
 }
 
 /// The words of the runs, as what shows that they are too long.
-fn shown_of(alloc: Global, hit: &Hit) -> Result<LongShown, AllocError>
+fn evidence_of(alloc: Global, hit: &Hit) -> Result<LongShown, AllocError>
     ensures { IfOk result (λ shown. shown ≡ Words (words_of hit.now.runs)) }
 {
     let mut words = Items::new(alloc);

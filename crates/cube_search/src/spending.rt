@@ -26,7 +26,7 @@ fn states_of_all(machines: &[Option<Explicit>]) -> u64 {
     sum
 }
 
-fn states_explored(meetings: &[Meeting]) -> u64 {
+fn explored_states(meetings: &[Meeting]) -> u64 {
     let mut sum = 0u64;
     for meeting in meetings {
         sum = sum.saturating_add(u64::from(meeting.both.machine.states()));
@@ -38,7 +38,7 @@ fn states_explored(meetings: &[Meeting]) -> u64 {
 fn effort_of(made: &Made) -> u64 {
     match made {
         Made::First => 0,
-        Made::Cut(meetings) => states_explored(meetings.as_slice()),
+        Made::Cut(meetings) => explored_states(meetings.as_slice()),
         Made::Through(_, before, meeting) => u64::from(
             before.built.machine.states(),
         ).saturating_add(u64::from(meeting.both.machine.states())),

@@ -14,7 +14,7 @@ use trim_search::{Built, trim_named};
 
 /// Each machine of the family without what lies on no run, in the order of their variables, with the
 /// state that each of its states was. Linear in the machines.
-pub fn trimmed(alloc: Global, state: &LeafState) -> Result<Items<Built<u32>>, AllocError>
+pub fn trim_family(alloc: Global, state: &LeafState) -> Result<Items<Built<u32>>, AllocError>
     ensures { IfOk result (AllZip IsTrim (machines_of state.now.machines)) }
 {
     let mut trims = Items::new(alloc);

@@ -50,19 +50,19 @@ impl Text {
 
     fn own(&mut self, alloc: Global, own: &Own) -> Result<(), AllocError> {
         match own {
-            Own::Word(word) => self.worded(alloc, "is ", word),
+            Own::Word(word) => self.put_worded(alloc, "is ", word),
             Own::InRe(regex) => {
                 self.add("in ")?;
                 self.regex(alloc, regex)
             }
-            Own::Prefix(word) => self.worded(alloc, "begins with ", word),
-            Own::Suffix(word) => self.worded(alloc, "ends with ", word),
-            Own::Contains(word) => self.worded(alloc, "contains ", word),
+            Own::Prefix(word) => self.put_worded(alloc, "begins with ", word),
+            Own::Suffix(word) => self.put_worded(alloc, "ends with ", word),
+            Own::Contains(word) => self.put_worded(alloc, "contains ", word),
             Own::Digit => self.add("is a digit"),
         }
     }
 
-    fn worded(&mut self, alloc: Global, what: &str, word: &Word) -> Result<(), AllocError> {
+    fn put_worded(&mut self, alloc: Global, what: &str, word: &Word) -> Result<(), AllocError> {
         self.add(what)?;
         self.literal(alloc, word)
     }
@@ -76,12 +76,12 @@ impl Text {
             By::All(_, _, _) => self.add(": (str.replace_all")?,
             By::Through(_, _) => self.add(": (transducer")?,
         }
-        self.numbers(definition.by.used())?;
+        self.numbers(definition.by.uses())?;
         if let By::First(pattern, replacement, _)
         | By::All(pattern, replacement, _) = &definition.by
         {
-            self.worded(alloc, " ", pattern)?;
-            self.worded(alloc, " ", replacement)?;
+            self.put_worded(alloc, " ", pattern)?;
+            self.put_worded(alloc, " ", replacement)?;
         }
         self.add(")\n")
     }

@@ -16,10 +16,10 @@ impl Text {
                 self.add(")")
             }
             Regex::Range(least, greatest) => self.range(*least, *greatest),
-            Regex::Concat(parts) => self.joined(alloc, "re.++", parts.as_slice()),
-            Regex::Union(parts) => self.joined(alloc, "re.union", parts.as_slice()),
-            Regex::Inter(parts) => self.joined(alloc, "re.inter", parts.as_slice()),
-            Regex::Diff(parts) => self.joined(alloc, "re.diff", parts.as_slice()),
+            Regex::Concat(parts) => self.put_joined(alloc, "re.++", parts.as_slice()),
+            Regex::Union(parts) => self.put_joined(alloc, "re.union", parts.as_slice()),
+            Regex::Inter(parts) => self.put_joined(alloc, "re.inter", parts.as_slice()),
+            Regex::Diff(parts) => self.put_joined(alloc, "re.diff", parts.as_slice()),
             Regex::Star(part) => self.of_one(alloc, "re.*", part.get()),
             Regex::Plus(part) => self.of_one(alloc, "re.+", part.get()),
             Regex::Opt(part) => self.of_one(alloc, "re.opt", part.get()),
@@ -35,7 +35,7 @@ impl Text {
     }
 
     #[cycle(regexes)]
-    fn joined(&mut self, alloc: Global, name: &str, parts: &[Regex]) -> Result<(), AllocError> {
+    fn put_joined(&mut self, alloc: Global, name: &str, parts: &[Regex]) -> Result<(), AllocError> {
         self.add("(")?;
         self.add(name)?;
         for part in parts {

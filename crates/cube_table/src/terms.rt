@@ -41,7 +41,7 @@ impl Text {
             Term::Number(number) => self.number(*number),
             Term::Text(word) => self.literal(alloc, word),
             Term::Constant(name, _) => self.add_bytes(name.as_bytes()),
-            Term::Apply(op, terms) => self.applied(alloc, name(*op), terms.as_slice()),
+            Term::Apply(op, terms) => self.put_applied(alloc, name(*op), terms.as_slice()),
             Term::InRe(term, regex) => {
                 self.add("(str.in_re ")?;
                 self.term(alloc, term.get())?;
@@ -62,7 +62,7 @@ impl Text {
 
     // A function at its arguments.
     #[cycle(terms)]
-    fn applied(&mut self, alloc: Global, name: &str, terms: &[Term]) -> Result<(), AllocError> {
+    fn put_applied(&mut self, alloc: Global, name: &str, terms: &[Term]) -> Result<(), AllocError> {
         self.add("(")?;
         self.add(name)?;
         for term in terms {

@@ -17,7 +17,7 @@ ghost use Rattle.decide.specs.Verdicts.{HasOnly, RightVerdict, refused_as};
 use crate::batch::{answers, next_batch};
 use crate::cube_job::Shared;
 use crate::machines::machines_for;
-use crate::passing::{Pace, refuted_ahead};
+use crate::passing::{Pace, count_refuted_ahead};
 use crate::spelling::all_words;
 use crate::splitting::{clear_terms, first_opaque};
 use crate::tally::Tally;
@@ -76,12 +76,12 @@ pub fn check<R: Threads + Sync, G: Gate + Sync>(
             };
             answer_all(rt, &shared, clear.as_slice(), cubes, workers, gate)
         }
-        Err(fault) => refused(fault),
+        Err(fault) => refusal_of(fault),
     }
 }
 
 /// The verdict where there is no list of cubes.
-fn refused(fault: CubeFault) -> Result<Verdict, AllocError>
+fn refusal_of(fault: CubeFault) -> Result<Verdict, AllocError>
     ensures { result ≡ refused_as fault }
 {
     match fault {
@@ -138,10 +138,10 @@ fn pass_over(
     if !pace.is_due() {
         return Ok(());
     }
-    let refuted = refuted_ahead(shared, clear, tally.count)?;
+    let refuted = count_refuted_ahead(shared, clear, tally.count)?;
     cubes.skip(refuted);
     tally.pass(refuted);
-    pace.told(refuted);
+    pace.record(refuted);
     Ok(())
 }
 

@@ -39,7 +39,7 @@ impl Pace {
     }
 
     /// What came of it: so many cubes are passed over.
-    pub fn told(&mut self, cubes: u64) {
+    pub fn record(&mut self, cubes: u64) {
         self.distance = if cubes > 0 {
             1
         } else {
@@ -83,7 +83,7 @@ fn push_if_shared(
 }
 
 /// The first terms, and those of the others that leave no choice.
-fn shared_of(alloc: Global, terms: &[Term], first: usize) -> Result<Items<Term>, AllocError>
+fn shared_terms(alloc: Global, terms: &[Term], first: usize) -> Result<Items<Term>, AllocError>
     requires { AllByRecursion IsSorted terms.now }
     ensures { IfOk result (λ all. all ≡ shared_of first terms.now) }
 {
@@ -104,7 +104,7 @@ fn shared_literals(
     requires { AllByRecursion IsSorted terms.now }
     ensures { IfOk result (λ o. IfSome o (λ cube. slice_get (cubes_of (shared_of first terms.now)) choice ≡ Some cube)) }
 {
-    let shared = shared_of(alloc, terms, first)?;
+    let shared = shared_terms(alloc, terms, first)?;
     match Cubes::new(alloc, shared.as_slice()) {
         Ok(mut cubes) => {
             cubes.skip(choice);
@@ -130,7 +130,7 @@ fn block_of(terms: &[Term], first: usize) -> u64
 }
 
 /// How many of the cubes behind so many are in the block in which the first of them is, in whole batches.
-fn ahead(block: u64, given: u64) -> u64
+fn count_ahead(block: u64, given: u64) -> u64
     ensures whole { (batches : ℕ) × (result ≡ batches * batch) }
     ensures below { result ≤ block }
     ensures within { 0 < result → given % block + result ≤ block }
@@ -150,7 +150,7 @@ fn longest(terms: &[Term], given: u64) -> usize
     let mut most = terms.len();
     while least < most {
         let middle = most - (most - least) / 2;
-        if ahead(block_of(terms, middle), given) > 0 {
+        if count_ahead(block_of(terms, middle), given) > 0 {
             least = middle;
         } else {
             most = middle - 1;
@@ -173,7 +173,7 @@ fn has_no_values(shared: &Shared<'_>, cube: &Cube) -> Result<bool, AllocError>
 
 /// How many of the cubes behind so many have no values, by what they share with the first of them: its choice for
 /// the first terms, and what leaves no choice.
-fn refuted_by(
+fn count_refuted_by(
     shared: &Shared<'_>,
     terms: &[Term],
     given: u64,
@@ -187,7 +187,7 @@ fn refuted_by(
     cubes_counted();
     cubes_picked();
     let block = block_of(terms, first);
-    let cubes = ahead(block, given);
+    let cubes = count_ahead(block, given);
     if cubes == 0 {
         return Ok(0);
     }
@@ -207,20 +207,24 @@ fn refuted_by(
 ///
 /// The least number of first terms whose literals tell it is sought by halving, from the greatest whose block goes
 /// on for a batch. So it costs one answer where nothing comes of it, else one for each halving besides.
-pub fn refuted_ahead(shared: &Shared<'_>, terms: &[Term], given: u64) -> Result<u64, AllocError>
+pub fn count_refuted_ahead(
+    shared: &Shared<'_>,
+    terms: &[Term],
+    given: u64,
+) -> Result<u64, AllocError>
     requires sorted { AllByRecursion IsSorted terms.now }
     requires asked { AllByRecursion (IsAsked shared.now.terms.now) (cubes_of terms.now) }
     ensures { IfOk result (AreKnown terms.now given) }
 {
     let mut least = 0;
     let mut most = longest(terms, given);
-    let mut cubes = refuted_by(shared, terms, given, most)?;
+    let mut cubes = count_refuted_by(shared, terms, given, most)?;
     if cubes == 0 {
         return Ok(0);
     }
     while least < most {
         let middle = least + (most - least) / 2;
-        let more = refuted_by(shared, terms, given, middle)?;
+        let more = count_refuted_by(shared, terms, given, middle)?;
         if more > 0 {
             cubes = more;
             most = middle;

@@ -10,7 +10,7 @@ use crate::closing::Closing;
 use crate::leaf_answer::LeafAnswer;
 use crate::long_shown::{Beyond, LongShown};
 use crate::question::Question;
-use crate::systems::{hit_of, row_reach, solved, system};
+use crate::systems::{hit_of, row_reach, solve_system, system};
 use box_search::{hits_are_short, search};
 use farkas_check::{System, Tree};
 use lia_branch::{Evidence, Outcome};
@@ -27,7 +27,7 @@ pub fn by_rows(alloc: Global, question: &Question) -> Result<LeafAnswer, AllocEr
     ensures decided { question.now.small ≡ true → IfOk result IsDecided }
 {
     let bounded = system(alloc, question, row_reach(question))?;
-    match solved(alloc, &bounded)? {
+    match solve_system(alloc, &bounded)? {
         Outcome::Solution(point) => Ok(LeafAnswer::Sat(hit_of(alloc, question, &bounded, point)?)),
         Outcome::Closed(tree) => Ok(past_reach(alloc, question, bounded, tree)?),
         Outcome::GaveUp(evidence) => Ok(in_region(alloc, question, bounded, evidence)?),
@@ -57,7 +57,7 @@ fn past_reach(
     }
     let free = system(alloc, question, None)?;
     solutions_are_hits(question.machines, &free);
-    match solved(alloc, &free)? {
+    match solve_system(alloc, &free)? {
         Outcome::Closed(whole) => Ok(LeafAnswer::Closed(Closing::Tree(free, whole))),
         Outcome::Solution(point) => Ok(LeafAnswer::Long(LongShown::Rows {
             system: bounded,

@@ -53,7 +53,7 @@ pub fn system(alloc: Global, question: &Question, reach: Option<u64>) -> Result<
 }
 
 /// What the solver says of a system.
-pub fn solved(alloc: Global, system: &System) -> Result<Outcome, AllocError>
+pub fn solve_system(alloc: Global, system: &System) -> Result<Outcome, AllocError>
     requires { IsSolvable system.now }
     ensures solution { IfOk result (λ o. IfSolution o (IsSolution system.now)) }
     ensures closed { IfOk result (λ o. IfClosed o (IsAccepted system.now)) }

@@ -80,7 +80,7 @@ fn patterns(rt: HostRuntime) -> Result<(), BuildFault> {
 
 // Whether the machine of the expression is kept.
 fn is_kept(alloc: Global, kept: &Machines, expression: &Regex) -> Result<bool, BuildFault> {
-    let found = kept.kept(alloc, expression)?;
+    let found = kept.find_or_build(alloc, expression)?;
     Ok(matches!(found, Found::Shared(_)))
 }
 

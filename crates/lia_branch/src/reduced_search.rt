@@ -36,7 +36,7 @@ pub(crate) fn solve_reduced<C: Cutter>(
         return Ok(None);
     };
     match solve_by_bounds(alloc, system, elimination, &reduced)? {
-        Some(Found::Point(point)) => return joined(alloc, system, cutter, point),
+        Some(Found::Point(point)) => return joining_point(alloc, system, cutter, point),
         Some(Found::Closed(tree)) => return Ok(Some(Outcome::Closed(tree))),
         None => {}
     }
@@ -45,7 +45,7 @@ pub(crate) fn solve_reduced<C: Cutter>(
     }
     match search_tree(alloc, &reduced.system, &NoCut)? {
         Outcome::Solution(point) => match restore_point(system, elimination, point) {
-            Some(point) => joined(alloc, system, cutter, point),
+            Some(point) => joining_point(alloc, system, cutter, point),
             None => Ok(None),
         },
         Outcome::Closed(tree) => match restore_tree(alloc, system, elimination, &reduced, &tree)? {
@@ -57,7 +57,7 @@ pub(crate) fn solve_reduced<C: Cutter>(
 }
 
 /// The point, where it joins the nets.
-fn joined<C: Cutter>(
+fn joining_point<C: Cutter>(
     alloc: Global,
     system: &System,
     cutter: &C,

@@ -280,7 +280,7 @@ impl Bounds {
             return Ok(Step::Quiet);
         }
         for (unknown, coefficient) in row.form.coefficients.as_slice() {
-            match self.narrowed(*unknown, *coefficient, times, least) {
+            match self.narrow(*unknown, *coefficient, times, least) {
                 Narrowing::None => {}
                 Narrowing::Spent => return Ok(Step::Spent),
                 Narrowing::To {
@@ -311,7 +311,7 @@ impl Bounds {
         let mut missing: u32 = 0;
         for (unknown, coefficient) in form.coefficients.as_slice() {
             let by = coefficient.checked_mul(times)?;
-            match self.range(*unknown).bound(lowering(by)) {
+            match self.range(*unknown).bound(lowering_side(by)) {
                 Some(bound) => total = add_times(total, by, bound.amount)?,
                 None => missing = missing.saturating_add(1),
             }
@@ -320,12 +320,12 @@ impl Bounds {
     }
 
     /// The bound that a row with this least value gives an unknown, where it is narrower.
-    fn narrowed(&self, unknown: u32, coefficient: i128, times: i128, least: Least) -> Narrowing {
+    fn narrow(&self, unknown: u32, coefficient: i128, times: i128, least: Least) -> Narrowing {
         let range = self.range(unknown);
         let Some(by) = coefficient.checked_mul(times) else {
             return Narrowing::Spent;
         };
-        let own = range.bound(lowering(by));
+        let own = range.bound(lowering_side(by));
         if least.missing > 0 && own.is_some() {
             return Narrowing::None;
         }
@@ -359,7 +359,7 @@ impl Bounds {
         for (unknown, coefficient) in row.form.coefficients.as_slice() {
             if left != Some(*unknown) {
                 let by = coefficient.saturating_mul(times);
-                if let Some(bound) = self.range(*unknown).bound(lowering(by)) {
+                if let Some(bound) = self.range(*unknown).bound(lowering_side(by)) {
                     facts.push((bound.fact, by.saturating_abs()))?;
                 }
             }
@@ -385,7 +385,7 @@ enum Narrowing {
 }
 
 /// The bound that makes a term least.
-fn lowering(coefficient: i128) -> Side {
+fn lowering_side(coefficient: i128) -> Side {
     if coefficient > 0 {
         Side::Lower
     } else {

@@ -50,7 +50,7 @@ fn leaf_of(
     if !is_taken {
         return Ok(None);
     }
-    let multipliers = rows.listed(alloc)?;
+    let multipliers = rows.entries(alloc)?;
     match test_divisor(
         alloc,
         system.unknowns,
@@ -73,10 +73,10 @@ fn divisor_of(form: &Form) -> Option<i128>
 {
     let mut common: i128 = 0;
     for (_, coefficient) in form.coefficients.as_slice() {
-        common = signed(gcd(common, *coefficient))?;
+        common = to_signed(gcd(common, *coefficient))?;
     }
     let divisor = if common == 0 {
-        signed(form.constant.unsigned_abs())?.checked_add(1)?
+        to_signed(form.constant.unsigned_abs())?.checked_add(1)?
     } else {
         common
     };
@@ -86,7 +86,7 @@ fn divisor_of(form: &Form) -> Option<i128>
     Some(divisor)
 }
 
-fn signed(number: u128) -> Option<i128> {
+fn to_signed(number: u128) -> Option<i128> {
     if number <= i128::MAX as u128 {
         Some(number as i128)
     } else {

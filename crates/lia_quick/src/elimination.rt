@@ -74,7 +74,7 @@ impl Elimination {
     }
 
     /// What the sum with this number owns.
-    pub fn owned_by(&self, sum: usize) -> Option<Owned> {
+    pub fn find_owned(&self, sum: usize) -> Option<Owned> {
         *self.owned.get(sum)?
     }
 
@@ -154,7 +154,7 @@ impl Elimination {
 
     /// The sum with this number, and how often it is added to the form so that its unknown goes out.
     fn step(&self, at: usize, form: &Form) -> Option<(&Sum, i128)> {
-        let owned = self.owned_by(at)?;
+        let owned = self.find_owned(at)?;
         let by = factor_of(owned, form.at(owned.unknown))?;
         Some((self.sums.get(at)?, by))
     }
@@ -197,7 +197,7 @@ impl Elimination {
 
     /// How often the sum with this number is added so that its unknown goes out: 0 where it isn't there.
     fn factor_at(&self, at: usize, numbers: &[i128]) -> Option<i128> {
-        match self.owned_by(at) {
+        match self.find_owned(at) {
             None => Some(0),
             Some(owned) => match numbers.get(owned.unknown as usize) {
                 None => Some(0),

@@ -12,7 +12,7 @@ pub(crate) fn fill(point: &mut Vec<i128>, elimination: &Elimination) -> bool {
     let sums = elimination.sums();
     for behind in 0..sums.len() {
         let at = sums.len() - 1 - behind;
-        if let Some(owned) = elimination.owned_by(at) {
+        if let Some(owned) = elimination.find_owned(at) {
             let place = owned.unknown as usize;
             if place < point.len() {
                 point[place] = 0;

@@ -112,7 +112,7 @@ pub(crate) fn lift_multipliers(
     if !elimination.unfold(&mut sums, &mut rows) {
         return Ok(None);
     }
-    let mut list = rows.listed(alloc)?;
+    let mut list = rows.entries(alloc)?;
     list.append(branches)?;
     Ok(Some(list))
 }

@@ -43,7 +43,7 @@ pub(crate) fn multipliers_of(
             }
         }
     }
-    Ok(Some(taken.listed(alloc)?))
+    Ok(Some(taken.entries(alloc)?))
 }
 
 /// Takes a reason so often; false where a number leaves 128 bits.

@@ -93,7 +93,7 @@ fn left_sums(
 ) -> Result<Option<Items<Sum>>, AllocError> {
     let mut left = Left::new(alloc, system.rows.len())?;
     for (at, sum) in elimination.sums().iter().enumerate() {
-        if elimination.owned_by(at).is_none()
+        if elimination.find_owned(at).is_none()
             && !left.put(alloc, copy_of(alloc, sum)?, RowKind::Eq)?
         {
             return Ok(None);
@@ -213,9 +213,9 @@ fn is_met_always(form: &Form, kind: RowKind) -> bool {
 
 /// By the multiplication of Fowler, Noll and Vo, over the words of the form.
 fn hash_of(form: &Form) -> u64 {
-    let mut hash = mixed(0xcbf2_9ce4_8422_2325, word_of(form.constant));
+    let mut hash = mix(0xcbf2_9ce4_8422_2325, word_of(form.constant));
     for (unknown, coefficient) in form.coefficients.as_slice() {
-        hash = mixed(mixed(hash, u64::from(*unknown)), word_of(*coefficient));
+        hash = mix(mix(hash, u64::from(*unknown)), word_of(*coefficient));
     }
     hash
 }
@@ -225,6 +225,6 @@ fn word_of(number: i128) -> u64 {
     (number.unsigned_abs() % (1 << 64)) as u64
 }
 
-fn mixed(hash: u64, word: u64) -> u64 {
+fn mix(hash: u64, word: u64) -> u64 {
     (hash ^ word).wrapping_mul(0x100_0000_01b3)
 }

@@ -59,12 +59,12 @@ pub fn restore_tree(
     };
     match lift(alloc, reduction, tree)? {
         None => Ok(None),
-        Some(tree) => Ok(accepted(alloc, system, tree)?),
+        Some(tree) => Ok(accept(alloc, system, tree)?),
     }
 }
 
 /// The tree, where it closes the system.
-fn accepted(alloc: Global, system: &System, tree: Tree) -> Result<Option<Tree>, AllocError>
+fn accept(alloc: Global, system: &System, tree: Tree) -> Result<Option<Tree>, AllocError>
     requires { NameUnknowns system.now.unknowns system.now.rows }
     ensures { IfOk result (λ o. IfSome o (IsTreeOf system.now)) }
 {
@@ -100,7 +100,7 @@ pub fn solve_by_bounds(
             None => Ok(None),
             Some(point) => Ok(Some(Found::Point(point))),
         },
-        Some(Ending::Closed(tree)) => match accepted(alloc, system, tree)? {
+        Some(Ending::Closed(tree)) => match accept(alloc, system, tree)? {
             None => Ok(None),
             Some(tree) => Ok(Some(Found::Closed(tree))),
         },

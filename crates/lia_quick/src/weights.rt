@@ -58,7 +58,7 @@ impl Weights {
     }
 
     /// The numbers that aren't 0, each behind its place.
-    pub fn listed(&self, alloc: Global) -> Result<Items<(u32, i128)>, AllocError> {
+    pub fn entries(&self, alloc: Global) -> Result<Items<(u32, i128)>, AllocError> {
         let mut list = Items::new(alloc);
         for (at, number) in self.numbers.iter().enumerate() {
             if *number != 0 && at <= u32::MAX as usize {

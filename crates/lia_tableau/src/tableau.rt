@@ -5,7 +5,7 @@ ghost use Rattle.lia_tableau.specs.declared.standing.Standing.TheVariants.{Outsi
 ghost use Rattle.sv_linear.specs.Rows.{HasSymmetricEntries, IsRowWithin};
 
 use crate::changes::{apply_changes, changes_of, put_row};
-use crate::crossing::{turned, without};
+use crate::crossing::{orient, without};
 use crate::fault::TableauFault;
 use crate::lines::row_at;
 use crate::shown::{Sought, due_exchange, least_row};
@@ -212,7 +212,7 @@ impl Tableau {
         let Standing::Basic(first) = &self.table.lines.as_slice()[exchange.out as usize] else {
             unreachable!()
         };
-        let line = turned(alloc, first, exchange.at)?;
+        let line = orient(alloc, first, exchange.at)?;
         let changes = changes_of(alloc, self.table.lines.as_slice(), first, exchange)?;
         let Table {
             unknowns,

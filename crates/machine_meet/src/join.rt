@@ -5,7 +5,7 @@ ghost use Rattle.machine_core.specs.declared.machine.Move.{Move};
 ghost use Rattle.machine_core.specs.Moves.{Moves};
 ghost use Rattle.machine_meet.specs.Joins.{IsJoin, CanAdd, AreInhabited, AreJoins};
 
-use crate::overlaps::meeting;
+use crate::overlaps::meeting_pairs;
 use machine_core::{Move, State};
 use std::alloc::{AllocError, Global};
 use sv_list::{Copied, Items};
@@ -53,7 +53,7 @@ pub fn join_all<S: State>(
     ensures exact { IfOk result (AreJoins heads.now tails.now) }
     ensures inhabited { IfOk result AreInhabited }
 {
-    let pairs = meeting(alloc, heads, tails)?;
+    let pairs = meeting_pairs(alloc, heads, tails)?;
     let room = Vec::with_capacity(alloc, pairs.len())?;
     let mut all = Items::from_vec(room);
     for (head, tail) in pairs.as_slice() {

@@ -21,7 +21,7 @@ pub struct Span {
 /// Where two intervals overlap the one that begins later begins within the other, so the intervals of
 /// either list are searched for those that begin within one of the other list. For n intervals in
 /// all, of which k pairs overlap, that takes time n log n and k log k, and memory n and k.
-pub fn meeting<S, T>(
+pub fn meeting_pairs<S, T>(
     alloc: Global,
     heads: &[Move<S>],
     tails: &[Move<T>],
@@ -30,8 +30,8 @@ pub fn meeting<S, T>(
 {
     let heads = spans_of(alloc, heads)?;
     let tails = spans_of(alloc, tails)?;
-    let mut pairs = begun_within(alloc, heads.as_slice(), tails.as_slice())?;
-    let others = begun_within(alloc, tails.as_slice(), heads.as_slice())?;
+    let mut pairs = pair_within(alloc, heads.as_slice(), tails.as_slice())?;
+    let others = pair_within(alloc, tails.as_slice(), heads.as_slice())?;
     push_turned(&mut pairs, others.as_slice())?;
     pairs.sort_unstable();
     pairs.dedup();
@@ -67,7 +67,7 @@ fn push_spans(spans: &mut Vec<Span>, on: &Ranges, place: usize) -> Result<(), Al
 }
 
 // The places of one of `around` and one of `spans` that begins within it.
-fn begun_within(
+fn pair_within(
     alloc: Global,
     around: &[Span],
     spans: &[Span],

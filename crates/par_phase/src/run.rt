@@ -30,7 +30,7 @@ pub fn run_jobs<R: Threads + Sync, J: Job + Sync, G: Gate + Sync>(
         ensures { IfOk result (λ outcomes. AllZip J.Yields (share_of jobs.entry.now shares n) outcomes.items) }
     { outcomes_of(alloc, jobs, shares, n, gate) };
     let parts = thread::map_indices(rt, alloc, shares, &share)?;
-    joined(alloc, jobs, parts)
+    join_outcomes(alloc, jobs, parts)
 }
 
 /// Does the jobs of one share.
@@ -56,7 +56,7 @@ fn outcomes_of<J: Job, G: Gate>(
 }
 
 /// The outcomes of all shares, one share after another.
-fn joined<J: Job>(
+fn join_outcomes<J: Job>(
     alloc: Global,
     jobs: &[J],
     parts: Vec<Result<Vec<J::Out>, AllocError>>,

@@ -78,7 +78,7 @@ fn push_ends(forms: &mut Vec<Form>, ends: &[End], base: u32) -> Result<(), Alloc
 }
 
 // What comes in at a state beside the edges: 1 at the start.
-fn entered(state: u32) -> i128
+fn entry_count(state: u32) -> i128
     ensures { result ≡ unit state 0 }
 {
     if state == 0 { 1 } else { 0 }
@@ -90,7 +90,7 @@ fn opened_forms(alloc: Global, states: u32) -> Result<Vec<Form>, AllocError>
 {
     let mut forms = Vec::new(alloc);
     for state in 0..states {
-        forms.push(Form::of_constant(alloc, entered(state)))?;
+        forms.push(Form::of_constant(alloc, entry_count(state)))?;
     }
     Ok(forms)
 }

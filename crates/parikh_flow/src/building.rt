@@ -41,7 +41,7 @@ pub fn system_of(
     let Some(unknowns) = unknowns_from(machines, base) else {
         return Err(AllocError);
     };
-    let mut all = copied(alloc, rows)?;
+    let mut all = copy_rows(alloc, rows)?;
     all.append(register_rows(alloc, machines, integers, registers)?)?;
     all.append(not_negative_rows(alloc, integers, unknowns)?)?;
     all.append(family_rows(alloc, machines, base)?)?;
@@ -54,7 +54,7 @@ pub fn system_of(
     })
 }
 
-fn copied(alloc: Global, rows: &[Row]) -> Result<Items<Row>, AllocError>
+fn copy_rows(alloc: Global, rows: &[Row]) -> Result<Items<Row>, AllocError>
     ensures { IfOk result (λ copies. copies ≡ rows.now) }
 {
     let mut copies = Items::new(alloc);

@@ -1,6 +1,6 @@
 ghost use Rattle.std.specs.Prelude.{◌≡◌};
 
-use crate::reaching::unreached;
+use crate::reaching::unreached_states;
 use farkas_check::{Cutter, System};
 use std::alloc::{AllocError, Global};
 use sv_list::Items;
@@ -26,7 +26,7 @@ impl<'a> Cutter for NetCutter<'a> {
     fn cut(&self, alloc: Global, point: &[i128]) -> Result<Option<(u32, Items<u32>)>, AllocError> {
         let mut number = 0u32;
         for net in self.system.nets.as_slice() {
-            if let Some(set) = unreached(alloc, net, point)? {
+            if let Some(set) = unreached_states(alloc, net, point)? {
                 return Ok(Some((number, set)));
             }
             let Some(next) = number.checked_add(1) else {

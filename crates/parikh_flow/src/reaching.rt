@@ -6,7 +6,7 @@ ghost use Rattle.farkas_check.specs.Cuts.{values_of, IsNetWithin, IsUnreached};
 ghost use Rattle.farkas_check.specs.declared.net.NetEdge.{NetEdge};
 ghost use Rattle.parikh_flow.specs.Reaching.{source_of, Marks, Traverses, IsReaching};
 
-use crate::running::unmarked;
+use crate::running::unmarked_states;
 use farkas_check::{Net, NetEdge};
 use machine_core::Index;
 use std::alloc::{AllocError, Global};
@@ -85,7 +85,7 @@ fn visit(
 }
 
 // A mark for each state, set where it is reached.
-fn reached(alloc: Global, net: &Net, point: &[i128]) -> Result<Items<bool>, AllocError>
+fn reached_states(alloc: Global, net: &Net, point: &[i128]) -> Result<Items<bool>, AllocError>
     requires { IsNetWithin (length point.now) net.now }
     ensures size { IfOk result (λ seen. length seen ≡ net.now.states) }
     ensures exact { IfOk result (λ seen. (s : ℕ) → s < net.now.states → (slice_get seen s ≡ Some true) ↔ Reached (values_of point.now) net.now s) }
@@ -127,15 +127,19 @@ fn is_joined(edges: &[NetEdge], seen: &[bool], point: &[i128]) -> bool
 
 /// The states, ascending, that aren't reached from the net's start over used edges; `None` exactly where
 /// the net is joined. Linear in the net.
-pub fn unreached(alloc: Global, net: &Net, point: &[i128]) -> Result<Option<Items<u32>>, AllocError>
+pub fn unreached_states(
+    alloc: Global,
+    net: &Net,
+    point: &[i128],
+) -> Result<Option<Items<u32>>, AllocError>
     requires within { IsNetWithin (length point.now) net.now }
     requires not_negative { All (λ e. pos 0 ≤ℤ values_of point.now e.unknown) net.now.edges }
     ensures { IfOk result (λ o. MatchOption o (Joined (values_of point.now) net.now) (IsUnreached (values_of point.now) net.now)) }
 {
-    let seen = reached(alloc, net, point)?;
+    let seen = reached_states(alloc, net, point)?;
     if is_joined(net.edges.as_slice(), seen.as_slice(), point) {
         return Ok(None);
     }
-    let set = unmarked(alloc, seen.as_slice(), net.states)?;
+    let set = unmarked_states(alloc, seen.as_slice(), net.states)?;
     Ok(Some(set))
 }

@@ -33,20 +33,20 @@ pub fn run_of(alloc: Global, machine: &Explicit, counts: &[u64]) -> Result<Run<u
 {
     let edges = machine.edges();
     let (of_edges, of_ends) = counts.split_at(edges.len());
-    let last = used(of_ends);
+    let last = count_used(of_ends);
     let end = &machine.finals()[last];
     let walked = tour_of(alloc, machine, of_edges, end.at)?;
     if is_spent(walked.left.as_slice()) {
         let cost = end.cost.copy(alloc)?;
         Ok(run_along(alloc, machine, walked.back.as_slice(), cost)?)
     } else {
-        let set = unmet(alloc, machine, walked.back.as_slice())?;
+        let set = unmet_states(alloc, machine, walked.back.as_slice())?;
         Err(FlowFault::Apart(set))
     }
 }
 
 // The place of the count that is 1, where the others are 0.
-fn used(counts: &[u64]) -> usize
+fn count_used(counts: &[u64]) -> usize
     requires { total_count counts.now ≡ 1 }
     ensures within { result < length counts.now }
     ensures used { (k : ℕ) → slice_index counts.now k ≡ one_at k result }
@@ -72,13 +72,13 @@ fn is_spent(left: &[u64]) -> bool
 }
 
 // The states, ascending, that aren't the start and that none of the edges at these places leads to.
-fn unmet(alloc: Global, machine: &Explicit, back: &[usize]) -> Result<Items<u32>, AllocError>
+fn unmet_states(alloc: Global, machine: &Explicit, back: &[usize]) -> Result<Items<u32>, AllocError>
     requires { (i p : ℕ) → slice_get back.now i ≡ Some p → p < length machine.now.edges }
     ensures ascending { IfOk result IsStrictlyIncreasing }
     ensures members { IfOk result (λ set. (s : ℕ) → Contains set s ↔ ((s < machine.now.states) × (IsMet machine.now.edges back.now s → ⊥))) }
 {
     let met = marks(alloc, machine, back)?;
-    unmarked(alloc, met.as_slice(), machine.states())
+    unmarked_states(alloc, met.as_slice(), machine.states())
 }
 
 // A mark for each state, set at the start and where one of the edges at these places leads.
@@ -100,7 +100,7 @@ fn marks(alloc: Global, machine: &Explicit, back: &[usize]) -> Result<Items<bool
 }
 
 // The places of the marks that aren't set, ascending.
-pub fn unmarked(alloc: Global, marks: &[bool], states: u32) -> Result<Items<u32>, AllocError>
+pub fn unmarked_states(alloc: Global, marks: &[bool], states: u32) -> Result<Items<u32>, AllocError>
     requires { length marks.now ≡ states }
     ensures ascending { IfOk result IsStrictlyIncreasing }
     ensures members { IfOk result (λ set. (s : ℕ) → Contains set s ↔ ((s < states) × (slice_get marks.now s ≡ Some true → ⊥))) }

@@ -52,7 +52,7 @@ impl Keyed<Regex> for Keep {
 }
 
 // The machine of the regular expression; `None` only where its size is above that of any machine.
-fn built(alloc: Global, key: &Regex) -> Result<Option<Explicit>, AllocError>
+fn build_within(alloc: Global, key: &Regex) -> Result<Option<Explicit>, AllocError>
     ensures { IfOk result (IsKept key.now) }
 {
     words_only();
@@ -68,7 +68,7 @@ impl Keep {
     pub fn of(alloc: Global, key: &Regex) -> Result<Keep, AllocError>
         ensures key { IfOk result (λ keep. keep.0 ≡ key.now) }
     {
-        let machine = built(alloc, key)?;
+        let machine = build_within(alloc, key)?;
         let key = key.copy(alloc)?;
         Ok(Keep { key, machine })
     }

@@ -34,7 +34,7 @@ impl Machines {
     ///
     /// Where it is kept, be it as the machine or as one with too many states, time is that of the digest, of a search
     /// among the digests and of one comparison; else also that of [`Keep::of`].
-    pub fn kept(&self, alloc: Global, regex: &Regex) -> Result<Found<'_, Keep>, AllocError>
+    pub fn find_or_build(&self, alloc: Global, regex: &Regex) -> Result<Found<'_, Keep>, AllocError>
         ensures { IfOk result (λ found. (found_value found).0 ≡ regex.now) }
     {
         match self.digests.binary_search(&digest(regex)) {

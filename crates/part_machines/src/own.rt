@@ -31,7 +31,7 @@ struct Sides {
 }
 
 // The expression that no word may be in, if the part is of that kind.
-fn barred(part: &(Own, bool)) -> Option<&Regex>
+fn barred_regex(part: &(Own, bool)) -> Option<&Regex>
     ensures { IfSome result (λ regex. part.now ≡ (InRe regex.now, false)) }
 {
     if part.1 {
@@ -54,7 +54,7 @@ fn add_side(
     ensures added { OnOk result (AddsSide part.now within.old within.new outside.old outside.new) }
     ensures refused { (n : ℕ) → result ≡ Err (States n) → MOST_STATES < part_bound part.now }
 {
-    if let Some(regex) = barred(part) {
+    if let Some(regex) = barred_regex(part) {
         let machine = kept_machine(alloc, regex, kept)?;
         outside.push(machine)?;
         return Ok(());

@@ -43,7 +43,7 @@ pub fn kept_machine(
     ensures machine { IfOk result (IsMachineOf regex.now) }
     ensures refused { (n : ℕ) → result ≡ Err (States n) → MOST_STATES < size regex.now }
 {
-    let found = machines.kept(alloc, regex)?;
+    let found = machines.find_or_build(alloc, regex)?;
     match found.value().machine() {
         Some(machine) => Ok(machine.copy(alloc)?),
         None => Err(BuildFault::States(MOST_STATES + 1)),

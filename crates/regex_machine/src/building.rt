@@ -12,7 +12,7 @@ ghost use Rattle.regex_machine.specs.Parts.{AddsParts};
 ghost use Rattle.regex_machine.specs.declared.kind.Kind.TheVariants.{Turn, One, All};
 ghost use Rattle.trim_search.specs.declared.build_fault.BuildFault.TheVariants.{States};
 
-use crate::joining::{all_of, complement, copied, difference};
+use crate::joining::{all_of, complement, difference, repeat};
 use crate::leaves::{any_word, no_character, no_word, one_between, one_character, one_word};
 use crate::letters::between;
 use crate::onward::{Onward, Rest};
@@ -230,7 +230,7 @@ fn make_copies(
     ensures { Builds (InCopies (In r.now) least most again) (copies_size least most (size r.now)) limit result }
 {
     match make(alloc, r, limit) {
-        Ok(part) => copied(alloc, &part, least, most, again, limit),
+        Ok(part) => repeat(alloc, &part, least, most, again, limit),
         Err(fault) => Err(fault),
     }
 }

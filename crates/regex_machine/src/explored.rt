@@ -8,7 +8,11 @@ use trim_search::{BuildFault, materialise};
 
 /// A machine without registers, as one with listed edges that has its words and one state for each
 /// state that is reached. `States` where they are more than `limit`.
-pub fn explored<M: Machine>(alloc: Global, machine: &M, limit: u64) -> Result<Explicit, BuildFault>
+pub fn list_states<M: Machine>(
+    alloc: Global,
+    machine: &M,
+    limit: u64,
+) -> Result<Explicit, BuildFault>
     requires { M.width machine.now ≡ 0 }
     ensures { Builds (λ w. RunsFrom (M.ends_with machine.now) (M.steps_to machine.now) (M.first machine.now) w []) (M.size machine.now) limit result }
 {

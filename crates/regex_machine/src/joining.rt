@@ -11,7 +11,7 @@ ghost use Rattle.regex_machine.specs.OtherSides.{AreOtherSides};
 ghost use Rattle.regex_machine.specs.declared.kind.Kind.TheVariants.{All};
 
 use crate::copies::Copies;
-use crate::explored::explored;
+use crate::explored::list_states;
 use crate::letters::{fit, nothing};
 use crate::sides::Side;
 use machine_core::Explicit;
@@ -28,13 +28,13 @@ pub fn all_of(alloc: Global, parts: &[Explicit], limit: u64) -> Result<Explicit,
     ensures { Builds (Together All WordsOf parts.now) (most_states All (weight All states_of parts.now)) limit result }
 {
     let meet = Meet::of(parts);
-    explored(alloc, &meet, limit)
+    list_states(alloc, &meet, limit)
 }
 
 /// From `least` to `most` words of the part, one after another, or `least` and more where they may come
 /// `again`.
 #[inline(never)]
-pub fn copied(
+pub fn repeat(
     alloc: Global,
     part: &Explicit,
     least: u32,
@@ -49,7 +49,7 @@ pub fn copied(
     ensures { Builds (InCopies (WordsOf part.now) least most again) (copies_size least most part.now.states) limit result }
 {
     let copies = Copies::of(part, least, most, again);
-    explored(alloc, &copies, limit)
+    list_states(alloc, &copies, limit)
 }
 
 /// The words that aren't in the part.
@@ -59,7 +59,7 @@ pub fn complement(alloc: Global, part: &Explicit, limit: u64) -> Result<Explicit
     ensures { Builds (λ w. IsWord w × (WordsOf part.now w → ⊥)) (2 ^ part.now.states) limit result }
 {
     let subset = Subset::of(part, true);
-    explored(alloc, &subset, limit)
+    list_states(alloc, &subset, limit)
 }
 
 // The words that aren't in the parts, for each part but the first.
@@ -89,5 +89,5 @@ pub fn difference(alloc: Global, parts: &[Explicit], limit: u64) -> Result<Expli
     sides.push(first)?;
     let list = sides.as_slice();
     let meet = Meet::of(list);
-    explored(alloc, &meet, limit)
+    list_states(alloc, &meet, limit)
 }

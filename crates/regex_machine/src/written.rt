@@ -8,7 +8,7 @@ ghost use Rattle.regex_machine.specs.Letters.{OneOf};
 ghost use Rattle.regex_machine.specs.Onwards.{AreBegun, HasState, Precedes, ReadsOn, stateless, unmade};
 ghost use Rattle.regex_machine.specs.Woven.{IsPlaced, ArePlaced, counted};
 
-use crate::explored::explored;
+use crate::explored::list_states;
 use crate::onward::{Onward, Rest};
 use crate::stepping::may_end;
 use crate::woven::Woven;
@@ -139,14 +139,14 @@ fn place_states(
     ensures { OnOk result (ArePlaced part.now part.now.states rest.now states.old states.new) }
 {
     for at in 0..part.states() {
-        let onward = placed(alloc, part, at, base, rest)?;
+        let onward = place_part(alloc, part, at, base, rest)?;
         states.push(onward)?;
     }
     Ok(())
 }
 
 // What follows in the whole at this state of the part, whose states are counted from `base`.
-fn placed(
+fn place_part(
     alloc: Global,
     part: &Explicit,
     at: u32,
@@ -219,7 +219,7 @@ pub fn finish(
     let mut front = front;
     let start = state_of(alloc, &mut states, &mut front)?;
     let woven = Woven::of(states.as_slice(), start);
-    explored(alloc, &woven, limit)
+    list_states(alloc, &woven, limit)
 }
 
 /// Whether one of the two holds.

@@ -11,7 +11,7 @@ use sv_list::{Boxed, Items};
 use sv_terms::{Regex, decided};
 use sv_word::Word;
 
-pub fn done(alloc: Global) -> Regex
+pub fn empty_word(alloc: Global) -> Regex
     ensures { result ≡ Text [] }
 {
     Regex::Text(Word::new(alloc))
@@ -35,7 +35,7 @@ fn is_all(r: &Regex) -> bool
     }
 }
 
-fn is_done(r: &Regex) -> bool
+fn is_empty_word(r: &Regex) -> bool
     ensures { IsTrue result → r.now ≡ Text [] }
 {
     match r {
@@ -55,10 +55,10 @@ pub fn then(alloc: Global, first: Regex, rest: Regex) -> Result<Regex, AllocErro
     if is_none(&rest) {
         return Ok(Regex::Empty);
     }
-    if is_done(&first) {
+    if is_empty_word(&first) {
         return Ok(rest);
     }
-    if is_done(&rest) {
+    if is_empty_word(&rest) {
         return Ok(first);
     }
     let mut all = in_turn(alloc, first)?;
@@ -236,7 +236,7 @@ pub fn times(alloc: Global, r: Regex, i: u32, j: u32) -> Result<Regex, AllocErro
         return Ok(Regex::Empty);
     }
     if j == 0 {
-        return Ok(done(alloc));
+        return Ok(empty_word(alloc));
     }
     if i == 1 && j == 1 {
         return Ok(r);

@@ -3,7 +3,9 @@ ghost use Rattle.std.specs.Prelude.{◌≡◌, [], ◌∷◌, ◌++◌, ◌<◌,
 ghost use Rattle.regex_match.specs.Derivative.{IsDerivative, SameWords};
 ghost use Rattle.sv_terms.specs.declared.regex.Regex.TheVariants.{Concat, Inter, Union};
 
-use crate::build::{add_need, add_part, all_of, complement, done, minus, one_of, then, times};
+use crate::build::{
+    add_need, add_part, all_of, complement, empty_word, minus, one_of, then, times,
+};
 use crate::nullable::is_nullable;
 use std::alloc::{AllocError, Global};
 use sv_list::{Boxed, Items};
@@ -22,7 +24,7 @@ pub fn derive(alloc: Global, regex: &Regex, c: u32) -> Result<Regex, AllocError>
     match regex {
         Regex::Empty => Ok(Regex::Empty),
         Regex::All => Ok(Regex::All),
-        Regex::AnyChar => Ok(done(alloc)),
+        Regex::AnyChar => Ok(empty_word(alloc)),
         Regex::Text(text) => {
             text.is_word();
             match after(alloc, text, c)? {
@@ -32,7 +34,7 @@ pub fn derive(alloc: Global, regex: &Regex, c: u32) -> Result<Regex, AllocError>
         }
         Regex::Range(lo, hi) => {
             if *lo <= c && c <= *hi {
-                Ok(done(alloc))
+                Ok(empty_word(alloc))
             } else {
                 Ok(Regex::Empty)
             }
@@ -132,7 +134,7 @@ fn rest_in_turn(alloc: Global, rs: &[Regex]) -> Result<Regex, AllocError>
     ensures { IfOk result (λ d. SameWords d (Concat rs.now)) }
 {
     match rs {
-        [] => Ok(done(alloc)),
+        [] => Ok(empty_word(alloc)),
         [r] => Ok(r.copy(alloc)?),
         _ => Ok(Regex::Concat(copies(alloc, rs)?)),
     }

@@ -182,6 +182,6 @@ fn a_session_ends_at_exit(rt: HostRuntime) -> Result<(), Fail> {
     if let Ok(Some(item)) = reader.next() {
         session.step(&rt, alloc, &item)?;
     }
-    assert!(rt; session.ended());
+    assert!(rt; session.has_ended());
     Ok(())
 }

@@ -59,7 +59,7 @@ impl Reader {
     }
 
     /// The number of raw bytes that are kept. It takes no memory.
-    pub fn held(&self) -> usize
+    pub fn held_bytes(&self) -> usize
         ensures count { result ≡ length (kept self.now) }
     {
         self.pending.len()
@@ -184,7 +184,7 @@ impl Reader {
             }
             Action::Open => self.open(),
             Action::Close => self.close(),
-            Action::EndQuoted => self.quoted(),
+            Action::EndQuoted => self.close_quote(),
             Action::EndRun => self.run(),
             Action::EndLiteral => self.literal(),
             Action::Refuse => Err(self.refuse()),
@@ -244,7 +244,7 @@ impl Reader {
     }
 
     /// A bar ends a quoted symbol.
-    fn quoted(&mut self) -> Result<Option<Sexpr>, SyntaxFault>
+    fn close_quote(&mut self) -> Result<Option<Sexpr>, SyntaxFault>
         requires within { self.old.at < length self.old.pending.items }
         requires acts { Acts self.old.mode (slice_index self.old.pending.items self.old.at) Action.EndQuoted }
         ensures steps { (ended : Bool) (bytes : List ℕ) (given : List Sexpr) → Stands ended self.old bytes given → Steps ended self.new bytes given result }

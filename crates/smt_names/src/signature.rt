@@ -9,7 +9,7 @@ ghost use Rattle.smt_names.specs.Signature as s;
 ghost use Rattle.smt_names.specs.Verbs as v;
 
 use crate::function::{Function, Sense, Takes};
-use crate::token::{symbol, unquoted};
+use crate::token::{bare_name, symbol};
 use crate::verb::Verb;
 use sexpr_reader::Sexpr;
 use sv_terms::{Op, Sort};
@@ -294,7 +294,7 @@ pub fn is_reserved(name: &[u8]) -> bool
     function(name).is_some() || is_indexed(name) || is_term_word(name)
 }
 
-fn sort_named(name: &[u8]) -> Option<Sort>
+fn named_sort(name: &[u8]) -> Option<Sort>
     ensures { result ≡ lookup (s.same_name name.now) s.sorts }
 {
     match name {
@@ -311,12 +311,12 @@ pub fn sort_of(item: &Sexpr) -> Option<Sort>
     ensures { result ≡ t.sort_of (seen item.now) }
 {
     match symbol(item) {
-        Some(text) => sort_named(unquoted(text)),
+        Some(text) => named_sort(bare_name(text)),
         None => None,
     }
 }
 
-fn truth_named(name: &[u8]) -> Option<bool>
+fn named_truth(name: &[u8]) -> Option<bool>
     ensures { result ≡ lookup (s.same_name name.now) t.truths }
 {
     match name {
@@ -331,7 +331,7 @@ pub fn truth(item: &Sexpr) -> Option<bool>
     ensures { result ≡ t.truth (seen item.now) }
 {
     match symbol(item) {
-        Some(text) => truth_named(unquoted(text)),
+        Some(text) => named_truth(bare_name(text)),
         None => None,
     }
 }

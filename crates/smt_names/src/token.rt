@@ -16,7 +16,7 @@ use std::alloc::{AllocError, Global};
 use sv_word::{GREATEST_CHARACTER, LiteralFault, Word, read_literal};
 
 /// A symbol's name, without the bars of a quoted one.
-pub fn unquoted(text: &[u8]) -> &[u8]
+pub fn bare_name(text: &[u8]) -> &[u8]
     ensures { result.now ≡ symbol_name text.now }
 {
     match text {
@@ -78,7 +78,7 @@ pub fn literal_text(item: &Sexpr) -> Option<&[u8]>
 
 /// The items of a list.
 #[tactic(auto, using(crate::specs::Shapes::shapes))]
-pub fn listed(item: &Sexpr) -> Option<&[Sexpr]>
+pub fn list_items(item: &Sexpr) -> Option<&[Sexpr]>
     ensures { option_map (λ items. forms (map seen items.now)) result ≡ t.listed (seen item.now) }
 {
     match item {
@@ -209,7 +209,7 @@ pub fn character_token(item: &Sexpr) -> Option<u32>
     }
 }
 
-fn opened(word: &[u8]) -> Opening
+fn opening_of(word: &[u8]) -> Opening
     ensures { result ≡ t.or_application (lookup (same_name word.now) t.openings) }
 {
     match word {
@@ -227,7 +227,7 @@ pub fn opening(first: &Sexpr) -> Opening
     ensures { result ≡ t.opening (seen first.now) }
 {
     match word(first) {
-        Some(word) => opened(word),
+        Some(word) => opening_of(word),
         None => Opening::Application,
     }
 }

@@ -81,7 +81,7 @@ impl Session {
     }
 
     /// Whether `exit` was answered.
-    pub fn ended(&self) -> bool
+    pub fn has_ended(&self) -> bool
         ensures { result ≡ self.now.ended }
     {
         self.ended

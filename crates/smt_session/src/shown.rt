@@ -194,7 +194,7 @@ pub fn pair(alloc: Global, text: &mut Text, pair: &(Sexpr, Value)) -> Result<(),
 }
 
 // The words, and a number behind them.
-fn numbered(text: &mut Text, words: &str, n: u64) -> Result<(), AllocError>
+fn push_numbered(text: &mut Text, words: &str, n: u64) -> Result<(), AllocError>
     ensures { OnOk result (text.new.items ≡ text.old.items ++ numbered words.now n) }
 {
     text.extend_from_slice(words.as_bytes())?;
@@ -221,10 +221,10 @@ pub fn error(text: &mut Text, kind: ErrorKind) -> Result<(), AllocError>
         ErrorKind::NoModel => text.extend_from_slice(b"no model"),
         ErrorKind::NoReason => text.extend_from_slice(b"no reason"),
         ErrorKind::OpaqueValue => text.extend_from_slice(b"opaque value"),
-        ErrorKind::SyntaxToken(place) => numbered(text, "syntax token at ", place),
-        ErrorKind::SyntaxClose(place) => numbered(text, "syntax close at ", place),
-        ErrorKind::SyntaxDepth(place) => numbered(text, "syntax depth at ", place),
-        ErrorKind::SyntaxLiteral(place) => numbered(text, "syntax literal at ", place),
+        ErrorKind::SyntaxToken(place) => push_numbered(text, "syntax token at ", place),
+        ErrorKind::SyntaxClose(place) => push_numbered(text, "syntax close at ", place),
+        ErrorKind::SyntaxDepth(place) => push_numbered(text, "syntax depth at ", place),
+        ErrorKind::SyntaxLiteral(place) => push_numbered(text, "syntax literal at ", place),
         ErrorKind::Incomplete => text.extend_from_slice(b"incomplete"),
     }
 }
@@ -253,7 +253,7 @@ fn cause(text: &mut Text, cause: Cause) -> Result<(), AllocError>
         Cause::Cubes => text.extend_from_slice(b"cubes"),
         Cause::NumberForm => text.extend_from_slice(b"number-form"),
         Cause::Cube(at, why) => {
-            numbered(text, "(cube ", at)?;
+            push_numbered(text, "(cube ", at)?;
             text.push(b' ')?;
             cube_cause(text, why)?;
             text.push(b')')?;
@@ -278,7 +278,11 @@ pub fn info(text: &mut Text, info: Info) -> Result<(), AllocError>
         Info::Name => text.extend_from_slice(b":name \"strsolve\""),
         Info::Version => text.extend_from_slice(b":version \"1\""),
         Info::ErrorBehavior => text.extend_from_slice(b":error-behavior continued-execution"),
-        Info::AssertionStackLevels(n) => numbered(text, ":assertion-stack-levels ", u64::from(n)),
+        Info::AssertionStackLevels(n) => push_numbered(
+            text,
+            ":assertion-stack-levels ",
+            u64::from(n),
+        ),
         Info::ReasonUnknown(why) => reason_unknown(text, why),
     }
 }

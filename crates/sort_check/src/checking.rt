@@ -14,12 +14,12 @@ ghost use Rattle.transducer_form.specs.Written as written;
 
 use crate::commands::{Command, Product};
 use crate::scope::parameter_name;
-use crate::walk::{settled_one, settled_sorts};
+use crate::walk::{settle_one, settle_sorts};
 use item_passes::{Pass, are_parameters, at_variables, look, pass_over, repeats, variables};
 use sexpr_reader::Sexpr;
 use smt_names::signature::{is_reserved, sort_of, truth, verb};
 use smt_names::token::{
-    digits, is_sort_form, keyword, level, listed, literal_text, symbol, unquoted, word,
+    bare_name, digits, is_sort_form, keyword, level, list_items, literal_text, symbol, word,
 };
 use smt_names::{CheckFault, Verb};
 use std::alloc::{AllocError, Global};
@@ -27,7 +27,7 @@ use sv_list::{Copied, Items};
 use sv_terms::{Body, Entry, Name, Sort, Term};
 use term_draft::{body_sort, into_term};
 use term_weight::{Declarations, same_sort};
-use transducer_form::{Description, described};
+use transducer_form::{Description, build_transducer};
 
 #[tactic(auto, using(crate::proofs::Counted::commands))]
 fn plain(made: Command, parts: &[Sexpr]) -> Result<Command, CheckFault>
@@ -89,7 +89,7 @@ fn known_option(keyword: &[u8], value: bool) -> Command
     Command::Unsupported
 }
 
-fn option_set(first: &Sexpr, second: &Sexpr) -> Command
+fn option_command(first: &Sexpr, second: &Sexpr) -> Command
     ensures { result ≡ commands.option_set (tokens.keyword (seen first.now)) (tokens.truth (seen second.now)) }
 {
     match keyword(first) {
@@ -106,7 +106,7 @@ fn set_option(parts: &[Sexpr]) -> Result<Command, CheckFault>
     ensures { result ≡ commands.set_option (forms (map seen parts.now)) }
 {
     match parts {
-        [first, second] => Ok(option_set(first, second)),
+        [first, second] => Ok(option_command(first, second)),
         _ => Ok(Command::Unsupported),
     }
 }
@@ -126,7 +126,7 @@ fn free(alloc: Global, symbols: &Declarations, text: &[u8]) -> Result<Name, Chec
     ensures ok { IfOk result (λ n. (n ≡ symbol_name text.now) × (commands.free symbols.now n ≡ Ok tt)) }
     ensures err { IfErr result (λ f. Answers (commands.free symbols.now (symbol_name text.now)) (Err f)) }
 {
-    let name = unquoted(text);
+    let name = bare_name(text);
     if is_escaped(name) {
         return Err(CheckFault::Shape);
     }
@@ -140,7 +140,7 @@ fn free(alloc: Global, symbols: &Declarations, text: &[u8]) -> Result<Name, Chec
     }
 }
 
-fn declared_as(name: Name, sort: Sort) -> Result<Command, CheckFault>
+fn declare_as(name: Name, sort: Sort) -> Result<Command, CheckFault>
     ensures { result ≡ commands.declared_as name sort }
 {
     match sort {
@@ -164,7 +164,7 @@ fn declaration(
     match symbol(name) {
         Some(text) => match free(alloc, symbols, text) {
             Ok(name) => match sort_of(sort) {
-                Some(sort) => declared_as(name, sort),
+                Some(sort) => declare_as(name, sort),
                 None => Err(CheckFault::Unknown),
             },
             Err(fault) => Err(fault),
@@ -222,7 +222,10 @@ fn declare_fun(
 
 /// The parameters of a macro as they stand in its body: under names with a backslash before them,
 /// which no symbol has.
-fn escaped(alloc: Global, variables: &[(Name, Sort)]) -> Result<Items<(Name, Sort)>, AllocError>
+fn escape_parameters(
+    alloc: Global,
+    variables: &[(Name, Sort)],
+) -> Result<Items<(Name, Sort)>, AllocError>
     ensures { IfOk result (λ ps. ps ≡ map (λ p. (terms.parameter_name p.0, p.1)) variables.now) }
 {
     let mut all = Items::new(alloc);
@@ -257,7 +260,7 @@ fn pass_definition(
 }
 
 /// A macro of this body.
-fn defined(
+fn define_macro(
     alloc: Global,
     name: Name,
     variables: &[(Name, Sort)],
@@ -269,12 +272,12 @@ fn defined(
     if !same_sort(sort, body_sort(&body)) {
         return Err(CheckFault::Sort);
     }
-    let parameters = escaped(alloc, variables)?;
+    let parameters = escape_parameters(alloc, variables)?;
     Ok(Command::Define(name, Entry::Macro { parameters, body }))
 }
 
 #[tactic(auto, using(crate::proofs::Answering::answering))]
-fn settled_definition(
+fn settle_definition(
     alloc: Global,
     symbols: &Declarations,
     name: Name,
@@ -285,8 +288,8 @@ fn settled_definition(
     ensures { Answers (commands.settled_definition symbols.now name (forms (map seen parameters.now)) (seen body.now) sort) result }
 {
     let variables = variables(alloc, parameters)?;
-    match settled_one(alloc, symbols, variables.as_slice(), body) {
-        Ok(body) => defined(alloc, name, variables.as_slice(), sort, body),
+    match settle_one(alloc, symbols, variables.as_slice(), body) {
+        Ok(body) => define_macro(alloc, name, variables.as_slice(), sort, body),
         Err(fault) => Err(fault),
     }
 }
@@ -305,7 +308,7 @@ fn definition(
     match free(alloc, symbols, text) {
         Ok(name) => match pass_definition(alloc, parameters, sort, body) {
             Ok(()) => match sort_of(sort) {
-                Some(sort) => settled_definition(alloc, symbols, name, parameters, sort, body),
+                Some(sort) => settle_definition(alloc, symbols, name, parameters, sort, body),
                 None => Err(CheckFault::Unknown),
             },
             Err(fault) => Err(fault),
@@ -319,7 +322,7 @@ fn define_fun(alloc: Global, symbols: &Declarations, parts: &[Sexpr]) -> Result<
     ensures { Answers (commands.define_fun symbols.now (forms (map seen parts.now))) result }
 {
     match parts {
-        [name, parameters, sort, body] => match listed(parameters) {
+        [name, parameters, sort, body] => match list_items(parameters) {
             Some(parameters) => {
                 if !are_parameters(parameters) || !is_sort_form(sort) {
                     return Err(CheckFault::Shape);
@@ -346,7 +349,7 @@ fn machine(
     ensures { Answers (commands.machine symbols.now (written.description_seen description.now) (symbol_name text.now)) result }
 {
     match free(alloc, symbols, text) {
-        Ok(name) => match described(alloc, description) {
+        Ok(name) => match build_transducer(alloc, description) {
             Ok(transducer) => Ok(Command::Define(name, Entry::Machine(transducer))),
             Err(fault) => Err(fault),
         },
@@ -376,7 +379,7 @@ fn define_transducer(
     }
 }
 
-fn asserted(body: Body) -> Result<Command, CheckFault>
+fn assert_body(body: Body) -> Result<Command, CheckFault>
     ensures { result ≡ commands.asserted (body ∷ []) }
 {
     if same_sort(Sort::Bool, body_sort(&body)) {
@@ -392,8 +395,8 @@ fn assertion(alloc: Global, symbols: &Declarations, parts: &[Sexpr]) -> Result<C
 {
     match parts {
         [term] => match pass_over(alloc, parts) {
-            Ok(()) => match settled_one(alloc, symbols, &[], term) {
-                Ok(body) => asserted(body),
+            Ok(()) => match settle_one(alloc, symbols, &[], term) {
+                Ok(body) => assert_body(body),
                 Err(fault) => Err(fault),
             },
             Err(fault) => Err(fault),
@@ -416,7 +419,7 @@ fn levels(part: &Sexpr) -> Result<u32, CheckFault>
 }
 
 #[tactic(auto, using(crate::proofs::Counted::commands))]
-fn stepped(parts: &[Sexpr]) -> Result<u32, CheckFault>
+fn level_count(parts: &[Sexpr]) -> Result<u32, CheckFault>
     ensures { (make : ℕ → AnyCommand) → made_of make result ≡ commands.stepped make (forms (map seen parts.now)) }
 {
     match parts {
@@ -456,7 +459,7 @@ fn copies(alloc: Global, items: &[Sexpr]) -> Result<Items<Sexpr>, AllocError>
 }
 
 #[tactic(auto, using(crate::proofs::Answering::reading))]
-fn valued(alloc: Global, items: &[Sexpr], sorts: &[Sort]) -> Result<Command, CheckFault>
+fn value_command(alloc: Global, items: &[Sexpr], sorts: &[Sort]) -> Result<Command, CheckFault>
     ensures { Answers (commands.valued (forms (map seen items.now)) sorts.now) result }
 {
     if !all_have_values(sorts) {
@@ -473,8 +476,8 @@ fn values(alloc: Global, symbols: &Declarations, items: &[Sexpr]) -> Result<Comm
         return Err(CheckFault::Shape);
     }
     match pass_over(alloc, items) {
-        Ok(()) => match settled_sorts(alloc, symbols, items) {
-            Ok(sorts) => valued(alloc, items, sorts.as_slice()),
+        Ok(()) => match settle_sorts(alloc, symbols, items) {
+            Ok(sorts) => value_command(alloc, items, sorts.as_slice()),
             Err(fault) => Err(fault),
         },
         Err(fault) => Err(fault),
@@ -492,7 +495,7 @@ fn pass_term(alloc: Global, term: &Sexpr) -> Result<(), CheckFault>
     look(alloc, Pass::Numbers, term)
 }
 
-fn asked(body: Body) -> Result<Term, CheckFault>
+fn term_of(body: Body) -> Result<Term, CheckFault>
     ensures { result ≡ commands.asked (body ∷ []) }
 {
     if has_values(body_sort(&body)) {
@@ -512,8 +515,8 @@ pub fn asked_term(alloc: Global, symbols: &Declarations, item: &Sexpr) -> Result
     ensures { Answers (commands.asked_term symbols.now (seen item.now)) result }
 {
     match pass_term(alloc, item) {
-        Ok(()) => match settled_one(alloc, symbols, &[], item) {
-            Ok(body) => asked(body),
+        Ok(()) => match settle_one(alloc, symbols, &[], item) {
+            Ok(body) => term_of(body),
             Err(fault) => Err(fault),
         },
         Err(fault) => Err(fault),
@@ -525,7 +528,7 @@ fn get_value(alloc: Global, symbols: &Declarations, parts: &[Sexpr]) -> Result<C
     ensures { Answers (commands.get_value symbols.now (forms (map seen parts.now))) result }
 {
     match parts {
-        [terms] => match listed(terms) {
+        [terms] => match list_items(terms) {
             Some(terms) => values(alloc, symbols, terms),
             None => Err(CheckFault::Shape),
         },
@@ -559,7 +562,7 @@ fn echo(alloc: Global, parts: &[Sexpr]) -> Result<Command, CheckFault>
     }
 }
 
-fn commanded(
+fn command_of(
     alloc: Global,
     symbols: &Declarations,
     verb: Verb,
@@ -576,8 +579,8 @@ fn commanded(
         Verb::DefineFun => define_fun(alloc, symbols, parts),
         Verb::DefineTransducer => define_transducer(alloc, symbols, parts),
         Verb::Assert => assertion(alloc, symbols, parts),
-        Verb::Push => Ok(Command::Push(stepped(parts)?)),
-        Verb::Pop => Ok(Command::Pop(stepped(parts)?)),
+        Verb::Push => Ok(Command::Push(level_count(parts)?)),
+        Verb::Pop => Ok(Command::Pop(level_count(parts)?)),
         Verb::CheckSat => plain(Command::CheckSat, parts),
         Verb::GetModel => plain(Command::GetModel, parts),
         Verb::GetValue => get_value(alloc, symbols, parts),
@@ -590,7 +593,11 @@ fn commanded(
 }
 
 #[tactic(auto, using(crate::proofs::Counted::commands))]
-fn begun(alloc: Global, symbols: &Declarations, items: &[Sexpr]) -> Result<Command, CheckFault>
+fn parse_command(
+    alloc: Global,
+    symbols: &Declarations,
+    items: &[Sexpr],
+) -> Result<Command, CheckFault>
     ensures { Answers (commands.begun symbols.now (forms (map seen items.now))) result }
 {
     match items {
@@ -600,7 +607,7 @@ fn begun(alloc: Global, symbols: &Declarations, items: &[Sexpr]) -> Result<Comma
                 return Err(CheckFault::Shape);
             }
             match verb_of(first) {
-                Some(verb) => commanded(alloc, symbols, verb, parts),
+                Some(verb) => command_of(alloc, symbols, verb, parts),
                 None => Ok(Command::Unsupported),
             }
         }
@@ -629,8 +636,8 @@ fn verb_of(first: &Sexpr) -> Option<Verb>
 pub fn command(alloc: Global, symbols: &Declarations, item: &Sexpr) -> Result<Command, CheckFault>
     ensures { Answers (commands.checked symbols.now (seen item.now)) result }
 {
-    match listed(item) {
-        Some(items) => begun(alloc, symbols, items),
+    match list_items(item) {
+        Some(items) => parse_command(alloc, symbols, items),
         None => Err(CheckFault::Shape),
     }
 }

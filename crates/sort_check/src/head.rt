@@ -12,7 +12,7 @@ ghost use Rattle.smt_names.specs.Tokens as tokens;
 
 use sexpr_reader::Sexpr;
 use smt_names::signature::{character, function, is_indexed, loop_from};
-use smt_names::token::{character_token, digits, number, opening, symbol, unquoted};
+use smt_names::token::{bare_name, character_token, digits, number, opening, symbol};
 use smt_names::{CheckFault, Function, Opening, Takes};
 use std::alloc::Global;
 use sv_terms::{MOST_TIMES, Name, Sort, Transducer};
@@ -28,23 +28,23 @@ pub enum Head<'a> {
 }
 
 /// The function of the theories, or what was declared, of this name. Time is linear in the name.
-pub fn named<'a>(
+pub fn find_head<'a>(
     alloc: Global,
     symbols: &'a Declarations,
     text: &[u8],
 ) -> Result<Head<'a>, CheckFault>
     ensures { Answers (meaning.named symbols.now (symbol_name text.now)) (made_of kept result) }
 {
-    if is_indexed(unquoted(text)) {
+    if is_indexed(bare_name(text)) {
         return Err(CheckFault::Index);
     }
-    match function(unquoted(text)) {
+    match function(bare_name(text)) {
         Some(function) => Ok(Head::Theory(function)),
-        None => declared(symbols, Name::of(alloc, text)?),
+        None => declared_head(symbols, Name::of(alloc, text)?),
     }
 }
 
-fn declared<'a>(symbols: &'a Declarations, name: Name) -> Result<Head<'a>, CheckFault>
+fn declared_head<'a>(symbols: &'a Declarations, name: Name) -> Result<Head<'a>, CheckFault>
     ensures { made_of kept result ≡ or_fault Unknown (meaning.mapped (meaning.of_entry name) (lookup (same_name name) symbols.now)) }
 {
     match symbols.find(&name) {
@@ -88,7 +88,7 @@ fn power(indices: &[Sexpr]) -> Result<Function, CheckFault>
 }
 
 #[tactic(auto, using(crate::proofs::Shapes::indices))]
-fn looped(indices: &[Sexpr]) -> Result<Function, CheckFault>
+fn loop_function(indices: &[Sexpr]) -> Result<Function, CheckFault>
     ensures { result ≡ meaning.looped (forms (map seen indices.now)) }
 {
     match indices {
@@ -102,7 +102,7 @@ fn looped(indices: &[Sexpr]) -> Result<Function, CheckFault>
 }
 
 #[tactic(auto, using(crate::proofs::Shapes::indices))]
-fn charred(indices: &[Sexpr]) -> Result<Function, CheckFault>
+fn character_function(indices: &[Sexpr]) -> Result<Function, CheckFault>
     ensures { result ≡ meaning.charred (forms (map seen indices.now)) }
 {
     match indices {
@@ -116,7 +116,7 @@ fn charred(indices: &[Sexpr]) -> Result<Function, CheckFault>
 
 /// The function that stands behind `_`. An index that the symbol doesn't take is Index.
 #[tactic(auto, using(crate::proofs::Shapes::indices))]
-pub fn identified(
+pub fn find_function(
     alloc: Global,
     symbols: &Declarations,
     parts: &[Sexpr],
@@ -126,13 +126,13 @@ pub fn identified(
     match parts {
         [] => Err(CheckFault::Shape),
         [name, indices @ ..] => match symbol(name) {
-            Some(text) => indexed(alloc, symbols, text, indices),
+            Some(text) => indexed_function(alloc, symbols, text, indices),
             None => Err(CheckFault::Shape),
         },
     }
 }
 
-fn indexed(
+fn indexed_function(
     alloc: Global,
     symbols: &Declarations,
     text: &[u8],
@@ -140,17 +140,17 @@ fn indexed(
 ) -> Result<Function, CheckFault>
     ensures { Answers (meaning.indexed symbols.now (Some (symbol_name text.now)) (forms (map seen indices.now))) result }
 {
-    let name = unquoted(text);
+    let name = bare_name(text);
     if name == b"re.^".as_slice() {
         return power(indices);
     }
     if name == b"re.loop".as_slice() {
-        return looped(indices);
+        return loop_function(indices);
     }
     if name == b"char".as_slice() {
-        return charred(indices);
+        return character_function(indices);
     }
-    match named(alloc, symbols, text) {
+    match find_head(alloc, symbols, text) {
         Ok(_) => Err(CheckFault::Index),
         Err(fault) => Err(fault),
     }
@@ -166,13 +166,13 @@ pub fn head_of<'a>(
 {
     match first {
         Sexpr::Atom(_, _) => match symbol(first) {
-            Some(text) => named(alloc, symbols, text),
+            Some(text) => find_head(alloc, symbols, text),
             None => Err(CheckFault::Shape),
         },
         Sexpr::List(items) => match items.as_slice() {
             [] => Err(CheckFault::Shape),
             [under, parts @ ..] => match opening(under) {
-                Opening::Identifier => Ok(Head::Theory(identified(alloc, symbols, parts)?)),
+                Opening::Identifier => Ok(Head::Theory(find_function(alloc, symbols, parts)?)),
                 _ => Err(CheckFault::Shape),
             },
         },

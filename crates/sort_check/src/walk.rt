@@ -16,7 +16,7 @@ ghost use Rattle.sort_check.specs.Meant as meaning;
 ghost use Rattle.sort_check.specs.Walks as walks;
 ghost use Rattle.sort_check.specs.Walks.{Reads, Here, Each, Bound};
 
-use crate::head::{Head, head_of, identified, named};
+use crate::head::{Head, find_function, find_head, head_of};
 use crate::scope::{Scope, parameter_name};
 use item_passes::{are_bindings, are_variables, variables};
 use sexpr_reader::{Kind, Sexpr};
@@ -25,7 +25,7 @@ use smt_names::{CheckFault, Function, Opening};
 use std::alloc::{AllocError, Global};
 use sv_list::Items;
 use sv_terms::{Body, Name, Sort, Term, Transducer};
-use term_draft::{Draft, built};
+use term_draft::{Draft, build_at};
 use term_weight::{Declarations, Macro, same_sort};
 
 /// What is known in the middle of a walk over terms.
@@ -145,7 +145,7 @@ fn read_name<'a>(
     let name = Name::of(alloc, text)?;
     match walk.scope.latest(&name) {
         Some(place) => Ok(place),
-        None => match named(alloc, symbols, text) {
+        None => match find_head(alloc, symbols, text) {
             Ok(head) => alone(alloc, walk, head),
             Err(fault) => Err(fault),
         },
@@ -182,7 +182,7 @@ fn read_identifier<'a>(
 ) -> Result<usize, CheckFault>
     ensures { Reads Here (λ t. meaning.alone (meaning.of_theory (meaning.identified symbols.now (forms (map seen parts.now))))) walk.old walk.new result }
 {
-    match identified(alloc, symbols, parts) {
+    match find_function(alloc, symbols, parts) {
         Ok(function) => alone(alloc, walk, Head::Theory(function)),
         Err(fault) => Err(fault),
     }
@@ -326,7 +326,7 @@ fn read_value<'a>(
     match binding {
         Sexpr::List(items) => match items.as_slice() {
             [name, value] => match read(alloc, walk, symbols, value) {
-                Ok(place) => noted(alloc, walk, name, place),
+                Ok(place) => note_value(alloc, walk, name, place),
                 Err(fault) => Err(fault),
             },
             _ => Err(CheckFault::Shape),
@@ -378,7 +378,7 @@ fn read_quantifier<'a>(
                 let variables = variables(alloc, bound)?;
                 let constants = constants(alloc, walk, variables.as_slice(), false)?;
                 match read_within(alloc, walk, symbols, constants, body) {
-                    Ok(place) => quantified(walk, place),
+                    Ok(place) => quantify(walk, place),
                     Err(fault) => Err(fault),
                 }
             }
@@ -439,7 +439,7 @@ fn note(walk: &mut Walk<'_>, place: usize)
 }
 
 /// The name of a binding with the place of its value, which is noted if it is too large.
-fn noted(
+fn note_value(
     alloc: Global,
     walk: &mut Walk<'_>,
     name: &Sexpr,
@@ -500,7 +500,7 @@ fn constants(
 }
 
 /// A quantified term is read and sorted alone.
-fn quantified(walk: &mut Walk<'_>, place: usize) -> Result<usize, CheckFault>
+fn quantify(walk: &mut Walk<'_>, place: usize) -> Result<usize, CheckFault>
     ensures { (x : Meant) → Here walk.old.draft place x
         → Reads Here (λ t. meaning.quantified x) walk.old walk.new result }
 {
@@ -511,7 +511,7 @@ fn quantified(walk: &mut Walk<'_>, place: usize) -> Result<usize, CheckFault>
 }
 
 /// The sorts of what terms mean, or their first fault, Size included. None is built.
-pub fn settled_sorts(
+pub fn settle_sorts(
     alloc: Global,
     symbols: &Declarations,
     terms: &[Sexpr],
@@ -536,7 +536,7 @@ pub fn settled_sorts(
 
 /// What one term means, or its first fault, Size included; of parameters bound around it each stands
 /// as a constant.
-pub fn settled_one(
+pub fn settle_one(
     alloc: Global,
     symbols: &Declarations,
     parameters: &[(Name, Sort)],
@@ -559,7 +559,7 @@ pub fn settled_one(
             if !walk.draft.fits(place) {
                 return Err(CheckFault::Size);
             }
-            Ok(built(alloc, &walk.draft, place)?)
+            Ok(build_at(alloc, &walk.draft, place)?)
         }
         Err(fault) => Err(fault),
     }

@@ -35,7 +35,7 @@ fn pair(alloc: Global, first: Regex, second: Regex) -> Result<Items<Regex>, Allo
 }
 
 // Concatenations of two, nested to the left.
-fn nested_to_the_left(alloc: Global, depth: u64) -> Result<Regex, AllocError> {
+fn nest_to_the_left(alloc: Global, depth: u64) -> Result<Regex, AllocError> {
     let mut whole = Regex::Text(letters(alloc, 0)?);
     for seed in 1..depth {
         whole = Regex::Concat(pair(alloc, whole, Regex::Text(letters(alloc, seed)?))?);
@@ -44,7 +44,7 @@ fn nested_to_the_left(alloc: Global, depth: u64) -> Result<Regex, AllocError> {
 }
 
 // Unions and concatenations of two, nested in turn.
-fn nested_in_turn(alloc: Global, depth: u64) -> Result<Regex, AllocError> {
+fn nest_in_turn(alloc: Global, depth: u64) -> Result<Regex, AllocError> {
     let mut whole = Regex::Text(letters(alloc, 0)?);
     for seed in 1..depth {
         let parts = pair(alloc, whole, Regex::Text(letters(alloc, seed)?))?;
@@ -102,18 +102,18 @@ fn time(rt: HostRuntime, work: &str, regex: Result<Regex, AllocError>) {
 fn time_trim(rt: HostRuntime, work: &str, regex: Result<Regex, AllocError>) {
     let machine = machine_of(rt.alloc(), regex);
     let stopwatch = Stopwatch::start(rt);
-    let trimmed = trimmed(rt.alloc(), &machine);
+    let trimmed = trim_machine(rt.alloc(), &machine);
     stopwatch.stop(rt, work, states(&trimmed));
 }
 
-fn trimmed(alloc: Global, machine: &Option<Explicit>) -> Option<Explicit> {
+fn trim_machine(alloc: Global, machine: &Option<Explicit>) -> Option<Explicit> {
     trim(alloc, machine.as_ref()?).ok()
 }
 
 // The same words in one list, and two and two.
 fn time_nesting(rt: HostRuntime, flat: &str, nested: &str, count: u64) {
     time(rt, flat, concatenation_of_words(rt.alloc(), count));
-    time(rt, nested, nested_to_the_left(rt.alloc(), count));
+    time(rt, nested, nest_to_the_left(rt.alloc(), count));
 }
 
 fn time_class(rt: HostRuntime) {
@@ -133,8 +133,8 @@ pub fn measure(rt: HostRuntime) {
     time_nesting(rt, "64 words in a row", "64 words, nested", 64);
     time_nesting(rt, "256 words in a row", "256 words, nested", 256);
     time_nesting(rt, "1,024 words in a row", "1,024 words, nested", 1_024);
-    time(rt, "nested in turn, 64 deep", nested_in_turn(alloc, 64));
-    time(rt, "nested in turn, 256 deep", nested_in_turn(alloc, 256));
+    time(rt, "nested in turn, 64 deep", nest_in_turn(alloc, 64));
+    time(rt, "nested in turn, 256 deep", nest_in_turn(alloc, 256));
     time_class(rt);
     time(rt, "8,192 copies", copies(alloc, 8_192));
     time(rt, "32,768 copies", copies(alloc, 32_768));

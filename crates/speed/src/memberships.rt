@@ -12,7 +12,7 @@ const LONG: u32 = 4_000_000;
 const SHORT: u32 = 100_000;
 
 // The word that is asked for, and whatever follows it.
-fn followed(alloc: Global) -> Result<Regex, AllocError> {
+fn following_word(alloc: Global) -> Result<Regex, AllocError> {
     let mut parts = Items::new(alloc);
     parts.push(Regex::Text(in_turn(alloc, LONG)?))?;
     parts.push(Regex::All)?;
@@ -46,7 +46,7 @@ fn star_of_words(alloc: Global, count: u32) -> Result<Regex, AllocError> {
 }
 
 // 1 where the word of so many letters is in the expression, and 0 where it isn't.
-fn found(alloc: Global, regex: Result<Regex, AllocError>, length: u32) -> Option<u64> {
+fn find_length(alloc: Global, regex: Result<Regex, AllocError>, length: u32) -> Option<u64> {
     let regex = regex.ok()?;
     let word = in_turn(alloc, length).ok()?;
     Some(u64::from(contains(alloc, &regex, &word).ok()?))
@@ -54,13 +54,18 @@ fn found(alloc: Global, regex: Result<Regex, AllocError>, length: u32) -> Option
 
 fn time(rt: HostRuntime, work: &str, regex: Result<Regex, AllocError>, length: u32) {
     let stopwatch = Stopwatch::start(rt);
-    stopwatch.stop(rt, work, found(rt.alloc(), regex, length));
+    stopwatch.stop(rt, work, find_length(rt.alloc(), regex, length));
 }
 
 /// Prints of each expression whether it has the word, and the time that this takes.
 pub fn measure(rt: HostRuntime) {
     let alloc = rt.alloc();
-    time(rt, "a word and all that follow", followed(alloc), LONG);
+    time(
+        rt,
+        "a word and all that follow",
+        following_word(alloc),
+        LONG,
+    );
     time(
         rt,
         "`a` twenty before the last",

@@ -23,7 +23,7 @@ fn edges(alloc: Global, length: u32) -> Result<u64, AllocError> {
 }
 
 // Escapes each `<`.
-fn escaping(alloc: Global) -> Result<Transducer, AllocError>
+fn escaping_transducer(alloc: Global) -> Result<Transducer, AllocError>
     ensures { IfOk result IsFormed }
 {
     replace_all(alloc, &word(alloc, b"<")?, &word(alloc, b"&lt;")?)
@@ -32,7 +32,7 @@ fn escaping(alloc: Global) -> Result<Transducer, AllocError>
 // The edges of a run that copies a word of so many letters.
 fn run_edges(alloc: Global, length: u32) -> Result<u64, AllocError> {
     let text = in_turn(alloc, length)?;
-    match run_pair(alloc, &escaping(alloc)?, &text, &text)? {
+    match run_pair(alloc, &escaping_transducer(alloc)?, &text, &text)? {
         Some(places) => Ok(places.len() as u64),
         None => Ok(0),
     }
@@ -48,7 +48,7 @@ fn characters(alloc: Global, count: u32) -> Result<Explicit, BuildFault>
 
 // The states of the words whose escaped text has so many characters.
 fn states_before(alloc: Global, count: u32) -> Result<u64, BuildFault> {
-    let through = escaping(alloc)?;
+    let through = escaping_transducer(alloc)?;
     let target = characters(alloc, count)?;
     let pre = Pre::of(alloc, &through, &target)?;
     let built = materialise(alloc, &pre, LIMIT)?;

@@ -100,7 +100,7 @@ fn greater(a: Option<i128>, b: Option<i128>) -> Option<i128>
 }
 
 // The span of an unknown that is the only one of one more row, with the number a and the constant c.
-fn narrowed(span: &Span, kind: RowKind, a: i128, c: i128) -> Span
+fn narrow_span(span: &Span, kind: RowKind, a: i128, c: i128) -> Span
     requires not_zero { a ≢ pos 0 }
     requires factor { unsigned_abs a < 2 ^ 127 }
     requires constant { unsigned_abs c < 2 ^ 127 }
@@ -123,7 +123,7 @@ fn narrow(spans: &mut Items<Span>, row: &Row)
     if coefficients.len() == 1 {
         let at = coefficients[0].0 as usize;
         if at < spans.len() {
-            let span = narrowed(
+            let span = narrow_span(
                 &spans.as_slice()[at],
                 row.kind,
                 coefficients[0].1,

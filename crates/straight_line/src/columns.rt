@@ -13,7 +13,7 @@ pub fn columns_of(alloc: Global, unknowns: usize, rows: &[Row]) -> Result<Items<
     ensures count { IfOk result (λ used. length used ≡ unknowns) }
     ensures exact { IfOk result (λ used. (u : ℕ) → u < unknowns → get_or used u false ≡ has_entry rows.now u) }
 {
-    let mut used = unused(alloc, unknowns)?;
+    let mut used = mark_unused(alloc, unknowns)?;
     for row in rows {
         let terms = row.form.coefficients.as_slice();
         mark(&mut used, terms);
@@ -21,7 +21,7 @@ pub fn columns_of(alloc: Global, unknowns: usize, rows: &[Row]) -> Result<Items<
     Ok(used)
 }
 
-fn unused(alloc: Global, unknowns: usize) -> Result<Items<bool>, AllocError>
+fn mark_unused(alloc: Global, unknowns: usize) -> Result<Items<bool>, AllocError>
     ensures { IfOk result (λ used. used ≡ replicate unknowns false) }
 {
     let mut used = Items::new(alloc);

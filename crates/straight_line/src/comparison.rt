@@ -86,7 +86,7 @@ fn row_kind(bound: Bound) -> RowKind
 }
 
 /// The form that is to be at most 0, or 0.
-fn bounded(alloc: Global, differences: Differences, bound: Bound) -> Result<TermForm, AllocError>
+fn bound_form(alloc: Global, differences: Differences, bound: Bound) -> Result<TermForm, AllocError>
     requires { CanBound differences bound }
     ensures { IfOk result (λ f. IsBoundBy differences bound f) }
 {
@@ -136,8 +136,8 @@ impl Meeting {
         match subtract(&mut unknowns, alloc, left, right) {
             Ok(differences) => {
                 let bound = bound_of(op, positive);
-                let form = bounded(alloc, differences, bound)?;
-                let form = self.renumbered(alloc, &unknowns, &form.form)?;
+                let form = bound_form(alloc, differences, bound)?;
+                let form = self.renumber_form(alloc, &unknowns, &form.form)?;
                 let kind = row_kind(bound);
                 self.rows.push(Row { form, kind })?;
                 Ok(())
@@ -147,7 +147,7 @@ impl Meeting {
     }
 
     /// A form over these unknowns as one over the quantities.
-    fn renumbered(
+    fn renumber_form(
         &self,
         alloc: Global,
         unknowns: &Unknowns,

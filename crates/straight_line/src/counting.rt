@@ -25,7 +25,7 @@ pub fn number_at(numbers: &[u64], at: u32) -> u64
 
 // Of a part that is to hold.
 #[tactic(auto, using(crate::proofs::Owned::lengths))]
-fn holding(own: &Own) -> u64
+fn holding_states(own: &Own) -> u64
     ensures { result ≡ cut_off (part_bound (own.now, true)) }
 {
     match own {
@@ -40,7 +40,7 @@ fn holding(own: &Own) -> u64
 
 // Of a part that isn't to hold.
 #[tactic(auto, using(crate::proofs::Owned::lengths))]
-fn failing(own: &Own) -> u64
+fn failing_states(own: &Own) -> u64
     ensures { result ≡ cut_off (part_bound (own.now, false)) }
 {
     match own {
@@ -57,9 +57,9 @@ fn part_states(part: &(Own, bool)) -> u64
     ensures { result ≡ cut_off (part_bound part.now) }
 {
     if part.1 {
-        holding(&part.0)
+        holding_states(&part.0)
     } else {
-        failing(&part.0)
+        failing_states(&part.0)
     }
 }
 

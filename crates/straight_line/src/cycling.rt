@@ -85,16 +85,16 @@ fn next(definitions: &[Definition], places: &[Option<usize>], ahead: &[bool], va
     let Some(place) = places[variable as usize] else {
         unreachable!()
     };
-    let used = used_at(definitions, place);
+    let used = uses_at(definitions, place);
     used[next_ahead(ahead, used, 0)]
 }
 
 /// What the definition at a place uses.
-fn used_at(definitions: &[Definition], place: usize) -> &[u32]
+fn uses_at(definitions: &[Definition], place: usize) -> &[u32]
     requires { place < length definitions.now }
     ensures { (d : AnyDefinition) → slice_get definitions.now place ≡ Some d → result.now ≡ used d.by }
 {
-    definitions[place].by.used()
+    definitions[place].by.uses()
 }
 
 /// What stands from a place on.

@@ -28,7 +28,7 @@ impl By {
     ghost use Rattle.straight_line.specs.Bounds.{used};
 
     /// The variables that it uses, one for each occurrence. Constant time.
-    pub fn used(&self) -> &[u32]
+    pub fn uses(&self) -> &[u32]
         ensures { result.now ≡ used self.now }
     {
         match self {

@@ -55,7 +55,7 @@ fn ends_most(ends: &[(u32, Word)]) -> u64
 }
 
 // The sum of the numbers at these places.
-fn joined(numbers: &[u64], places: &[u32]) -> u64
+fn join_all(numbers: &[u64], places: &[u32]) -> u64
     ensures { (ms : List ℕ) → numbers.now ≡ map cut_off ms → result ≡ cut_off (sum_by (λ v. get_or ms v 1) places.now) }
 {
     let mut total = 0u64;
@@ -69,7 +69,7 @@ fn growth_by(numbers: &[u64], by: &By) -> u64
     ensures { (ms : List ℕ) → numbers.now ≡ map cut_off ms → result ≡ cut_off (growth_by ms by.now) }
 {
     match by {
-        By::Concat(places) => joined(numbers, places.as_slice()),
+        By::Concat(places) => join_all(numbers, places.as_slice()),
         By::First(pattern, new, at) => number_at(numbers, *at)
             .saturating_add(pattern.len() as u64)
             .saturating_add(new.len() as u64),

@@ -19,7 +19,7 @@ pub enum Build {
     Nothing,
 }
 
-pub fn built_by(op: Op) -> Build
+pub fn build_of(op: Op) -> Build
     ensures { result ≡ build_of op }
 {
     match role_of(op) {
@@ -57,7 +57,7 @@ pub fn is_string(term: &Term) -> bool
     match term {
         Term::Text(_) => true,
         Term::Constant(_, sort) => *sort == Sort::String,
-        Term::Apply(op, terms) => match built_by(*op) {
+        Term::Apply(op, terms) => match build_of(*op) {
             Build::Concat => !terms.is_empty() && are_strings(terms.as_slice(), 0),
             Build::First => is_replacement(terms.as_slice()),
             Build::All => is_replacement(terms.as_slice()),
@@ -113,7 +113,7 @@ pub enum Joining {
     Nothing,
 }
 
-pub fn joined_by(op: Op) -> Joining
+pub fn joining_of(op: Op) -> Joining
     ensures { result ≡ joint_of op }
 {
     match role_of(op) {
@@ -184,7 +184,7 @@ fn linear_kind(term: &Term) -> Linearity
                 Linearity::Other
             }
         }
-        Term::Apply(op, terms) => applied(joined_by(*op), terms.as_slice()),
+        Term::Apply(op, terms) => apply_joining(joining_of(*op), terms.as_slice()),
         _ => Linearity::Other,
     }
 }
@@ -202,7 +202,7 @@ pub fn is_linear(term: &Term) -> bool
 
 #[cycle(linearity)]
 #[tactic(auto, using(crate::proofs::Forms::length_not))]
-fn applied(joining: Joining, terms: &[Term]) -> Linearity
+fn apply_joining(joining: Joining, terms: &[Term]) -> Linearity
     ensures { result ≡ read_of joining (shapes (map seen terms.now)) }
 {
     if terms.is_empty() {
@@ -216,7 +216,7 @@ fn applied(joining: Joining, terms: &[Term]) -> Linearity
                 Linearity::Other
             }
         }
-        Joining::Sum | Joining::Product => joined(joining, terms),
+        Joining::Sum | Joining::Product => join_all(joining, terms),
         Joining::Nothing => Linearity::Other,
     }
 }
@@ -237,7 +237,7 @@ fn length(term: &Term) -> Linearity
 // What terms, at least one, are joined from the left.
 #[cycle(linearity)]
 #[tactic(auto, using(crate::proofs::Forms::joined_first, crate::proofs::Forms::joined_step, crate::proofs::Forms::joined_end))]
-fn joined(joining: Joining, terms: &[Term]) -> Linearity
+fn join_all(joining: Joining, terms: &[Term]) -> Linearity
     requires { 0 < length terms.now }
     ensures { result ≡ joined_from joining (shapes (map seen terms.now)) }
 {

@@ -60,7 +60,7 @@ impl Sorting {
         ensures rows { length self.new.waiters.items ≡ length self.old.waiters.items }
         ensures filed { OnOk result ((rest : List Waiter) → IsSorting definitions.now (waiter ∷ rest) self.old.order self.old.ahead self.old.free.keys self.old.waiters.items → IsSorting definitions.now rest self.new.order self.new.ahead self.new.free.keys self.new.waiters.items) }
     {
-        let used = definitions[waiter.definition].by.used();
+        let used = definitions[waiter.definition].by.uses();
         let from = next_ahead(self.ahead.as_slice(), used, waiter.from);
         if from < used.len() {
             self.waiters[used[from] as usize].push(Waiter {
@@ -149,14 +149,14 @@ fn mark(
     ensures count { IfOk result (λ ahead. length ahead ≡ variables) }
     ensures marked { IfOk result (IsMarked definitions.now (length definitions.now)) }
 {
-    let mut ahead = unmarked(alloc, variables)?;
+    let mut ahead = no_marks(alloc, variables)?;
     for definition in definitions {
         ahead.set(definition.variable as usize, true);
     }
     Ok(ahead)
 }
 
-fn unmarked(alloc: Global, variables: u32) -> Result<Items<bool>, AllocError>
+fn no_marks(alloc: Global, variables: u32) -> Result<Items<bool>, AllocError>
     ensures { IfOk result (λ ahead. ahead ≡ replicate variables false) }
 {
     let mut ahead = Items::new(alloc);

@@ -10,7 +10,7 @@ ghost use Rattle.straight_line.specs.Gathered.{ArePieced, IsMet};
 ghost use Rattle.straight_line.specs.Kinds.{literals_of};
 
 use crate::definition::By;
-use crate::kind::{Build, built_by};
+use crate::kind::{Build, build_of};
 use crate::meeting::{Meeting, Place};
 use std::alloc::{AllocError, Global};
 use sv_list::Items;
@@ -29,7 +29,7 @@ impl Meeting {
         match term {
             Term::Text(word) => Ok(self.literal(word.copy(alloc)?)?),
             Term::Constant(name, _) => Ok(self.constant(alloc, term, name)?),
-            Term::Apply(op, terms) => match built_by(*op) {
+            Term::Apply(op, terms) => match build_of(*op) {
                 Build::Concat => Ok(self.concat(alloc, term, terms.as_slice())?),
                 Build::First => Ok(self.first(alloc, term, terms.as_slice())?),
                 Build::All => Ok(self.all(alloc, term, terms.as_slice())?),
@@ -100,7 +100,7 @@ impl Meeting {
     {
         match term {
             Term::Apply(op, terms) => {
-                match built_by(*op) {
+                match build_of(*op) {
                     Build::Concat => {
                         self.pieces(alloc, terms.as_slice(), places)?;
                         Ok(())

@@ -8,7 +8,7 @@ ghost use Rattle.straight_line.specs.Gathered.{AreCounted, IsCounted, IsIntegerC
 
 use crate::code::Code;
 use crate::draft::Quantity;
-use crate::kind::{Joining, is_text, joined_by};
+use crate::kind::{Joining, is_text, joining_of};
 use crate::meeting::Meeting;
 use bool_cubes::Written;
 use std::alloc::{AllocError, Global};
@@ -41,7 +41,7 @@ impl Meeting {
     fn count_applied(&mut self, alloc: Global, op: Op, terms: &[Term]) -> Result<(), AllocError>
         ensures { OnOk result (IsCounted self.old self.new (apply op (shapes (map seen terms.now)))) }
     {
-        match joined_by(op) {
+        match joining_of(op) {
             Joining::Length => {
                 if terms.len() == 1 {
                     self.count_length(alloc, &terms[0])?;

@@ -148,7 +148,7 @@ impl Answering {
             Err(SinkFault::Failed) => return Some(Ending::WriteFailed),
             Err(SinkFault::Memory(_)) => return Some(Ending::NoMemory),
         }
-        if self.session.ended() {
+        if self.session.has_ended() {
             return Some(Ending::Answered);
         }
         None

@@ -46,7 +46,7 @@ impl MemSink {
     }
 
     /// The bytes taken so far.
-    pub fn taken(&self) -> &[u8]
+    pub fn contents(&self) -> &[u8]
         ensures { result.now ≡ self.now.taken }
     {
         &self.taken

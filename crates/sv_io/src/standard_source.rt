@@ -40,7 +40,7 @@ impl StdSource {
     }
 
     // Counts a fault.
-    fn failed(&mut self) -> Failed
+    fn fail(&mut self) -> Failed
         ensures counted { self.new ≡ record self.old { faults = raised self.old.faults } }
         ensures later { self.old.faults ≤ self.new.faults }
     {
@@ -67,7 +67,7 @@ impl Source for StdSource {
             None => Place::Input,
             Some(path) => match File::open(&self.runtime, path) {
                 Ok(file) => Place::File(file),
-                Err(_) => return Err(self.failed()),
+                Err(_) => return Err(self.fail()),
             },
         };
         self.place = Some(place);
@@ -77,7 +77,7 @@ impl Source for StdSource {
     fn read(&mut self, buffer: &mut [u8]) -> Result<usize, Failed> {
         let most = self.room.min(buffer.len() as u64) as usize;
         if most == 0 {
-            return Err(self.failed());
+            return Err(self.fail());
         }
         let answer = match &mut self.place {
             Some(Place::File(file)) => file.read(&mut buffer[..most]),
@@ -88,7 +88,7 @@ impl Source for StdSource {
                 self.room -= count as u64;
                 Ok(count)
             }
-            Err(_) => Err(self.failed()),
+            Err(_) => Err(self.fail()),
         }
     }
 }

@@ -34,7 +34,7 @@ fn a_sink_in_memory_takes_pieces_and_fails_at_chosen_calls(rt: HostRuntime) -> R
     assert_eq!(rt; sink.write(b"c"), Ok(1));
     assert_eq!(rt; sink.flush(), Err(Failed));
     assert_eq!(rt; sink.flush(), Ok(()));
-    assert_eq!(rt; sink.taken(), b"abc".as_slice());
+    assert_eq!(rt; sink.contents(), b"abc".as_slice());
     Ok(())
 }
 

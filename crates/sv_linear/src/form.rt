@@ -3,8 +3,8 @@ ghost use Rattle.sv_linear.specs.Terms.{AscendsWithin, AscendsWithin-prop};
 
 use crate::column::Column;
 use crate::fault::{CombineFault, FormFault};
-use crate::number::{combined, divided};
-use crate::terms::{coefficient_at, content_of, divide_terms, merged};
+use crate::number::{combine_numbers, divide_number};
+use crate::terms::{coefficient_at, content_of, divide_terms, merge};
 use std::alloc::{AllocError, Global};
 use sv_list::{Copied, Items};
 
@@ -141,7 +141,7 @@ impl Form {
         ensures value { IfOk result (λ r. (x : ℕ → ℤ) (d : ℤ) → form_value x d r ≡ by *ℤ form_value x d self.now +ℤ other_by *ℤ form_value x d other.now) }
         ensures outside { IsOutsideExactly (λ c. FitsFrom least by (entry c self.now) other_by (entry c other.now)) result }
     {
-        let terms = merged(
+        let terms = merge(
             alloc,
             by,
             self.coefficients.as_slice(),
@@ -149,7 +149,8 @@ impl Form {
             other.coefficients.as_slice(),
             least,
         )?;
-        let Some(constant) = combined(by, self.constant, other_by, other.constant, least) else {
+        let Some(constant) = combine_numbers(by, self.constant, other_by, other.constant, least)
+        else {
             return Err(CombineFault::Outside(Column::Constant));
         };
         Ok(Form {
@@ -181,7 +182,7 @@ impl Form {
         divide_terms(&mut terms, by);
         Form {
             coefficients: Items::from_vec(terms),
-            constant: divided(constant, by),
+            constant: divide_number(constant, by),
         }
     }
 }

@@ -25,7 +25,7 @@ pub(crate) fn gcd_unsigned(a: u128, b: u128) -> u128
 
 /// p times a and q times b added up, where both products and the sum are numbers of 128 bits and
 /// none is below `least`.
-pub(crate) fn combined(p: i128, a: i128, q: i128, b: i128, least: i128) -> Option<i128>
+pub(crate) fn combine_numbers(p: i128, a: i128, q: i128, b: i128, least: i128) -> Option<i128>
     ensures { SomeIff result (FitsFrom least p a q b) (p *ℤ a +ℤ q *ℤ b) }
 {
     let left = product_from(p, a, least)?;
@@ -49,7 +49,7 @@ fn sum_from(a: i128, b: i128, least: i128) -> Option<i128>
 }
 
 /// The quotient by a number above 1, which no number of 128 bits is too large for.
-pub(crate) fn divided(number: i128, by: u128) -> i128
+pub(crate) fn divide_number(number: i128, by: u128) -> i128
     requires { 2 ≤ by }
     ensures { result ≡ quotient number by }
 {

@@ -7,7 +7,7 @@ ghost use Rattle.sv_linear.specs.Quotients.{divided_term};
 
 use crate::column::Column;
 use crate::fault::CombineFault;
-use crate::number::{combined, divided, gcd_unsigned};
+use crate::number::{combine_numbers, divide_number, gcd_unsigned};
 use std::alloc::Global;
 
 /// The coefficient of an unknown, 0 where it has none.
@@ -23,7 +23,7 @@ pub(crate) fn coefficient_at(terms: &[(u32, i128)], unknown: u32) -> i128
 
 /// p times a and q times b added up, or the first unknown at which a product or the sum isn't a number of 128 bits or
 /// is below `least`.
-pub(crate) fn merged(
+pub(crate) fn merge(
     alloc: Global,
     p: i128,
     a: &[(u32, i128)],
@@ -45,7 +45,7 @@ pub(crate) fn merged(
     while let Some(unknown) = next_unknown(left, right) {
         let (left_here, left_rest) = split_at_unknown(left, unknown);
         let (right_here, right_rest) = split_at_unknown(right, unknown);
-        let Some(sum) = combined(p, left_here, q, right_here, least) else {
+        let Some(sum) = combine_numbers(p, left_here, q, right_here, least) else {
             return Err(CombineFault::Outside(Column::Unknown(unknown)));
         };
         if sum != 0 {
@@ -96,6 +96,6 @@ pub(crate) fn divide_terms(terms: &mut [(u32, i128)], by: u128)
     ensures { terms.new ≡ map (divided_term by) terms.old }
 {
     for term in terms.iter_mut() {
-        term.1 = divided(term.1, by);
+        term.1 = divide_number(term.1, by);
     }
 }

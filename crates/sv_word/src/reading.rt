@@ -66,14 +66,14 @@ fn escape(more: &[u8]) -> Option<(u32, usize)>
     ensures bytes { IfSome result (λ f. (1 ≤ f.1) × (f.1 ≤ length more.now + 1)) }
 {
     match more {
-        [b'u', b'{', digits @ ..] => braced(digits),
+        [b'u', b'{', digits @ ..] => read_braced(digits),
         [b'u', digits @ ..] => four(digits),
         _ => None,
     }
 }
 
 // What stands behind `\u{`.
-fn braced(digits: &[u8]) -> Option<(u32, usize)>
+fn read_braced(digits: &[u8]) -> Option<(u32, usize)>
     ensures exact { result ≡ braced_digits digits.now }
     ensures character { IfSome result (λ f. f.0 ≤ greatest_character) }
     ensures bytes { IfSome result (λ f. (1 ≤ f.1) × (f.1 ≤ length digits.now + 3)) }

@@ -189,7 +189,7 @@ fn text_of(word: Option<Word>) -> Body
 }
 
 #[tactic(auto, using(crate::proofs::Shapes::shaped))]
-fn worded(bodies: Items<Body>) -> Body
+fn word_body(bodies: Items<Body>) -> Body
     ensures { result ≡ w.worded bodies }
 {
     match one(bodies) {
@@ -231,7 +231,7 @@ fn range_of(low: Option<Word>, high: Option<Word>) -> Body
 }
 
 #[tactic(auto, using(crate::proofs::Shapes::shaped))]
-fn ranged(bodies: Items<Body>) -> Body
+fn range_body(bodies: Items<Body>) -> Body
     ensures { result ≡ w.ranged bodies }
 {
     match two(bodies) {
@@ -241,7 +241,7 @@ fn ranged(bodies: Items<Body>) -> Body
 }
 
 /// A regular expression of one part, by its sense.
-fn around(alloc: Global, sense: Sense, regex: Regex) -> Result<Regex, AllocError>
+fn wrap(alloc: Global, sense: Sense, regex: Regex) -> Result<Regex, AllocError>
     ensures { IfOk result (λ x. x ≡ w.around_one sense regex) }
 {
     let regex = Boxed::new(alloc, regex)?;
@@ -260,7 +260,7 @@ fn combine_one(alloc: Global, sense: Sense, bodies: Items<Body>) -> Result<Body,
     ensures { IfOk result (λ x. x ≡ Body.Language (r.of_one (w.around_one sense) (map b.regex_of bodies))) }
 {
     match one(bodies) {
-        Some(body) => Ok(Body::Language(around(alloc, sense, into_regex(body))?)),
+        Some(body) => Ok(Body::Language(wrap(alloc, sense, into_regex(body))?)),
         None => Ok(Body::Language(Regex::Empty)),
     }
 }
@@ -291,8 +291,8 @@ pub fn apply(alloc: Global, sense: Sense, bodies: Items<Body>) -> Result<Body, A
         Sense::Replacement(op) => apply_op(alloc, op, bodies),
         Sense::Opaque => Ok(opaque(Sort::Bool)),
         Sense::Membership => membership(alloc, bodies),
-        Sense::TextOf => Ok(worded(bodies)),
-        Sense::Range => Ok(ranged(bodies)),
+        Sense::TextOf => Ok(word_body(bodies)),
+        Sense::Range => Ok(range_body(bodies)),
         Sense::Empty => Ok(Body::Language(Regex::Empty)),
         Sense::All => Ok(Body::Language(Regex::All)),
         Sense::AnyChar => Ok(Body::Language(Regex::AnyChar)),

@@ -49,7 +49,7 @@ fn member(alloc: Global, word: Term, regex: &Regex) -> Result<Term, AllocError>
 
 /// That a transducer may write the one term where it reads the other.
 #[inline(never)]
-fn related(
+fn relate_terms(
     alloc: Global,
     transducer: &Transducer,
     read: Term,
@@ -64,7 +64,7 @@ fn related(
 }
 
 /// What the part at a place is.
-pub fn built(alloc: Global, draft: &Draft<'_>, place: usize) -> Result<Body, AllocError>
+pub fn build_at(alloc: Global, draft: &Draft<'_>, place: usize) -> Result<Body, AllocError>
     ensures { IfOk result (λ x. x ≡ drafts.at_place draft.now place) }
 {
     Ok(build(alloc, draft.parts(), place)?)
@@ -275,7 +275,7 @@ fn put_in_related(
 {
     let read = put_in(alloc, parts, arguments, index, read)?;
     let written = put_in(alloc, parts, arguments, index, written)?;
-    Ok(related(alloc, transducer, read, written)?)
+    Ok(relate_terms(alloc, transducer, read, written)?)
 }
 
 /// The place of the argument of a parameter of this name.

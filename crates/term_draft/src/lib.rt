@@ -20,5 +20,5 @@ mod building;
 mod draft;
 
 pub use applying::{body_sort, into_term};
-pub use building::built;
+pub use building::build_at;
 pub use draft::Draft;

@@ -208,10 +208,10 @@ fn a_fault_stays_and_little_is_kept(rt: HostRuntime) -> Result<(), AllocError> {
     let mut reader = Reader::new(alloc);
     reader.feed(b"(a \"bc\" ; comment")?;
     assert!(rt; matches!(reader.next(), Ok(None)));
-    assert_eq!(rt; reader.held(), 0);
+    assert_eq!(rt; reader.held_bytes(), 0);
     reader.feed(b"\n def")?;
     assert!(rt; matches!(reader.next(), Ok(None)));
-    assert_eq!(rt; reader.held(), 3);
+    assert_eq!(rt; reader.held_bytes(), 3);
     reader.feed(b") )")?;
     assert!(rt; matches!(reader.next(), Ok(Some(Sexpr::List(_)))));
     for more in ["", "x", "("] {
@@ -243,6 +243,6 @@ fn a_long_script_is_read_in_small_pieces(rt: HostRuntime) -> Result<(), AllocErr
         }
     }
     assert_eq!(rt; count, 1_000);
-    assert_eq!(rt; reader.held(), 0);
+    assert_eq!(rt; reader.held_bytes(), 0);
     Ok(())
 }

@@ -5,7 +5,7 @@ use std::test::Fail;
 use sv_list::Items;
 use sv_terms::{Body, Entry, Name, Op, Sort, Term};
 use sv_word::Word;
-use term_draft::{Draft, built};
+use term_draft::{Draft, build_at};
 use term_weight::{Declarations, Declared};
 
 fn word(alloc: Global, text: &str) -> Result<Word, AllocError> {
@@ -64,7 +64,7 @@ fn is_built(
     place: usize,
     term: &Term,
 ) -> Result<bool, AllocError> {
-    let body = built(alloc, draft, place)?;
+    let body = build_at(alloc, draft, place)?;
     Ok(is_term(&body, term))
 }
 

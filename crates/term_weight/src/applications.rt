@@ -4,8 +4,8 @@ ghost use Rattle.term_weight.specs.Weights as w;
 
 use crate::rank::same_sort;
 use crate::weight::{
-    Factor, Weight, are_languages, combined_weight, in_weight, is_literal, one_weight, op_weight,
-    related_weight, unknowns,
+    Factor, Weight, are_languages, combined_weight, is_literal, one_weight, op_weight,
+    related_weight, unknowns, weigh_membership,
 };
 use smt_names::Sense;
 use sv_terms::{Op, Sort};
@@ -119,7 +119,7 @@ fn membership_weight(weights: &[Weight]) -> Weight
     ensures { result ≡ w.membership_weight weights.now }
 {
     match weights {
-        [word, regex] => in_weight(*word, *regex),
+        [word, regex] => weigh_membership(*word, *regex),
         _ => Weight::opaque(Sort::Bool),
     }
 }

@@ -110,7 +110,7 @@ impl Uses {
     }
 
     /// One of them right under a length.
-    pub fn measured(self) -> Uses
+    pub fn measured_use(self) -> Uses
         ensures { result ≡ sums.measured self }
     {
         Uses {

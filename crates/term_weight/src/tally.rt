@@ -64,7 +64,7 @@ impl Tally {
     {
         match self.uses.get(place) {
             Some(uses) => {
-                let uses = uses.measured();
+                let uses = uses.measured_use();
                 self.uses.set(place, uses)
             }
             None => (),
@@ -103,7 +103,7 @@ fn leaf(tally: &mut Tally, places: &Places, depth: u32, factor: Factor)
 
 /// A parameter, or a constant.
 #[inline(never)]
-fn named(tally: &mut Tally, places: &Places, depth: u32, name: &Name)
+fn tally_name(tally: &mut Tally, places: &Places, depth: u32, name: &Name)
     ensures { Gains places.now tally.old tally.new (λ ws. sums.share depth (sums.part_named places.now ws name.now)) }
 {
     match places.get(name) {
@@ -175,7 +175,7 @@ fn tally_term(
         Term::Truth(_) => Ok(leaf(tally, places, depth, Factor::Known)),
         Term::Number(_) => Ok(leaf(tally, places, depth, Factor::Known)),
         Term::Text(_) => Ok(leaf(tally, places, depth, Factor::Literal)),
-        Term::Constant(name, _) => Ok(named(tally, places, depth, name)),
+        Term::Constant(name, _) => Ok(tally_name(tally, places, depth, name)),
         Term::Apply(op, terms) => {
             let terms = terms.as_slice();
             leaf(tally, places, depth, Factor::Known);

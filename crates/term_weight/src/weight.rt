@@ -81,7 +81,7 @@ impl Weight {
     }
 
     /// The part as it counts where terms are wanted, or as it is.
-    fn counted(self, as_terms: bool) -> Weight
+    fn count(self, as_terms: bool) -> Weight
         ensures { result ≡ w.counted as_terms self }
     {
         if as_terms { self.as_term() } else { self }
@@ -135,7 +135,7 @@ fn nodes(weights: &[Weight], as_terms: bool) -> u32
 {
     let mut n: u32 = 1;
     for weight in weights {
-        n = n.saturating_add(weight.counted(as_terms).nodes);
+        n = n.saturating_add(weight.count(as_terms).nodes);
     }
     n
 }
@@ -147,13 +147,13 @@ fn nesting(weights: &[Weight], as_terms: bool) -> u32
 {
     let mut n: u32 = 0;
     for weight in weights {
-        n = n.max(weight.counted(as_terms).nesting.saturating_add(1));
+        n = n.max(weight.count(as_terms).nesting.saturating_add(1));
     }
     n
 }
 
 /// A function of parts of these weights.
-fn around(
+fn weight_around(
     sort: Sort,
     factor: Factor,
     is_language: bool,
@@ -220,15 +220,15 @@ fn op_factor(op: Op, weights: &[Weight]) -> Factor
 pub fn op_weight(op: Op, weights: &[Weight]) -> Weight
     ensures { result ≡ w.op_weight op (map w.as_term weights.now) }
 {
-    around(op_sort(op), op_factor(op, weights), false, weights, true)
+    weight_around(op_sort(op), op_factor(op, weights), false, weights, true)
 }
 
 /// The membership of a word in a regular expression of these weights.
-pub fn in_weight(word: Weight, regex: Weight) -> Weight
+pub fn weigh_membership(word: Weight, regex: Weight) -> Weight
     ensures { result ≡ w.in_weight (w.as_term word) regex }
 {
     let word = word.as_term();
-    around(
+    weight_around(
         Sort::Bool,
         holds(is_unknown(word.factor)),
         false,
@@ -244,13 +244,13 @@ pub fn related_weight(read: Weight, written: Weight) -> Weight
     let read = read.as_term();
     let written = written.as_term();
     let unknown = is_unknown(read.factor) || is_unknown(written.factor);
-    around(Sort::Bool, holds(unknown), false, &[read, written], false)
+    weight_around(Sort::Bool, holds(unknown), false, &[read, written], false)
 }
 
 pub fn combined_weight(weights: &[Weight]) -> Weight
     ensures { result ≡ w.combined_weight weights.now }
 {
-    around(Sort::RegLan, Factor::Known, true, weights, false)
+    weight_around(Sort::RegLan, Factor::Known, true, weights, false)
 }
 
 /// Of any other number of parts than one none is made.

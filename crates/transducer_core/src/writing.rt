@@ -7,7 +7,7 @@ use sv_terms::Item;
 use sv_word::{GREATEST_CHARACTER, Word};
 
 /// The character moved by a number, if it is one.
-pub fn moved(c: u32, by: i32) -> Option<u32>
+pub fn move_character(c: u32, by: i32) -> Option<u32>
     ensures { result ≡ character (pos c +ℤ by) }
 {
     let sum = c as i64 + by as i64;
@@ -28,7 +28,7 @@ pub fn text_at(alloc: Global, items: &[Item], c: u32) -> Result<Option<Word>, Al
                 text.append(word)?;
             }
             Item::Shift(by) => {
-                match moved(c, *by) {
+                match move_character(c, *by) {
                     Some(d) => {
                         text.push(d)?;
                     }

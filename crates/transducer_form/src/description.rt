@@ -6,7 +6,7 @@ ghost use Rattle.smt_names.specs.Tokens as t;
 ghost use Rattle.transducer_form.specs.Written as w;
 
 use sexpr_reader::Sexpr;
-use smt_names::token::{digits, listed, literal_text, pair, symbol, unquoted};
+use smt_names::token::{bare_name, digits, list_items, literal_text, pair, symbol};
 
 /// A transducer's description in its written form: its states, its start, its edges and its ends.
 #[derive(Drop)]
@@ -37,9 +37,9 @@ impl<'a> Description<'a> {
     ) -> Option<Description<'a>>
         ensures { option_map w.description_seen result ≡ w.description_form (seen states.now) (seen start.now) (seen edges.now) (seen ends.now) }
     {
-        let states = listed(states)?;
-        let edges = listed(edges)?;
-        let ends = listed(ends)?;
+        let states = list_items(states)?;
+        let edges = list_items(edges)?;
+        let ends = list_items(ends)?;
         if are_symbols(states) && symbol(start).is_some() && are_edges(edges) && are_ends(ends) {
             Some(Description {
                 states,
@@ -60,7 +60,7 @@ pub fn edge_parts(edge: &Sexpr) -> Option<EdgeParts<'_>>
 {
     match edge {
         Sexpr::List(parts) => match parts.as_slice() {
-            [from, low, high, items, to] => match listed(items) {
+            [from, low, high, items, to] => match list_items(items) {
                 Some(items) => Some(EdgeParts {
                     from,
                     low,
@@ -81,7 +81,7 @@ fn is_in(part: &Sexpr) -> bool
     ensures { result ≡ w.is_named (codes "in") (t.symbol (seen part.now)) }
 {
     match symbol(part) {
-        Some(text) => unquoted(text) == b"in".as_slice(),
+        Some(text) => bare_name(text) == b"in".as_slice(),
         None => false,
     }
 }
@@ -91,7 +91,7 @@ fn is_minus(part: &Sexpr) -> bool
     ensures { result ≡ w.is_named (codes "-") (t.symbol (seen part.now)) }
 {
     match symbol(part) {
-        Some(text) => unquoted(text) == b"-".as_slice(),
+        Some(text) => bare_name(text) == b"-".as_slice(),
         None => false,
     }
 }
@@ -141,7 +141,7 @@ fn is_end(end: &Sexpr) -> bool
     ensures { result ≡ w.is_end (seen end.now) }
 {
     match pair(end) {
-        Some((state, words)) => match listed(words) {
+        Some((state, words)) => match list_items(words) {
             Some(words) => symbol(state).is_some() && are_texts(words),
             None => false,
         },

@@ -9,7 +9,7 @@ use crate::text::word;
 use indexmap::IndexSet;
 use sexpr_reader::Sexpr;
 use smt_names::CheckFault;
-use smt_names::token::{listed, pair};
+use smt_names::token::{list_items, pair};
 use std::alloc::Global;
 use sv_list::Items;
 use sv_terms::Name;
@@ -17,7 +17,7 @@ use sv_word::Word;
 
 /// The words of literals, one after another. Linear.
 #[tactic(auto, using(crate::proofs::Joined::joining))]
-fn words_joined(alloc: Global, parts: &[Sexpr]) -> Result<Word, CheckFault>
+fn join_words(alloc: Global, parts: &[Sexpr]) -> Result<Word, CheckFault>
     ensures { Answers (d.words_joined (forms (map seen parts.now))) result }
 {
     let mut all = Word::new(alloc);
@@ -38,8 +38,8 @@ fn end(alloc: Global, states: &IndexSet<Name>, part: &Sexpr) -> Result<(u32, Wor
     match pair(part) {
         Some((at, words)) => {
             let at = state(alloc, states, at)?;
-            match listed(words) {
-                Some(words) => Ok((at, words_joined(alloc, words)?)),
+            match list_items(words) {
+                Some(words) => Ok((at, join_words(alloc, words)?)),
                 None => Err(CheckFault::Shape),
             }
         }

@@ -22,4 +22,4 @@ mod state;
 mod text;
 
 pub use description::{Description, EdgeParts};
-pub use reading::described;
+pub use reading::build_transducer;

@@ -68,7 +68,7 @@ fn edges(
 }
 
 /// The transducer over states of these names.
-fn described_over(
+fn build_over(
     alloc: Global,
     description: &Description<'_>,
     states: &IndexSet<Name>,
@@ -91,7 +91,10 @@ fn described_over(
 /// The transducer that a description describes, or the fault Transducer: a state that stands twice
 /// or isn't listed, a literal that isn't one character or stands above the other, a number above
 /// 196,607, no state, more than 256 states, 4,096 edges or 4,096 ends. Linear in the text.
-pub fn described(alloc: Global, description: &Description<'_>) -> Result<Transducer, CheckFault>
+pub fn build_transducer(
+    alloc: Global,
+    description: &Description<'_>,
+) -> Result<Transducer, CheckFault>
     ensures { Answers (d.described (w.description_seen description.now)) result }
 {
     if description.states.len() > MOST_TRANSDUCER_STATES {
@@ -104,7 +107,7 @@ pub fn described(alloc: Global, description: &Description<'_>) -> Result<Transdu
         return Err(CheckFault::Transducer);
     }
     match state_names(alloc, description.states) {
-        Ok(states) => described_over(alloc, description, &states),
+        Ok(states) => build_over(alloc, description, &states),
         Err(fault) => Err(fault),
     }
 }

@@ -24,4 +24,4 @@ first_counts-returns-after-loop-j t c u e =
     c.loop-j.invariant.all u e ∙ ap (λ n. counts_of (conjunction (first_pairs u (drop n c.args.terms.now)))) end
 
 pub neighbour_counts-returns-then-terms-lt2 : goal.neighbour_counts-returns-then-terms-lt2
-neighbour_counts-returns-then-terms-lt2 t c = c.settled-all.ensures ∙ sym (few_neighbours c.args.terms.now (omega arith))
+neighbour_counts-returns-then-terms-lt2 t c = c.of_truth-all.ensures ∙ sym (few_neighbours c.args.terms.now (omega arith))

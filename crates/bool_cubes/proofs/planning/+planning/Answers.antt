@@ -69,8 +69,8 @@ equal_sides-loop-i-preserved t c = record {
 
 pub exclusive_sides-loop-i-preserved : goal.exclusive_sides-loop-i-preserved
 exclusive_sides-loop-i-preserved t c =
-    exclusive_step c.args.plan.now.nodes c.loop-i.plan.nodes c.term_sides-in-loop-i.new.plan.nodes c.agreement.new.self.nodes c.loop-i.odd c.in_ok-next.next c.in_ok-agreement.field-0 c.turned-odd.result c.args.terms.now c.loop-i.i c.index-terms-i.result
-    (omega arith) (omega arith) c.index-terms-i.is c.loop-i.invariant c.in_ok-next.ensures c.in_ok-agreement.ensures c.turned-odd.ensures.holding c.turned-odd.ensures.failing
+    exclusive_step c.args.plan.now.nodes c.loop-i.plan.nodes c.term_sides-in-loop-i.new.plan.nodes c.agreement.new.self.nodes c.loop-i.odd c.in_ok-next.next c.in_ok-agreement.field-0 c.negation-odd.result c.args.terms.now c.loop-i.i c.index-terms-i.result
+    (omega arith) (omega arith) c.index-terms-i.is c.loop-i.invariant c.in_ok-next.ensures c.in_ok-agreement.ensures c.negation-odd.ensures.holding c.negation-odd.ensures.failing
 
 pub implied_sides-loop-i-preserved : goal.implied_sides-loop-i-preserved
 implied_sides-loop-i-preserved t c = record {

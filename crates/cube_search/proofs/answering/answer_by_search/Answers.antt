@@ -50,12 +50,12 @@ returns-clause-right c =
     let flat = c.args.flat.now in
     let state = c.in_ok-state.state in
     let covered = subst (λ n. IsCovered flat c.in_ok-region_of.field-0 n state.machines c.descend.new.tally) c.len-left.ensures (c.descend.ensures.covered (c.in_ok-found.was ∙ ap (λ o. Ok o) c.in-None.is)) in
-    subst (IsCubeAnswer flat) (sym c.left_of.ensures)
+    subst (IsCubeAnswer flat) (sym c.open_answer.ensures)
     (left-answers flat c.in_ok-region_of.field-0 c.in_ok-region_of.ensures state.machines c.descend.new.tally c.requires.straight c.in_ok-state.ensures.state.led c.in_ok-found.ensures.tally covered)
 
 pub returns-clause-decided : goal.returns-clause-decided
 returns-clause-decided c = λ must.
-    subst IsDecided (sym c.left_of.ensures) (left-decides c.args.flat.now c.in_ok-region_of.field-0 c.in_ok-region_of.ensures c.descend.new.tally c.in_ok-found.ensures.tally must)
+    subst IsDecided (sym c.open_answer.ensures) (left-decides c.args.flat.now c.in_ok-region_of.field-0 c.in_ok-region_of.ensures c.descend.new.tally c.in_ok-found.ensures.tally must)
 
 pub returns-in_err-state-clause-refused : goal.returns-in_err-state-clause-refused
 returns-in_err-state-clause-refused c = λ n e.

@@ -40,18 +40,18 @@ returns-in-Ok-clause-only g c =
 pub returns-clause-right : goal.returns-clause-right
 returns-clause-right g c =
     let own = refused-at (List Cube) c.args.terms.now c.as_slice-2.result.now c.new.result c.in-Err.fault (c.as_slice-2.ensures ∙ c.in_ok-clear.ensures) c.in-Err.is c.new.ensures.refused in
-    subst (λ r. IfOk r (RightVerdict c.args.terms.now)) (sym c.refused.ensures) (refused-right (List Cube) c.args.terms.now c.in-Err.fault own)
+    subst (λ r. IfOk r (RightVerdict c.args.terms.now)) (sym c.refusal_of.ensures) (refused-right (List Cube) c.args.terms.now c.in-Err.fault own)
 
 pub returns-clause-complete : goal.returns-clause-complete
 returns-clause-complete g c = λ must.
     let own = refused-at (List Cube) c.args.terms.now c.as_slice-2.result.now c.new.result c.in-Err.fault (c.as_slice-2.ensures ∙ c.in_ok-clear.ensures) c.in-Err.is c.new.ensures.refused in
-    subst (λ r. IfOk r (IsComplete c.args.terms.now)) (sym c.refused.ensures) (refused-complete (List Cube) c.args.terms.now c.in-Err.fault own must)
+    subst (λ r. IfOk r (IsComplete c.args.terms.now)) (sym c.refusal_of.ensures) (refused-complete (List Cube) c.args.terms.now c.in-Err.fault own must)
 
 pub returns-clause-only : goal.returns-clause-only
-returns-clause-only g c = subst (λ r. IfOk r (HasOnly c.args.terms.now)) (sym c.refused.ensures) (refused-only c.args.terms.now c.in-Err.fault)
+returns-clause-only g c = subst (λ r. IfOk r (HasOnly c.args.terms.now)) (sym c.refusal_of.ensures) (refused-only c.args.terms.now c.in-Err.fault)
 
 pub returns-clause-folded : goal.returns-clause-folded
-returns-clause-folded g c = subst (λ r. IfOk r (IsFolded c.args.terms.now)) (sym c.refused.ensures) (refused-folded c.args.terms.now c.in-Err.fault)
+returns-clause-folded g c = subst (λ r. IfOk r (IsFolded c.args.terms.now)) (sym c.refusal_of.ensures) (refused-folded c.args.terms.now c.in-Err.fault)
 
 pub answer_all-requires-clause-sorted : goal.answer_all-requires-clause-sorted
 answer_all-requires-clause-sorted g c κs within =

@@ -12,12 +12,12 @@ of-meet-requires-clause-agree c = plain-agree c.args.parts.now c.requires
 pub of-meet-requires-clause-fits : goal.of-meet-requires-clause-fits
 of-meet-requires-clause-fits c = tops-fit c.args.parts.now c.requires
 
-pub explored-requires : goal.explored-requires
-explored-requires c = subst (λ ms. meet_width (λ (m : Graph). m.registers) ms ≡ 0) (sym c.of-meet.ensures.parts) (plain-width c.args.parts.now c.requires)
+pub list_states-requires : goal.list_states-requires
+list_states-requires c = subst (λ ms. meet_width (λ (m : Graph). m.registers) ms ≡ 0) (sym c.of-meet.ensures.parts) (plain-width c.args.parts.now c.requires)
 
 pub returns : goal.returns
 returns c =
     let size = ap (multiplied states_of) c.of-meet.ensures.parts in
     builds-as _ _ _ _ c.args.limit
     (meet-words c.args.parts.now c.requires c.of-meet.result.parts.now c.of-meet.ensures.parts c.of-meet.ensures.language)
-    (omega arith) c.explored.result c.explored.ensures
+    (omega arith) c.list_states.result c.list_states.ensures

@@ -10,4 +10,4 @@ returns c =
     let size = ap (λ (m : Graph). 2 ^ m.states) c.of-subset.ensures.machine in
     builds-as _ _ _ _ c.args.limit
     (other-words c.args.part.now s.machine.now s.negated c.of-subset.ensures.machine c.of-subset.ensures.negated c.of-subset.ensures.language)
-    (omega arith) c.explored.result c.explored.ensures
+    (omega arith) c.list_states.result c.list_states.ensures

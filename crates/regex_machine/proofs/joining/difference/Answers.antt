@@ -21,8 +21,8 @@ of-meet-requires-clause-agree c d i = sym (side-width c.as_slice-list.result.now
 pub of-meet-requires-clause-fits : goal.of-meet-requires-clause-fits
 of-meet-requires-clause-fits c = let e = side-tops c.as_slice-list.result.now in omega arith
 
-pub explored-requires : goal.explored-requires
-explored-requires c = side-width c.of-meet.result.parts.now
+pub list_states-requires : goal.list_states-requires
+list_states-requires c = side-width c.of-meet.result.parts.now
 
 pub returns-then-is_empty : goal.returns-then-is_empty
 returns-then-is_empty c =
@@ -40,5 +40,5 @@ returns c =
     let words = sides-words (drop 1 ms) c.in_ok-sides.sides f c.within-first.result c.in_ok-sides.ensures c.within-first.ensures c.as_slice-list.result.now c.of-meet.result.parts.now
     is c.of-meet.ensures.parts c.of-meet.ensures.language in
     let size = sides-size (drop 1 ms) c.in_ok-sides.sides f c.within-first.result c.in_ok-sides.ensures c.within-first.ensures c.of-meet.result.parts.now (c.of-meet.ensures.parts ∙ is) in
-    subst (λ l. Builds (InFirstOnly WordsOf l) (from_left without_size (map states_of l)) c.args.limit c.explored.result) whole
-    (builds-as _ _ _ _ c.args.limit words (omega arith) c.explored.result c.explored.ensures)
+    subst (λ l. Builds (InFirstOnly WordsOf l) (from_left without_size (map states_of l)) c.args.limit c.list_states.result) whole
+    (builds-as _ _ _ _ c.args.limit words (omega arith) c.list_states.result c.list_states.ensures)

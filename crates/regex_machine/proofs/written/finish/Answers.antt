@@ -26,4 +26,4 @@ returns c =
     let g = subst (λ o. ReadsOn new o w ↔ ReadsOn old rest.onward w) (sym has.same) (reads-grown old new has.more rest.onward w has.grown c.requires.formed.onward c.requires.closed) in
     let s = subst (λ l. ReadsOn l now.onward w ↔ ReadsOn old rest.onward w) (sym c.as_slice.ensures) g in
     (λ h. s.0 (r.0 h), λ h. r.1 (s.1 h)))
-    (omega arith) c.explored.result c.explored.ensures
+    (omega arith) c.list_states.result c.list_states.ensures

@@ -80,7 +80,7 @@ read_values-returns-in-Err t c =
     (c.in-Err.ensures s (go-on s c.args.walk.now c.loop-binding.walk c.loop-binding.all a b)))
 
 pub read_value-returns-in-Ok : goal.read_value-returns-in-Ok
-read_value-returns-in-Ok t c = λ s b. value-read c.args.symbols.now s (seen c.args.binding.now) (seen c.name-item.result) (seen c.value-item.result) c.args.walk.now c.read.new.walk c.noted.new.walk c.in-Ok.place c.noted.result (binding-seen c.args.binding.now c.as_slice.result.now (c.in-List.is ∙ ap v.List (sym c.as_slice.ensures)) c.name-item.result c.value-item.result c.in-len2.len_at_least c.in-len2.len_below c.name-item.is c.value-item.is) (c.in-Ok.ensures s b) (c.noted.ensures (c.in-Ok.ensures s b).what (c.in-Ok.ensures s b).there)
+read_value-returns-in-Ok t c = λ s b. value-read c.args.symbols.now s (seen c.args.binding.now) (seen c.name-item.result) (seen c.value-item.result) c.args.walk.now c.read.new.walk c.note_value.new.walk c.in-Ok.place c.note_value.result (binding-seen c.args.binding.now c.as_slice.result.now (c.in-List.is ∙ ap v.List (sym c.as_slice.ensures)) c.name-item.result c.value-item.result c.in-len2.len_at_least c.in-len2.len_below c.name-item.is c.value-item.is) (c.in-Ok.ensures s b) (c.note_value.ensures (c.in-Ok.ensures s b).what (c.in-Ok.ensures s b).there)
 
 pub read_value-returns-in-Err : goal.read_value-returns-in-Err
 read_value-returns-in-Err t c = λ s b. value-fault c.args.symbols.now s (seen c.args.binding.now) (seen c.name-item.result) (seen c.value-item.result) c.args.walk.now c.read.new.walk c.in-Err.fault (binding-seen c.args.binding.now c.as_slice.result.now (c.in-List.is ∙ ap v.List (sym c.as_slice.ensures)) c.name-item.result c.value-item.result c.in-len2.len_at_least c.in-len2.len_below c.name-item.is c.value-item.is) (c.in-Err.ensures s b)
@@ -107,7 +107,7 @@ read_quantifier-returns-in-Ok t c =
     λ s b.
     let first = c.in_ok-constants-in-List.ensures in
     let second = c.in-Ok.ensures s first.what (go-on s c.args.walk.now c.constants.new.walk c.in_ok-constants-in-List.constants first b) first.there in
-    quantifier-read c.args.symbols.now s c.as_slice-bound.result.now (seen c.body-item.result) (forms (map seen c.args.parts.now)) (two-seen c.args.parts.now c.bound-item.result c.body-item.result c.in-len2.len_at_least c.in-len2.len_below c.bound-item.is c.body-item.is ∙ ap (λ z. z ⨾ seen c.body-item.result ⨾ end) (ap seen (c.in-List.is ∙ ap v.List (sym c.as_slice-bound.ensures)) ∙ seen-List c.as_slice-bound.result.now)) c.args.walk.now c.constants.new.walk c.read_within.new.walk c.quantified.new.walk c.as_slice.result.now c.in_ok-constants-in-List.constants c.in-Ok.place c.quantified.result (sym c.if-not-are_variables.ensures) (c.as_slice.ensures ∙ c.in_ok-variables-in-List.ensures) first second (c.quantified.ensures second.what second.there)
+    quantifier-read c.args.symbols.now s c.as_slice-bound.result.now (seen c.body-item.result) (forms (map seen c.args.parts.now)) (two-seen c.args.parts.now c.bound-item.result c.body-item.result c.in-len2.len_at_least c.in-len2.len_below c.bound-item.is c.body-item.is ∙ ap (λ z. z ⨾ seen c.body-item.result ⨾ end) (ap seen (c.in-List.is ∙ ap v.List (sym c.as_slice-bound.ensures)) ∙ seen-List c.as_slice-bound.result.now)) c.args.walk.now c.constants.new.walk c.read_within.new.walk c.quantify.new.walk c.as_slice.result.now c.in_ok-constants-in-List.constants c.in-Ok.place c.quantify.result (sym c.if-not-are_variables.ensures) (c.as_slice.ensures ∙ c.in_ok-variables-in-List.ensures) first second (c.quantify.ensures second.what second.there)
 
 pub read_within-returns : goal.read_within-returns
 read_within-returns t c =

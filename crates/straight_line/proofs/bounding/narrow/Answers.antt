@@ -16,9 +16,9 @@ returns-then-at-len c n rs e =
     = (let f : SFits w128 (get_or c.as_slice-coefficients.result.now 0 (0, pos 0)).1 = search rules in to_z-of_z w128 (get_or ts 0 (0, pos 0)).1 f) ∙ ap (λ (xs : List (ℕ × ℤ)). (get_or xs 0 (0, pos 0)).1) same in
     let k : to_z w128 (of_z w128 c.args.row.now.form.constant) ≡ c.args.row.now.form.constant
     = (let f : SFits w128 c.args.row.now.form.constant = search rules in to_z-of_z w128 row.form.constant f) in
-    let q = c.narrowed-span.ensures ∙ (λ i. span_by row.kind (a i) (k i) (get_or (c.as_slice.ensures i) (get_or ts 0 (0, pos 0)).0 (record { least = None; most = None }))) in
+    let q = c.narrow_span-span.ensures ∙ (λ i. span_by row.kind (a i) (k i) (get_or (c.as_slice.ensures i) (get_or ts 0 (0, pos 0)).0 (record { least = None; most = None }))) in
     let low : (get_or c.as_slice-coefficients.result.now 0 (0, pos 0)).0 < length c.args.spans.now = omega arith in
-    c.set.ensures ∙ narrow_here row rs c.args.spans.now n (get_or ts 0 (0, pos 0)).0 c.narrowed-span.result (record { least = None; most = None }) one at e low q
+    c.set.ensures ∙ narrow_here row rs c.args.spans.now n (get_or ts 0 (0, pos 0)).0 c.narrow_span-span.result (record { least = None; most = None }) one at e low q
 
 pub returns-else-at-len : goal.returns-else-at-len
 returns-else-at-len c n rs e =

@@ -5,4 +5,4 @@ use Rattle.straight_line.proofs.kind.+linearity.Goals as goal
 
 pub linear_kind-returns-in-Apply : goal.linear_kind-returns-in-Apply
 linear_kind-returns-in-Apply t c =
-    applied_kind c.args.term.now c.in-Apply.op c.in-Apply.terms c.joined_by.result c.applied.result c.in-Apply.is c.joined_by.ensures (c.applied.ensures ∙ ap (λ us. read_of c.joined_by.result (seen_all us)) c.as_slice.ensures)
+    applied_kind c.args.term.now c.in-Apply.op c.in-Apply.terms c.joining_of.result c.apply_joining.result c.in-Apply.is c.joining_of.ensures (c.apply_joining.ensures ∙ ap (λ us. read_of c.joining_of.result (seen_all us)) c.as_slice.ensures)

@@ -7,4 +7,4 @@ use Rattle.term_weight.proofs.Sums.{map-as-it-is}
 use Rattle.term_weight.proofs.weight.combined_weight.Goals as goal
 
 pub returns : goal.returns
-returns c = c.around.ensures ∙ ap (around RegLan Known true) (map-as-it-is (counted false) (λ w. refl) c.args.weights.now)
+returns c = c.weight_around.ensures ∙ ap (around RegLan Known true) (map-as-it-is (counted false) (λ w. refl) c.args.weights.now)

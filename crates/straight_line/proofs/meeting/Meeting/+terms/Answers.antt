@@ -23,13 +23,13 @@ all-returns-in_ok-define-in-New-clause-met t c =
 
 pub piece-returns-in_ok-pieces-in-Concat-clause-met : goal.piece-returns-in_ok-pieces-in-Concat-clause-met
 piece-returns-in_ok-pieces-in-Concat-clause-met t c =
-    piece_concat c.args.self.now c.pieces.new.self c.args.term.now c.in-Apply.op c.in-Apply.terms c.built_by.result c.args.places.now c.pieces.new.places c.in-Apply.is c.built_by.ensures c.in-Concat.is
+    piece_concat c.args.self.now c.pieces.new.self c.args.term.now c.in-Apply.op c.in-Apply.terms c.build_of.result c.args.places.now c.pieces.new.places c.in-Apply.is c.build_of.ensures c.in-Concat.is
     (subst (λ us. ArePieced c.args.self.now c.pieces.new.self (pieces (seen_all us)) c.args.places.now c.pieces.new.places) c.as_slice.ensures c.in_ok-pieces-in-Concat.ensures.met)
 
-pub piece-returns-in_ok-push-in_default-built_by : goal.piece-returns-in_ok-push-in_default-built_by
-piece-returns-in_ok-push-in_default-built_by t c = record {
+pub piece-returns-in_ok-push-in_default-build_of : goal.piece-returns-in_ok-push-in_default-build_of
+piece-returns-in_ok-push-in_default-build_of t c = record {
   met =
-      piece_other c.args.self.now c.place.new.self c.args.term.now c.in-Apply.op c.in-Apply.terms c.built_by.result c.in_ok-place-in_default-built_by.place c.args.places.now c.push.new.self c.in-Apply.is c.built_by.ensures c.in_default-built_by.not-Concat
-      c.in_ok-place-in_default-built_by.ensures.met c.in_ok-push-in_default-built_by.ensures.ok;
-  numbers = c.in_ok-place-in_default-built_by.ensures.numbers;
+      piece_other c.args.self.now c.place.new.self c.args.term.now c.in-Apply.op c.in-Apply.terms c.build_of.result c.in_ok-place-in_default-build_of.place c.args.places.now c.push.new.self c.in-Apply.is c.build_of.ensures c.in_default-build_of.not-Concat
+      c.in_ok-place-in_default-build_of.ensures.met c.in_ok-push-in_default-build_of.ensures.ok;
+  numbers = c.in_ok-place-in_default-build_of.ensures.numbers;
 }

@@ -4,11 +4,11 @@ use Rattle.bool_cubes.specs.declared.past.Differences.{Differences}
 use Rattle.straight_line.proofs.Comparisons.{can_bound, compared_renumber, compared_row, subtract_memory}
 use Rattle.straight_line.proofs.meeting.Meeting.compare.Goals as goal
 
-pub bounded-requires : goal.bounded-requires
-bounded-requires c = can_bound (seen c.args.left.now) (seen c.args.right.now) c.subtract.new.unknowns.codes c.in-Ok.differences c.args.op c.args.positive c.bound_of-bound.result c.in-Ok.ensures.forms c.requires.fits c.bound_of-bound.ensures
+pub bound_form-requires : goal.bound_form-requires
+bound_form-requires c = can_bound (seen c.args.left.now) (seen c.args.right.now) c.subtract.new.unknowns.codes c.in-Ok.differences c.args.op c.args.positive c.bound_of-bound.result c.in-Ok.ensures.forms c.requires.fits c.bound_of-bound.ensures
 
-pub renumbered-requires : goal.renumbered-requires
-renumbered-requires c = compared_renumber c.args.self.now (seen c.args.left.now) (seen c.args.right.now) c.args.op c.args.positive c.requires c.subtract.new.unknowns.codes c.in-Ok.differences c.bound_of-bound.result c.in_ok-form-in-Ok.form c.in-Ok.ensures.forms c.bound_of-bound.ensures c.in_ok-form-in-Ok.ensures
+pub renumber_form-requires : goal.renumber_form-requires
+renumber_form-requires c = compared_renumber c.args.self.now (seen c.args.left.now) (seen c.args.right.now) c.args.op c.args.positive c.requires c.subtract.new.unknowns.codes c.in-Ok.differences c.bound_of-bound.result c.in_ok-form-in-Ok.form c.in-Ok.ensures.forms c.bound_of-bound.ensures c.in_ok-form-in-Ok.ensures
 
 pub returns-in-Ok : goal.returns-in-Ok
 returns-in-Ok c =

@@ -33,8 +33,8 @@ invariant_of-result c =
 pub returns : goal.returns
 returns c =
     let fc : SFits w128 c.args.self.constant = search rules in
-    let fq : SFits w128 c.divided.result = search rules in
-    let own : to_z w128 (of_z w128 c.divided.result) ≡ quotient c.args.self.constant c.content-by.result = to_z-of_z w128 _ fq ∙ rw (to_z-of_z w128 _ fc) at c.divided.ensures in
+    let fq : SFits w128 c.divide_number.result = search rules in
+    let own : to_z w128 (of_z w128 c.divide_number.result) ≡ quotient c.args.self.constant c.content-by.result = to_z-of_z w128 _ fq ∙ rw (to_z-of_z w128 _ fc) at c.divide_number.ensures in
     let made = quotients c.args.self.coefficients c.deref_mut.result.now c.into_vec-terms.result.items c.divide_terms.new.terms c.from_vec.result c.into_vec-terms.result.len c.content-by.result
     c.into_vec-terms.ensures c.deref_mut.ensures.value c.divide_terms.ensures c.from_vec.ensures c.deref_mut.ensures.len in
     record {

@@ -9,5 +9,5 @@ returns-in-Some c =
     let us = c.args.self.now.uses in
     ap {B = Tally} (λ z. record { own = c.args.self.now.own; uses = z }) (
     c.set.ensures
-    ∙ ap (slice_set us c.args.place) c.measured-uses.ensures
+    ∙ ap (slice_set us c.args.place) c.measured_use-uses.ensures
     ∙ change-some measured us c.args.place c.in-Some.uses.now (sym c.in-Some.ensures.value))

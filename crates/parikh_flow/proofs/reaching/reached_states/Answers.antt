@@ -1,0 +1,24 @@
+use Rattle.std.proofs.Common.{◌≡◌, ap, ◌∙◌, ◌++◌, ◌∷◌, [], slice_set, replicate, false, true, arith}
+use Rattle.farkas_check.specs.Cuts.{values_of}
+use Rattle.parikh_flow.proofs.ReachLemmas.{reach-start, reach-done, listed-below, row-found}
+use Rattle.parikh_flow.proofs.reaching.reached_states.Goals as goal
+
+pub loop-at-init : goal.loop-at-init
+loop-at-init c =
+    let size : c.loop-state._state ≡ c.args.net.now.states = (let t = c.loop-state-test.false in let e = c.loop-state.auto._state-end in omega arith) in
+    reach-start (values_of c.args.point.now) c.args.net.now c.requires.start c.push-2.new.self c.set.new.self
+    (c.in_ok-push-2.ensures.ok ∙ ap (λ l. l ++ c.args.net.now.start ∷ []) c.new-found.ensures)
+    (c.set.ensures ∙ ap (λ l. slice_set l c.args.net.now.start true) (c.loop-state.invariant ∙ ap (λ n. replicate n false) size))
+
+pub row-row-requires : goal.row-row-requires
+row-row-requires c =
+    rw c.in_ok-index.ensures.rows
+    (listed-below (values_of c.args.point.now) c.args.net.now c.loop-at.found c.as_slice-in-loop-at.result.now c.loop-at.seen c.loop-at.at c.as_slice-in-loop-at.ensures (rw c.len.ensures at c.loop-at-test.true) c.loop-at.invariant)
+
+pub visit-requires-clause-row : goal.visit-requires-clause-row
+visit-requires-clause-row c =
+    row-found c.args.net.now c.loop-at.found c.as_slice-in-loop-at.result.now c.row-row.result.now c.in_ok-index.index c.as_slice.result.now c.loop-at.at c.as_slice-in-loop-at.ensures c.as_slice.ensures
+    (rw c.len.ensures at c.loop-at-test.true) c.in_ok-index.ensures.found c.row-row.ensures
+
+pub returns-clause-exact : goal.returns-clause-exact
+returns-clause-exact c = λ s lt. reach-done (values_of c.args.point.now) c.args.net.now c.loop-at.found c.loop-at.seen c.loop-at.at c.loop-at.invariant (rw c.len.ensures at c.loop-at-test.false) s
