@@ -10,9 +10,9 @@ ghost use Rattle.backward.specs.States.{AreOwnMachines, IsState};
 
 use crate::leaf_state::{LeafState, Made};
 use machine_core::{Cost, Explicit};
-use part_machines::{MOST_STATES, Machines, bounds_some, own_machine};
+use part_machines::{MOST_STATES, Machines, bounds_are_positive, own_machine};
 use std::alloc::{AllocError, Global};
-use straight_line::{Flat, growth_solved, states_solved};
+use straight_line::{Flat, growth_is_solved, states_are_solved};
 use sv_list::Items;
 use trim_search::BuildFault;
 
@@ -32,7 +32,7 @@ impl LeafState {
         ensures machines { IfOk result (λ s. s.machines ≡ map Some machines) }
         ensures first { IfOk result (λ s. (flat : AnyFlat) → IsStraight flat → registers ≡ width flat → AreOwnMachines flat machines → IsState flat (length flat.definitions) s) }
     {
-        growth_solved();
+        growth_is_solved();
         let machines = all_some(alloc, machines)?;
         Ok(LeafState {
             registers,
@@ -78,8 +78,8 @@ pub fn first_state(alloc: Global, flat: &Flat, kept: &Machines) -> Result<LeafSt
     ensures state { IfOk result (λ s. IsState flat.now (length flat.now.definitions) s) }
     ensures refused { (n : ℕ) → result ≡ Err (States n) → MOST_STATES < states flat.now }
 {
-    states_solved();
-    bounds_some();
+    states_are_solved();
+    bounds_are_positive();
     let registers = flat.registers.as_slice();
     let variables = flat.variables.as_slice();
     let mut machines = Items::new(alloc);

@@ -18,7 +18,7 @@ use crate::through::carry_through;
 use machine_core::Run;
 use replace_machines::{replace_all, replace_first};
 use std::alloc::{AllocError, Global};
-use straight_line::{By, Definition, Flat, growth_goes_along, growth_solved, states_solved};
+use straight_line::{By, Definition, Flat, growth_goes_along, growth_is_solved, states_are_solved};
 use sv_list::{Copied, Items};
 use sv_terms::Transducer;
 use trim_search::BuildFault;
@@ -41,8 +41,8 @@ pub fn step_concat(
     ensures made { IfOk result (IsMadeAt flat.now at cuts.now state.now.machines) }
     ensures refused { (n : ℕ) → result ≡ Err (States n) → limit < 2 ^ 32 }
 {
-    states_solved();
-    growth_solved();
+    states_are_solved();
+    growth_is_solved();
     let definition = definition_at(flat, at);
     let By::Concat(pieces) = &definition.by else {
         unreachable!();
@@ -75,7 +75,7 @@ pub fn step_through(
     ensures made { IfOk result (IsMadeAt flat.now at [] state.now.machines) }
     ensures refused { (n : ℕ) → result ≡ Err (States n) → limit < 2 ^ 32 }
 {
-    states_solved();
+    states_are_solved();
     growth_goes_along();
     let definition = definition_at(flat, at);
     let read = read_by(&definition.by);

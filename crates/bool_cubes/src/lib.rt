@@ -38,7 +38,8 @@ pub use counts::{count, head_sort};
 pub use cubes::Cubes;
 pub use fault::CubeFault;
 pub use laws::{
-    cubes_counted, cubes_exact, cubes_picked, literals_fit, literals_pass, literals_valued,
+    cubes_are_counted, cubes_are_exact, cubes_are_picked, literals_fit, literals_have_values,
+    literals_pass,
 };
 pub use literal::{Cube, Literal};
 pub use past::{Differences, subtract};

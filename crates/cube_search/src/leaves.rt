@@ -20,7 +20,7 @@ use box_search::Hit;
 use leaf_solve::{LeafAnswer, LongShown, leaf};
 use machine_core::Explicit;
 use std::alloc::{AllocError, Global};
-use straight_line::states_solved;
+use straight_line::states_are_solved;
 use sv_list::{Copied, Items};
 use trim_search::BuildFault;
 
@@ -41,7 +41,7 @@ pub fn answer_leaf(
     ensures allowed { (n : ℕ) → result ≡ Err (States n) → ⊥ }
 {
     families_become_leaves(state);
-    states_solved();
+    states_are_solved();
     let trims = trim_family(alloc, state)?;
     let machines = machines_of(alloc, trims.as_slice())?;
     let answer = ask(alloc, search, machines.as_slice())?;

@@ -8,7 +8,10 @@ ghost use Rattle.sv_terms.specs.declared.sort.Sort.TheVariants as sort;
 
 use assert_stack::{Stack, StackFault};
 use sexpr_reader::Sexpr;
-use sort_check::{CheckFault, Command, command, terms_sorted, well_formed_first, well_formed_more};
+use sort_check::{
+    CheckFault, Command, additions_are_well_formed, command, fronts_are_well_formed,
+    terms_are_sorted,
+};
 use std::alloc::{AllocError, Global};
 use sv_list::Items;
 use sv_terms::{Entry, Name, Term};
@@ -72,8 +75,8 @@ impl Script {
     /// Does a command that declares, asserts, or changes the levels; the others ask for something or do
     /// nothing.
     pub fn step(&mut self, alloc: Global, item: &Sexpr) -> Result<Asked, CheckFault> {
-        terms_sorted();
-        well_formed_more();
+        terms_are_sorted();
+        additions_are_well_formed();
         match command(alloc, self.stack.symbols(), item)? {
             Command::Declare(name, sort) => Ok(self.declare(name, Entry::Constant(sort))?),
             Command::Define(name, entry) => Ok(self.declare(name, entry)?),
@@ -116,7 +119,7 @@ impl Script {
 
     #[tactic(auto, using(crate::proofs::Standing::stands_dropped))]
     fn pop(&mut self, levels: u32) -> Asked {
-        well_formed_first();
+        fronts_are_well_formed();
         match self.stack.pop(levels) {
             Ok(()) => Asked::Nothing,
             Err(_) => Asked::Fault("no such level"),

@@ -23,14 +23,15 @@ use crate::splitting::{clear_terms, first_opaque};
 use crate::tally::Tally;
 use crate::verdict::{Open, Verdict};
 use bool_cubes::{
-    CubeFault, Cubes, cubes_counted, cubes_exact, literals_fit, literals_pass, literals_valued,
+    CubeFault, Cubes, cubes_are_counted, cubes_are_exact, literals_fit, literals_have_values,
+    literals_pass,
 };
 use cube_search::CubeAnswer;
 use par_phase::Gate;
 use part_machines::Machines;
 use std::alloc::{AllocError, Global};
 use std::thread::Threads;
-use sv_terms::{Term, transducers};
+use sv_terms::{Term, transducers_are_bounded};
 
 /// The verdict on assertions: terms of sort Bool whose transducers are formed, and in which each name has
 /// one sort, as `sort_check` answers them.
@@ -58,12 +59,12 @@ pub fn check<R: Threads + Sync, G: Gate + Sync>(
     ensures only { IfOk result (HasOnly terms.now) }
     ensures folded { IfOk result (IsFolded terms.now) }
 {
-    cubes_counted();
-    cubes_exact();
+    cubes_are_counted();
+    cubes_are_exact();
     literals_fit();
     literals_pass();
-    literals_valued();
-    transducers();
+    literals_have_values();
+    transducers_are_bounded();
     let clear = clear_terms(alloc, terms)?;
     all_words(clear.as_slice());
     match Cubes::new(alloc, clear.as_slice()) {

@@ -14,8 +14,8 @@ use part_machines::Machines;
 use std::alloc::{AllocError, Global};
 use std::marker::Model;
 use straight_line::{
-    Flat, FlatFault, flat_exact, flat_one, flatten, names_sorted, numbers, refused_none,
-    transducers_formed,
+    Flat, FlatFault, flat_cubes_are_exact, flat_cubes_are_unique, flatten, names_are_sorted,
+    numbers, refusals_have_no_flat_cube, transducers_are_formed,
 };
 use sv_terms::{Regex, Term};
 
@@ -73,7 +73,7 @@ pub fn answer_for(shared: &Shared<'_>, cube: &Cube) -> Result<CubeAnswer, AllocE
     requires asked { IsAsked shared.now.terms.now cube.now }
     ensures { IfOk result (IsOutcome shared.now.terms.now cube.now) }
 {
-    refused_none();
+    refusals_have_no_flat_cube();
     match flatten(shared.alloc, cube) {
         Ok(flat) => flat_answer(shared, cube, &flat),
         Err(FlatFault::Outside(literal)) => Ok(fragment(Shown::Outside(literal))),
@@ -98,10 +98,10 @@ fn flat_answer(shared: &Shared<'_>, cube: &Cube, flat: &Flat) -> Result<CubeAnsw
     requires few { length flat.now.variables < 2 ^ 32 }
     ensures { IfOk result (IsOutcome shared.now.terms.now cube.now) }
 {
-    flat_exact();
-    flat_one();
-    names_sorted();
-    transducers_formed();
+    flat_cubes_are_exact();
+    flat_cubes_are_unique();
+    names_are_sorted();
+    transducers_are_formed();
     let numbers = numbers(shared.alloc, flat)?;
     match cube_answer(shared.alloc, flat, &numbers, shared.kept)? {
         CubeAnswer::Sat(model) => {

@@ -10,7 +10,7 @@ ghost use Rattle.decide.specs.Passing.{AreKnown, is_single, shared_of};
 
 use crate::batch::BATCH;
 use crate::cube_job::{Shared, answer_for};
-use bool_cubes::{Cube, CubeFault, Cubes, count, cubes_counted, cubes_picked};
+use bool_cubes::{Cube, CubeFault, Cubes, count, cubes_are_counted, cubes_are_picked};
 use cube_search::CubeAnswer;
 use std::alloc::{AllocError, Global};
 use sv_list::Items;
@@ -184,8 +184,8 @@ fn count_refuted_by(
     requires first { first ≤ length terms.now }
     ensures { IfOk result (AreKnown terms.now given) }
 {
-    cubes_counted();
-    cubes_picked();
+    cubes_are_counted();
+    cubes_are_picked();
     let block = block_of(terms, first);
     let cubes = count_ahead(block, given);
     if cubes == 0 {

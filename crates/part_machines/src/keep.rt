@@ -8,7 +8,7 @@ use machine_core::Explicit;
 use regex_machine::build;
 use std::alloc::{AllocError, Global};
 use std::marker::Model;
-use sv_terms::{Regex, words_only};
+use sv_terms::{Regex, languages_are_words};
 use trim_search::BuildFault;
 
 /// What came of building the machine of a regular expression, kept beside it: the machine, or that it takes more
@@ -55,7 +55,7 @@ impl Keyed<Regex> for Keep {
 fn build_within(alloc: Global, key: &Regex) -> Result<Option<Explicit>, AllocError>
     ensures { IfOk result (IsKept key.now) }
 {
-    words_only();
+    languages_are_words();
     match build(alloc, key, MOST_STATES) {
         Ok(machine) => Ok(Some(machine)),
         Err(BuildFault::States(_)) => Ok(None),

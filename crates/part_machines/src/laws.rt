@@ -8,7 +8,7 @@ ghost use Rattle.part_machines.specs.contracts.machines.Machines.{the_row as mac
 use crate::machines::Machines;
 
 /// The bounds of parts, multiplied, are at least 1.
-pub fn bounds_some()
+pub fn bounds_are_positive()
     ensures { (parts : List (AnyOwn × Bool)) → 1 ≤ product_by part_bound parts }
 {}
 

@@ -35,7 +35,7 @@ mod table;
 
 pub use digests::{digest, digest_of_others};
 pub use keep::Keep;
-pub use laws::{bounds_some, machines_cross};
+pub use laws::{bounds_are_positive, machines_cross};
 pub use machines::Machines;
 pub use own::own_machine;
 pub use part::{MOST_STATES, part_machine};

@@ -15,7 +15,7 @@ use machine_core::Explicit;
 use std::alloc::{AllocError, Global};
 use straight_line::Own;
 use sv_list::{Boxed, Copied};
-use sv_terms::{Regex, words_only};
+use sv_terms::{Regex, languages_are_words};
 use sv_word::Word;
 use trim_search::BuildFault;
 
@@ -72,7 +72,7 @@ fn language(
         let machine = kept_machine(alloc, regex, machines)?;
         return Ok(machine);
     }
-    words_only();
+    languages_are_words();
     let others = others_of(alloc, regex)?;
     let machine = kept_machine(alloc, &others, machines)?;
     Ok(machine)

@@ -8,7 +8,7 @@ use crate::ordered::order;
 use std::alloc::{AllocError, Global};
 use std::cmp::Ordering;
 use sv_list::{Boxed, Items};
-use sv_terms::{Regex, decided};
+use sv_terms::{Regex, membership_is_decided};
 use sv_word::Word;
 
 pub fn empty_word(alloc: Global) -> Regex
@@ -221,7 +221,7 @@ pub fn complement(alloc: Global, r: Regex) -> Result<Regex, AllocError>
         Regex::Empty => Ok(Regex::All),
         Regex::All => Ok(Regex::Empty),
         Regex::Comp(r) => {
-            decided();
+            membership_is_decided();
             Ok(r.into_inner())
         }
         r => Ok(Regex::Comp(Boxed::new(alloc, r)?)),

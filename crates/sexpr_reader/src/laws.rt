@@ -11,20 +11,20 @@ ghost use Rattle.sexpr_reader.specs.Standing.{Stands};
 ghost use Rattle.sexpr_reader.specs.Tokens.{IsOf};
 
 /// Bytes have one reading and at most one first fault, and none where they are read to their end.
-pub fn one_reading()
+pub fn reading_is_unique()
     ensures items { (ended : Bool) (bytes : List ℕ) (these those : List AnySexpr) (rest after : List ℕ) → Reads ended bytes these rest → Reads ended bytes those after → (these ≡ those) × (rest ≡ after) }
     ensures fault { (ended : Bool) (bytes : List ℕ) (this that : AnyFault) → SyntaxAt ended bytes this → SyntaxAt ended bytes that → this ≡ that }
     ensures done { (bytes : List ℕ) (items : List AnySexpr) (fault : AnyFault) → Ends bytes items → SyntaxAt true bytes fault → ⊥ }
 {}
 
 /// What is whole stays whole when more bytes come, and the first fault stays the first, with the items before it.
-pub fn more_bytes()
+pub fn more_bytes_may_follow()
     ensures items { (ended : Bool) (bytes more : List ℕ) (items : List AnySexpr) (rest : List ℕ) → Begins false bytes items rest → Begins ended (bytes ++ more) items (rest ++ more) }
     ensures fault { (ended : Bool) (bytes more : List ℕ) (items : List AnySexpr) (fault : AnyFault) → FaultAfter false bytes items fault → FaultAfter ended (bytes ++ more) items fault }
 {}
 
 /// A list is whole with its last byte, whatever was fed behind it.
-pub fn list_whole()
+pub fn lists_are_whole()
     ensures { (bytes more rest : List ℕ) (items inner : List AnySexpr) → Begins false (bytes ++ more) (items ++ Listed inner ∷ []) (rest ++ more) → Begins false bytes (items ++ Listed inner ∷ []) rest }
 {}
 
@@ -34,7 +34,7 @@ pub fn pieces_join()
 {}
 
 /// The parts of an s-expression whose atoms are tokens.
-pub fn formed_parts()
+pub fn parts_are_formed()
     ensures atom { (kind : AnyKind) (bytes : List ℕ) → IsFormed (Atom kind bytes) ↔ IsOf kind bytes }
     ensures list { (items : List AnySexpr) → IsFormed (Listed items) ↔ AreFormed items }
 {}

@@ -4,7 +4,7 @@
 //! The one central fact: a [`Reader`] that was fed some bytes has given exactly the s-expressions
 //! that are whole in them. `next` answers `None` exactly where no further one is whole and no
 //! fault stands there, and a fault exactly where it is the first one behind them. Bytes have one
-//! reading, and more bytes take nothing of it back (`one_reading`, `more_bytes`).
+//! reading, and more bytes take nothing of it back (`reading_is_unique`, `more_bytes_may_follow`).
 //!
 //! Each byte is looked at a bounded number of times, however small the pieces. Besides the open
 //! lists only the unfinished token is kept, and nesting is a list of open lists: nothing recurses.
@@ -32,7 +32,9 @@ mod syntax_fault;
 mod token_kind;
 
 pub use kind::Kind;
-pub use laws::{formed_parts, list_whole, more_bytes, one_reading, pieces_join};
+pub use laws::{
+    lists_are_whole, more_bytes_may_follow, parts_are_formed, pieces_join, reading_is_unique,
+};
 pub use reader::Reader;
 pub use sexpr::Sexpr;
 pub use syntax_fault::SyntaxFault;

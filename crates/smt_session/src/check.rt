@@ -12,7 +12,7 @@ ghost use Rattle.smt_session.specs.Verdicts.{Covers};
 
 use decide::{Verdict, check, value_for};
 use par_phase::Free;
-use sort_check::{constants_valued, well_formed_entries};
+use sort_check::{constants_have_values, entries_are_well_formed};
 use std::alloc::{AllocError, Global};
 use std::thread::Threads;
 use sv_terms::{Entry, Model, Name, Term};
@@ -68,8 +68,8 @@ pub fn verdict_of<R: Threads + Sync>(
     ensures complete { MustDecide live.now → IfOk result (IsComplete live.now) }
     ensures covers { IfOk result (Covers symbols.now live.now) }
 {
-    constants_valued();
-    well_formed_entries();
+    constants_have_values();
+    entries_are_well_formed();
     match check(rt, alloc, live, workers, &Free)? {
         Verdict::Sat(values) => Ok(Verdict::Sat(model(alloc, symbols, &values)?)),
         Verdict::Unsat(refutation) => Ok(Verdict::Unsat(refutation)),

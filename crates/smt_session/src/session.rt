@@ -18,8 +18,8 @@ use assert_stack::{Stack, StackFault};
 use decide::Verdict;
 use sexpr_reader::Sexpr;
 use sort_check::{
-    Command, command, constants_valued, terms_asked, terms_sorted, well_formed_entries,
-    well_formed_more,
+    Command, additions_are_well_formed, command, constants_have_values, entries_are_well_formed,
+    terms_are_sorted, terms_are_taken_one_by_one,
 };
 use std::alloc::{AllocError, Global};
 use std::thread::Threads;
@@ -103,9 +103,9 @@ impl Session {
         ensures ok { IfOk result (λ reply. Steps self.old item.now reply self.new) }
         ensures err { OnErr result (self.new ≡ self.old) }
     {
-        terms_sorted();
-        terms_asked();
-        well_formed_more();
+        terms_are_sorted();
+        terms_are_taken_one_by_one();
+        additions_are_well_formed();
         match command(alloc, self.stack.symbols(), item) {
             Ok(command) => self.perform(rt, alloc, command),
             Err(fault) => Ok(Reply::Error(ErrorKind::of_check(fault)?)),
@@ -164,7 +164,7 @@ impl Session {
         ensures ok { IfOk result (λ reply. Gives (succeeds (changed (declared name entry self.old.levels) self.old)) reply self.new) }
         ensures err { OnErr result (self.new ≡ self.old) }
     {
-        constants_valued();
+        constants_have_values();
         self.stack.declare(name, entry)?;
         self.verdict = None;
         Ok(self.success())
@@ -210,8 +210,8 @@ impl Session {
         ensures ok { IfOk result (λ reply. Checks self.old reply self.new) }
         ensures err { OnErr result (self.new ≡ self.old) }
     {
-        constants_valued();
-        well_formed_entries();
+        constants_have_values();
+        entries_are_well_formed();
         match verdict_of(
             rt,
             alloc,
@@ -248,8 +248,8 @@ impl Session {
         requires { All (IsAskable (symbols_of self.now.levels)) items }
         ensures { IfOk result (AnswersTerms (symbols_of self.now.levels) self.now.verdict items) }
     {
-        constants_valued();
-        terms_sorted();
+        constants_have_values();
+        terms_are_sorted();
         let Some(kept) = &self.verdict else {
             return Ok(Reply::Error(ErrorKind::NoModel));
         };

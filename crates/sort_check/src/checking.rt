@@ -506,7 +506,7 @@ fn term_of(body: Body) -> Result<Term, CheckFault>
 }
 
 /// The term of one of the s-expressions of `Command::GetValue`, under the symbols under which the
-/// command was checked. Then it has no fault but want of memory (`terms_asked`); else its fault is
+/// command was checked. Then it has no fault but want of memory (`terms_are_taken_one_by_one`); else its fault is
 /// the one that `get-value` of it alone has.
 ///
 /// Time is linear in the item and the term that it answers. Stack is linear in the nesting.

@@ -28,7 +28,7 @@ mod walk;
 pub use checking::{asked_term, command};
 pub use commands::{Command, Product};
 pub use laws::{
-    constants_valued, terms_asked, terms_sorted, well_formed_entries, well_formed_first,
-    well_formed_more,
+    additions_are_well_formed, constants_have_values, entries_are_well_formed,
+    fronts_are_well_formed, terms_are_sorted, terms_are_taken_one_by_one,
 };
 pub use smt_names::CheckFault;

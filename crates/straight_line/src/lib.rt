@@ -50,11 +50,11 @@ pub use definition::{By, Definition};
 pub use fault::FlatFault;
 pub use flat::Flat;
 pub use flattening::flatten;
-pub use form_laws::{names_apart, names_sorted, transducers_formed};
-pub use laws::{flat_exact, flat_one, refused_none};
+pub use form_laws::{names_are_apart, names_are_sorted, transducers_are_formed};
+pub use laws::{flat_cubes_are_exact, flat_cubes_are_unique, refusals_have_no_flat_cube};
 pub use measures::Numbers;
 pub use measuring::numbers;
 pub use number_laws::{
-    growth_goes_along, growth_solved, sources_stand, states_solved, words_are_short,
+    growth_goes_along, growth_is_solved, sources_stand, states_are_solved, words_are_short,
 };
 pub use variable::{Own, Variable};

@@ -12,14 +12,14 @@ ghost use Rattle.straight_line.specs.NumberLaws.{
 
 /// The states of a variable are its own bound, times what each definition that uses it multiplies them by,
 /// and no more than those of the cube.
-pub fn states_solved()
+pub fn states_are_solved()
     ensures solved { StatesAreSolved }
     ensures bounded { StatesAreBounded }
 {}
 
 /// The growth of a variable is that of its definition, and 1 of one that isn't defined; it is at least 1,
 /// and no more than that of the cube.
-pub fn growth_solved()
+pub fn growth_is_solved()
     ensures solved { GrowthIsSolved }
     ensures bounded { GrowthIsBounded }
 {}

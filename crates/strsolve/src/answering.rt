@@ -8,7 +8,7 @@ ghost use Rattle.strsolve.specs.Standing.{Adds, IsAnswering, IsFaulty, IsGiven, 
 use crate::log::Log;
 use crate::outcome::Ending;
 use crate::transfer::write_reply;
-use sexpr_reader::{Reader, Sexpr, SyntaxFault, more_bytes};
+use sexpr_reader::{Reader, Sexpr, SyntaxFault, more_bytes_may_follow};
 use smt_session::{ErrorKind, Reply, Session};
 use std::alloc::{AllocError, Global};
 use std::thread::Threads;
@@ -53,7 +53,7 @@ impl Answering {
         ensures err { OnErr result ((bytes : List ℕ) (taken_old taken_new : Optional (List ℕ)) → IsAnswering false self.old bytes taken_old taken_new → IsCut false (bytes ++ piece.now) taken_old taken_new self.new.replies) }
         ensures replies { self.new.replies ≡ self.old.replies }
     {
-        more_bytes();
+        more_bytes_may_follow();
         let fed = match self.fed.checked_add(piece.len() as u64) {
             Some(fed) => fed,
             None => return Err(AllocError),
@@ -107,7 +107,7 @@ impl Answering {
         ensures later { K.faults sink.old ≤ K.faults sink.new }
         ensures failed { result ≡ Ending.WriteFailed → Rose (K.faults sink.old) (K.faults sink.new) }
     {
-        more_bytes();
+        more_bytes_may_follow();
         'items: loop {
             let item = match self.reader.end() {
                 Ok(Some(item)) => item,

@@ -22,17 +22,17 @@ ghost use Rattle.sv_terms.specs.declared.value.Value.{Value as AnyValue};
 ghost use Rattle.sv_word.specs.Words.{IsWord};
 
 /// Every language is a set of words: what is in a regular expression is a word.
-pub fn words_only()
+pub fn languages_are_words()
     ensures { (r : AnyRegex) (w : Word) → In r w → IsWord w }
 {}
 
 /// Membership is decided by the test that the meaning of `str.in_re` computes.
-pub fn decided()
+pub fn membership_is_decided()
     ensures { (r : AnyRegex) (w : Word) → IsTrue (matches r w) ↔ In r w }
 {}
 
 /// What a transducer relates is decided by the test that its meaning computes.
-pub fn pairs_decided()
+pub fn pairs_are_decided()
     ensures { (t : AnyTransducer) (read : Word) (written : Word) → IsTrue (writes t t.start read written) ↔ Pairs t read written }
 {}
 
@@ -45,21 +45,21 @@ pub fn pairs_are_runs()
 
 /// Whether a transducer is formed is decided by a test. Over n characters it writes at most n times what
 /// an edge writes and what an end writes besides.
-pub fn transducers()
+pub fn transducers_are_bounded()
     ensures formed { (t : AnyTransducer) → IsTrue (is_formed t) ↔ IsFormed t }
     ensures within { (t : AnyTransducer) → WritesWithin t (λ n. n * edges_most t.edges + ends_most t.ends) }
 {}
 
 /// What `str.replace` and `str.replace_all` compute is the word with the first occurrence, or each
 /// occurrence from the left without overlap, replaced, and no other word.
-pub fn replacements()
+pub fn replacements_are_exact()
     ensures first { (pattern by word answer : Word) → (answer ≡ replace_first pattern by word) ↔ ReplacedFirst pattern by word answer }
     ensures all { (pattern by word answer : Word) → (answer ≡ replace_all pattern by word) ↔ ReplacedAll pattern by word answer }
 {}
 
 /// A term of some sort without opaque parts, whose constants have values of their sorts, has a
 /// value of its sort.
-pub fn valued()
+pub fn terms_have_values()
     ensures { (values : Named) (t : AnyTerm) (s : AnySort) → sort_of t ≡ Some s → IsTrue (is_valued values t) → is_opaque t ≡ false → (v : AnyValue) × (val values t ≡ Some v) × (kind v ≡ s) }
 {}
 

@@ -35,8 +35,9 @@ mod value;
 pub use bounds::{bound, power_of_two};
 pub use entry::{Body, Entry};
 pub use laws::{
-    decided, equal_are_one, opaque_is_neither, pairs_are_runs, pairs_decided, replacements,
-    texts_are_words, transducers, truths_are_two, valued, words_only,
+    equal_are_one, languages_are_words, membership_is_decided, opaque_is_neither,
+    pairs_are_decided, pairs_are_runs, replacements_are_exact, terms_have_values, texts_are_words,
+    transducers_are_bounded, truths_are_two,
 };
 pub use limits::{
     MOST_CHARACTERS, MOST_CUBES, MOST_LEVELS, MOST_NESTING, MOST_NODES, MOST_POINTS,

@@ -12,7 +12,9 @@ use crate::functions::apply;
 use regex_match::contains;
 use std::alloc::{AllocError, Global};
 use sv_list::Items;
-use sv_terms::{Model, Regex, Term, Transducer, Value, decided, pairs_are_runs, pairs_decided};
+use sv_terms::{
+    Model, Regex, Term, Transducer, Value, membership_is_decided, pairs_are_decided, pairs_are_runs,
+};
 use sv_word::Word;
 use transducer_core::run_pair;
 
@@ -80,7 +82,7 @@ fn is_member(alloc: Global, value: &Value, regex: &Regex) -> Result<Value, EvalF
 {
     match value {
         Value::Text(word) => {
-            decided();
+            membership_is_decided();
             Ok(Value::Truth(contains(alloc, regex, word)?))
         }
         _ => Err(EvalFault::Opaque),
@@ -97,7 +99,7 @@ fn is_related(
 ) -> Result<bool, AllocError>
     ensures { IfOk result (λ b. b ≡ writes transducer.now transducer.now.start read.now written.now) }
 {
-    pairs_decided();
+    pairs_are_decided();
     pairs_are_runs();
     match run_pair(alloc, transducer, read, written) {
         Ok(Some(_)) => Ok(true),

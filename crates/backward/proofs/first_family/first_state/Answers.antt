@@ -38,6 +38,6 @@ returns-in_err-machine-clause-refused c = λ n e.
     let past = c.in_err-machine.ensures.refused n (ap Err (sym d)) in
     let at = variable-at c.args.flat.now c.as_slice-variables.result.now c.loop-v.v c.index-variables-v.result c.as_slice-variables.ensures c.loop-v-test.true c.index-variables-v.is in
     let parts = c.as_slice.ensures ∙ ap (λ (x : Variable). x.parts) (sym c.index-variables-v.is) in
-    let few = own-few c.bounds_some.ensures c.states_solved.ensures.solved c.states_solved.ensures.bounded c.args.flat.now c.requires.straight c.requires.formed (states c.args.flat.now) (omega arith) c.loop-v.v c.index-variables-v.result at in
+    let few = own-few c.bounds_are_positive.ensures c.states_are_solved.ensures.solved c.states_are_solved.ensures.bounded c.args.flat.now c.requires.straight c.requires.formed (states c.args.flat.now) (omega arith) c.loop-v.v c.index-variables-v.result at in
     let same = ap (product_by part_bound) parts in
     omega (arith, past, few, same)

@@ -50,7 +50,7 @@ returns-clause-state c straight state =
     let e = c.in_ok-next.ensures in
     let carried = e.carried can.0 can.1 in
     let next : at + 1 ≡ suc at = omega arith in
-    concat-state flat straight at s (subst (λ n. IsState flat n s) next state) d there c.states_solved.ensures.solved c.growth_solved.ensures.solved ps c.args.cuts.now is can.0 can.1.machine
+    concat-state flat straight at s (subst (λ n. IsState flat n s) next state) d there c.states_are_solved.ensures.solved c.growth_is_solved.ensures.solved ps c.args.cuts.now is can.0 can.1.machine
     new e.registers carried (cut-conf flat at d there s new ps c.args.cuts.now is can.0 can.1 e.registers carried)
 
 pub returns-clause-made : goal.returns-clause-made

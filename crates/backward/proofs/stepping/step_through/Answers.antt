@@ -71,7 +71,7 @@ returns-clause-state c straight state =
     let e = c.in_ok-next.ensures in
     let carried = e.carried can.0 can.1 (slope_of d.by) (base_of d.by) pass f.writes in
     let next : at + 1 ≡ suc at = omega arith in
-    through-state flat straight at s (subst (λ n. IsState flat n s) next state) d there c.states_solved.ensures.solved c.growth_goes_along.ensures.along v reading can.0 can.2.machine
+    through-state flat straight at s (subst (λ n. IsState flat n s) next state) d there c.states_are_solved.ensures.solved c.growth_goes_along.ensures.along v reading can.0 can.2.machine
     new e.registers t f.states carried (passed-conf flat at d there s new v reading t f can.0 can.1 pass e.registers carried)
 
 pub returns-clause-made : goal.returns-clause-made

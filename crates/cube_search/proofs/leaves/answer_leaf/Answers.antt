@@ -17,7 +17,7 @@ ask-requires-clause-machines c =
     let ts = c.in_ok-trims.trims in
     let z = c.in_ok-trims.ensures in
     let own : c.in_ok-machines.machines ≡ map machine_of ts = c.in_ok-machines.ensures ∙ ap (map machine_of) c.as_slice.ensures in
-    subst (AreOfLeaf flat) (sym (c.as_slice-2.ensures ∙ own)) (trims-of-leaf c.states_solved.ensures.solved c.states_solved.ensures.bounded flat q.straight s c.requires.state ts z)
+    subst (AreOfLeaf flat) (sym (c.as_slice-2.ensures ∙ own)) (trims-of-leaf c.states_are_solved.ensures.solved c.states_are_solved.ensures.bounded flat q.straight s c.requires.state ts z)
 
 pub returns-in-None-clause-tally : goal.returns-in-None-clause-tally
 returns-in-None-clause-tally c =

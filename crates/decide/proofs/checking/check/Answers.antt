@@ -20,18 +20,18 @@ answer_all-requires-clause-asked g c κs within =
     let first = c.as_slice.ensures ∙ c.in_ok-clear.ensures in
     let again = c.as_slice-2.ensures ∙ c.in_ok-clear.ensures in
     subst (AllByRecursion (IsAsked c.args.terms.now)) (sym (c.in-Ok.ensures.cubes ∙ ap cubes_of again))
-    (all-asked c.literals_fit.ensures c.literals_pass.ensures c.literals_valued.ensures c.transducers.ensures.formed c.args.terms.now c.requires.sorted c.requires.formed c.requires.sorts
+    (all-asked c.literals_fit.ensures c.literals_pass.ensures c.literals_have_values.ensures c.transducers_are_bounded.ensures.formed c.args.terms.now c.requires.sorted c.requires.formed c.requires.sorts
     (subst (λ ts. IsTrue (list_all has_words ts)) first c.all_words.ensures) (subst HasNoPast again c.in-Ok.ensures.refused.0))
 
 pub returns-in-Ok-clause-right : goal.returns-in-Ok-clause-right
 returns-in-Ok-clause-right g c =
     when-fold (RightVerdict c.args.terms.now) c.args.terms.now c.in-Ok.cubes c.answer_all.result (c.in-Ok.ensures.cubes ∙ ap cubes_of (c.as_slice-2.ensures ∙ c.in_ok-clear.ensures))
-    (right-of c.args.terms.now (laws-of c.cubes_exact.ensures c.literals_valued.ensures c.args.terms.now c.requires.sorted)) c.answer_all.ensures
+    (right-of c.args.terms.now (laws-of c.cubes_are_exact.ensures c.literals_have_values.ensures c.args.terms.now c.requires.sorted)) c.answer_all.ensures
 
 pub returns-in-Ok-clause-complete : goal.returns-in-Ok-clause-complete
 returns-in-Ok-clause-complete g c = λ must.
     when-fold (IsComplete c.args.terms.now) c.args.terms.now c.in-Ok.cubes c.answer_all.result (c.in-Ok.ensures.cubes ∙ ap cubes_of (c.as_slice-2.ensures ∙ c.in_ok-clear.ensures))
-    (λ v. complete-of c.args.terms.now (laws-of c.cubes_exact.ensures c.literals_valued.ensures c.args.terms.now c.requires.sorted) v must) c.answer_all.ensures
+    (λ v. complete-of c.args.terms.now (laws-of c.cubes_are_exact.ensures c.literals_have_values.ensures c.args.terms.now c.requires.sorted) v must) c.answer_all.ensures
 
 pub returns-in-Ok-clause-only : goal.returns-in-Ok-clause-only
 returns-in-Ok-clause-only g c =

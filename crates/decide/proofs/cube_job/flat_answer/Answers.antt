@@ -8,19 +8,19 @@ cube_answer-requires-clause-bare c = bare c.args.cube.now c.args.flat.now c.requ
 
 pub returns-in-Sat : goal.returns-in-Sat
 returns-in-Sat c = record {
-  right = sat-of c.args.shared.now.terms.now c.args.cube.now c.args.flat.now c.requires.asked c.requires.flattening c.flat_exact.ensures c.names_sorted.ensures c.in-Sat.model c.in_ok-full-in-Sat.full
+  right = sat-of c.args.shared.now.terms.now c.args.cube.now c.args.flat.now c.requires.asked c.requires.flattening c.flat_cubes_are_exact.ensures c.names_are_sorted.ensures c.in-Sat.model c.in_ok-full-in-Sat.full
       (subst (IsCubeAnswer c.args.flat.now) c.in-Sat.is c.in_ok-model.ensures.right) (c.in_ok-full-in-Sat.ensures c.requires.asked.one_sort);
   decided = λ must. tt;
 }
 
 pub returns-in-Unsat : goal.returns-in-Unsat
 returns-in-Unsat c = record {
-  right = none-of c.args.shared.now.terms.now c.args.cube.now c.args.flat.now c.requires.asked c.requires.flattening c.flat_exact.ensures (subst (IsCubeAnswer c.args.flat.now) c.in-Unsat.is c.in_ok-model.ensures.right);
+  right = none-of c.args.shared.now.terms.now c.args.cube.now c.args.flat.now c.requires.asked c.requires.flattening c.flat_cubes_are_exact.ensures (subst (IsCubeAnswer c.args.flat.now) c.in-Unsat.is c.in_ok-model.ensures.right);
   decided = λ must. tt;
 }
 
 pub returns : goal.returns
 returns c = record {
-  right = cause-of c.args.shared.now.terms.now c.args.cube.now c.args.flat.now c.requires.asked c.requires.flattening c.flat_exact.ensures c.in-Open.reason (subst (IsCubeAnswer c.args.flat.now) c.in-Open.is c.in_ok-model.ensures.right);
-  decided = λ must. subst IsDecided c.in-Open.is (c.in_ok-model.ensures.decided (must-of c.flat_one.ensures c.args.cube.now c.args.flat.now c.requires.flattening must));
+  right = cause-of c.args.shared.now.terms.now c.args.cube.now c.args.flat.now c.requires.asked c.requires.flattening c.flat_cubes_are_exact.ensures c.in-Open.reason (subst (IsCubeAnswer c.args.flat.now) c.in-Open.is c.in_ok-model.ensures.right);
+  decided = λ must. subst IsDecided c.in-Open.is (c.in_ok-model.ensures.decided (must-of c.flat_cubes_are_unique.ensures c.args.cube.now c.args.flat.now c.requires.flattening must));
 }

@@ -11,4 +11,4 @@ returns-clause-machine c =
     let r = c.args.regex.now in
     let m = c.in_ok-machine-2.machine in
     let is = subst (λ (x : Regex). IsMachineOf x m) c.in_ok-others.ensures c.in_ok-machine-2.ensures.machine in
-    subst (λ h. IsOfPart (InRe r, h) m) (sym c.if-holds.false) (others-kept r m (c.words_only.ensures r) is)
+    subst (λ h. IsOfPart (InRe r, h) m) (sym c.if-holds.false) (others-kept r m (c.languages_are_words.ensures r) is)

@@ -9,18 +9,18 @@ use Rattle.smt_session.proofs.check.verdict_of.Goals as goal
 
 pub check-requires-clause-sorts : goal.check-requires-clause-sorts
 check-requires-clause-sorts g c κs within =
-    one-sort c.well_formed_entries.ensures.allowed c.well_formed_entries.ensures.found c.constants_valued.ensures.valued c.args.symbols.now c.args.live.now c.requires.well_formed (known c.args.symbols.now c.args.live.now c.requires.terms)
+    one-sort c.entries_are_well_formed.ensures.allowed c.entries_are_well_formed.ensures.found c.constants_have_values.ensures.valued c.args.symbols.now c.args.live.now c.requires.well_formed (known c.args.symbols.now c.args.live.now c.requires.terms)
 
 pub returns-in_ok-model-in-Sat-clause-right : goal.returns-in_ok-model-in-Sat-clause-right
 returns-in_ok-model-in-Sat-clause-right g c =
     subst (λ m. RightVerdict c.args.live.now (Sat m)) (sym c.in_ok-model-in-Sat.ensures)
-    (right-model c.well_formed_entries.ensures.allowed c.well_formed_entries.ensures.found c.constants_valued.ensures.valued c.args.symbols.now c.args.live.now c.in-Sat.values c.requires.well_formed (known c.args.symbols.now c.args.live.now c.requires.terms)
+    (right-model c.entries_are_well_formed.ensures.allowed c.entries_are_well_formed.ensures.found c.constants_have_values.ensures.valued c.args.symbols.now c.args.live.now c.in-Sat.values c.requires.well_formed (known c.args.symbols.now c.args.live.now c.requires.terms)
     (subst (RightVerdict c.args.live.now) c.in-Sat.is c.in_ok-values.ensures.right))
 
 pub returns-in_ok-model-in-Sat-clause-covers : goal.returns-in_ok-model-in-Sat-clause-covers
 returns-in_ok-model-in-Sat-clause-covers g c =
     subst (IsModelFor c.args.symbols.now c.args.live.now) (sym c.in_ok-model-in-Sat.ensures)
-    (model-for c.well_formed_entries.ensures.allowed c.args.symbols.now c.args.live.now c.in-Sat.values c.requires.well_formed
+    (model-for c.entries_are_well_formed.ensures.allowed c.args.symbols.now c.args.live.now c.in-Sat.values c.requires.well_formed
     (subst (HasOnly c.args.live.now) c.in-Sat.is c.in_ok-values.ensures.only))
 
 pub returns-in_ok-model-in-Sat-clause-complete : goal.returns-in_ok-model-in-Sat-clause-complete

@@ -9,11 +9,11 @@ use Rattle.cube_table.proofs.script.Script.step.Goals as goal
 pub declare-requires : goal.declare-requires
 declare-requires c =
     subst (λ ls. IsAdded (symbols_of ls) c.in-Declare.name (entry.Constant c.in-Declare.sort)) c.self.view_is
-    (c.well_formed_more.ensures.declared (symbols_of c.self.inside.stack) (seen c.args.item.now) c.in-Declare.name c.in-Declare.sort c.self.invariant.formed
+    (c.additions_are_well_formed.ensures.declared (symbols_of c.self.inside.stack) (seen c.args.item.now) c.in-Declare.name c.in-Declare.sort c.self.invariant.formed
     (sym (ap (λ z. checked z (seen c.args.item.now)) c.symbols.ensures) ∙ c.in_ok-name.ensures ∙ ap Ok c.in-Declare.is))
 
 pub declare-requires-in-Define : goal.declare-requires-in-Define
 declare-requires-in-Define c =
     subst (λ ls. IsAdded (symbols_of ls) c.in-Define.name c.in-Define.entry) c.self.view_is
-    (c.well_formed_more.ensures.defined (symbols_of c.self.inside.stack) (seen c.args.item.now) c.in-Define.name c.in-Define.entry c.self.invariant.formed
+    (c.additions_are_well_formed.ensures.defined (symbols_of c.self.inside.stack) (seen c.args.item.now) c.in-Define.name c.in-Define.entry c.self.invariant.formed
     (sym (ap (λ z. checked z (seen c.args.item.now)) c.symbols.ensures) ∙ c.in_ok-name.ensures ∙ ap Ok c.in-Define.is))

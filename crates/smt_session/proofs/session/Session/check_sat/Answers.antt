@@ -18,13 +18,13 @@ verdict_of-requires-clause-well_formed g c κs within = subst (λ z. IsTrue (is_
 pub verdict_of-requires-clause-terms : goal.verdict_of-requires-clause-terms
 verdict_of-requires-clause-terms g c κs within =
     subst (AllByRecursion (IsTermOf c.symbols.result.now sort.Bool)) (sym c.live.ensures)
-    (subst (λ z. AllByRecursion (IsTermOf z sort.Bool) (live c.self.inside.stack)) (sym c.symbols.ensures) (sound-live c.constants_valued.ensures.kept c.self.inside.stack c.self.invariant.0))
+    (subst (λ z. AllByRecursion (IsTermOf z sort.Bool) (live c.self.inside.stack)) (sym c.symbols.ensures) (sound-live c.constants_have_values.ensures.kept c.self.inside.stack c.self.invariant.0))
 
 pub invariant_of-self : goal.invariant_of-self
 invariant_of-self g c =
     let covers = subst (Covers c.symbols.result.now c.live.result.now) c.in-Sat.is c.in_ok-model.ensures.covers in (
       c.self.invariant.0,
-      given c.well_formed_entries.ensures.found c.in-Sat.model (symbols_of c.self.inside.stack) (sound-formed c.self.inside.stack c.self.invariant.0) (covers.covers ∙ ap constants_of c.symbols.ensures),
+      given c.entries_are_well_formed.ensures.found c.in-Sat.model (symbols_of c.self.inside.stack) (sound-formed c.self.inside.stack c.self.invariant.0) (covers.covers ∙ ap constants_of c.symbols.ensures),
       c.self.invariant.2,
     )
 

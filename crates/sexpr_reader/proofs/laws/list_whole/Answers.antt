@@ -1,5 +1,0 @@
-use Rattle.sexpr_reader.proofs.Growing as growing
-use Rattle.sexpr_reader.proofs.laws.list_whole.Goals as goal
-
-pub returns : goal.returns
-returns c = growing.list_whole

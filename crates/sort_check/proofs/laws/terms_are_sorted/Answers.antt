@@ -1,0 +1,12 @@
+use Rattle.sort_check.specs.Checking.{checked, asked_term}
+use Rattle.sort_check.specs.WellFormed.{IsWritten}
+use Rattle.sort_check.specs.declared.commands.Command.TheVariants as command
+use Rattle.sort_check.proofs.WellCommands.{IsSound, asked-sound, checked-sound}
+use Rattle.smt_names.specs.Giving.{gave}
+use Rattle.sort_check.proofs.laws.terms_are_sorted.Goals as goal
+
+pub returns-clause-asserted : goal.returns-clause-asserted
+returns-clause-asserted c symbols item term wf e = gave (IsSound symbols) (checked symbols item) (command.Assert term) (checked-sound symbols item wf) e
+
+pub returns-clause-asked : goal.returns-clause-asked
+returns-clause-asked c symbols item term wf e = gave (IsWritten symbols) (asked_term symbols item) term (asked-sound symbols wf item) e
