@@ -93,7 +93,7 @@ fn try_cuts(
         return below(search, alloc, state, at, cuts, tally, spent);
     }
     for s in 0..states_at(search.flat, state, at) {
-        let more = with_cut(alloc, cuts, s)?;
+        let more = add_cut(alloc, cuts, s)?;
         let cuts = more.as_slice();
         if let Some(found) = try_cuts(search, alloc, state, at, pieces, cuts, tally, spent)? {
             return Ok(Some(found));
@@ -150,7 +150,7 @@ fn next_family(
 }
 
 /// One cut more.
-fn with_cut(alloc: Global, cuts: &[u32], state: u32) -> Result<Items<u32>, AllocError>
+fn add_cut(alloc: Global, cuts: &[u32], state: u32) -> Result<Items<u32>, AllocError>
     ensures { IfOk result (λ more. more ≡ cuts.now ++ state ∷ []) }
 {
     let mut more = Items::from_slice(alloc, cuts)?;

@@ -58,7 +58,7 @@ impl Row {
 }
 
 // Each call of a builder adds one to `built`.
-fn counted(built: &AtomicU64, alloc: Global, letter: u8) -> Result<Box<Row>, AllocError>
+fn count_and_build(built: &AtomicU64, alloc: Global, letter: u8) -> Result<Box<Row>, AllocError>
     ensures { IfOk result (λ row. row.value.0 ≡ letter) }
 {
     built.fetch_add(1, Ordering::SeqCst);
@@ -72,12 +72,22 @@ fn a_builder_runs_only_where_the_cell_has_no_value_of_the_key(rt: HostRuntime) -
     let built = AtomicU64::new(0);
     let mut note = pool.note(1);
     for (letter, is_shared, builds) in [(7, true, 1), (7, true, 1), (8, false, 2), (7, true, 2)] {
-        let found = pool.get(1, &letter, &mut note, || counted(&built, alloc, letter))?;
+        let found = pool.get(
+            1,
+            &letter,
+            &mut note,
+            || count_and_build(&built, alloc, letter),
+        )?;
         assert_eq!(rt; matches!(found, Found::Shared(_)), is_shared, "{letter}");
         assert_eq!(rt; found.value().letter, letter);
         assert_eq!(rt; built.load(Ordering::SeqCst), builds, "{letter}");
     }
-    let other = pool.get(1, &7, &mut pool.note(1), || counted(&built, alloc, 7))?;
+    let other = pool.get(
+        1,
+        &7,
+        &mut pool.note(1),
+        || count_and_build(&built, alloc, 7),
+    )?;
     assert!(rt; matches!(other, Found::Shared(_)) && built.load(Ordering::SeqCst) == 2);
     Ok(())
 }

@@ -1,14 +1,14 @@
 use crate::{Boxed, Copied, Items, at};
 use std::alloc::{AllocError, Global};
 
-fn listed(alloc: Global, items: &[u32]) -> Result<Items<u32>, AllocError> {
+fn list_of(alloc: Global, items: &[u32]) -> Result<Items<u32>, AllocError> {
     Items::from_slice(alloc, items)
 }
 
 #[test]
 fn a_list_is_edited_in_place(rt: HostRuntime) -> Result<(), AllocError> {
     let alloc = rt.alloc();
-    let mut list = listed(alloc, &[1, 2, 3])?;
+    let mut list = list_of(alloc, &[1, 2, 3])?;
     list.reserve(3)?;
     list.push(5)?;
     let last = list.len().saturating_sub(1);
@@ -18,7 +18,7 @@ fn a_list_is_edited_in_place(rt: HostRuntime) -> Result<(), AllocError> {
         assert_eq!(rt; list.remove(0), 1);
         list.set(0, 7);
     }
-    list.append(listed(alloc, &[8, 9])?)?;
+    list.append(list_of(alloc, &[8, 9])?)?;
     assert_eq!(rt; list.pop(), Some(9));
     list.truncate(4);
     assert_eq!(rt; list.as_slice(), [7, 3, 4, 5].as_slice());
@@ -34,7 +34,7 @@ fn a_list_is_edited_in_place(rt: HostRuntime) -> Result<(), AllocError> {
 #[test]
 fn copies_are_equal_and_in_order(rt: HostRuntime) -> Result<(), AllocError> {
     let alloc = rt.alloc();
-    let list = listed(alloc, &[1, 2])?;
+    let list = list_of(alloc, &[1, 2])?;
     let pair = (Boxed::new(alloc, list.copy(alloc)?)?, 3_u64);
     let copy = pair.copy(alloc)?;
     assert!(rt; copy.0 == pair.0);
@@ -45,8 +45,8 @@ fn copies_are_equal_and_in_order(rt: HostRuntime) -> Result<(), AllocError> {
     assert_eq!(rt; (-5_i128).copy(alloc)?, -5);
     assert!(rt; list.clone()? == list);
     for (left, right) in [([1, 2], [1, 3]), ([0, 9], [1, 0])] {
-        let left = listed(alloc, &left)?;
-        let right = listed(alloc, &right)?;
+        let left = list_of(alloc, &left)?;
+        let right = list_of(alloc, &right)?;
         assert!(rt; left < right);
         assert!(rt; left != right);
         assert!(rt; Boxed::new(alloc, left)? < Boxed::new(alloc, right)?);
