@@ -20,16 +20,18 @@ crates_below() {
     done
 }
 
-# Sets layer[c] for the crate $1 and each crate below it: one more than the highest layer below it.
-declare -A layer
-find_layer() {
-    local below highest=0
-    [ -z "${layer[$1]:-}" ] || return 0
+# Puts the crates below the crate $1 into the list `order`, each once, behind those that it uses.
+declare -A is_listed
+order=()
+list_below() {
+    local below
     for below in $(crates_below "$1"); do
-        find_layer "$below"
-        if [ "${layer[$below]}" -gt "$highest" ]; then highest=${layer[$below]}; fi
+        if [ -z "${is_listed[$below]:-}" ]; then
+            is_listed[$below]=yes
+            list_below "$below"
+            order+=("$below")
+        fi
     done
-    layer[$1]=$((highest + 1))
 }
 
 # Proves the crate $1 and builds its library, or the program where $2 is run. A failure is told with
@@ -48,19 +50,45 @@ build_crate() {
     echo "strsolve:   $1 is done" >&2
 }
 
-build() {
-    local at names
-    find_layer strsolve
-    echo "strsolve: proving and building the program, crate by crate, which takes long the first time" >&2
-    for at in $(seq 1 $((layer[strsolve] - 1))); do
-        names=$(for name in "${!layer[@]}"; do
-            if [ "${layer[$name]}" -eq "$at" ]; then echo "$name"; fi
-        done | sort)
-        echo "strsolve: layer $at of ${layer[strsolve]}" >&2
-        echo "$names" | xargs -P "$(nproc)" -I{} bash -c 'build_crate {} lib' || break
+# Whether all crates below the crate $1 are built.
+declare -A is_done
+is_ready() {
+    local below
+    for below in $(crates_below "$1"); do
+        [ -n "${is_done[$below]:-}" ] || return 1
     done
-    rm -f "$program"
-    build_crate strsolve run
+}
+
+# Builds all crates below the program, each as soon as those below it are done, as many at once as there are
+# processors; stops at the first that fails.
+build_below() {
+    local -A name_of=()
+    local -a waiting=("${order[@]}") left
+    local name job
+    while [ ${#waiting[@]} -gt 0 ] || [ ${#name_of[@]} -gt 0 ]; do
+        left=()
+        for name in "${waiting[@]}"; do
+            if [ ${#name_of[@]} -lt "$(nproc)" ] && is_ready "$name"; then
+                build_crate "$name" lib &
+                name_of[$!]=$name
+            else
+                left+=("$name")
+            fi
+        done
+        waiting=("${left[@]}")
+        wait -n -p job "${!name_of[@]}" || return 1
+        is_done[${name_of[$job]}]=yes
+        unset "name_of[$job]"
+    done
+}
+
+build() {
+    list_below strsolve
+    echo "strsolve: proving and building the program, crate by crate, which takes long the first time" >&2
+    if build_below; then
+        rm -f "$program"
+        build_crate strsolve run
+    fi
     if [ ! -x "$program" ]; then
         echo "strsolve: it could not be built" >&2
         exit 70
@@ -68,8 +96,6 @@ build() {
     touch "$program"
 }
 
-export -f build_crate
-export root program
 is_built || build
 # Terms may stand 1,000 deep in one another, which takes up to 2 MB of stack.
 ulimit -S -s 65536 2>/dev/null || true
