@@ -1,18 +1,16 @@
 -- Runs taken back over a concatenation: what was met, what is taken apart, and what is joined.
-use Rattle.std.proofs.Common.{◌≡◌, ℕ, zero, suc, ◌+◌, ◌-◌, ◌<◌, ◌≤◌, nat_eq, cond, Bool, true, false, List, [], ◌∷◌, ◌++◌, length, map, take, drop, get_or, All, Contains, Option, Some, None, MatchOption, slice_get, slice_set, refl, sym, ap, ◌∙◌, subst, arith, inl, inr, append-nil, append_assoc, length-append, length-drop}
+use Rattle.std.proofs.Common.{◌≡◌, ℕ, zero, suc, ◌+◌, ◌-◌, ◌<◌, ◌≤◌, cond, List, [], ◌∷◌, ◌++◌, length, map, take, drop, get_or, All, Contains, Option, Some, None, MatchOption, slice_get, slice_set, refl, sym, ap, ◌∙◌, subst, arith, inl, inr, append-nil, append_assoc, length-append, length-drop}
 use Rattle.std.proofs.lemmas.Bool.{eq-eqb, ne_eqb}
 use Rattle.std.proofs.lemmas.Bool.Decides.{eqb_tells}
 use Rattle.machine_core.specs.declared.graph.Graph.{Graph}
 use Rattle.machine_core.specs.declared.run.Run.{Run}
 use Rattle.machine_core.specs.Costs.{add_costs, zeros}
-use Rattle.machine_core.specs.CostLaws.{add_costs-assoc, add_costs-comm, add_costs-zeros}
+use Rattle.machine_core.specs.CostLaws.{add_costs-assoc, add_costs-zeros}
 use Rattle.machine_core.specs.Edges.{EndsAt, StepsBy}
 use Rattle.machine_core.specs.EdgeLaws.{step_target, step_cost, run_width}
 use Rattle.machine_core.specs.Graphs.{IsRunOf}
-use Rattle.machine_core.specs.Lists.{slice_get-contains}
 use Rattle.machine_core.specs.RunLaws.{run_formed, run_accepted}
 use Rattle.machine_core.specs.Runs.{IsPath, run_total}
-use Rattle.sv_terms.specs.Language.{Word}
 use Rattle.sv_terms.specs.Meaning.{joined}
 use Rattle.pre_image.specs.Slices.{SliceEnds}
 use Rattle.pre_image.specs.SliceLaws.{slice_end_cost}

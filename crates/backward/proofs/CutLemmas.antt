@@ -1,16 +1,16 @@
 -- Runs in turn and runs on the joined word: the cuts of a run are exact.
-use Rattle.std.proofs.Common.{◌≡◌, ℕ, zero, suc, ◌+◌, ◌<◌, ◌↔◌, List, [], ◌∷◌, ◌++◌, length, map, Contains, Some, None, refl, sym, ap, ◌∙◌, subst, append-nil, arith}
+use Rattle.std.proofs.Common.{◌≡◌, ℕ, zero, suc, ◌+◌, ◌<◌, ◌↔◌, List, [], ◌∷◌, ◌++◌, length, map, Contains, refl, sym, ap, ◌∙◌, subst, append-nil, arith}
 use Rattle.std.proofs.lemmas.List.{length-map}
 use Rattle.machine_core.specs.declared.graph.Graph.{Graph}
 use Rattle.machine_core.specs.Costs.{add_costs, zeros}
 use Rattle.machine_core.specs.CostLaws.{add_costs-zeros}
-use Rattle.machine_core.specs.Language.{RunsFrom, StopsAt}
+use Rattle.machine_core.specs.Language.{RunsFrom}
 use Rattle.machine_core.specs.LanguageLaws.{runs_join, runs_cut}
 use Rattle.machine_core.specs.Edges.{EndsAt, StepsBy}
 use Rattle.machine_core.specs.Graphs.{Accepts}
 use Rattle.sv_terms.specs.Language.{Word}
 use Rattle.sv_terms.specs.Meaning.{joined}
-use Rattle.backward.specs.Families.{Family, Words, HasMachine, without, put, Conf}
+use Rattle.backward.specs.Families.{Family, Words, HasMachine, put, Conf}
 use Rattle.backward.specs.Pieces.{RunsInTurn, ConfCut, AreCuts}
 use Rattle.backward.proofs.ConfLemmas.{take-out, take-in, free-put, put-same}
 use Rattle.machine_core.specs.EdgeLaws.{path_target, run_width}

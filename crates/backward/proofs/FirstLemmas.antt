@@ -1,5 +1,5 @@
 -- The machines of the variables' own parts: what their characters cost, and how many states they may have.
-use Rattle.std.proofs.Common.{◌≡◌, ℕ, zero, suc, ◌+◌, ◌*◌, ◌^◌, ◌<◌, ◌≤◌, ◌↔◌, ◌⊎◌, inl, inr, nat_eq, cond, Bool, true, false, List, [], ◌∷◌, ◌++◌, length, map, get_or, Contains, Some, None, slice_get, refl, sym, ap, ◌∙◌, subst, arith, mul-le-mul}
+use Rattle.std.proofs.Common.{◌≡◌, ℕ, zero, suc, ◌+◌, ◌*◌, ◌^◌, ◌<◌, ◌≤◌, inl, inr, nat_eq, cond, Bool, true, false, List, [], ◌∷◌, ◌++◌, length, map, get_or, Contains, Some, slice_get, refl, sym, ap, ◌∙◌, subst, arith, mul-le-mul}
 use Rattle.std.specs.Prelude.{slice_index, slice_set}
 use Rattle.std.specs.List.{AllByRecursion, count_by}
 use Rattle.std.proofs.lemmas.Bool.{eq-eqb, eqb-true}
@@ -8,9 +8,8 @@ use Rattle.std.proofs.Math.Nat.{pow-zero, pow-suc}
 use Rattle.machine_core.specs.declared.graph.Graph.{Graph}
 use Rattle.machine_core.specs.Lists.{slice_get-push_cases}
 use Rattle.sv_terms.specs.Language.{Word}
-use Rattle.sv_terms.specs.Transduction.{IsFormed}
 use Rattle.part_machines.specs.Parts.{IsOfParts, times}
-use Rattle.straight_line.specs.Bounds.{carried, carried_all, own_bound, part_bound, product_by, states, states_at, states_of, through_states, times_all, times_at, used}
+use Rattle.straight_line.specs.Bounds.{carried, carried_all, own_bound, part_bound, product_by, states, states_at, states_of, through_states, times_all, used}
 use Rattle.straight_line.specs.NumberLaws.{factor, StatesAreBounded, StatesAreSolved}
 use Rattle.straight_line.specs.Straight.{HasFormed, IsFormedBy, IsStraight}
 use Rattle.straight_line.specs.declared.definition.By.{By}

@@ -1,12 +1,12 @@
 -- Why the costs fit 64 bits: what bounds them while definitions are carried back.
-use Rattle.std.proofs.Common.{◌≡◌, ℕ, zero, suc, ◌+◌, ◌*◌, ◌/◌, ◌<◌, ◌≤◌, ◌^◌, ◌⊎◌, inl, inr, max, nat_eq, cond, true, false, Bool, List, [], ◌∷◌, length, slice_index, Option, Some, None, slice_get, Contains, refl, sym, ap, ◌∙◌, subst, arith, mul-add, add-mul, mul_comm, mul_assoc, mul-le-mul, mul-le-mul_left, mul-le-mul_right, le-div_iff_mul-le, eq-zero-or-pos, zero-mul}
+use Rattle.std.proofs.Common.{◌≡◌, ℕ, zero, suc, ◌+◌, ◌*◌, ◌/◌, ◌<◌, ◌≤◌, ◌^◌, ◌⊎◌, inl, inr, nat_eq, cond, true, false, Bool, List, [], ◌∷◌, length, slice_index, Option, Some, None, slice_get, refl, sym, ap, ◌∙◌, subst, arith, mul-add, mul_comm, mul_assoc, mul-le-mul, mul-le-mul_left, mul-le-mul_right, le-div_iff_mul-le, eq-zero-or-pos, zero-mul}
 use Rattle.std.proofs.lemmas.Bool.{eq-eqb, ne_eqb}
 use Rattle.std.proofs.lemmas.Bool.Decides.{eqb_tells}
 use Rattle.machine_core.specs.declared.graph.Graph.{Graph}
 use Rattle.machine_core.specs.Edges.{edges_top, ends_top}
 use Rattle.machine_core.specs.EdgeLaws.{listed_top-within, run_width, path_width}
 use Rattle.machine_core.specs.Graphs.{graph_top}
-use Rattle.backward.specs.Families.{Family, HasMachine, without, after, IsWithout}
+use Rattle.backward.specs.Families.{Family, HasMachine, without, IsWithout}
 use Rattle.backward.specs.Pieces.{occurrences}
 use Rattle.backward.specs.Meetings.{IsWithin}
 use Rattle.backward.specs.Carried.{IsCarried, IsCarriedThrough}

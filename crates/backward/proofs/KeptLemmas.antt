@@ -1,19 +1,18 @@
 -- Runs of a machine met with a part of another one's runs, and runs of the product of two slices.
-use Rattle.std.proofs.Common.{◌≡◌, ℕ, ◌+◌, ◌<◌, List, [], ◌∷◌, ◌++◌, length, map, Option, Some, None, MatchOption, refl, sym, ap, ap₂, ◌∙◌, subst, arith}
+use Rattle.std.proofs.Common.{◌≡◌, ℕ, ◌+◌, List, [], ◌∷◌, ◌++◌, length, map, Option, None, refl, sym, ap, ◌∙◌, subst}
 use Rattle.machine_core.specs.declared.graph.Graph.{Graph}
 use Rattle.machine_core.specs.declared.run.Run.{Run}
-use Rattle.machine_core.specs.Costs.{add_costs, zeros, total_of, sum_costs}
+use Rattle.machine_core.specs.Costs.{add_costs, zeros, sum_costs}
 use Rattle.machine_core.specs.CostLaws.{add_costs-zeros}
-use Rattle.machine_core.specs.Edges.{EndsAt, StepsBy}
+use Rattle.machine_core.specs.Edges.{StepsBy}
 use Rattle.machine_core.specs.Graphs.{IsRunOf}
 use Rattle.machine_core.specs.Runs.{IsPath, IsRun, run_total}
 use Rattle.machine_core.specs.RunLaws.{run_accepted}
 use Rattle.machine_meet.specs.Products.{MeetEnds, MeetSteps, meet_width}
 use Rattle.machine_meet.specs.Splits.{AreRuns}
-use Rattle.trim_search.specs.Lifted.{IsLift}
 use Rattle.pre_image.specs.Slices.{SliceEnds}
 use Rattle.pre_image.specs.declared.slice.Slice.{Slice}
-use Rattle.backward.specs.Kept.{Part, part_ends, part_steps, both_of, IsPartRun, IsRunOfBoth}
+use Rattle.backward.specs.Kept.{Part, part_ends, part_steps, IsPartRun, IsRunOfBoth}
 use Rattle.backward.proofs.MeetingLemmas.{slice_width, slice_first, slice_ends, slice_steps, AreTwo, between-width}
 
 module _ {S : Type 0} (E F : S → List ℕ → Type 0) (M N : S → ℕ → List ℕ → S → Type 0) (ends : (s : S) (k : List ℕ) → E s k → F s k) (steps : (s t : S) (c : ℕ) (k : List ℕ) → M s c k t → N s c k t) where

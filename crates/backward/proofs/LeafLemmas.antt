@@ -1,5 +1,5 @@
 -- Whatever a family that the text of a cube leads to reads extends to words of all variables that meet the cube.
-use Rattle.std.proofs.Common.{◌≡◌, ℕ, zero, suc, ◌<◌, ◌≤◌, ◌+◌, ◌*◌, ◌||◌, ◌↔◌, Bool, true, false, not, cond, nat_eq, List, [], ◌∷◌, length, map, filter, drop, All, Option, Some, None, slice_get, get_or, refl, sym, ap, ◌∙◌, subst, arith, inl, inr}
+use Rattle.std.proofs.Common.{◌≡◌, ℕ, zero, suc, ◌<◌, ◌≤◌, ◌+◌, ◌*◌, ◌↔◌, Bool, true, false, not, cond, nat_eq, List, [], ◌∷◌, length, map, filter, drop, All, Option, Some, None, slice_get, get_or, refl, sym, ap, ◌∙◌, subst, arith, inl, inr}
 use Rattle.std.specs.List.{AllByRecursion, AllZip, range_with_len}
 use Rattle.std.proofs.lemmas.Bool.{ne_eqb}
 use Rattle.std.proofs.lemmas.Bool.Decides.{eqb_tells}
@@ -10,10 +10,10 @@ use Rattle.sv_terms.specs.Transduction.{Pairs}
 use Rattle.machine_core.specs.Costs.{add_costs, zeros}
 use Rattle.machine_core.specs.Graphs.{Accepts}
 use Rattle.machine_core.specs.declared.graph.Graph.{Graph}
-use Rattle.straight_line.specs.Bounds.{used, is_defined, sources_of, states, states_at, own_bound, product_by}
+use Rattle.straight_line.specs.Bounds.{used, is_defined, states, states_at, own_bound, product_by}
 use Rattle.straight_line.specs.NumberLaws.{factor, StatesAreBounded, StatesAreSolved}
-use Rattle.straight_line.specs.Satisfying.{ComesBy, Defines, Meets, word_at, lengths_of, SatisfiesWords}
-use Rattle.straight_line.specs.Straight.{IsStraight, InOrder, StandsBefore, AreBelow}
+use Rattle.straight_line.specs.Satisfying.{ComesBy, Defines, Meets, word_at}
+use Rattle.straight_line.specs.Straight.{IsStraight, InOrder, AreBelow}
 use Rattle.straight_line.specs.declared.definition.By.{By}
 use Rattle.straight_line.specs.declared.definition.By.TheVariants as by
 use Rattle.straight_line.specs.declared.definition.Definition.{Definition}
@@ -22,7 +22,7 @@ use Rattle.straight_line.specs.declared.variable.Variable.{Variable}
 use Rattle.backward.specs.Families.{Family, Words, after, HasMachine, AreWide, put, Conf}
 use Rattle.backward.specs.Definitions.{definition}
 use Rattle.backward.specs.Chains.{width, own_cost, ReadsOwn, IsOwn, IsLed, begun, same, cut, through, IsLedFrom}
-use Rattle.backward.specs.Leaves.{ExtendsTo, IsLeaf, IsLess, IsLessened, IsOverSources, IsUseful, machines_of, source_words}
+use Rattle.backward.specs.Leaves.{ExtendsTo, IsLeaf, IsLess, IsLessened, IsOverSources, IsUseful, machines_of}
 use Rattle.backward.specs.States.{IsState}
 use Rattle.backward.specs.declared.leaf_state.LeafState.{LeafState}
 use Rattle.backward.proofs.ConfLemmas.{put-same, put-other}

@@ -1,20 +1,18 @@
 -- A machine met with a part of another one's runs: what the explored and trimmed product of two slices is.
-use Rattle.std.proofs.Common.{◌≡◌, ℕ, ◌+◌, ◌*◌, ◌^◌, ◌<◌, ◌≤◌, ◌↔◌, List, [], ◌∷◌, length, map, Contains, Option, Some, None, slice_get, refl, sym, ap, ◌∙◌, subst, arith}
+use Rattle.std.proofs.Common.{◌≡◌, ℕ, ◌+◌, ◌*◌, ◌<◌, ◌≤◌, ◌↔◌, List, [], ◌∷◌, length, map, Option, Some, None, sym, ap, ◌∙◌, subst, arith}
 use Rattle.sv_word.specs.Words.{IsWord}
 use Rattle.machine_core.specs.declared.graph.Graph.{Graph}
-use Rattle.machine_core.specs.Costs.{add_costs, zeros}
-use Rattle.machine_core.specs.Language.{RunsFrom, SameRuns, IsReached, StopsAt}
+use Rattle.machine_core.specs.Language.{RunsFrom, SameRuns}
 use Rattle.machine_core.specs.LanguageLaws.{runs_are_words}
 use Rattle.machine_core.specs.RunBounds.{RunsWithin, PathsWithin}
 use Rattle.machine_core.specs.Edges.{EndsAt, StepsBy, listed_top}
 use Rattle.machine_core.specs.EdgeLaws.{step_target, step_character, run_width, path_width}
 use Rattle.machine_core.specs.Graphs.{Accepts, graph_top, GraphRunsWithin, GraphPathsWithin}
-use Rattle.machine_meet.specs.Products.{AreStates, MeetEnds, MeetSteps, AllRead, MeetsAll, EachWithin, meet_width, summed, multiplied, total}
-use Rattle.trim_search.specs.Useful.{IsOnRun}
+use Rattle.machine_meet.specs.Products.{AreStates, MeetEnds, MeetSteps, MeetsAll, EachWithin, meet_width, summed, multiplied, total}
 use Rattle.pre_image.specs.Slices.{SliceEnds, Between}
 use Rattle.pre_image.specs.SliceLaws.{slice_runs_within}
 use Rattle.pre_image.specs.declared.slice.Slice.{Slice}
-use Rattle.backward.specs.Meetings.{IsWithin, IsTrimmed, IsGrown, IsMeeting}
+use Rattle.backward.specs.Meetings.{IsWithin, IsTrimmed, IsMeeting}
 use Rattle.backward.proofs.CarryLemmas.{first-power}
 use Rattle.backward.proofs.PairLemmas.{both-out, both-in}
 

@@ -1,39 +1,36 @@
 -- What holds of a family while the definitions of a flat cube are carried: at first, and from step to step.
-use Rattle.std.proofs.Common.{◌≡◌, ℕ, zero, suc, ◌+◌, ◌*◌, ◌^◌, ◌<◌, ◌≤◌, ◌||◌, ◌↔◌, nat_eq, cond, Bool, true, false, List, [], ◌∷◌, length, map, drop, get_or, Contains, Option, Some, None, slice_get, refl, sym, ap, ◌∙◌, subst, arith, inl, inr, one-mul, mul-le-mul, mul-le-mul_left, mul-le-mul_right, mul_assoc, mul_comm}
+use Rattle.std.proofs.Common.{◌≡◌, ℕ, zero, suc, ◌+◌, ◌*◌, ◌^◌, ◌<◌, ◌≤◌, ◌||◌, ◌↔◌, nat_eq, cond, true, false, List, [], ◌∷◌, length, map, drop, Contains, Option, Some, None, slice_get, refl, sym, ap, ◌∙◌, subst, arith, inl, inr, one-mul, mul-le-mul_left, mul-le-mul_right, mul_assoc, mul_comm}
 use Rattle.std.specs.List.{AllByRecursion, count_by, sum_by}
-use Rattle.std.proofs.lemmas.Bool.{eq-eqb, ne_eqb, false≢true}
+use Rattle.std.proofs.lemmas.Bool.{ne_eqb, false≢true}
 use Rattle.std.proofs.lemmas.Bool.Decides.{eqb_tells}
 use Rattle.std.proofs.lemmas.List.{length-map}
 use Rattle.std.proofs.Math.Nat.{pow-le-pow_left, pow-zero}
 use Rattle.std.proofs.lemmas.List.Sums.{sum_by-cons}
 use Rattle.machine_core.specs.declared.graph.Graph.{Graph}
-use Rattle.machine_core.specs.Edges.{edges_top, ends_top}
-use Rattle.machine_core.specs.Graphs.{graph_top}
 use Rattle.machine_core.specs.Lists.{slice_get-contains}
 use Rattle.sv_terms.specs.Transduction.{Pairs}
 use Rattle.sv_terms.specs.declared.transducer.Transducer.{Transducer}
 use Rattle.straight_line.specs.Bounds.{is_defined, own_bound, product_by, states_at, through_states, used}
-use Rattle.straight_line.specs.Growth.{growth, growth_at, growth_by, growth_of, longest_word}
+use Rattle.straight_line.specs.Growth.{growth, growth_at, growth_by, growth_of}
 use Rattle.straight_line.specs.NumberLaws.{factor, GrowsAlong, slope_of, base_of, GrowthGoesAlong, GrowthIsBounded, GrowthIsSolved, StatesAreSolved}
-use Rattle.straight_line.specs.Straight.{HasFormed, InOrder, IsFormedBy, IsStraight, StandsBefore}
+use Rattle.straight_line.specs.Straight.{HasFormed, IsFormedBy, IsStraight, StandsBefore}
 use Rattle.straight_line.specs.declared.definition.By.{By}
 use Rattle.straight_line.specs.declared.definition.By.TheVariants as by
 use Rattle.straight_line.specs.declared.definition.Definition.{Definition}
 use Rattle.straight_line.specs.declared.flat.Flat.{Flat}
 use Rattle.straight_line.specs.declared.variable.Variable.{Variable}
-use Rattle.backward.specs.Families.{Family, Words, HasMachine, Conf, AreWide, IsWithout}
+use Rattle.backward.specs.Families.{Words, HasMachine, Conf, IsWithout}
 use Rattle.backward.specs.Pieces.{AreCuts, ConfCut, occurrences}
-use Rattle.backward.specs.Meetings.{IsWithin}
 use Rattle.backward.specs.Bounds.{IsGrownWithin, sum_of}
-use Rattle.backward.specs.Carried.{IsCarried, IsCarriedThrough, CanCut}
+use Rattle.backward.specs.Carried.{IsCarried, IsCarriedThrough}
 use Rattle.backward.specs.Definitions.{definition, reads}
-use Rattle.backward.specs.Chains.{width, ConfBefore, ReadsOwn, IsOwn, IsLedFrom, begun, cut, through}
+use Rattle.backward.specs.Chains.{width, ConfBefore, IsLedFrom, begun, cut, through}
 use Rattle.backward.specs.States.{AreOwnMachines, IsState, IsLittle, is_carried, states_so_far}
-use Rattle.backward.specs.Steps.{CanCutAt, CanPassAt, CanPassBy}
+use Rattle.backward.specs.Steps.{CanCutAt, CanPassAt}
 use Rattle.backward.specs.declared.leaf_state.LeafState.{LeafState}
 use Rattle.backward.proofs.CarryLemmas.{first-power}
 use Rattle.backward.proofs.GrowthLemmas.{shape-back, past-within, grown-free, grown-first, grown-concat, grown-through, concat-fits, through-fits}
-use Rattle.backward.proofs.LoopLemmas.{drop-at, drop-all, get-below, get-in}
+use Rattle.backward.proofs.LoopLemmas.{drop-at, drop-all, get-below}
 use Rattle.backward.proofs.OrderLemmas.{stands-at, or-false, or-right, each-at, not-of, factors-behind, occurrences-count, sum-same}
 
 pub get-there : {X : Type 0} (xs : List X) (i : ℕ) → i < length xs → (x : X) × (slice_get xs i ≡ Some x)

@@ -1,9 +1,9 @@
 -- The definition at a place of a flat cube, carried.
-use Rattle.std.proofs.Common.{◌≡◌, ℕ, suc, ◌+◌, ◌*◌, ◌<◌, ◌≤◌, ◌^◌, ◌↔◌, max, List, [], ◌∷◌, length, map, Option, Some, None, slice_get, refl, sym, ap, ◌∙◌, subst, arith, mul-le-mul_left, mul_comm, add-mul, one-mul}
+use Rattle.std.proofs.Common.{◌≡◌, ℕ, suc, ◌+◌, ◌*◌, ◌<◌, ◌≤◌, ◌↔◌, max, List, [], ◌∷◌, length, map, Some, slice_get, refl, sym, ap, ◌∙◌, subst, arith, mul-le-mul_left, mul_comm, add-mul, one-mul}
 use Rattle.std.proofs.Math.Nat.{max_comm}
 use Rattle.sv_word.specs.Words.{IsWord}
 use Rattle.machine_core.specs.declared.graph.Graph.{Graph}
-use Rattle.machine_core.specs.Edges.{edges_top, ends_top}
+use Rattle.machine_core.specs.Edges.{edges_top}
 use Rattle.sv_terms.specs.Language.{Word}
 use Rattle.sv_terms.specs.Replacement.{replace_first, replace_all}
 use Rattle.sv_terms.specs.Transduction.{Pairs, IsFormed, WritesWithin}
@@ -17,7 +17,7 @@ use Rattle.straight_line.specs.declared.definition.By.{By}
 use Rattle.straight_line.specs.declared.definition.By.TheVariants as by
 use Rattle.straight_line.specs.declared.definition.Definition.{Definition}
 use Rattle.straight_line.specs.declared.flat.Flat.{Flat}
-use Rattle.backward.specs.Families.{Family, Words, HasMachine, put, Conf}
+use Rattle.backward.specs.Families.{Family, Words, put, Conf}
 use Rattle.backward.specs.Pieces.{RunsInTurn, ConfCut}
 use Rattle.backward.specs.Carried.{IsCarried, IsCarriedThrough, CanCut, CanPass}
 use Rattle.backward.specs.Definitions.{definition, reads, Gives, IsFor}

@@ -1,17 +1,15 @@
 -- A machine carried through a transducer.
-use Rattle.std.proofs.Common.{◌≡◌, ℕ, suc, ◌+◌, ◌*◌, ◌^◌, ◌≤◌, ◌↔◌, List, Some, None, slice_get, slice_set, refl, sym, ap, ◌∙◌, subst, arith, mul-le-mul_left, inl, inr}
+use Rattle.std.proofs.Common.{◌≡◌, ℕ, suc, ◌+◌, ◌*◌, Some, None, slice_get, slice_set, sym, ap, ◌∙◌, subst, arith, mul-le-mul_left, inl, inr}
 use Rattle.std.proofs.lemmas.Bool.Decides.{eqb_tells}
 use Rattle.machine_core.specs.declared.graph.Graph.{Graph}
-use Rattle.machine_core.specs.Costs.{add_costs}
 use Rattle.machine_core.specs.Graphs.{Accepts}
-use Rattle.sv_terms.specs.Language.{Word}
 use Rattle.sv_terms.specs.Transduction.{Pairs, WritesWithin}
 use Rattle.sv_terms.specs.declared.transducer.Transducer.{Transducer}
 use Rattle.pre_image.specs.Slices.{Between}
-use Rattle.backward.specs.Families.{Family, Words, HasMachine, IsWithout, without, put, Conf, AreWide}
+use Rattle.backward.specs.Families.{Family, HasMachine, IsWithout, without, put, AreWide}
 use Rattle.backward.specs.Meetings.{IsWithin, IsTrimmed, IsMeeting}
 use Rattle.backward.specs.PreBuilt.{IsPreImage}
-use Rattle.backward.specs.Carried.{ConfThrough, IsCarriedThrough}
+use Rattle.backward.specs.Carried.{IsCarriedThrough}
 use Rattle.backward.proofs.ConfLemmas.{grow-out, grow-in, take-out, take-in, free-put, put-same, set-same, set-other, without-other}
 use Rattle.backward.proofs.CarryLemmas.{without-is, first-power}
 

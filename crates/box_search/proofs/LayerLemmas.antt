@@ -13,7 +13,7 @@ use Rattle.machine_core.specs.RunLaws.{run_accepted}
 use Rattle.box_search.specs.declared.layer.Layer.{Layer}
 use Rattle.box_search.specs.Hits.{HaveRegisters, AreRunsOf, runs_total, characters}
 use Rattle.box_search.specs.Layers as Layers
-use Rattle.box_search.specs.Layers.{layer, AreBelow, uppers_of, IsGood}
+use Rattle.box_search.specs.Layers.{layer, AreBelow}
 use Rattle.box_search.proofs.ShortLemmas.{below-parts}
 
 module _ (machines : List Graph) (uppers : List ℕ) (good : List ℕ → Type 0) where

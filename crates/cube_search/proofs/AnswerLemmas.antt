@@ -1,6 +1,6 @@
 -- The answer from the first family, and what is left where no leaf has a hit.
-use Rattle.std.proofs.Common.{◌≡◌, ◌≢◌, ℕ, zero, suc, ◌<◌, ◌≤◌, ◌+◌, ◌*◌, ◌/◌, ◌⊎◌, max, ℤ, pos, ◌≤ℤ◌, ◌<ℤ◌, List, [], ◌∷◌, length, map, get_or, Option, Some, None, IsSome, refl, sym, ap, ◌∙◌, subst, arith, inl, inr}
-use Rattle.std.specs.List.{range_with_len, sum_by}
+use Rattle.std.proofs.Common.{◌≡◌, ℕ, zero, suc, ◌<◌, ◌≤◌, ◌+◌, ◌*◌, ◌/◌, ℤ, pos, ◌≤ℤ◌, ◌<ℤ◌, List, [], ◌∷◌, length, map, Option, Some, None, refl, sym, ap, ◌∙◌, subst, arith, inl, inr}
+use Rattle.std.specs.List.{sum_by}
 use Rattle.std.proofs.lemmas.Int.{ints}
 use Rattle.std.proofs.lemmas.List.{length-map}
 use Rattle.std.proofs.lemmas.List.Sums.{sum_by-cons}
@@ -12,17 +12,16 @@ use Rattle.leaf_solve.specs.Longs.{letters}
 use Rattle.straight_line.specs.Bounds.{greatest, sources_of}
 use Rattle.straight_line.specs.Growth.{growth, growth_of, longest_word, reach}
 use Rattle.straight_line.specs.NumberLaws.{source_length}
-use Rattle.straight_line.specs.Sides.{IsSmall}
 use Rattle.straight_line.specs.Satisfying.{word_at, lengths_of, IsOf, Satisfies}
 use Rattle.straight_line.specs.Straight.{IsStraight}
 use Rattle.straight_line.specs.declared.flat.Flat.{Flat}
-use Rattle.backward.specs.Chains.{width, IsLedFrom}
+use Rattle.backward.specs.Chains.{IsLedFrom}
 use Rattle.backward.specs.Families.{Family}
 use Rattle.backward.specs.Leaves.{source_words}
 use Rattle.backward.specs.Runs.{run_words}
 use Rattle.backward.specs.States.{IsLittle}
 use Rattle.cube_search.specs.Answers.{IsCubeAnswer, IsDecided, IsModelOf, left_of, left_given, left_long}
-use Rattle.cube_search.specs.Causes.{EachSolution, IsLeftTo}
+use Rattle.cube_search.specs.Causes.{EachSolution}
 use Rattle.cube_search.specs.Limits.{GrowsLittle, MustDecideFlat}
 use Rattle.cube_search.specs.Models.{all_words}
 use Rattle.cube_search.specs.Regions.{IsRegionFor}

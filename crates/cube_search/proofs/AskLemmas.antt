@@ -1,5 +1,5 @@
 -- What is asked of the machines of a leaf, and what the answer says by the numbers of the cube.
-use Rattle.std.proofs.Common.{◌≡◌, ◌≢◌, ◌↔◌, ℕ, zero, suc, ◌<◌, ◌≤◌, ◌+◌, ◌*◌, ◌/◌, ◌%◌, ◌^◌, ◌⊎◌, max, ℤ, pos, negsuc, ◌≤ℤ◌, ◌<ℤ◌, Bool, true, false, IsTrue, List, [], ◌∷◌, length, map, filter, not, cond, All, Option, Some, None, slice_get, refl, sym, ap, ◌∙◌, subst, arith, inl, inr, mul-le-mul_right}
+use Rattle.std.proofs.Common.{◌≡◌, ◌↔◌, ℕ, zero, suc, ◌<◌, ◌≤◌, ◌+◌, ◌*◌, ◌/◌, ◌^◌, ◌⊎◌, ℤ, pos, negsuc, ◌≤ℤ◌, ◌<ℤ◌, Bool, true, false, IsTrue, List, [], ◌∷◌, length, filter, not, cond, All, refl, sym, ap, ◌∙◌, subst, arith, inl, inr, mul-le-mul_right}
 use Rattle.std.specs.List.{AllByRecursion, AllZip, range_with_len}
 use Rattle.std.proofs.lemmas.List.FromFn.{length-range_with_len}
 use Rattle.std.proofs.Math.Nat.{div-le_self}
@@ -8,24 +8,22 @@ use lib.Signed.{lt_z}
 use Rattle.machine_core.specs.declared.graph.Graph.{Graph}
 use Rattle.machine_core.specs.declared.run.Run.{Run}
 use Rattle.machine_core.specs.Edges.{EndsAt, StepsBy}
-use Rattle.machine_core.specs.Graphs.{Accepts, IsRunOf}
 use Rattle.machine_core.specs.RunLaws.{run_accepted}
 use Rattle.machine_core.specs.CostLaws.{zeros-length, add_costs-length}
 use Rattle.machine_core.specs.Language.{RunsFrom}
 use Rattle.machine_core.specs.LanguageLaws.{runs_width}
 use Rattle.machine_core.specs.EdgeLaws.{step_most, end_most}
 use Rattle.machine_core.specs.Runs.{run_total}
-use Rattle.sv_linear.specs.Rows.{MeetsRows, IsRowWithin}
 use Rattle.sv_linear.specs.declared.row.Row.{Row}
-use Rattle.box_search.specs.Hits.{IsHit, AreRunsOf, HaveRegisters, characters, runs_total}
-use Rattle.box_search.specs.Regions.{IsInRegion, FitsRegion, points, greatest_states}
+use Rattle.box_search.specs.Hits.{IsHit, AreRunsOf, characters, runs_total}
+use Rattle.box_search.specs.Regions.{points, greatest_states}
 use Rattle.box_search.specs.declared.hit.Hit.{Hit}
 use Rattle.box_search.specs.declared.region.Region.{Region}
 use Rattle.farkas_check.specs.declared.system.System.{System}
 use Rattle.lia_branch.specs.declared.evidence.Evidence.{Evidence}
 use Rattle.parikh_flow.specs.Rows.{IsSystemOf}
 use Rattle.leaf_solve.specs.Answers.{HasNoHit, IsLeafAnswer, IsLongAnswer, IsOpenAnswer, IsSatAnswer, IsDecided, MustDecide, row_reach}
-use Rattle.leaf_solve.specs.Longs.{HasRun, IsShortestWord, IsLongShown, letters}
+use Rattle.leaf_solve.specs.Longs.{HasRun, IsShortestWord, IsLongShown}
 use Rattle.leaf_solve.specs.Questions.{IsAsked, EachHit, LieIn, total_states}
 use Rattle.leaf_solve.specs.declared.leaf_answer.LeafAnswer.{LeafAnswer}
 use Rattle.leaf_solve.specs.declared.leaf_answer.LeafAnswer.TheVariants as leaf
@@ -37,8 +35,8 @@ use Rattle.straight_line.specs.Sides.{IsSmall}
 use Rattle.straight_line.specs.Straight.{IsRowOf, IsStraight}
 use Rattle.straight_line.specs.declared.flat.Flat.{Flat}
 use Rattle.backward.specs.Chains.{width}
-use Rattle.cube_search.specs.Causes.{HasGivenUp, IsLongFor}
-use Rattle.cube_search.specs.Leaves.{AreOfLeaf, EachHitOf, IsAnswerFor, IsHitOf, IsOutside, IsPastReach, IsUndecided, past_words, words_of}
+use Rattle.cube_search.specs.Causes.{IsLongFor}
+use Rattle.cube_search.specs.Leaves.{AreOfLeaf, EachHitOf, IsAnswerFor, IsOutside, IsPastReach, IsUndecided, past_words, words_of}
 use Rattle.cube_search.specs.Limits.{MustDecideFlat}
 use Rattle.cube_search.specs.Regions.{IsRegionFor}
 use Rattle.cube_search.proofs.RowLemmas.{rows-within}

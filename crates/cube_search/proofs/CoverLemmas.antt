@@ -1,12 +1,10 @@
 -- What is covered: the cuts of a concatenation together, and a definition through a transducer.
-use Rattle.std.proofs.Common.{◌≡◌, ℕ, zero, suc, ◌<◌, ◌≤◌, ◌+◌, ◌↔◌, ℤ, List, [], ◌∷◌, ◌++◌, length, map, take, Contains, Option, Some, None, slice_get, refl, sym, ap, ◌∙◌, subst, append_assoc, append-nil, length-append, arith, inl, inr}
-use Rattle.sv_terms.specs.Language.{Word}
+use Rattle.std.proofs.Common.{◌≡◌, ℕ, zero, suc, ◌<◌, ◌+◌, ◌↔◌, ℤ, List, [], ◌∷◌, ◌++◌, length, map, Contains, Some, slice_get, refl, sym, subst, append_assoc, append-nil, length-append, arith, inl, inr}
 use Rattle.sv_terms.specs.Meaning.{joined}
 use Rattle.machine_core.specs.declared.graph.Graph.{Graph}
 use Rattle.box_search.specs.declared.region.Region.{Region}
 use Rattle.straight_line.specs.declared.definition.By.{By}
 use Rattle.straight_line.specs.declared.definition.By.TheVariants.{Concat}
-use Rattle.straight_line.specs.declared.definition.Definition.{Definition}
 use Rattle.straight_line.specs.declared.flat.Flat.{Flat}
 use Rattle.backward.specs.Families.{Family, Words, HasMachine, put, Conf}
 use Rattle.backward.specs.Pieces.{ConfCut, AreCuts}

@@ -1,20 +1,18 @@
 -- From a first family to the cube: what satisfies the cube is read by it, and what it reads satisfies the cube.
-use Rattle.std.proofs.Common.{◌≡◌, ℕ, zero, suc, ◌<◌, ◌≤◌, ◌+◌, ℤ, pos, ◌≤ℤ◌, Bool, true, false, cond, nat_eq, List, [], ◌∷◌, ◌++◌, length, map, take, drop, Option, Some, None, slice_get, get_or, refl, sym, ap, ◌∙◌, subst, arith, inl, inr, eq-eqb, ne_eqb, add-one}
+use Rattle.std.proofs.Common.{◌≡◌, ℕ, zero, suc, ◌<◌, ◌≤◌, ◌+◌, false, cond, nat_eq, List, [], ◌∷◌, length, map, take, Some, None, slice_get, get_or, refl, sym, ap, ◌∙◌, subst, arith, inl, inr, ne_eqb}
 use Rattle.std.specs.List.{AllByRecursion, AllZip, range_with_len}
 use Rattle.std.proofs.lemmas.Bool.Decides.{eqb_tells}
 use Rattle.sv_terms.specs.Language.{Word}
 use Rattle.machine_core.specs.Costs.{add_costs, zeros}
 use Rattle.machine_core.specs.Edges.{EndsAt, StepsBy}
-use Rattle.machine_core.specs.Graphs.{Accepts, IsRunOf}
+use Rattle.machine_core.specs.Graphs.{Accepts}
 use Rattle.machine_core.specs.RunLaws.{run_accepted}
 use Rattle.machine_core.specs.Runs.{run_total}
 use Rattle.machine_core.specs.declared.graph.Graph.{Graph}
-use Rattle.machine_core.specs.declared.run.Run.{Run}
 use Rattle.sv_linear.specs.Rows.{MeetsRows}
-use Rattle.straight_line.specs.Bounds.{used, is_defined, states_at}
-use Rattle.straight_line.specs.Satisfying.{Meets, word_at, ComesBy, Defines, lengths_of, SatisfiesWords, Satisfies}
+use Rattle.straight_line.specs.Bounds.{used, states_at}
+use Rattle.straight_line.specs.Satisfying.{Meets, word_at, Defines, lengths_of, SatisfiesWords, Satisfies}
 use Rattle.straight_line.specs.Straight.{IsStraight, InOrder, AreBelow}
-use Rattle.straight_line.specs.declared.definition.By.{By}
 use Rattle.straight_line.specs.declared.definition.Definition.{Definition}
 use Rattle.straight_line.specs.declared.flat.Flat.{Flat}
 use Rattle.straight_line.specs.declared.variable.Variable.{Variable}

@@ -1,15 +1,14 @@
 -- What was found, taken back over a step, and spread from the runs of a leaf.
-use Rattle.std.proofs.Common.{◌≡◌, ℕ, zero, suc, ◌<◌, ◌≤◌, ◌+◌, ℤ, pos, ◌≤ℤ◌, Bool, true, false, not, ◌||◌, List, [], ◌∷◌, ◌++◌, length, map, filter, take, Contains, All, Option, Some, None, nat_eq, eqb, cond, slice_get, refl, sym, ap, ◌∙◌, subst, arith, eq-eqb, inl, inr}
-use Rattle.std.specs.List.{AllByRecursion, AllZip, list_any, range_with_len}
+use Rattle.std.proofs.Common.{◌≡◌, ℕ, zero, suc, ◌<◌, ◌≤◌, ◌+◌, ℤ, pos, ◌≤ℤ◌, Bool, true, false, not, ◌||◌, List, [], ◌∷◌, length, map, filter, take, All, Some, None, nat_eq, eqb, cond, slice_get, refl, sym, ap, ◌∙◌, subst, arith, eq-eqb}
+use Rattle.std.specs.List.{AllByRecursion, AllZip, range_with_len}
 use Rattle.std.proofs.lemmas.Bool.{false≢true}
 use Rattle.sv_terms.specs.Language.{Word}
 use Rattle.sv_terms.specs.Meaning.{joined}
 use Rattle.sv_terms.specs.Replacement.{replace_first, replace_all}
 use Rattle.sv_terms.specs.Transduction.{Pairs}
-use Rattle.machine_core.specs.Costs.{add_costs, zeros}
+use Rattle.machine_core.specs.Costs.{add_costs}
 use Rattle.machine_core.specs.Graphs.{IsRunOf}
 use Rattle.machine_core.specs.Runs.{run_total}
-use Rattle.machine_core.specs.declared.graph.Graph.{Graph}
 use Rattle.machine_core.specs.declared.run.Run.{Run}
 use Rattle.sv_linear.specs.Rows.{MeetsRows}
 use Rattle.box_search.specs.Hits.{characters, runs_total}
@@ -17,7 +16,7 @@ use Rattle.box_search.specs.declared.hit.Hit.{Hit}
 use Rattle.box_search.specs.declared.region.Region.{Region}
 use Rattle.leaf_solve.specs.Longs.{letters}
 use Rattle.trim_search.specs.declared.built.Built.{Built}
-use Rattle.straight_line.specs.Bounds.{is_defined, used, sources_of}
+use Rattle.straight_line.specs.Bounds.{is_defined, used}
 use Rattle.straight_line.specs.Growth.{reach}
 use Rattle.straight_line.specs.Satisfying.{ComesBy}
 use Rattle.straight_line.specs.Straight.{IsStraight, InOrder}

@@ -1,5 +1,5 @@
 -- How much is left of a search: the definitions still to be carried, and their pieces still to be cut.
-use Rattle.std.proofs.Common.{◌≡◌, ℕ, zero, suc, ◌+◌, List, length, Option, Some, None, slice_get}
+use Rattle.std.proofs.Common.{ℕ, zero, suc, ◌+◌, List, length, Option, Some, None, slice_get}
 use Rattle.straight_line.specs.Bounds.{used}
 use Rattle.straight_line.specs.declared.definition.Definition.{Definition}
 

@@ -1,15 +1,12 @@
 -- The source variables as the places of a family's machines, and what such a family reads.
-use Rattle.std.proofs.Common.{◌≡◌, ℕ, zero, suc, ◌<◌, ◌≤◌, ◌+◌, ◌*◌, Bool, true, false, not, cond, List, [], ◌∷◌, length, map, filter, All, Option, Some, None, slice_get, refl, sym, ap, ◌∙◌, subst, arith, add-one}
+use Rattle.std.proofs.Common.{◌≡◌, ℕ, zero, suc, ◌≤◌, ◌+◌, ◌*◌, Bool, true, false, not, cond, List, [], ◌∷◌, length, map, filter, All, Some, None, slice_get, refl, sym, ap, ◌∙◌, subst, arith, add-one}
 use Rattle.std.specs.List.{AllZip, range_with_len}
 use Rattle.std.proofs.lemmas.List.Elements.{All-nil, All-cons}
-use Rattle.sv_terms.specs.Language.{Word}
 use Rattle.machine_core.specs.Costs.{add_costs}
 use Rattle.machine_core.specs.Edges.{EndsAt, StepsBy}
 use Rattle.machine_core.specs.RunLaws.{accepted_run}
-use Rattle.machine_core.specs.Runs.{run_total}
 use Rattle.machine_core.specs.declared.graph.Graph.{Graph}
-use Rattle.machine_core.specs.declared.run.Run.{Run}
-use Rattle.machine_core.specs.Graphs.{Accepts, IsRunOf}
+use Rattle.machine_core.specs.Graphs.{Accepts}
 use Rattle.box_search.specs.Hits.{runs_total}
 use Rattle.straight_line.specs.Bounds.{is_defined, sources_of, sources, states, states_at, own_bound, product_by}
 use Rattle.straight_line.specs.NumberLaws.{factor, StatesAreBounded, StatesAreSolved}

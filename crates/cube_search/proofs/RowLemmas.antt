@@ -1,10 +1,10 @@
 -- The rows of a straight cube, as a leaf is asked for them.
-use Rattle.std.proofs.Common.{◌≡◌, ℕ, zero, suc, ◌<◌, ◌≤◌, ◌+◌, ◌^◌, ℤ, pos, ◌+ℤ◌, ◌⊎◌, unsigned_abs, Bool, true, false, nat_eq, cond, List, [], ◌∷◌, length, Some, slice_get, refl, sym, ap, ◌∙◌, subst, arith, inl, inr}
+use Rattle.std.proofs.Common.{◌≡◌, ℕ, zero, suc, ◌<◌, ◌≤◌, ◌+◌, ◌^◌, ℤ, pos, unsigned_abs, nat_eq, List, [], ◌∷◌, Some, slice_get, sym, subst, arith, inl, inr}
 use Rattle.std.specs.List.{AllByRecursion}
 use Rattle.std.proofs.lemmas.Bool.Decides.{eqb_tells}
 use Rattle.sv_linear.specs.Combining.{IsSymmetric}
 use Rattle.sv_linear.specs.Forms.{entry}
-use Rattle.sv_linear.specs.Rows.{HasSymmetricEntries, IsRowWithin}
+use Rattle.sv_linear.specs.Rows.{IsRowWithin}
 use Rattle.sv_linear.specs.TermLaws.{passed, met, below_low}
 use Rattle.sv_linear.specs.Terms.{AscendsWithin, coefficient}
 use Rattle.sv_linear.specs.declared.column.Column.{Column}

@@ -1,7 +1,6 @@
 -- The steps of the search, as its calls meet them.
-use Rattle.std.proofs.Common.{◌≡◌, ◌≢◌, ℕ, zero, suc, ◌<◌, ◌≤◌, ◌+◌, ◌-◌, ◌↔◌, List, [], ◌∷◌, ◌++◌, length, Option, Some, None, Contains, slice_get, get_or, refl, sym, ap, ◌∙◌, subst, arith, inl, inr, length-append}
+use Rattle.std.proofs.Common.{◌≡◌, ℕ, zero, suc, ◌<◌, ◌+◌, ◌-◌, ◌↔◌, List, [], ◌∷◌, ◌++◌, length, Option, Some, None, Contains, slice_get, refl, sym, ap, ◌∙◌, subst, arith, inl, inr, length-append}
 use Rattle.std.proofs.lemmas.Bool.Decides.{eqb_tells}
-use Rattle.straight_line.specs.Bounds.{used}
 use Rattle.machine_core.specs.declared.graph.Graph.{Graph}
 use Rattle.box_search.specs.declared.region.Region.{Region}
 use Rattle.straight_line.specs.Straight.{IsStraight}
@@ -12,11 +11,11 @@ use Rattle.straight_line.specs.declared.flat.Flat.{Flat}
 use Rattle.backward.specs.Families.{Family, Words, HasMachine, Conf}
 use Rattle.backward.specs.Definitions.{definition, reads}
 use Rattle.backward.specs.Chains.{width, ConfBefore}
-use Rattle.backward.specs.Pieces.{AreCuts, ConfCut}
-use Rattle.backward.specs.Steps.{CanCutAt, CanPassAt, IsCutAt, IsMadeAt, IsMadeBy}
+use Rattle.backward.specs.Pieces.{ConfCut}
+use Rattle.backward.specs.Steps.{CanPassAt, IsMadeAt, IsMadeBy}
 use Rattle.backward.specs.declared.leaf_state.LeafState.{LeafState}
-use Rattle.cube_search.specs.Steps.{AreExact, CanStep, IsCutting, IsNext}
-use Rattle.cube_search.specs.Tallies.{Keeps, IsCovered, IsCoveredFrom, AreCoveredFrom, IsCoveredBelow}
+use Rattle.cube_search.specs.Steps.{AreExact, CanStep, IsCutting}
+use Rattle.cube_search.specs.Tallies.{Keeps, IsCovered, AreCoveredFrom, IsCoveredBelow}
 use Rattle.cube_search.specs.declared.tally.Tally.{Tally}
 use Rattle.cube_search.proofs.CoverLemmas.{covered-all, covered-concat, covered-through, covered-whole, covered-from-kept}
 use Rattle.cube_search.proofs.Measures.{weight, pieces_of}

@@ -3,9 +3,6 @@ use Rattle.std.proofs.Common.{◌≡◌, ◌≢◌, ℕ, pos, ◌<ℤ◌, ℤ, L
 use Rattle.std.specs.Prelude.{⊤}
 use Rattle.std.specs.List.{AllZip}
 use Rattle.machine_core.specs.declared.graph.Graph.{Graph}
-use Rattle.machine_core.specs.declared.run.Run.{Run}
-use Rattle.farkas_check.specs.declared.system.System.{System}
-use Rattle.lia_branch.specs.declared.evidence.Evidence.{Evidence}
 use Rattle.sv_linear.specs.Rows.{MeetsRows}
 use Rattle.box_search.specs.Hits.{IsHit, characters, runs_total}
 use Rattle.box_search.specs.Regions.{IsInRegion}
@@ -14,13 +11,10 @@ use Rattle.box_search.specs.declared.region.Region.{Region}
 use Rattle.trim_search.specs.declared.built.Built.{Built}
 use Rattle.leaf_solve.specs.Answers.{IsDecided}
 use Rattle.leaf_solve.specs.Longs.{HasRun, letters}
-use Rattle.leaf_solve.specs.Questions.{EachHit, LieIn}
 use Rattle.leaf_solve.specs.declared.leaf_answer.LeafAnswer.{LeafAnswer}
 use Rattle.leaf_solve.specs.declared.leaf_answer.LeafAnswer.TheVariants as leaf
-use Rattle.leaf_solve.specs.declared.long_shown.LongShown.{LongShown}
 use Rattle.straight_line.specs.Growth.{reach}
 use Rattle.straight_line.specs.Sides.{IsSmall}
-use Rattle.straight_line.specs.Straight.{IsStraight}
 use Rattle.straight_line.specs.declared.flat.Flat.{Flat}
 use Rattle.backward.specs.Chains.{width}
 use Rattle.backward.specs.Families.{Family, Words, Conf}
@@ -28,7 +22,7 @@ use Rattle.backward.specs.Leaves.{IsLeaf, IsLessened, machines_of, source_words}
 use Rattle.backward.specs.States.{IsState}
 use Rattle.backward.specs.declared.leaf_state.LeafState.{LeafState}
 use Rattle.cube_search.specs.Causes.{HasGivenUp, IsLongFor, Reads}
-use Rattle.cube_search.specs.Leaves.{EachHitOf, IsAnswerFor, IsHitOf, IsOutside, IsTrim, machine_of, words_of}
+use Rattle.cube_search.specs.Leaves.{IsAnswerFor, IsHitOf, IsOutside, IsTrim, machine_of}
 use Rattle.cube_search.specs.Limits.{MustDecideFlat}
 use Rattle.cube_search.specs.Tallies.{IsTally, Keeps, IsCovered, IsReadBy, first_some, hit_of, settled}
 use Rattle.cube_search.specs.declared.tally.Given.{Given}
@@ -37,7 +31,7 @@ use Rattle.cube_search.specs.declared.tally.Tally.{Tally}
 use Rattle.cube_search.proofs.CoverLemmas.{keeps-same}
 use Rattle.cube_search.proofs.FoundLemmas.{letters-characters}
 use Rattle.cube_search.proofs.Places.{ReadsSame, reads-sources}
-use Rattle.cube_search.proofs.TrimLemmas.{lessened, is-lessened, lessened-machines, trims-less, trims-read}
+use Rattle.cube_search.proofs.TrimLemmas.{lessened, is-lessened, lessened-machines, trims-less}
 
 abbrev GivenHolds : Flat → Option Given → Type 0
 GivenHolds flat o = MatchOption o ⊤ (λ g. IsLeaf flat g.machines × HasGivenUp flat g.machines g.system g.evidence × (flat.rows ≢ []) × (IsSmall flat → ⊥))

@@ -1,19 +1,17 @@
 -- The assertions without opaque parts, and what is known of their cubes.
-use Rattle.std.proofs.Common.{◌≡◌, ◌↔◌, refl, sym, ap, ◌∙◌, subst, ℕ, ℤ, zero, suc, ◌<◌, cond, not, filter, Bool, true, false, ◌&&◌, IsTrue, All, List, [], ◌∷◌, ◌++◌, Option, Some, None, Result, Ok, Err, IfOk, arith}
+use Rattle.std.proofs.Common.{◌≡◌, refl, sym, ◌∙◌, subst, ℕ, zero, suc, ◌<◌, cond, not, Bool, true, false, ◌&&◌, IsTrue, List, [], ◌∷◌, Some, Result, Err, IfOk, arith}
 use Rattle.std.specs.List.{AllByRecursion, list_all}
 use Rattle.sv_terms.specs.CutOff.{cut_off}
 use Rattle.sv_terms.specs.Meaning.{Named}
 use Rattle.sv_terms.specs.Parts.{is_opaque}
 use Rattle.sv_terms.specs.Sorting.{is_valued, sort_of}
 use Rattle.sv_terms.specs.TransducerSizes.{is_formed}
-use Rattle.sv_terms.specs.Truth.{AllTrue, AreValued, clear_of}
-use Rattle.sv_terms.specs.declared.op.Op.{Op}
+use Rattle.sv_terms.specs.Truth.{AreValued, clear_of}
 use Rattle.sv_terms.specs.declared.sort.Sort.{Sort}
 use Rattle.sv_terms.specs.declared.sort.Sort.TheVariants as sort
 use Rattle.sv_terms.specs.declared.term.Term.{Term}
 use Rattle.sv_terms.specs.declared.term.Term.TheVariants as v
-use Rattle.sv_terms.specs.declared.transducer.Transducer.{Transducer}
-use Rattle.bool_cubes.specs.Cubes.{SomeCubeTrue, cubes_of}
+use Rattle.bool_cubes.specs.Cubes.{cubes_of}
 use Rattle.bool_cubes.specs.Laws.{CubesAreExact, IsAssertion, IsFittingCube, IsPassedCube, IsPassedOn, IsSorted, IsValuedCube, LiteralsAreValued, LiteralsFit, LiteralsPass}
 use Rattle.bool_cubes.specs.Past.{HasNoPast}
 use Rattle.bool_cubes.specs.Refusing.{IsRefusedExactly, count_of, most_cubes}

@@ -1,15 +1,13 @@
 -- Values for the constants of terms, one after another.
-use Rattle.std.proofs.Common.{◌≡◌, refl, sym, ap, ◌∙◌, subst, ℕ, zero, suc, ◌+◌, ◌<◌, map, cond, not, Bool, true, false, ◌&&◌, ◌||◌, IsTrue, All, List, [], ◌∷◌, ◌++◌, length, take, get_or, Option, Some, None, Result, Ok, Err, OnOk, Bor, nat_eq, arith}
+use Rattle.std.proofs.Common.{◌≡◌, refl, sym, ap, ◌∙◌, subst, ℕ, zero, suc, ◌+◌, ◌<◌, cond, not, Bool, true, false, ◌&&◌, ◌||◌, IsTrue, All, List, [], ◌∷◌, ◌++◌, length, take, get_or, Option, Some, None, Bor, nat_eq, arith}
 use Rattle.std.specs.List.{AllByRecursion, list_all, list_any}
-use Rattle.std.specs.Map.{lookup}
 use Rattle.std.specs.Option.{is_some, option_copied}
 use Rattle.std.specs.Cmp.Lexicographic.{pointwise, same_text}
-use Rattle.std.proofs.lemmas.Bool.{true≢false}
 use Rattle.indexmap.specs.IndexMap.{insert_entry}
 use Rattle.sv_terms.specs.Meaning.{Named}
-use Rattle.sv_terms.specs.Parts.{is_opaque, some_part}
+use Rattle.sv_terms.specs.Parts.{is_opaque}
 use Rattle.sv_terms.specs.Sorting.{is_of, is_valued, kind, same_sort}
-use Rattle.sv_terms.specs.Truth.{AreValued, AreWorded, IsWorded, clear_of}
+use Rattle.sv_terms.specs.Truth.{AreWorded, IsWorded, clear_of}
 use Rattle.sv_terms.specs.declared.op.Op.{Op}
 use Rattle.sv_terms.specs.declared.regex.Regex.{Regex}
 use Rattle.sv_terms.specs.declared.sort.Sort.{Sort}
@@ -19,7 +17,7 @@ use Rattle.sv_terms.specs.declared.term.Term.TheVariants as v
 use Rattle.sv_terms.specs.declared.transducer.Transducer.{Transducer}
 use Rattle.sv_terms.specs.declared.value.Value.{Value}
 use Rattle.sv_terms.specs.declared.value.Value.TheVariants.{Truth, Number, Text}
-use Rattle.decide.specs.Constants.{mentions, is_mentioned, HaveOneSort, AreValuesOf}
+use Rattle.decide.specs.Constants.{mentions, is_mentioned, HaveOneSort}
 use Rattle.decide.specs.Filling.{default, or_default, value_of, AreChosen, IsFilling, Grows, Fills, FillsAll, FillsOne, IsFilledFrom}
 use Rattle.decide.proofs.Listed.{take-more}
 use Rattle.decide.proofs.Sorts.{both, both-make, same-is, same-self, valued-kept, all-kept}

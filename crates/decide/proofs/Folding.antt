@@ -1,11 +1,10 @@
 -- What the answers for cubes say of the verdict that they make.
-use Rattle.std.proofs.Common.{◌≡◌, ◌≢◌, ℕ, zero, suc, ◌<◌, ◌≤◌, ◌+◌, List, [], ◌∷◌, ◌++◌, length, map, Contains, All, Option, Some, None, slice_get, slice_index, refl, sym, ap, ◌∙◌, subst, arith}
+use Rattle.std.proofs.Common.{◌≡◌, ℕ, zero, suc, ◌<◌, ◌≤◌, ◌+◌, List, [], ◌∷◌, map, Contains, Some, None, slice_get, slice_index, refl, ap, subst, arith}
 use Rattle.std.specs.List.{AllZip}
 use Rattle.std.specs.List.Sorted.{IsStrictlyIncreasing}
 use Rattle.sv_terms.specs.Meaning.{Named}
 use Rattle.sv_terms.specs.declared.term.Term.{Term}
 use Rattle.bool_cubes.specs.declared.literal.Cube.{Cube}
-use Rattle.cube_search.specs.Answers.{IsDecided}
 use Rattle.cube_search.specs.declared.answer.CubeAnswer.{CubeAnswer}
 use Rattle.cube_search.specs.declared.answer.CubeAnswer.TheVariants as answer
 use Rattle.cube_search.specs.declared.reason.Reason.{Reason}
@@ -16,7 +15,7 @@ use Rattle.decide.specs.Constants.{AreValuesOf}
 use Rattle.decide.specs.Causes.{IsCause, CubeHasNoValues, AreTrueAtCube}
 use Rattle.decide.specs.Completeness.{MustDecideCube}
 use Rattle.decide.specs.Folds.{first_sat, opens_from}
-use Rattle.decide.specs.Jobs.{IsOutcome, IsSatOf}
+use Rattle.decide.specs.Jobs.{IsOutcome}
 use Rattle.decide.proofs.Listed.{contains-here, contains-there, contains-cases, contains-none}
 
 module _ (terms : List Term) where

@@ -1,5 +1,5 @@
 -- One batch more.
-use Rattle.std.proofs.Common.{◌≡◌, ◌≢◌, ℕ, zero, suc, ◌+◌, ◌*◌, ◌^◌, ◌<◌, ◌≤◌, ◌⊎◌, Bool, true, false, ◌||◌, nat_lt, List, [], ◌∷◌, ◌++◌, length, map, take, drop, Option, Some, None, MatchOption, Result, Ok, Err, IfOk, refl, sym, ap, ◌∙◌, subst, arith, length-append, append_assoc, append-nil, inl, inr}
+use Rattle.std.proofs.Common.{◌≡◌, ◌≢◌, ℕ, zero, suc, ◌+◌, ◌^◌, ◌<◌, ◌≤◌, ◌⊎◌, Bool, true, false, ◌||◌, nat_lt, List, [], ◌∷◌, ◌++◌, length, map, take, drop, Option, Some, None, MatchOption, Result, Ok, IfOk, refl, sym, ap, ◌∙◌, subst, arith, length-append, append_assoc, inl, inr}
 use Rattle.std.specs.List.{AllByRecursion, AllZip}
 use Rattle.std.proofs.lemmas.List.{length-drop, map-append, take-append-drop}
 use Rattle.std.proofs.Math.Seq.{drop-append_seam}
@@ -12,8 +12,8 @@ use Rattle.bool_cubes.specs.Cubes.{cubes_of}
 use Rattle.bool_cubes.specs.declared.literal.Cube.{Cube}
 use Rattle.cube_search.specs.declared.answer.CubeAnswer.{CubeAnswer}
 use Rattle.sv_terms.specs.Truth.{opaque_of}
-use Rattle.decide.specs.Folds.{found, fold, with_first, without_sat, opens_from, refuted_from, refutation}
-use Rattle.decide.specs.Jobs.{IsAsked, IsOutcome, IsTallyOf, AreWhole, EndsWithBatch, IsFoldOf, IsUnderWay, batch, verdict_of}
+use Rattle.decide.specs.Folds.{found, with_first, without_sat}
+use Rattle.decide.specs.Jobs.{IsAsked, IsOutcome, IsTallyOf, IsFoldOf, IsUnderWay, batch, verdict_of}
 use Rattle.decide.specs.Batches.{AreJobsOf, Yields}
 use Rattle.decide.specs.Causes.{CubeHasNoValues}
 use Rattle.decide.specs.Passing.{Passes, passed}

@@ -1,10 +1,10 @@
 -- Values of a flat cube as values of its cube, and the other way round.
-use Rattle.std.proofs.Common.{◌≡◌, ◌↔◌, refl, sym, ap, ◌∙◌, subst, ℕ, ℤ, cond, map, filter, Bool, true, false, IsTrue, List, [], ◌∷◌, ◌++◌, Option, Some, None, Err, nat_eq}
+use Rattle.std.proofs.Common.{◌≡◌, refl, sym, ap, ◌∙◌, subst, ℕ, ℤ, cond, map, filter, Bool, true, IsTrue, List, [], ◌∷◌, Option, Some, None, Err}
 use Rattle.std.specs.List.{AllByRecursion, AllZip}
 use Rattle.sv_terms.specs.Language.{Word}
 use Rattle.sv_terms.specs.Meaning.{Named}
 use Rattle.sv_terms.specs.Sorting.{is_valued, kind, same_sort}
-use Rattle.sv_terms.specs.Truth.{AreValued, AreWorded, clear_of}
+use Rattle.sv_terms.specs.Truth.{clear_of}
 use Rattle.sv_terms.specs.declared.sort.Sort.{Sort}
 use Rattle.sv_terms.specs.declared.sort.Sort.TheVariants as sort
 use Rattle.sv_terms.specs.declared.term.Term.{Term}
@@ -15,27 +15,24 @@ use Rattle.bool_cubes.specs.Linear.{length_of}
 use Rattle.bool_cubes.specs.Shapes.{Shape, seen}
 use Rattle.bool_cubes.specs.declared.literal.Literal.{Literal}
 use Rattle.bool_cubes.specs.declared.literal.Cube.{Cube}
-use Rattle.straight_line.specs.Flattening.{Bounded, HaveOneSort as LiteralsHaveOneSort, IsFlattened, IsFlattening, IsSortedBy, IsRowFor, all_bounded, has_column, registers_of, unknowns_of, variable_of}
+use Rattle.straight_line.specs.Flattening.{Bounded, HaveOneSort as LiteralsHaveOneSort, IsFlattened, IsFlattening, IsSortedBy, IsRowFor, all_bounded, has_column, unknowns_of, variable_of}
 use Rattle.straight_line.specs.Met.{met}
 use Rattle.straight_line.specs.FormLaws.{AreNamesSorted, NamesAreSorted}
 use Rattle.straight_line.specs.Laws.{FlatIsExact, FlatIsOne, IsGood, IsRefusal, IsSpelled, RefusedHasNone}
-use Rattle.straight_line.specs.Satisfying.{Extends, HasValue, IsOf, NamesHave, Satisfies}
+use Rattle.straight_line.specs.Satisfying.{Extends, HasValue, IsOf, NamesHave}
 use Rattle.straight_line.specs.Straight.{string_names}
 use Rattle.straight_line.specs.declared.fault.FlatFault.{FlatFault}
 use Rattle.straight_line.specs.declared.flat.Flat.{Flat}
 use Rattle.straight_line.specs.declared.variable.Variable.{Variable}
-use Rattle.cube_search.specs.Answers.{IsCubeAnswer, IsDecided, IsModelOf}
+use Rattle.cube_search.specs.Answers.{IsModelOf}
 use Rattle.cube_search.specs.Causes.{EachSolution, IsCauseOf}
 use Rattle.cube_search.specs.Limits.{MustDecideFlat}
-use Rattle.cube_search.specs.declared.answer.CubeAnswer.{CubeAnswer}
-use Rattle.cube_search.specs.declared.answer.CubeAnswer.TheVariants as answer
 use Rattle.cube_search.specs.declared.reason.Reason.{Reason}
 use Rattle.cube_search.specs.declared.reason.Reason.TheVariants as reason
-use Rattle.decide.specs.Causes.{AreTrueAtCube, CubeHasNoValues, IsCause}
+use Rattle.decide.specs.Causes.{CubeHasNoValues, IsCause}
 use Rattle.decide.specs.Completeness.{MustDecideCube}
-use Rattle.decide.specs.Constants.{HaveOneSort}
 use Rattle.decide.specs.Filling.{AreChosen, IsFilledFrom, default, or_default, value_of}
-use Rattle.decide.specs.Jobs.{IsAsked, IsOutcome, IsSatOf}
+use Rattle.decide.specs.Jobs.{IsAsked, IsSatOf}
 use Rattle.decide.proofs.Listed.{first-part}
 use Rattle.decide.proofs.Sorts.{same-self, sort_at, sorted-by, sorts_by}
 

@@ -1,5 +1,5 @@
 -- The verdict that right answers for all cubes make is right, and complete.
-use Rattle.std.proofs.Common.{◌≡◌, ◌≢◌, ℕ, zero, suc, ◌<◌, ◌≤◌, ◌+◌, ◌↔◌, ◌⊎◌, Bool, true, false, not, cond, List, [], ◌∷◌, ◌++◌, length, map, filter, Contains, Any, All, IsTrue, Option, Some, None, Result, Ok, Err, IfOk, slice_get, refl, sym, ap, ◌∙◌, subst, arith, append-nil, inl, inr}
+use Rattle.std.proofs.Common.{◌≡◌, ◌≢◌, ℕ, zero, suc, ◌+◌, ◌↔◌, ◌⊎◌, Bool, true, false, not, cond, List, [], ◌∷◌, ◌++◌, map, Contains, All, Option, Some, None, Result, Ok, Err, IfOk, slice_get, refl, sym, ap, ◌∙◌, subst, arith, append-nil, inl, inr}
 use Rattle.std.specs.List.{AllByRecursion, AllZip}
 use Rattle.std.proofs.lemmas.Bool.{true≢false}
 use Rattle.std.specs.List.Sorted.{IsStrictlyIncreasing}
@@ -14,11 +14,11 @@ use Rattle.cube_search.specs.declared.answer.CubeAnswer.{CubeAnswer}
 use Rattle.cube_search.specs.declared.answer.Refutation.{Refutation}
 use Rattle.cube_search.specs.declared.reason.Reason.{Reason}
 use Rattle.decide.specs.Constants.{AreOnly}
-use Rattle.decide.specs.Causes.{IsCause, CubeHasNoValues, AreTrueAtCube}
+use Rattle.decide.specs.Causes.{CubeHasNoValues, AreTrueAtCube}
 use Rattle.decide.specs.Completeness.{MustDecideCube, MustDecide, IsComplete, IsUnsat, IsUnknown}
 use Rattle.decide.specs.Folds.{first_sat, opens_from, refuted_from, refutation, with_first, without_sat, found, fold}
 use Rattle.decide.specs.Jobs.{IsOutcome, IsFoldOf, IsFolded}
-use Rattle.decide.specs.Verdicts.{RightVerdict, HasOnly, AreOpenCubes, EachIsCause, EachOtherHasNone}
+use Rattle.decide.specs.Verdicts.{RightVerdict, HasOnly}
 use Rattle.decide.specs.declared.verdict.Open.TheVariants.{TooManyCubes, PastForm, Cubes}
 use Rattle.decide.specs.declared.verdict.Verdict.{Verdict}
 use Rattle.decide.specs.declared.verdict.Verdict.TheVariants.{Sat, Unsat, Unknown}

@@ -8,9 +8,7 @@ use Rattle.std.proofs.lemmas.Nat.{div-mul-add}
 use Rattle.std.proofs.Math.Arith.{mod-mul}
 use Rattle.std.proofs.Math.Nat.{div-add-mod, div-div-eq-div-mul, div-eq_of_lt, mul-le-mul_left, mul_comm, mul_assoc, zero-div, zero-mod}
 use Rattle.sv_terms.specs.CutOff.{cut_off}
-use Rattle.sv_terms.specs.Meaning.{Named}
 use Rattle.sv_terms.specs.Sorting.{is_valued}
-use Rattle.sv_terms.specs.Truth.{AreValued, clear_of}
 use Rattle.sv_terms.specs.declared.term.Term.{Term}
 use Rattle.bool_cubes.specs.Cubes.{IsTrueLiteral, count, cube, cubes, cubes_of}
 use Rattle.bool_cubes.specs.Laws.{CubesAreCounted}
@@ -22,7 +20,7 @@ use Rattle.bool_cubes.specs.Trees.{formula, tree_of}
 use Rattle.bool_cubes.specs.declared.literal.Cube.{Cube}
 use Rattle.bool_cubes.specs.declared.literal.Literal.{Literal}
 use Rattle.straight_line.specs.Laws.{IsSpelled}
-use Rattle.decide.specs.Causes.{AreTrueAtCube, CubeHasNoValues}
+use Rattle.decide.specs.Causes.{CubeHasNoValues}
 use Rattle.decide.specs.Jobs.{IsAsked, IsTallyOf, batch}
 use Rattle.decide.specs.Passing.{AreKnown, Passes, is_single, shared_of}
 use Rattle.decide.specs.declared.tally.Tally.{Tally}

@@ -5,7 +5,6 @@ use Rattle.std.specs.List.{list_all, list_any}
 use Rattle.sv_word.specs.Words.{greatest_character}
 use Rattle.sv_terms.specs.Language.{Word}
 use Rattle.sv_terms.specs.Parts.{every_part, every_step, some_part, some_step}
-use Rattle.sv_terms.specs.TransducerSizes.{is_formed}
 use Rattle.sv_terms.specs.declared.op.Op.{Op}
 use Rattle.sv_terms.specs.declared.regex.Regex.{Regex}
 use Rattle.sv_terms.specs.declared.sort.Sort.{Sort}

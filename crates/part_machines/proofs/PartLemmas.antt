@@ -10,11 +10,11 @@ use Rattle.sv_terms.specs.Language.{Word, In, InAllOf}
 use Rattle.sv_terms.specs.Meaning.{is_digit}
 use Rattle.sv_terms.specs.Replacement.{begins}
 use Rattle.sv_terms.specs.ReplacementLaws.{both, refuted}
-use Rattle.sv_terms.specs.Bounds.{size, bound_of}
+use Rattle.sv_terms.specs.Bounds.{size}
 use Rattle.sv_terms.specs.BoundLaws.{size-some, size-Comp}
 use Rattle.sv_terms.specs.Opened.{In-Comp}
 use Rattle.sv_terms.specs.declared.regex.Regex.TheVariants as v
-use Rattle.sv_terms.specs.CutOff.{below-power, power-more}
+use Rattle.sv_terms.specs.CutOff.{below-power}
 use Rattle.sv_terms.specs.declared.regex.Regex.{Regex}
 use Rattle.machine_core.specs.declared.graph.Graph.{Graph}
 use Rattle.machine_meet.specs.Products.{multiplied}

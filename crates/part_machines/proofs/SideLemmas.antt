@@ -1,11 +1,11 @@
 -- Parts by their sides.
-use Rattle.std.proofs.Common.{◌≡◌, ℕ, zero, suc, ◌+◌, ◌*◌, ◌^◌, ◌<◌, ◌≤◌, ◌↔◌, ◌⊎◌, inl, inr, ⊎_elim, Bool, true, false, List, [], ◌∷◌, ◌++◌, length, get_or, take, map, refl, sym, ap, ◌∙◌, subst, arith, mul-le-mul}
+use Rattle.std.proofs.Common.{◌≡◌, ℕ, zero, suc, ◌+◌, ◌*◌, ◌^◌, ◌<◌, ◌≤◌, ◌↔◌, ◌⊎◌, inl, inr, ⊎_elim, Bool, true, false, List, [], ◌∷◌, ◌++◌, length, get_or, take, map, sym, ap, ◌∙◌, subst, arith, mul-le-mul}
 use Rattle.std.specs.List.{AllByRecursion}
 use Rattle.std.proofs.Math.Nat.{mul_assoc, mul_comm}
 use Rattle.std.proofs.lemmas.List.{take_more, take_all}
 use Rattle.std.proofs.lemmas.Nat.{pow_pos}
 use Rattle.sv_word.specs.Words.{IsWord}
-use Rattle.sv_terms.specs.Bounds.{size, fold_left, from_left, without_size}
+use Rattle.sv_terms.specs.Bounds.{fold_left, from_left, without_size}
 use Rattle.sv_terms.specs.CutOff.{power-more}
 use Rattle.sv_terms.specs.Language.{Word, InAllOf, InFirstOnly, InOneOf}
 use Rattle.sv_terms.specs.declared.regex.Regex.{Regex}

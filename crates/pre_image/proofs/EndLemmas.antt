@@ -1,5 +1,5 @@
 -- Where a run ends once it went along a word, and the moves of a pre-image.
-use Rattle.std.proofs.Common.{◌≡◌, ℕ, ◌+◌, ◌*◌, ◌<◌, ◌≤◌, ◌^◌, ◌↔◌, ◌⊎◌, inl, inr, IsTrue, max, List, [], ◌∷◌, ◌++◌, length, slice_index, Any, Contains, refl, sym, ap, ap₂, ◌∙◌, subst, append-nil, mul-le-mul_left, arith}
+use Rattle.std.proofs.Common.{◌≡◌, ℕ, ◌+◌, ◌*◌, ◌<◌, ◌≤◌, ◌^◌, ◌↔◌, IsTrue, max, List, [], ◌∷◌, length, Any, Contains, refl, sym, ap, ap₂, ◌∙◌, subst, append-nil, mul-le-mul_left, arith}
 use Rattle.sv_word.specs.Ranges.{in_ranges}
 use Rattle.machine_core.specs.declared.machine.Move.{Move}
 use Rattle.machine_core.specs.declared.graph.Graph.{Graph}
@@ -15,7 +15,6 @@ use Rattle.sv_terms.specs.declared.transducer.TransEdge.{TransEdge}
 use Rattle.sv_terms.specs.declared.transducer.Transducer.{Transducer}
 use Rattle.sv_terms.specs.TransducerSizes.{items_size, edges_most, ends_most}
 use Rattle.sv_terms.specs.TransducerSizeLaws.{edge_most}
-use Rattle.pre_image.specs.Spelling.{spelling, Takes}
 use Rattle.pre_image.specs.PreImages.{PreEnds, PreSteps, pre_top}
 use Rattle.pre_image.specs.PreLaws.{end_writes}
 use Rattle.pre_image.specs.Leading.{CanAdd, Goes, AreLeads, Passes, Closes}

@@ -1,17 +1,17 @@
 -- Leads gone on by a step: where a machine may be once it went along one character more.
-use Rattle.std.proofs.Common.{◌≡◌, ℕ, zero, suc, ◌+◌, ◌*◌, ◌<◌, ◌≤◌, ◌^◌, ◌↔◌, ◌⊎◌, inl, inr, ◌&&◌, nat_le, Bool, true, false, IsTrue, List, [], ◌∷◌, ◌++◌, length, length-append, map, take, slice_index, Any, All, Contains, Option, Some, None, MatchOption, refl, sym, ap, ◌∙◌, subst, mul-le-mul_left, arith}
+use Rattle.std.proofs.Common.{◌≡◌, ℕ, zero, suc, ◌+◌, ◌*◌, ◌<◌, ◌≤◌, ◌^◌, ◌↔◌, inl, inr, ◌&&◌, nat_le, Bool, true, false, IsTrue, List, [], ◌∷◌, ◌++◌, length, map, Any, All, Contains, refl, sym, ap, ◌∙◌, subst, mul-le-mul_left, arith}
 use Rattle.std.proofs.lemmas.List.{length-map}
 use Rattle.std.proofs.lemmas.Bool.{leb-true, le-leb}
 use Rattle.sv_word.specs.Ranges.{in_ranges, IsInhabited, least_of}
 use Rattle.machine_core.specs.declared.machine.Move.{Move}
 use Rattle.machine_core.specs.declared.graph.Graph.{Graph}
-use Rattle.machine_core.specs.Costs.{add_costs, zeros, IsCost}
-use Rattle.machine_core.specs.CostLaws.{add_costs-zeros, zeros-length}
+use Rattle.machine_core.specs.Costs.{add_costs, zeros}
+use Rattle.machine_core.specs.CostLaws.{add_costs-zeros}
 use Rattle.machine_core.specs.Moves.{Moves}
-use Rattle.machine_core.specs.Language.{RunsFrom, StopsAt}
+use Rattle.machine_core.specs.Language.{StopsAt}
 use Rattle.machine_core.specs.LanguageLaws.{runs_join, runs_cut}
-use Rattle.machine_core.specs.Lists.{Any-none, Any-here, Any-there, Any-cases, Any-push_cases, Any-append_left, Any-append_right, Any-contains, contained}
-use Rattle.machine_core.specs.Edges.{EndsAt, StepsBy, edges_top}
+use Rattle.machine_core.specs.Lists.{Any-none, Any-here, Any-cases, Any-append_left, Any-append_right, Any-contains, contained}
+use Rattle.machine_core.specs.Edges.{StepsBy, edges_top}
 use Rattle.machine_core.specs.EdgeLaws.{step_most, listed_paths, path_target, path_width}
 use Rattle.sv_terms.specs.Language.{Word}
 use Rattle.pre_image.specs.declared.letter.Letter.{Letter}

@@ -1,5 +1,5 @@
 -- Steps and ends of a run of a pre-image, each as some edge or end of the transducer and the target gives it.
-use Rattle.std.proofs.Common.{◌≡◌, ℕ, zero, suc, ◌+◌, ◌<◌, List, [], ◌∷◌, ◌++◌, length, get_or, Any, Contains, Some, refl, sym, ap, ap₂, ◌∙◌, subst, append-nil, arith}
+use Rattle.std.proofs.Common.{◌≡◌, ℕ, zero, suc, ◌+◌, ◌<◌, List, [], ◌∷◌, length, get_or, Any, sym, ap, ◌∙◌, subst, append-nil, arith}
 use Rattle.machine_core.specs.declared.graph.Graph.{Graph}
 use Rattle.machine_core.specs.declared.end.End.{End}
 use Rattle.machine_core.specs.Costs.{add_costs}

@@ -1,5 +1,5 @@
 -- What runs and paths of a pre-image cost at most.
-use Rattle.std.proofs.Common.{◌≡◌, ℕ, ◌+◌, ◌*◌, ◌≤◌, List, length, slice_index, mul-le-mul_left, mul-add, mul_assoc, arith}
+use Rattle.std.proofs.Common.{ℕ, ◌+◌, ◌*◌, ◌≤◌, length, slice_index, mul-le-mul_left, mul-add, mul_assoc, arith}
 use Rattle.machine_core.specs.declared.graph.Graph.{Graph}
 use Rattle.machine_core.specs.RunBounds.{RunsWithin, PathsWithin}
 use Rattle.machine_core.specs.Graphs.{GraphRunsWithin, GraphPathsWithin}

@@ -1,15 +1,12 @@
 -- The pairs of a pre-image: what the transducer may write, and what the target's runs on it cost.
-use Rattle.std.proofs.Common.{◌≡◌, ℕ, ◌<◌, ◌↔◌, List, [], ◌∷◌, ◌++◌, length, Contains, refl, sym, ap, ◌∙◌, subst, append_assoc}
+use Rattle.std.proofs.Common.{◌≡◌, ℕ, ◌↔◌, List, [], ◌∷◌, ◌++◌, length, Contains, refl, sym, ap, ◌∙◌, subst, append_assoc}
 use Rattle.machine_core.specs.declared.graph.Graph.{Graph}
-use Rattle.machine_core.specs.Costs.{add_costs, zeros}
 use Rattle.machine_core.specs.Language.{RunsFrom, StopsAt}
 use Rattle.machine_core.specs.LanguageLaws.{runs_join, runs_cut}
 use Rattle.machine_core.specs.Edges.{EndsAt, StepsBy}
 use Rattle.machine_core.specs.EdgeLaws.{path_width, run_width}
-use Rattle.machine_core.specs.Graphs.{Accepts}
 use Rattle.sv_terms.specs.Language.{Word}
 use Rattle.sv_terms.specs.Transduction.{Transduces, Leads, Writes}
-use Rattle.sv_terms.specs.declared.transducer.TransEdge.{TransEdge}
 use Rattle.sv_terms.specs.declared.transducer.Transducer.{Transducer}
 use Rattle.pre_image.specs.Spelling.{spelling, spelling-written}
 use Rattle.pre_image.specs.PreImages.{PreEnds, PreSteps, Precedes}

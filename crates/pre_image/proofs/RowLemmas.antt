@@ -1,9 +1,9 @@
 -- What leaves a state, by the places of a row.
-use Rattle.std.proofs.Common.{◌≡◌, ℕ, ◌+◌, ◌<◌, ◌≤◌, ◌↔◌, ◌⊎◌, inl, inr, nat_eq, cond, Bool, true, false, List, [], ◌∷◌, ◌++◌, length, slice_get, get_or, Some, take, Any, Contains, refl, sym, ap, ◌∙◌, subst, arith}
+use Rattle.std.proofs.Common.{◌≡◌, ℕ, ◌+◌, ◌<◌, ◌↔◌, ◌⊎◌, inl, inr, nat_eq, cond, Bool, true, false, List, [], ◌∷◌, ◌++◌, length, slice_get, get_or, Some, take, Any, refl, sym, ap, ◌∙◌, subst, arith}
 use Rattle.std.specs.List.{filter}
 use Rattle.std.proofs.lemmas.Bool.Decides.{nat_tests}
 use Rattle.std.proofs.lemmas.List.{length-take}
-use Rattle.machine_core.specs.Lists.{Any-none, Any-here, Any-there, Any-cases}
+use Rattle.machine_core.specs.Lists.{Any-here, Any-there, Any-cases}
 use Rattle.machine_core.specs.PlaceLaws.{pick-more, pick-places, places-within, index-add}
 use Rattle.machine_core.specs.Places.{places, pick, add_to, IsIndex}
 use Rattle.pre_image.proofs.MoreLemmas.{any-more, taken}

@@ -1,9 +1,9 @@
 -- The machine of each form of expression, by what is built of its parts.
-use Rattle.std.proofs.Common.{◌≡◌, ℕ, ◌+◌, ◌*◌, ◌^◌, ◌<◌, ◌≤◌, ◌↔◌, ◌⊎◌, Bool, true, false, cond, nat_eq, Result, List, [], ◌++◌, map, ap, ◌∙◌, subst, arith}
+use Rattle.std.proofs.Common.{◌≡◌, ℕ, ◌+◌, ◌*◌, ◌^◌, ◌<◌, ◌≤◌, ◌⊎◌, Bool, true, false, cond, nat_eq, Result, List, [], ◌++◌, map, ap, ◌∙◌, subst, arith}
 use Rattle.std.proofs.Math.Nat.{mul-le-mul_left, mul-le-mul_right}
 use Rattle.machine_core.specs.declared.graph.Graph.{Graph}
 use Rattle.sv_word.specs.Words.{IsWord}
-use Rattle.sv_terms.specs.Language.{Word, In, Then, Repeated, Power, InFirstOnly}
+use Rattle.sv_terms.specs.Language.{In, Then, Repeated, Power, InFirstOnly}
 use Rattle.sv_terms.specs.Opened.{In-Star, In-Plus, In-Opt, In-Comp, In-Diff, In-Loop}
 use Rattle.sv_terms.specs.declared.regex.Regex.{Regex}
 use Rattle.sv_terms.specs.declared.regex.Regex.TheVariants as v

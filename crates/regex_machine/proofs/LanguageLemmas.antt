@@ -1,15 +1,15 @@
 -- Lists of machines in place of lists of expressions.
 use Rattle.std.proofs.lemmas.List.{take_more, take_all}
 use Rattle.std.proofs.lemmas.Bool.Decides.{nat_tests}
-use Rattle.std.proofs.Common.{◌≡◌, ℕ, zero, suc, ◌+◌, Bool, true, false, IsTrue, nat_le, ◌<◌, ◌≤◌, ◌↔◌, ◌⊎◌, inl, inr, List, [], ◌∷◌, ◌++◌, length, take, get_or, ap, sym, ◌∙◌, subst, arith}
+use Rattle.std.proofs.Common.{◌≡◌, ℕ, zero, suc, ◌+◌, IsTrue, nat_le, ◌<◌, ◌≤◌, ◌↔◌, inl, inr, List, [], ◌∷◌, ◌++◌, length, take, get_or, ap, sym, ◌∙◌, subst, arith}
 use Rattle.machine_core.specs.declared.graph.Graph.{Graph}
-use Rattle.sv_terms.specs.Language.{Word, In, Then, Repeated, Power, InOneOf, InEachInTurn, InAllOf, InFirstOnly}
+use Rattle.sv_terms.specs.Language.{Word, In, Power, InOneOf, InFirstOnly}
 use Rattle.sv_terms.specs.declared.regex.Regex.{Regex}
 use Rattle.sv_word.specs.Ranges.{in_ranges}
 use Rattle.sv_terms.specs.Bounds.{size}
 use Rattle.regex_machine.specs.Kinds.{weight, most_states, states_of}
 use Rattle.regex_machine.specs.declared.kind.Kind.TheVariants.{One}
-use Rattle.regex_machine.specs.Joined.{WordsOf, Reads, ArePlain, AreMade, IsOther}
+use Rattle.regex_machine.specs.Joined.{WordsOf, Reads, ArePlain, AreMade}
 use Rattle.sv_word.specs.Words.{greatest_character}
 
 pub made-push : (rs : List Regex) (ms : List Graph) (r : Regex) (m : Graph) → AreMade rs ms → Reads (In r) m → m.states ≤ size r → AreMade (rs ++ r ∷ []) (ms ++ m ∷ [])

@@ -1,11 +1,11 @@
 -- States made from the end of an expression on.
-use Rattle.std.proofs.Common.{◌≡◌, ℕ, zero, suc, ◌+◌, ◌<◌, ◌≤◌, ◌↔◌, ◌⊎◌, inl, inr, ◌-◌, ◌&&◌, ◌||◌, nat_le, drop, get_or, Bool, true, false, IsTrue, Option, Some, None, List, [], ◌∷◌, ◌++◌, length, slice_get, Any, Contains, refl, ap, sym, ◌∙◌, subst, append_assoc, arith}
+use Rattle.std.proofs.Common.{◌≡◌, ℕ, zero, suc, ◌+◌, ◌<◌, ◌≤◌, ◌↔◌, inl, inr, ◌-◌, ◌&&◌, ◌||◌, nat_le, drop, get_or, Bool, true, false, IsTrue, Option, Some, None, List, [], ◌∷◌, ◌++◌, length, slice_get, Any, Contains, refl, ap, sym, ◌∙◌, subst, append_assoc, arith}
 use Rattle.std.proofs.lemmas.Bool.Decides.{nat_tests}
 use Rattle.std.proofs.lemmas.List.{append-nil, length_push}
 use Rattle.std.proofs.lemmas.List.Elements.{Contains-push_cases}
 use Rattle.sv_word.specs.Ranges.{in_ranges, IsInhabited, IsApartFrom}
 use Rattle.sv_word.specs.Words.{IsWord, greatest_character}
-use Rattle.machine_core.specs.Lists.{Any-none, Any-here, Any-cases, Any-contains, contained, Contains-here, slice_get-append, slice_get-end, slice_get-contains}
+use Rattle.machine_core.specs.Lists.{Any-none, Any-here, contained, slice_get-append, slice_get-end, slice_get-contains}
 use Rattle.machine_core.specs.Moves.{Moves, IsMove}
 use Rattle.machine_core.specs.declared.machine.Move.{Move}
 use Rattle.sv_terms.specs.Language.{Word, Then}

@@ -1,18 +1,18 @@
 -- Lists of parts, written from the end on.
-use Rattle.std.proofs.Common.{◌≡◌, ℕ, zero, suc, ◌+◌, ◌-◌, ◌<◌, ◌≤◌, ◌↔◌, ◌⊎◌, inl, inr, ◌||◌, max, nat_eq, Bool, true, false, IsTrue, Option, Some, None, List, [], ◌∷◌, ◌++◌, length, take, drop, get_or, slice_get, Any, Contains, Result, refl, ap, sym, ◌∙◌, subst, append_assoc, length-append, arith}
+use Rattle.std.proofs.Common.{◌≡◌, ℕ, zero, suc, ◌+◌, ◌-◌, ◌<◌, ◌≤◌, ◌↔◌, ◌⊎◌, inl, inr, ◌||◌, max, nat_eq, Bool, true, false, IsTrue, None, List, [], ◌∷◌, ◌++◌, length, take, drop, get_or, Any, Contains, Result, refl, ap, sym, ◌∙◌, subst, append_assoc, length-append, arith}
 use Rattle.std.proofs.lemmas.List.{append-nil, take_more, take_all}
 use Rattle.std.proofs.lemmas.List.Elements.{Contains-append_cases}
 use Rattle.machine_core.specs.declared.graph.Graph.{Graph}
 use Rattle.machine_core.specs.declared.machine.Move.{Move}
 use Rattle.machine_core.specs.Lists.{Any-none, Any-append_left, Any-append_right, Any-append_cases}
-use Rattle.machine_core.specs.Moves.{Moves, IsMove}
+use Rattle.machine_core.specs.Moves.{Moves}
 use Rattle.machine_meet.specs.Products.{summed}
 use Rattle.sv_terms.specs.Bounds.{size}
 use Rattle.sv_terms.specs.Language.{Word, Then, In, InOneOf, InEachInTurn}
 use Rattle.sv_terms.specs.declared.regex.Regex.{Regex}
 use Rattle.trim_search.specs.declared.build_fault.BuildFault.{BuildFault}
 use Rattle.regex_machine.specs.Built.{Builds}
-use Rattle.regex_machine.specs.Onwards.{ReadsOn, IsOnward, AreClosed, IsRest, AreBegun, HasState, Precedes, stateless, unmade}
+use Rattle.regex_machine.specs.Onwards.{ReadsOn, AreBegun, Precedes, stateless, unmade}
 use Rattle.regex_machine.specs.declared.onward.Onward.{Onward}
 use Rattle.regex_machine.specs.declared.onward.Rest.{Rest}
 use Rattle.regex_machine.proofs.BuiltLemmas.{builds-as}

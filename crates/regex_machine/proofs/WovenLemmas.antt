@@ -1,5 +1,5 @@
 -- The runs of a machine of states that are made from the end on, and of a part among them.
-use Rattle.std.proofs.Common.{◌≡◌, ℕ, zero, suc, ◌+◌, ◌<◌, ◌≤◌, ◌↔◌, ◌⊎◌, inl, inr, true, false, IsTrue, Some, List, [], ◌∷◌, ◌++◌, map, length, slice_get, get_or, All, Any, Contains, append_assoc, refl, ap, sym, ◌∙◌, subst, length-append, arith}
+use Rattle.std.proofs.Common.{◌≡◌, ℕ, zero, suc, ◌+◌, ◌<◌, ◌≤◌, ◌↔◌, inl, inr, false, IsTrue, Some, List, [], ◌∷◌, ◌++◌, map, length, slice_get, get_or, All, Any, Contains, append_assoc, refl, ap, sym, ◌∙◌, subst, length-append, arith}
 use Rattle.std.proofs.lemmas.List.{nil_from_length, append-nil, length_push}
 use Rattle.std.proofs.lemmas.List.Elements.{Contains-append_cases, Contains-get_or}
 use Rattle.sv_word.specs.Ranges.{IsInhabited, in_ranges, least_of}
@@ -15,11 +15,11 @@ use Rattle.machine_core.specs.Moves.{Moves, IsMove}
 use Rattle.sv_terms.specs.Language.{Word, Then}
 use Rattle.regex_machine.specs.Joined.{WordsOf}
 use Rattle.regex_machine.specs.Stepped.{AreEndsIf}
-use Rattle.regex_machine.specs.Onwards.{ReadsOn, IsOnward, AreClosed, IsRest, AreBegun, Precedes, unmade}
+use Rattle.regex_machine.specs.Onwards.{ReadsOn, AreClosed, AreBegun, Precedes, unmade}
 use Rattle.regex_machine.specs.Woven.{WovenEnds, WovenSteps, woven-free, IsPlaced, ArePlaced, counted}
 use Rattle.regex_machine.specs.declared.onward.Onward.{Onward}
 use Rattle.regex_machine.specs.declared.onward.Rest.{Rest}
-use Rattle.regex_machine.proofs.OnwardLemmas.{get-below, reads-grown, onward-weaker, rest-grown}
+use Rattle.regex_machine.proofs.OnwardLemmas.{reads-grown, onward-weaker, rest-grown}
 
 same-some : {X : Type 0} (xs : List X) (n : ℕ) (x y : X) → slice_get xs n ≡ Some x → slice_get xs n ≡ Some y → x ≡ y
 same-some xs n x y e f = let g : Some x ≡ Some y = sym e ∙ f in cc

@@ -5,7 +5,7 @@ use Rattle.std.specs.List.{insert}
 use Rattle.sv_terms.specs.declared.regex.Regex.{Regex}
 use Rattle.sv_terms.specs.declared.regex.Regex.TheVariants as v
 use Rattle.sv_word.specs.Words.{IsWord}
-use Rattle.sv_terms.specs.Language.{Word, Language, Then, Power, In, InAllOf, InOneOf, InFirstOnly, InEachInTurn}
+use Rattle.sv_terms.specs.Language.{Word, Language, Then, Power, In, InAllOf, InOneOf, InEachInTurn}
 use Rattle.regex_match.specs.Derivative.{SameWords}
 use Rattle.sv_terms.specs.Opened.{In-Empty, In-All, In-Text, In-Concat, In-Union, In-Inter, In-Diff, In-Comp, In-Loop}
 use Rattle.sv_terms.specs.Matches.{matches}

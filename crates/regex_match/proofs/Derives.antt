@@ -1,15 +1,15 @@
 -- The steps of the derivative in code.
-use Rattle.std.proofs.Common.{◌≡◌, refl, sym, ap, ◌∙◌, subst, ℕ, zero, suc, ◌≤◌, ◌<◌, ◌+◌, ◌-◌, List, [], ◌∷◌, ◌++◌, length, get_or, take, drop, ◌⊎◌, inl, inr, ⊎_elim, arith, IsTrue, ◌↔◌, Bool, length-drop}
+use Rattle.std.proofs.Common.{◌≡◌, refl, sym, ap, ◌∙◌, subst, ℕ, zero, suc, ◌≤◌, ◌<◌, ◌+◌, ◌-◌, List, [], ◌∷◌, ◌++◌, length, get_or, take, drop, ◌⊎◌, inl, inr, ⊎_elim, arith, length-drop}
 use Rattle.std.proofs.lemmas.Grind.{common_steps}
 use Rattle.sv_terms.specs.declared.regex.Regex.{Regex}
 use Rattle.sv_terms.specs.declared.regex.Regex.TheVariants as v
-use Rattle.sv_word.specs.Words.{IsWord, greatest_character}
-use Rattle.sv_terms.specs.Language.{Word, Language, Then, In, InAllOf, InOneOf, InFirstOnly, InEachInTurn}
+use Rattle.sv_word.specs.Words.{greatest_character}
+use Rattle.sv_terms.specs.Language.{Word, In}
 use Rattle.regex_match.specs.Derivative.{SameWords, IsDerivative}
-use Rattle.sv_terms.specs.Opened.{In-Empty, In-Concat, In-Union, In-Inter, In-Diff}
+use Rattle.sv_terms.specs.Opened.{In-Empty, In-Concat, In-Diff}
 use Rattle.sv_terms.specs.OnlyWords.{In-word}
-use Rattle.regex_match.proofs.Builds.{same-refl, turn-one, turn-none, in_union, of_union, one_left, one_right, one_split, in_inter, of_inter, all_left, all_right, all_join, all_words, in_diff, of_diff}
-use Rattle.regex_match.proofs.Lefts.{d-Empty, d-none, d-All, d-AnyChar, d-Range, d-Range-none, d-Text, d-Text-none, d-Star, d-Plus, d-Opt, d-Comp, d-Loop, d-Loop-none, front_only, front_all, in_front, of_front, skip_then}
+use Rattle.regex_match.proofs.Builds.{same-refl, turn-one, turn-none, in_union, of_union, one_left, one_right, one_split, in_inter, of_inter, all_left, all_right, all_join, in_diff, of_diff}
+use Rattle.regex_match.proofs.Lefts.{d-Empty, d-none, d-All, d-AnyChar, d-Range, d-Range-none, d-Text, d-Text-none, d-Star, d-Plus, d-Opt, d-Comp, d-Loop, d-Loop-none, front_only, front_all, in_front, skip_then}
 
 other-way : {a b : Regex} → SameWords a b → SameWords b a
 other-way h = record { only = h.all; all = h.only }

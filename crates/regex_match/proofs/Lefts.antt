@@ -1,12 +1,12 @@
 -- What is left of a regular expression once a character is read.
-use Rattle.std.proofs.Common.{◌≡◌, refl, sym, ap, ◌∙◌, subst, ℕ, zero, suc, ◌≤◌, ◌<◌, ◌-◌, List, [], ◌∷◌, ◌++◌, length, get_or, ◌⊎◌, inl, inr, ⊎_elim, arith, append_assoc}
+use Rattle.std.proofs.Common.{◌≡◌, refl, sym, ap, ◌∙◌, subst, ℕ, zero, suc, ◌≤◌, ◌<◌, ◌-◌, List, [], ◌∷◌, ◌++◌, ◌⊎◌, inl, inr, ⊎_elim, arith}
 use Rattle.std.proofs.lemmas.Grind.{common_steps}
 use Rattle.sv_terms.specs.declared.regex.Regex.{Regex}
 use Rattle.sv_terms.specs.declared.regex.Regex.TheVariants as v
 use Rattle.sv_word.specs.Words.{IsWord, greatest_character}
-use Rattle.sv_terms.specs.Language.{Word, Language, Then, Power, In, InAllOf, InOneOf, InFirstOnly, InEachInTurn, Repeated, done, more}
+use Rattle.sv_terms.specs.Language.{Word, Language, Then, Power, In, InEachInTurn, Repeated, done, more}
 use Rattle.regex_match.specs.Derivative.{SameWords, IsDerivative}
-use Rattle.sv_terms.specs.Opened.{In-Empty, In-All, In-AnyChar, In-Text, In-Range, In-Concat, In-Union, In-Inter, In-Diff, In-Star, In-Plus, In-Opt, In-Comp, In-Loop}
+use Rattle.sv_terms.specs.Opened.{In-Empty, In-All, In-AnyChar, In-Text, In-Range, In-Concat, In-Star, In-Plus, In-Opt, In-Comp, In-Loop}
 use Rattle.sv_terms.specs.OnlyWords.{In-word}
 
 abbrev After : ℕ → Language → Language

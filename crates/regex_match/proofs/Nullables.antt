@@ -1,10 +1,10 @@
 -- Whether the empty word is in a regular expression.
-use Rattle.std.proofs.Common.{Bool, true, false, not, IsTrue, ◌↔◌, drop, take, ◌-◌, ◌≡◌, refl, sym, ap, ◌∙◌, subst, ℕ, zero, suc, ◌≤◌, ◌<◌, List, [], ◌∷◌, ◌++◌, length, get_or, ◌⊎◌, inl, inr, ⊎_elim, arith}
+use Rattle.std.proofs.Common.{Bool, true, false, not, IsTrue, ◌↔◌, drop, take, ◌-◌, ◌≡◌, refl, sym, ap, ◌∙◌, subst, ℕ, zero, suc, ◌≤◌, ◌<◌, List, [], ◌∷◌, ◌++◌, length, get_or, inl, inr, arith}
 use Rattle.std.proofs.lemmas.Grind.{common_steps}
 use Rattle.sv_terms.specs.declared.regex.Regex.{Regex}
 use Rattle.sv_terms.specs.declared.regex.Regex.TheVariants as v
 use Rattle.sv_word.specs.Words.{IsWord, greatest_character}
-use Rattle.sv_terms.specs.Language.{Word, Language, Then, Power, In, InAllOf, InOneOf, InFirstOnly, InEachInTurn, Repeated, done}
+use Rattle.sv_terms.specs.Language.{Word, Language, Then, Power, In, InAllOf, InOneOf, InEachInTurn, Repeated, done}
 use Rattle.sv_terms.specs.Opened.{In-Empty, In-All, In-AnyChar, In-Text, In-Range, In-Concat, In-Union, In-Inter, In-Diff, In-Star, In-Plus, In-Opt, In-Comp, In-Loop}
 
 then_left : (P Q : Language) (u v : Word) → [] ≡ u ++ v → P u → P []

@@ -1,5 +1,5 @@
 -- A word is read block by block.
-use Rattle.std.proofs.Common.{◌≡◌, refl, sym, ap, ◌∙◌, subst, ℕ, zero, suc, ◌≤◌, ◌<◌, ◌+◌, ◌-◌, List, [], ◌∷◌, ◌++◌, length, get_or, take, drop, arith, add-one, Option, Some, None, slice_get, IsTrue, ◌↔◌, Bool, length-drop, length-append}
+use Rattle.std.proofs.Common.{◌≡◌, refl, sym, ap, ◌∙◌, subst, ℕ, zero, suc, ◌≤◌, ◌<◌, ◌+◌, ◌-◌, List, [], ◌∷◌, ◌++◌, length, take, drop, arith, add-one, Option, Some, None, slice_get, IsTrue, ◌↔◌, Bool, length-drop, length-append}
 use Rattle.std.specs.List.{remove, slice_range}
 use Rattle.std.proofs.lemmas.List.{append_cancel_left, drop_all}
 use Rattle.std.proofs.lemmas.List.Folds.{drop_split}
@@ -9,7 +9,7 @@ use Rattle.sv_terms.specs.declared.regex.Regex.{Regex}
 use Rattle.sv_terms.specs.declared.regex.Regex.TheVariants as v
 use Rattle.sv_terms.specs.Language.{Word, In, InEachInTurn, Then}
 use Rattle.sv_terms.specs.Opened.{In-Empty, In-Concat, In-Text}
-use Rattle.regex_match.specs.Derivative.{SameWords, IsDerivative}
+use Rattle.regex_match.specs.Derivative.{IsDerivative}
 use Rattle.regex_match.specs.Advances.{Advances, Goes, IsLeft}
 use Rattle.regex_match.proofs.Builds.{turn-one}
 

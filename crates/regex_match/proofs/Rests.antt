@@ -1,5 +1,5 @@
 -- What stands behind the front of a word.
-use Rattle.std.proofs.Common.{◌≡◌, refl, sym, ap, ◌∙◌, ℕ, zero, suc, ◌≤◌, ◌<◌, ◌+◌, List, [], ◌∷◌, ◌++◌, length, get_or, take, drop, arith, add-one, slice_get, Option, Some, None}
+use Rattle.std.proofs.Common.{◌≡◌, refl, ap, ℕ, zero, suc, ◌≤◌, ◌<◌, ◌+◌, List, [], ◌∷◌, ◌++◌, length, get_or, take, drop, arith, add-one, slice_get, Some, None}
 use Rattle.std.proofs.lemmas.List.{take_all, take_more}
 
 pub rest-more : (w : List ℕ) (i d : ℕ) → 1 ≤ i → i < length w → drop 1 (take (i + 1) w) ≡ drop 1 (take i w) ++ get_or w i d ∷ []

@@ -24,7 +24,7 @@ use Rattle.straight_line.specs.Bounds.{used}
 use Rattle.straight_line.specs.Flattening.{IsFlatOf, all_bounded, definition_of, definitions_of, firsts_of, has_column, name_of, integers_of, names_at, registers_of, roots_of, unknowns_of, variable_at, variable_of, with_name}
 use Rattle.straight_line.specs.Laws.{FlatIsExact}
 use Rattle.straight_line.specs.Met.{Draft, met}
-use Rattle.straight_line.specs.Satisfying.{ComesBy, Defines, Extends, HasValue, IsOf, Meets, MeetsPart, NamesHave, Satisfies, SatisfiesRows, SatisfiesWords, word_at}
+use Rattle.straight_line.specs.Satisfying.{ComesBy, Defines, Extends, HasValue, Meets, MeetsPart, NamesHave, word_at}
 use Rattle.straight_line.specs.Satisfying as flat
 use Rattle.sv_linear.specs.Rows as row
 use Rattle.sv_linear.specs.Rows.{MeetsRow}

@@ -1,13 +1,11 @@
 -- A cube that is refused has no flat cube: where definitions stand in order, no variable has two, and
 -- there is no cycle.
-use Rattle.std.proofs.Common.{◌≡◌, refl, sym, ap, ◌∙◌, subst, Bool, true, false, ◌||◌, ℕ, zero, suc, ◌+◌, ◌<◌, ◌≤◌, inl, inr, List, [], ◌∷◌, length, Some, None, cond, arith}
-use Rattle.std.specs.Prelude.{nat_eq, if◌then◌else◌, Contains, count_by}
-use Rattle.std.specs.List.{AllByRecursion}
-use Rattle.std.proofs.lemmas.Bool.{eq-eqb, eqb-true}
+use Rattle.std.proofs.Common.{◌≡◌, refl, sym, ap, ◌∙◌, subst, Bool, true, false, ℕ, zero, suc, ◌+◌, ◌≤◌, inl, inr, List, [], ◌∷◌, length, Some, None, cond, arith}
+use Rattle.std.specs.Prelude.{nat_eq}
+use Rattle.std.proofs.lemmas.Bool.{eqb-true}
 use Rattle.std.proofs.lemmas.List.{length-map}
-use Rattle.std.proofs.lemmas.List.Recursion.{is_count_by}
-use Rattle.straight_line.specs.Bounds.{is_defined, used}
-use Rattle.straight_line.specs.Flattening.{IsCycle, IsFlatOf, IsTwice, IsWide, Taken, Uses, UsesInTurn, behind, definitions_of, integers_of, is_free, ordered, registers_of, take_free, taken}
+use Rattle.straight_line.specs.Bounds.{is_defined}
+use Rattle.straight_line.specs.Flattening.{IsCycle, IsFlatOf, IsTwice, IsWide, definitions_of, integers_of, ordered, registers_of}
 use Rattle.straight_line.specs.Laws.{RefusedHasNone}
 use Rattle.straight_line.specs.Met.{Draft, met}
 use Rattle.straight_line.specs.Straight.{InOrder, IsStraight, StandsBefore}

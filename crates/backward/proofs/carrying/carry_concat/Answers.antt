@@ -1,7 +1,7 @@
-use Rattle.std.proofs.Common.{◌≡◌, ℕ, suc, ◌-◌, ◌+◌, ◌<◌, ◌≤◌, ◌∷◌, List, length, drop, get_or, Option, Some, slice_get, slice_set, refl, sym, ap, ◌∙◌, subst, arith, Err}
+use Rattle.std.proofs.Common.{◌≡◌, ℕ, suc, ◌-◌, ◌<◌, ◌∷◌, length, drop, get_or, Some, slice_set, refl, sym, ap, ◌∙◌, subst, arith, Err}
 use Rattle.machine_core.specs.declared.graph.Graph.{Graph}
-use Rattle.backward.specs.Families.{Family, HasMachine, without, AreWide}
-use Rattle.backward.specs.Carried.{CanCut, IsCarried}
+use Rattle.backward.specs.Families.{Family, HasMachine, without}
+use Rattle.backward.specs.Carried.{IsCarried}
 use Rattle.backward.specs.Made.{AreMet}
 use Rattle.backward.proofs.LoopLemmas.{met-first, met-next, get-below, found-can, same-found, loop-first, loop-piece, loop-registers, loop-fits, loop-next, loop-state, loop-wide}
 use Rattle.backward.proofs.carrying.carry_concat.Goals as goal

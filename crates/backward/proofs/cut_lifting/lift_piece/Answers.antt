@@ -1,8 +1,5 @@
-use Rattle.std.proofs.Common.{◌≡◌, ℕ, suc, ◌+◌, ◌-◌, ◌<◌, List, ◌∷◌, length, drop, get_or, Some, slice_get, sym, ap, ◌∙◌, subst, arith}
-use Rattle.machine_core.specs.declared.run.Run.{Run}
-use Rattle.machine_core.specs.declared.graph.Graph.{Graph}
+use Rattle.std.proofs.Common.{◌≡◌, ℕ, suc, ◌+◌, ◌-◌, length, drop, get_or, Some, slice_get, sym, subst, arith}
 use Rattle.backward.specs.Families.{without}
-use Rattle.backward.specs.Kept.{IsPartRun}
 use Rattle.backward.specs.PiecesBack.{HasMet, AreTakenBack}
 use Rattle.backward.specs.Runs.{Runs}
 use Rattle.backward.proofs.CutBackLemmas.{met-length, meeting-below, machine-there, run-there, piece-below, piece-kept, piece-run, join-begins, join-meets, join-first, join-second, join-free, so-far, taken-next, Joins}

@@ -1,4 +1,4 @@
-use Rattle.std.proofs.Common.{◌≡◌, ℕ, suc, ◌+◌, ◌<◌, length, sym, subst, arith}
+use Rattle.std.proofs.Common.{◌≡◌, length, subst, arith}
 use Rattle.backward.specs.Families.{without}
 use Rattle.backward.specs.PiecesBack.{AreTakenBack}
 use Rattle.backward.proofs.cut_lifting.lift_pieces.Goals as goal

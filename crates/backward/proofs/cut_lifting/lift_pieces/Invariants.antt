@@ -1,4 +1,3 @@
-use Rattle.std.proofs.Common.{length}
 use Rattle.backward.specs.Families.{without}
 use Rattle.backward.specs.PiecesBack.{AreTakenBack}
 use Rattle.backward.specs.Runs.{Runs}

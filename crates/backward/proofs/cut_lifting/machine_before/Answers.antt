@@ -1,6 +1,6 @@
-use Rattle.std.proofs.Common.{◌≡◌, ◌+◌, ◌≤◌, None, drop, get_or, length, ◌∙◌, sym}
+use Rattle.std.proofs.Common.{◌≡◌, ◌+◌, None, drop, get_or, ◌∙◌}
 use Rattle.backward.specs.PiecesBack.{met_at}
-use Rattle.backward.proofs.CutBackLemmas.{met-end, met-none, none-met}
+use Rattle.backward.proofs.CutBackLemmas.{met-end, met-none}
 use Rattle.backward.proofs.cut_lifting.machine_before.Goals as goal
 
 pub machine_at-requires : goal.machine_at-requires

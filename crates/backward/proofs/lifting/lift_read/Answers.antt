@@ -1,4 +1,4 @@
-use Rattle.std.proofs.Common.{◌≡◌, List, sym, ap, ap₂, ◌∙◌, subst}
+use Rattle.std.proofs.Common.{sym, ap, ap₂, ◌∙◌, subst}
 use Rattle.machine_core.specs.Costs.{add_costs, total_of}
 use Rattle.sv_terms.specs.Transduction.{Pairs}
 use Rattle.machine_core.specs.Runs.{IsRun, run_total}

@@ -1,6 +1,5 @@
-use Rattle.std.proofs.Common.{◌≡◌, ℕ, List, ◌∷◌, [], map, subst, sym, ap, Err}
+use Rattle.std.proofs.Common.{map, subst, sym, ap, Err}
 use Rattle.machine_core.specs.Runs.{IsRun}
-use Rattle.machine_core.specs.declared.run.Run.{Run}
 use Rattle.machine_meet.specs.Products.{MeetEnds, MeetSteps, meet_width}
 use Rattle.backward.proofs.MeetingLemmas.{IsBuiltOf, AreTwo, meeting-is, slice_ends, slice_steps, slice_first, slice_width}
 use Rattle.backward.proofs.KeptLemmas.{both-out}

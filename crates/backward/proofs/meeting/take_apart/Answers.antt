@@ -1,4 +1,4 @@
-use Rattle.std.proofs.Common.{◌≡◌, ℕ, MatchOption, List, ◌∷◌, [], ◌++◌, map, subst, sym, ap, ap₂, ◌∙◌, refl}
+use Rattle.std.proofs.Common.{◌≡◌, ℕ, MatchOption, List, ◌∷◌, [], ◌++◌, map, subst, sym, ap, ap₂, ◌∙◌}
 use Rattle.machine_core.specs.Runs.{IsRun, run_total}
 use Rattle.machine_core.specs.Costs.{total_of, add_costs, sum_costs}
 use Rattle.machine_core.specs.Graphs.{IsRunOf}

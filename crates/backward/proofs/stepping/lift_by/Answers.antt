@@ -1,5 +1,4 @@
-use Rattle.std.proofs.Common.{◌≡◌, ℕ, sym, subst}
-use Rattle.straight_line.specs.Satisfying.{ComesBy}
+use Rattle.std.proofs.Common.{sym, subst}
 use Rattle.backward.specs.Made.{IsCut}
 use Rattle.backward.specs.Runs.{run_words}
 use Rattle.backward.specs.Steps.{IsMadeBy}

@@ -1,4 +1,4 @@
-use Rattle.std.proofs.Common.{◌≡◌, subst}
+use Rattle.std.proofs.Common.{subst}
 use Rattle.straight_line.specs.Satisfying.{ComesBy}
 use Rattle.straight_line.specs.declared.definition.Definition.{Definition}
 use Rattle.backward.specs.Back.{AreBack}

@@ -1,7 +1,7 @@
-use Rattle.std.proofs.Common.{◌≡◌, subst, sym, ap, Err}
+use Rattle.std.proofs.Common.{subst, sym, ap, Err}
 use Rattle.machine_core.specs.Runs.{IsRun}
 use Rattle.pre_image.specs.PreImages.{PreEnds, PreSteps}
-use Rattle.backward.specs.PreBuilt.{IsPreImage, IsPreKept}
+use Rattle.backward.specs.PreBuilt.{IsPreImage}
 use Rattle.backward.proofs.through.pre_image.Goals as goal
 
 pub returns-clause-kept : goal.returns-clause-kept

@@ -1,4 +1,4 @@
-use Rattle.std.proofs.Common.{◌≡◌, Ok, Err, inl, inr, refl, sym, ap, ◌∙◌, subst, arith, rules, w64, length, IfSome}
+use Rattle.std.proofs.Common.{Ok, Err, inl, inr, sym, ap, ◌∙◌, subst, arith, rules, w64, length, IfSome}
 use Rattle.std.proofs.lemmas.Int.{to_z-of_z}
 use mir.Val.{SFits}
 use Rattle.cube_search.specs.Answers.{IsCubeAnswer, IsDecided}

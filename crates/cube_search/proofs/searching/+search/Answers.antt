@@ -1,4 +1,4 @@
-use Rattle.std.proofs.Common.{◌≡◌, ℕ, suc, ◌+◌, ◌-◌, ◌<◌, List, [], ◌∷◌, ◌++◌, length, Some, None, slice_get, arith, refl, sym, ap, ◌∙◌, subst, Ok, Err, IfOk, IfSome, OnOk, MatchOption, add-one, length-append, inr}
+use Rattle.std.proofs.Common.{◌≡◌, ℕ, suc, ◌+◌, ◌-◌, ◌<◌, [], ◌∷◌, ◌++◌, length, Some, None, arith, sym, ap, ◌∙◌, subst, Ok, Err, IfOk, IfSome, OnOk, MatchOption, length-append, inr}
 use Rattle.backward.specs.Families.{Conf}
 use Rattle.backward.specs.States.{IsState}
 use Rattle.backward.specs.Steps.{CanPassAt}
@@ -7,7 +7,7 @@ use Rattle.cube_search.specs.Steps.{IsCutting}
 use Rattle.cube_search.specs.Tallies.{AreCoveredFrom, IsTally, Keeps}
 use Rattle.cube_search.proofs.CoverLemmas.{keeps-same, keeps-more}
 use Rattle.cube_search.proofs.Measures.{weight}
-use Rattle.cube_search.proofs.SearchLemmas.{all-arm, concat-arm, covered-next, cutting-below, cutting-machine, more-cuts, none-of, step-below, through-arm, weight-next, weight-pieces, whole-arm, whole-can}
+use Rattle.cube_search.proofs.SearchLemmas.{all-arm, concat-arm, covered-next, cutting-below, cutting-machine, more-cuts, none-of, step-below, through-arm, weight-next, weight-pieces, whole-arm}
 use Rattle.cube_search.proofs.searching.+search.Goals as goal
 
 pub descend-try_cuts-requires : goal.descend-try_cuts-requires

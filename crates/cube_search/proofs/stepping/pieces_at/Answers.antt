@@ -1,4 +1,4 @@
-use Rattle.std.proofs.Common.{◌≡◌, subst, add-one, arith}
+use Rattle.std.proofs.Common.{subst, add-one, arith}
 use Rattle.straight_line.specs.declared.definition.By.TheVariants.{Concat}
 use Rattle.backward.specs.Definitions.{definition}
 use Rattle.backward.specs.States.{IsState}

@@ -1,5 +1,4 @@
-use Rattle.std.proofs.Common.{◌≡◌, ◌+◌, [], ◌∷◌, length, length-append, inr, refl, sym, ap, ◌∙◌, subst, arith}
-use Rattle.bool_cubes.specs.declared.literal.Cube.{Cube}
+use Rattle.std.proofs.Common.{◌+◌, [], ◌∷◌, length, length-append, inr, refl, sym, ap, ◌∙◌, subst, arith}
 use Rattle.std.specs.List.{AllByRecursion}
 use Rattle.decide.specs.Batches.{AreJobsOf}
 use Rattle.decide.specs.Jobs.{IsAsked}

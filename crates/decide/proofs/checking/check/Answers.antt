@@ -1,4 +1,4 @@
-use Rattle.std.proofs.Common.{◌≡◌, IsTrue, IfOk, List, Err, sym, ap, ◌∙◌, subst}
+use Rattle.std.proofs.Common.{IsTrue, IfOk, List, Err, sym, ap, ◌∙◌, subst}
 use Rattle.std.specs.List.{AllByRecursion, list_all}
 use Rattle.bool_cubes.specs.Cubes.{cubes_of}
 use Rattle.bool_cubes.specs.Laws.{IsSorted}

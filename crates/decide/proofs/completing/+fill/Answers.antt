@@ -1,4 +1,4 @@
-use Rattle.std.proofs.Common.{◌≡◌, OnOk, sym, ap, ◌∙◌, subst, arith}
+use Rattle.std.proofs.Common.{OnOk, sym, ap, ◌∙◌, subst, arith}
 use Rattle.sv_terms.specs.declared.term.Term.{Term}
 use Rattle.sv_terms.specs.declared.term.Term.TheVariants as v
 use Rattle.decide.specs.Filling.{Fills, FillsAll}

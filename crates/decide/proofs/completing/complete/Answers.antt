@@ -1,7 +1,7 @@
-use Rattle.std.proofs.Common.{◌≡◌, [], sym, ap, ◌∙◌, subst, arith}
+use Rattle.std.proofs.Common.{[], sym, subst, arith}
 use Rattle.sv_terms.specs.Truth.{clear_of}
 use Rattle.decide.specs.Filling.{FillsAll}
-use Rattle.decide.proofs.Fillings.{clear-more, filled, fills-no-terms}
+use Rattle.decide.proofs.Fillings.{clear-more, filled}
 use Rattle.decide.proofs.Listed.{take-whole}
 use Rattle.decide.proofs.completing.complete.Goals as goal
 

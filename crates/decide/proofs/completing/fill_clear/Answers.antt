@@ -1,4 +1,4 @@
-use Rattle.std.proofs.Common.{◌≡◌, OnOk, sym, ap, ◌∙◌, subst}
+use Rattle.std.proofs.Common.{OnOk, sym, ◌∙◌, subst}
 use Rattle.decide.specs.Filling.{FillsAll}
 use Rattle.decide.proofs.Fillings.{clear-opaque, clear-plain, fills-no-terms, fills-single}
 use Rattle.decide.proofs.Tallying.{when-ok}

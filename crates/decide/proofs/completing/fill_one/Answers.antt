@@ -1,8 +1,8 @@
-use Rattle.std.proofs.Common.{◌≡◌, sym, ap, ◌∙◌, nat_eq}
+use Rattle.std.proofs.Common.{sym, ap, ◌∙◌, nat_eq}
 use Rattle.std.specs.Cmp.Lexicographic.{pointwise}
 use Rattle.indexmap.specs.IndexMap.{insert_entry}
 use Rattle.bool_cubes.specs.Alike.{text_self}
-use Rattle.decide.specs.Filling.{FillsOne, value_of}
+use Rattle.decide.specs.Filling.{value_of}
 use Rattle.decide.proofs.Fillings.{copied-none, copied-some, fills-there, fills-new}
 use Rattle.decide.proofs.Tallying.{when-ok}
 use Rattle.decide.proofs.completing.fill_one.Goals as goal

@@ -1,4 +1,4 @@
-use Rattle.std.proofs.Common.{◌≡◌, Err, sym, subst, ap, ◌∙◌}
+use Rattle.std.proofs.Common.{Err, sym, subst, ap, ◌∙◌}
 use Rattle.straight_line.specs.Flattening.{IsFlattened}
 use Rattle.straight_line.specs.declared.fault.FlatFault.TheVariants as fault
 use Rattle.cube_search.specs.declared.answer.CubeAnswer.TheVariants.{Open}

@@ -1,4 +1,4 @@
-use Rattle.std.proofs.Common.{◌≡◌, sym, ap, ◌∙◌, subst}
+use Rattle.std.proofs.Common.{subst}
 use Rattle.cube_search.specs.Answers.{IsCubeAnswer, IsDecided}
 use Rattle.decide.proofs.Models.{bare, cause-of, must-of, none-of, sat-of}
 use Rattle.decide.proofs.cube_job.flat_answer.Goals as goal

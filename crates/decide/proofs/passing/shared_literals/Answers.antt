@@ -1,4 +1,4 @@
-use Rattle.std.proofs.Common.{◌≡◌, drop, sym, ap, ◌∙◌, subst}
+use Rattle.std.proofs.Common.{drop, sym, ap, ◌∙◌, subst}
 use Rattle.std.specs.List.{AllByRecursion}
 use Rattle.bool_cubes.specs.Cubes.{cubes_of}
 use Rattle.bool_cubes.specs.Laws.{IsSorted}

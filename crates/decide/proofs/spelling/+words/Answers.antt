@@ -1,4 +1,4 @@
-use Rattle.std.proofs.Common.{◌≡◌, IsTrue, sym, ap, ◌∙◌, subst}
+use Rattle.std.proofs.Common.{IsTrue, sym, ◌∙◌, subst}
 use Rattle.sv_terms.specs.declared.term.Term.{Term}
 use Rattle.decide.specs.Constants.{has_words}
 use Rattle.decide.proofs.Sorts.{word-told}

@@ -1,4 +1,4 @@
-use Rattle.std.proofs.Common.{◌≡◌, ℕ, zero, suc, ◌+◌, ◌*◌, ◌<◌, ◌≤◌, ◌∷◌, ◌++◌, [], List, length, true, false, inl, inr, refl, sym, ap, ◌∙◌, subst, arith, Err}
+use Rattle.std.proofs.Common.{inl, inr, refl, sym, ap, arith, Err}
 use Rattle.straight_line.specs.Bounds.{part_bound}
 use Rattle.sv_terms.specs.CutOff.{below-power}
 use Rattle.sv_terms.specs.Bounds.{size}

@@ -1,12 +1,10 @@
-use Rattle.std.proofs.Common.{◌≡◌, ℕ, zero, suc, ◌+◌, ◌*◌, ◌<◌, ◌≤◌, ◌∷◌, ◌++◌, [], List, length, true, false, inl, inr, refl, sym, ap, ◌∙◌, subst, arith, Err}
+use Rattle.std.proofs.Common.{ℕ, zero, suc, ◌∷◌, true, sym, ap, ◌∙◌, subst, arith, Err}
 use Rattle.std.proofs.Common.{map}
-use Rattle.machine_core.specs.declared.graph.Graph.{Graph}
 use Rattle.machine_meet.specs.Products.{multiplied}
 use Rattle.regex_machine.specs.Joined.{ArePlain, WordsOf}
 use Rattle.regex_machine.specs.Kinds.{states_of}
 use Rattle.sv_terms.specs.Bounds.{from_left, without_size}
 use Rattle.sv_terms.specs.Language.{InAllOf, InFirstOnly}
-use Rattle.part_machines.specs.Sides.{AreSides}
 use Rattle.part_machines.proofs.PartLemmas.{made, of-plain, refused}
 use Rattle.part_machines.proofs.SideLemmas.{met-below, sides-few, sides-met, sides-read}
 use Rattle.part_machines.proofs.own.joint_machine.Goals as goal

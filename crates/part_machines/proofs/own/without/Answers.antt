@@ -1,4 +1,4 @@
-use Rattle.std.proofs.Common.{◌≡◌, ℕ, zero, suc, ◌+◌, ◌*◌, ◌<◌, ◌≤◌, ◌∷◌, ◌++◌, [], List, length, true, false, refl, sym, ap, ◌∙◌, subst, arith, Err}
+use Rattle.std.proofs.Common.{◌+◌, ◌∷◌, ◌++◌, [], List, ap, ◌∙◌}
 use Rattle.machine_core.specs.declared.graph.Graph.{Graph}
 use Rattle.part_machines.proofs.SideLemmas.{plain-more}
 use Rattle.part_machines.proofs.own.without.Goals as goal

@@ -1,10 +1,10 @@
-use Rattle.std.proofs.Common.{◌≡◌, ℕ, get_or, ◌<◌, ◌*◌, ◌+◌, ◌++◌, ◌↔◌, Any, ◌∷◌, [], List, length, take, Contains, sym, refl, ap, ◌∙◌, subst, arith}
-use Rattle.std.proofs.lemmas.List.{take_all, length-take-le}
+use Rattle.std.proofs.Common.{ℕ, get_or, ◌+◌, ◌++◌, ◌↔◌, Any, ◌∷◌, [], List, length, take, Contains, sym, ap, ◌∙◌, subst, arith}
+use Rattle.std.proofs.lemmas.List.{length-take-le}
 use Rattle.machine_core.specs.declared.machine.Move.{Move}
 use Rattle.machine_core.specs.Costs.{zeros}
 use Rattle.machine_core.specs.Moves.{Moves}
 use Rattle.pre_image.specs.declared.letter.Letter.TheVariants.{Fixed}
-use Rattle.pre_image.specs.Leading.{next_of, spelled, AreLeads, IsLead, Led}
+use Rattle.pre_image.specs.Leading.{next_of, spelled, AreLeads, Led}
 use Rattle.pre_image.proofs.LeadLemmas.{leads-first, lead-fits, leads-more, leads-same, between-set, spelled-length}
 use Rattle.pre_image.proofs.MoreLemmas.{spelled-next}
 use Rattle.pre_image.proofs.leading.along.Goals as goal

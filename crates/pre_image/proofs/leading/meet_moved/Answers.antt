@@ -1,8 +1,8 @@
-use Rattle.std.proofs.Common.{rules, ◌≡◌, ℕ, ℤ, ◌&&◌, ◌≤◌, Bool, true, false, List, take, get_or, w32, to_z, of_z, refl, sym, ap, ◌∙◌, subst}
+use Rattle.std.proofs.Common.{rules, ◌≡◌, ℕ, ◌&&◌, Bool, true, false, List, w32, to_z, of_z, refl, sym, ap, ◌∙◌, subst}
 use mir.Val.{SFits}
 use Rattle.std.proofs.lemmas.Int.{to_z-of_z}
 use Rattle.std.proofs.lemmas.List.{take_all}
-use Rattle.sv_word.specs.Ranges.{in_pair, in_ranges, IsApartFrom}
+use Rattle.sv_word.specs.Ranges.{in_ranges, IsApartFrom}
 use Rattle.pre_image.specs.Spelling.{moved_to}
 use Rattle.pre_image.proofs.MovedLemmas.{apart-top, moved-all, moved-more}
 use Rattle.pre_image.proofs.leading.meet_moved.Goals as goal

@@ -1,8 +1,8 @@
-use Rattle.std.proofs.Common.{rules, ◌≡◌, ℕ, length, get_or, take, ◌+◌, ◌*◌, ◌<◌, ◌≤◌, List, [], ◌∷◌, ◌++◌, sym, ap, ◌∙◌, subst, arith}
+use Rattle.std.proofs.Common.{◌≡◌, ℕ, length, get_or, take, ◌+◌, ◌<◌, List, ◌∷◌, ap, ◌∙◌, subst, arith}
 use Rattle.std.proofs.lemmas.List.{take_all}
 use Rattle.machine_core.specs.Costs.{zeros, total_of}
 use Rattle.machine_core.specs.RunLaws.{path_lengths}
-use Rattle.pre_image.specs.PreImages.{PreEnds, PreSteps}
+use Rattle.pre_image.specs.PreImages.{PreSteps}
 use Rattle.pre_image.specs.Liftings.{IsLifting}
 use Rattle.pre_image.proofs.LiftLemmas.{word-at, lifting-first, lifting-next}
 use Rattle.pre_image.proofs.PartLemmas.{path-step}

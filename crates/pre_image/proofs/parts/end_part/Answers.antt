@@ -1,7 +1,6 @@
-use Rattle.std.proofs.Common.{rules, None, Any, ◌≡◌, List, Contains, MatchOption, refl, sym, ◌∙◌, subst}
+use Rattle.std.proofs.Common.{rules, None, Any, ◌≡◌, Contains, MatchOption, refl, sym, ◌∙◌, subst}
 use Rattle.machine_core.specs.Costs.{add_costs}
 use Rattle.machine_core.specs.CostLaws.{add_costs-comm}
-use Rattle.machine_core.specs.Edges.{EndsAt}
 use Rattle.pre_image.specs.Parts.{EndsBy, IsFinalPart}
 use Rattle.pre_image.proofs.MoreLemmas.{more-none, all-alone}
 use Rattle.pre_image.proofs.PartLemmas.{some-end}

@@ -1,4 +1,4 @@
-use Rattle.std.proofs.Common.{rules, None, Any, ◌≡◌, ℕ, ◌<◌, ◌*◌, ◌+◌, List, Contains, MatchOption, length, refl, sym, ◌∙◌, subst, arith}
+use Rattle.std.proofs.Common.{rules, None, Any, ◌≡◌, Contains, MatchOption, sym, subst, arith}
 use Rattle.pre_image.specs.Leading.{Closes}
 use Rattle.sv_terms.specs.Language.{Word}
 use Rattle.pre_image.specs.Lifts.{IsWay}

@@ -1,4 +1,4 @@
-use Rattle.std.proofs.Common.{rules, None, Any, ◌≡◌, List, Contains, MatchOption, sym, subst}
+use Rattle.std.proofs.Common.{rules, None, Any, ◌≡◌, Contains, MatchOption, sym, subst}
 use Rattle.pre_image.specs.Leading.{Passes}
 use Rattle.pre_image.specs.Parts.{IsEdgePart}
 use Rattle.pre_image.proofs.EndLemmas.{all-moves, edge-fits}

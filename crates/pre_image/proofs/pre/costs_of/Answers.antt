@@ -1,4 +1,4 @@
-use Rattle.std.proofs.Common.{◌≡◌, ℕ, ◌↔◌, List, Any, take, subst}
+use Rattle.std.proofs.Common.{◌≡◌, ℕ, ◌↔◌, List, Any, subst}
 use Rattle.std.proofs.lemmas.List.{take_all}
 use Rattle.machine_core.specs.Places.{pick}
 use Rattle.pre_image.specs.Leading.{Closes}

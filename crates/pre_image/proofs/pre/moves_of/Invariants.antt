@@ -1,4 +1,4 @@
-use Rattle.std.proofs.Common.{◌≡◌, ℕ, ◌↔◌, List, take, Any, All}
+use Rattle.std.proofs.Common.{ℕ, ◌↔◌, List, take, Any, All}
 use Rattle.sv_word.specs.Ranges.{IsInhabited}
 use Rattle.machine_core.specs.Moves.{Moves}
 use Rattle.machine_core.specs.Places.{pick}

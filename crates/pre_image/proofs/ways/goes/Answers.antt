@@ -1,4 +1,4 @@
-use Rattle.std.proofs.Common.{◌≡◌, ℕ, ◌<◌, ◌*◌, Any, length, sym, ap, ◌∙◌, subst, arith}
+use Rattle.std.proofs.Common.{◌≡◌, ℕ, ◌*◌, Any, length, sym, ap, ◌∙◌, subst, arith}
 use Rattle.machine_core.specs.Edges.{edges_top}
 use Rattle.pre_image.specs.Leading.{spelled}
 use Rattle.pre_image.specs.Lifts.{EndsAs}

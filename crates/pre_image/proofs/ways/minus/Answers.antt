@@ -1,5 +1,4 @@
-use Rattle.std.proofs.Common.{rules, ℕ, List, ◌≡◌, ◌+◌, ◌<◌, get_or, length, sym, ap, ◌∙◌, subst, arith}
-use Rattle.pre_image.specs.Lifts.{IsRest}
+use Rattle.std.proofs.Common.{ℕ, List, get_or, length, ap, arith}
 use Rattle.pre_image.proofs.WayLemmas.{no-rest, not-less, rest-more}
 use Rattle.pre_image.proofs.ways.minus.Goals as goal
 

@@ -1,5 +1,4 @@
 use Rattle.std.proofs.Common.{rules, None, ℕ, Any, ◌≡◌, List, Contains, MatchOption, sym, ◌∙◌, subst}
-use Rattle.std.specs.Prelude.{⊤}
 use Rattle.pre_image.specs.Lifts.{IsLeft, IsTried, Works}
 use Rattle.pre_image.proofs.MoreLemmas.{more-none, all-alone}
 use Rattle.pre_image.proofs.WayLemmas.{move-steps, some-works, tried-next}

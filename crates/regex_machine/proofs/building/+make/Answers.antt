@@ -1,4 +1,4 @@
-use Rattle.std.proofs.Common.{◌≡◌, ℕ, suc, false, ◌+◌, ◌-◌, ◌<◌, ◌≤◌, ◌^◌, ◌∷◌, [], min, max, length, Err, ap, refl, sym, ◌∙◌, subst, arith}
+use Rattle.std.proofs.Common.{◌≡◌, ℕ, suc, false, ◌+◌, ◌-◌, ◌<◌, ◌^◌, ◌∷◌, [], min, max, length, Err, ap, refl, sym, ◌∙◌, subst, arith}
 use Rattle.sv_word.specs.Words.{IsWord, greatest_character}
 use Rattle.sv_terms.specs.declared.regex.Regex.TheVariants as v
 use Rattle.sv_terms.specs.Opened.{In-Empty, In-All, In-AnyChar, In-Text, In-Range}
@@ -6,11 +6,10 @@ use Rattle.sv_terms.specs.Language.{In, InOneOf}
 use Rattle.sv_terms.specs.Bounds.{size}
 use Rattle.regex_machine.specs.Copied.{InCopies, copies_size}
 use Rattle.regex_machine.specs.Joined.{ArePlain, AreMade}
-use Rattle.regex_machine.specs.Parts.{AddsParts}
 use Rattle.regex_machine.specs.declared.kind.Kind.TheVariants as kind
 use Rattle.regex_machine.proofs.BuiltLemmas.{builds-as, builds-form, builds-err, builds-more, built-beyond, onok-as}
 use Rattle.regex_machine.proofs.FormLemmas.{builds-list, builds-Diff, builds-Star, builds-Plus, builds-Opt, builds-Comp, builds-Loop, complement-made, copies-made, difference-made, loop-made, list-made, copies-least}
-use Rattle.regex_machine.proofs.KindLemmas.{formed, power-above, first-size, part-size, inner-size, adds-none, adds-next, adds-all, adds-inner, adds-one, adds-plain}
+use Rattle.regex_machine.proofs.KindLemmas.{formed, power-above, first-size, part-size, inner-size, adds-none, adds-next, adds-all, adds-inner, adds-plain}
 use Rattle.regex_machine.proofs.LanguageLemmas.{range-all, made-plain, made-more, made-all, no-order, no-copy}
 use Rattle.sv_terms.specs.BoundLaws.{size-Empty, size-All, size-AnyChar, size-Text, size-Range}
 use Rattle.regex_machine.proofs.WeaveLemmas.{begun-end, finished, before-form, before-letter, before-inner, some-parts, IsWritten, IsChosen, each-last, each-step, each-all, one-none, one-step, one-all}

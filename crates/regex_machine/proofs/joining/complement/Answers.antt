@@ -1,4 +1,4 @@
-use Rattle.std.proofs.Common.{◌≡◌, ◌^◌, ap, arith}
+use Rattle.std.proofs.Common.{◌^◌, ap, arith}
 use Rattle.machine_core.specs.declared.graph.Graph.{Graph}
 use Rattle.regex_machine.proofs.BuiltLemmas.{builds-as}
 use Rattle.regex_machine.proofs.SideLemmas.{other-words}

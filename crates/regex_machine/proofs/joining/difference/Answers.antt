@@ -1,6 +1,5 @@
-use Rattle.std.proofs.Common.{[], ◌≡◌, ◌∙◌, List, drop, map, arith, sym, ap, subst}
-use Rattle.machine_core.specs.declared.graph.Graph.{Graph}
-use Rattle.sv_terms.specs.Language.{Word, InFirstOnly}
+use Rattle.std.proofs.Common.{◌∙◌, drop, map, arith, sym, subst}
+use Rattle.sv_terms.specs.Language.{InFirstOnly}
 use Rattle.regex_machine.specs.Built.{Builds}
 use Rattle.regex_machine.specs.Joined.{WordsOf}
 use Rattle.sv_terms.specs.Bounds.{from_left, without_size}

@@ -1,4 +1,4 @@
-use Rattle.std.proofs.Common.{◌≡◌, ◌≤◌, refl, arith}
+use Rattle.std.proofs.Common.{◌≡◌, refl, arith}
 use Rattle.regex_machine.specs.Copied.{copies_size}
 use Rattle.regex_machine.proofs.BuiltLemmas.{builds-as}
 use Rattle.regex_machine.proofs.joining.repeat.Goals as goal

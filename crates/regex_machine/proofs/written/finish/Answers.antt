@@ -1,4 +1,4 @@
-use Rattle.std.proofs.Common.{◌≡◌, ◌<◌, ◌≤◌, ◌+◌, ◌↔◌, length, Some, slice_get, ap, sym, ◌∙◌, subst, arith}
+use Rattle.std.proofs.Common.{◌≡◌, ◌<◌, ◌+◌, ◌↔◌, length, Some, slice_get, ap, sym, ◌∙◌, subst, arith}
 use Rattle.regex_machine.specs.Onwards.{ReadsOn, unmade}
 use Rattle.regex_machine.proofs.BuiltLemmas.{builds-as}
 use Rattle.regex_machine.proofs.OnwardLemmas.{get-below, reads-grown}

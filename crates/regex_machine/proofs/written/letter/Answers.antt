@@ -1,5 +1,4 @@
-use Rattle.std.proofs.Common.{◌≡◌, IsTrue, ◌++◌, ◌∷◌, [], refl, ap, ◌∙◌}
-use Rattle.machine_core.specs.declared.machine.Move.{Move}
+use Rattle.std.proofs.Common.{◌++◌, ◌∷◌, [], refl, ap, ◌∙◌}
 use Rattle.regex_machine.proofs.OnwardLemmas.{letter-none, letter-made, apart-below}
 use Rattle.regex_machine.proofs.written.letter.Goals as goal
 

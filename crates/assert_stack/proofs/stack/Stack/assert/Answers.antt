@@ -1,4 +1,4 @@
-use Rattle.std.proofs.Common.{◌≡◌, ◌∷◌, [], ◌++◌, length, reverse, List, ap, sym, ◌∙◌, subst}
+use Rattle.std.proofs.Common.{◌∷◌, [], length, reverse, List, ap, ◌∙◌}
 use Rattle.sv_terms.specs.declared.term.Term.{Term}
 use Rattle.assert_stack.specs.Levels.{asserted}
 use Rattle.assert_stack.specs.Marks.{levels_at, AreMarks}

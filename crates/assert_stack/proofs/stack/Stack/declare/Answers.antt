@@ -1,7 +1,6 @@
-use Rattle.std.proofs.Common.{◌≡◌, ◌∷◌, [], ◌++◌, None, nat_eq, length, reverse, List, ap, sym, ◌∙◌, subst}
+use Rattle.std.proofs.Common.{◌≡◌, ◌∷◌, [], None, nat_eq, length, reverse, List, ap, sym, ◌∙◌, subst}
 use Rattle.std.specs.Map.{lookup}
 use Rattle.std.specs.Cmp.Lexicographic.{pointwise}
-use Rattle.sv_terms.specs.declared.entry.Entry.{Entry}
 use Rattle.assert_stack.specs.Levels.{Symbol, symbols_of, declared}
 use Rattle.assert_stack.specs.Marks.{levels_at, AreMarks}
 use Rattle.assert_stack.proofs.LevelLemmas.{symbols-at, declares, marks-declared, either_way, when_ok}

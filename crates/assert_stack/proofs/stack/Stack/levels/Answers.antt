@@ -1,4 +1,4 @@
-use Rattle.std.proofs.Common.{◌≡◌, ◌+◌, sym, ap, ◌∙◌}
+use Rattle.std.proofs.Common.{◌+◌, sym, ap, ◌∙◌}
 use Rattle.assert_stack.proofs.LevelLemmas.{count-kept}
 use Rattle.assert_stack.proofs.stack.Stack.levels.Goals as goal
 

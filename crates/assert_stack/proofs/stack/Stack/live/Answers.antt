@@ -1,4 +1,4 @@
-use Rattle.std.proofs.Common.{◌≡◌, reverse, ap, sym, ◌∙◌}
+use Rattle.std.proofs.Common.{reverse, ap, sym, ◌∙◌}
 use Rattle.assert_stack.specs.Levels.{live}
 use Rattle.assert_stack.proofs.LevelLemmas.{live-at}
 use Rattle.assert_stack.proofs.stack.Stack.live.Goals as goal

@@ -1,4 +1,4 @@
-use Rattle.std.proofs.Common.{◌≡◌, ◌+◌, ◌≤◌, ◌<◌, ◌++◌, [], length, reverse, drop, ap, ◌∙◌, arith}
+use Rattle.std.proofs.Common.{length, drop, ap, ◌∙◌, arith}
 use Rattle.assert_stack.proofs.LevelLemmas.{pops, marks-popped, count-popped, count-kept}
 use Rattle.assert_stack.proofs.stack.Stack.pop_one.Goals as goal
 

@@ -1,4 +1,4 @@
-use Rattle.std.proofs.Common.{◌≡◌, ◌+◌, ◌≤◌, ◌++◌, length, reverse, ap, ◌∙◌, arith}
+use Rattle.std.proofs.Common.{length, ap, ◌∙◌, arith}
 use Rattle.assert_stack.specs.Levels.{pushed}
 use Rattle.assert_stack.proofs.LevelLemmas.{pushes, marks-pushed, count-pushed, count-kept}
 use Rattle.assert_stack.proofs.stack.Stack.push.Goals as goal

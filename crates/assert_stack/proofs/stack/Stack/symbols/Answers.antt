@@ -1,4 +1,4 @@
-use Rattle.std.proofs.Common.{◌≡◌, reverse, ap, sym, ◌∙◌}
+use Rattle.std.proofs.Common.{reverse, ap, sym, ◌∙◌}
 use Rattle.assert_stack.specs.Levels.{symbols_of}
 use Rattle.assert_stack.proofs.LevelLemmas.{symbols-at}
 use Rattle.assert_stack.proofs.stack.Stack.symbols.Goals as goal

@@ -1,6 +1,6 @@
-use Rattle.std.proofs.Common.{◌≡◌, ℕ, ◌<◌, ◌↔◌, ◌∙◌, List, length, Any, Contains, sym, ap, subst}
+use Rattle.std.proofs.Common.{◌<◌, ◌↔◌, length, Any, Contains, sym, subst}
 use Rattle.machine_core.specs.Moves.{Moves}
-use Rattle.machine_core.specs.Places.{pick, places}
+use Rattle.machine_core.specs.Places.{pick}
 use Rattle.pre_image.specs.Indexed.{edge_source}
 use Rattle.pre_image.specs.Leading.{Passes}
 use Rattle.pre_image.proofs.EndLemmas.{all-moves, edge-fits}
