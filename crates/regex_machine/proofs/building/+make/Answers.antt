@@ -92,11 +92,11 @@ make_loop-returns-then-j-eq0 t c =
 pub make_loop-returns : goal.make_loop-returns
 make_loop-returns t c = loop-made c.args.limit c.make_copies.result c.args.r.now c.args.i c.args.j c.make_copies.ensures
 
-pub make_copies-copied-requires-clause-plain : goal.make_copies-copied-requires-clause-plain
-make_copies-copied-requires-clause-plain t c = c.in-Ok.ensures.0.plain
+pub make_copies-repeat-requires-clause-plain : goal.make_copies-repeat-requires-clause-plain
+make_copies-repeat-requires-clause-plain t c = c.in-Ok.ensures.0.plain
 
 pub make_copies-returns-in-Ok : goal.make_copies-returns-in-Ok
-make_copies-returns-in-Ok t c = copies-made c.args.limit c.copied.result c.args.r.now c.in-Ok.part c.args.least c.args.most c.args.again c.in-Ok.ensures.0 c.in-Ok.ensures.1 c.copied.ensures
+make_copies-returns-in-Ok t c = copies-made c.args.limit c.repeat.result c.args.r.now c.in-Ok.part c.args.least c.args.most c.args.again c.in-Ok.ensures.0 c.in-Ok.ensures.1 c.repeat.ensures
 
 pub make_difference-difference-requires : goal.make_difference-difference-requires
 make_difference-difference-requires t c = subst ArePlain (sym c.as_slice.ensures) (made-plain _ _ c.in_ok-parts.ensures.made)
