@@ -2,22 +2,30 @@
 use Rattle.std.proofs.Common.{◌≡◌, ℕ, List, [], ◌∷◌, ◌++◌, true, false, Some, refl, sym, ap, ◌∙◌, subst, arith, inl, inr}
 use Rattle.std.proofs.KnownBytes.{Consumes-nil, Appends-nil}
 use Rattle.std.specs.declared.option.Option.{Option}
+use Rattle.std.specs.Io.KnownBytes.{Appends}
 use Rattle.command_words.specs.Asked.{IsAsked, IsTaskOf}
 use Rattle.command_words.specs.Words.{is_in_form, seed_given, size_given, file_given}
 use Rattle.command_words.specs.declared.command_line.CommandLine.{CommandLine}
 use Rattle.command_words.specs.declared.command_line.Task.TheVariants.{Generate}
 use Rattle.smt_session.specs.declared.reply.Reply.{Reply}
 use Rattle.smt_session.specs.Steps.{opened}
+use Rattle.strsolve.specs.declared.status.Status.TheVariants.{Answered, NoMemory, WriteFailed}
 use Rattle.strsolve.specs.CommandLine.{AskFor}
 use Rattle.strsolve.specs.Generated.{IsAnsweredFront, IsGenerated, IsTrueIn}
-use Rattle.strsolve.specs.Runs.{IsCut, IsFront, IsPrompt}
-use Rattle.strsolve.specs.Scripts.{none}
+use Rattle.strsolve.specs.Runs.{IsCut, IsFront, IsPrompt, IsUnfinished}
+use Rattle.strsolve.specs.Scripts.{AnswersWhole, Follows, none, texts_of}
 use Rattle.strsolve.proofs.Counts.{nothing_waits}
 use Rattle.strsolve.proofs.Turns.{cut_here, nothing_written}
 use Rattle.strsolve.proofs.Verdicts.{verdict_true}
 
 differ : false ≡ true → ⊥
 differ e = cc
+
+unanswered : NoMemory ≡ Answered → ⊥
+unanswered e = cc
+
+unwritten : NoMemory ≡ WriteFailed → ⊥
+unwritten e = cc
 
 -- words are in the form, or they aren't
 pub not_both : (v w : List (List ℕ)) → v ≡ w → is_in_form v ≡ true → is_in_form w ≡ false → ⊥
@@ -37,6 +45,9 @@ nothing_cut t log e = cut_here false [] [] opened log t t (nothing_written opene
 pub nothing_front : (l t : Option (List ℕ)) (log : List Reply) → log ≡ [] → IsFront l l t t log
 nothing_front l t log e = record { ended = false; bytes = []; read = record { gave = Consumes-nil l; end = λ f. absurd (differ f) }; cut = nothing_cut t log e }
 
+nothing_whole : (log : List Reply) → log ≡ [] → AnswersWhole [] log
+nothing_whole log e = record { items = []; session = opened; waits = nothing_waits; follows = subst (λ (x : List Reply). Follows opened [] x opened) (sym e) (none opened); goes_on = refl }
+
 pub nothing_prompt : (l t : Option (List ℕ)) (log : List Reply) → log ≡ [] → IsPrompt l l t t log
 nothing_prompt l t log e = record {
   before = [];
@@ -46,22 +57,34 @@ nothing_prompt l t log e = record {
   early = [];
   late = [];
   replies = e;
-  right = record { items = []; session = opened; waits = nothing_waits; follows = none opened; goes_on = refl };
+  right = nothing_whole [] refl;
   text = [];
   took = Appends-nil t;
 }
 
-pub nothing_generated : (script : List ℕ) (size : ℕ) (t : Option (List ℕ)) (log : List Reply) → log ≡ [] → IsGenerated script size t t 5 log
-nothing_generated script size t log e = record {
+pub nothing_unfinished : (l t : Option (List ℕ)) (log : List Reply) → log ≡ [] → IsUnfinished l l t t log
+nothing_unfinished l t log e = record {
+  bytes = [];
+  gave = Consumes-nil l;
+  right = nothing_whole log e;
+  took = subst (λ (x : List Reply). Appends t t (texts_of x)) (sym e) (Appends-nil t);
+}
+
+-- nothing was written of the line that sums up the verdicts
+pub unsummed : (script : List ℕ) (size : ℕ) (t : Option (List ℕ)) (log : List Reply) → IsAnsweredFront script log → IsGenerated script size t t NoMemory log
+unsummed script size t log front = record {
   statuses = inr (inr refl);
   answered = λ h. elim h [
-    | inl a ↦ absurd (omega (arith, a))
-    | inr a ↦ absurd (omega (arith, a))
+    | inl a ↦ absurd (unanswered a)
+    | inr a ↦ absurd (unwritten a)
   ];
-  front = record { ended = false; front = []; more = script; is = refl; right = (nothing_cut t log e).right };
-  took = λ a. absurd (omega (arith, a));
+  front = front;
+  took = λ a. absurd (unanswered a);
   cut = (0, Appends-nil t);
 }
+
+pub nothing_generated : (script : List ℕ) (size : ℕ) (t : Option (List ℕ)) (log : List Reply) → log ≡ [] → IsGenerated script size t t NoMemory log
+nothing_generated script size t log e = unsummed script size t log (record { ended = false; front = []; more = script; is = refl; right = (nothing_cut t log e).right })
 
 pub verdict_in : (script : List ℕ) (log early late : List Reply) (r : Reply) → IsAnsweredFront script log → log ≡ early ++ r ∷ late → IsTrueIn script early r
 verdict_in script log early late r h e = record { ended = h.ended; front = h.front; more = h.more; is = h.is; verdict_is = verdict_true h.ended h.front log early late r h.right e }

@@ -1,5 +1,5 @@
 -- What was answered of a generated script, block by block, where nothing is written.
-use Rattle.std.proofs.Common.{◌≡◌, ℕ, suc, List, [], ◌++◌, Bool, true, false, None, refl, sym, ap, ◌∙◌, append_assoc}
+use Rattle.std.proofs.Common.{◌≡◌, ℕ, suc, List, [], ◌++◌, Bool, true, false, None, refl, sym, subst, inl, inr, ◌⊎◌, ap, ◌∙◌, append_assoc}
 use Rattle.smt_session.specs.declared.reply.Reply.{Reply}
 use Rattle.generated_script.specs.Blocks.{block, blocks}
 use Rattle.generated_script.specs.Draws.{behind}
@@ -8,8 +8,8 @@ use Rattle.strsolve.specs.Runs.{IsCut}
 use Rattle.strsolve.specs.Scripts.{all}
 use Rattle.strsolve.specs.Standing.{IsWaiting, Stops}
 use Rattle.strsolve.specs.declared.answering.Answering.{Answering}
-use Rattle.strsolve.specs.declared.outcome.Ending.{Ending}
-use Rattle.strsolve.specs.declared.outcome.Ending.TheVariants as ending
+use Rattle.strsolve.specs.declared.status.Status.{Status}
+use Rattle.strsolve.specs.declared.status.Status.TheVariants.{Answered, ErrorAnswered, WrongWords, ReadFailed, WriteFailed, NoMemory}
 use Rattle.strsolve.proofs.Turns.{cut_here}
 
 -- the next block goes over from what is left to what was fed
@@ -31,12 +31,17 @@ here-front script bytes more a is waits =
     cut-front script bytes more a.replies false is (cut_here false bytes w.items a.session a.replies None None w.written)
 
 -- nothing is answered any more
-pub stopped : (script bytes more : List ℕ) (log : List Reply) (ended : Bool) (e : Ending) → script ≡ bytes ++ more → (ended ≡ true → more ≡ []) → (e ≡ ending.WriteFailed → ⊥)
-    → Stops ended bytes None None log e → StopsIn script log e
-stopped script bytes more log ended ending.Answered is whole fine h = record { ended = ended; front = bytes; more = more; is = is; whole = whole; right = h.right }
-stopped script bytes more log ended ending.ReadFailed is whole fine h = h
-stopped script bytes more log ended ending.WriteFailed is whole fine h = absurd (fine refl)
-stopped script bytes more log ended ending.NoMemory is whole fine h = cut-front script bytes more log ended is h
+pub stopped : (script bytes more : List ℕ) (log : List Reply) (ended : Bool) (s : Status) → script ≡ bytes ++ more → (ended ≡ true → more ≡ []) → (s ≡ WriteFailed → ⊥) → Stops ended bytes None None log s → StopsIn script log s
+stopped script bytes more log ended Answered is whole fine h = record { ended = ended; front = bytes; more = more; is = is; whole = whole; right = h.0.right }
+stopped script bytes more log ended ErrorAnswered is whole fine h = record { ended = ended; front = bytes; more = more; is = is; whole = whole; right = h.0.right }
+stopped script bytes more log ended WrongWords is whole fine h = h
+stopped script bytes more log ended ReadFailed is whole fine h = h
+stopped script bytes more log ended WriteFailed is whole fine h = absurd (fine refl)
+stopped script bytes more log ended NoMemory is whole fine h = cut-front script bytes more log ended is h
+
+pub answered-whole : (script : List ℕ) (log : List Reply) (s : Status) → (s ≡ Answered) ⊎ (s ≡ ErrorAnswered) → StopsIn script log s → IsAnsweredWhole script log
+answered-whole script log s (inl is) h = subst (StopsIn script log) is h
+answered-whole script log s (inr is) h = subst (StopsIn script log) is h
 
 pub whole-front : (script : List ℕ) (log : List Reply) → IsAnsweredWhole script log → IsAnsweredFront script log
 whole-front script log h = record { ended = h.ended; front = h.front; more = h.more; is = h.is; right = all h.right }

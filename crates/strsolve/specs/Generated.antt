@@ -8,8 +8,8 @@ use Rattle.generated_script.specs.Summary.{summary_text}
 use Rattle.generated_script.specs.declared.tally.Tally.{Tally}
 use Rattle.strsolve.specs.Runs.{IsTrueFor}
 use Rattle.strsolve.specs.Scripts.{Answers, AnswersFront}
-use Rattle.strsolve.specs.declared.outcome.Ending.{Ending}
-use Rattle.strsolve.specs.declared.outcome.Ending.TheVariants as ending
+use Rattle.strsolve.specs.declared.status.Status.{Status}
+use Rattle.strsolve.specs.declared.status.Status.TheVariants.{Answered, ErrorAnswered, WrongWords, ReadFailed, WriteFailed, NoMemory}
 
 abbrev pub is_sat : Reply → Bool
 is_sat (reply.Sat values) = true
@@ -49,18 +49,20 @@ pub record IsAnsweredFront (script : List ℕ) (log : List Reply) : Type 0 where
   pub right : AnswersFront ended front log
 
 -- what was answered of the script, where nothing was written
-abbrev pub StopsIn : List ℕ → List Reply → Ending → Type 0
-StopsIn script log ending.Answered = IsAnsweredWhole script log
-StopsIn script log ending.ReadFailed = ⊥
-StopsIn script log ending.WriteFailed = ⊥
-StopsIn script log ending.NoMemory = IsAnsweredFront script log
+abbrev pub StopsIn : List ℕ → List Reply → Status → Type 0
+StopsIn script log Answered = IsAnsweredWhole script log
+StopsIn script log ErrorAnswered = IsAnsweredWhole script log
+StopsIn script log WrongWords = ⊥
+StopsIn script log ReadFailed = ⊥
+StopsIn script log WriteFailed = ⊥
+StopsIn script log NoMemory = IsAnsweredFront script log
 
 -- the script was answered, and the sink took the line that sums up its verdicts; or up to some place, where the sink failed or there was no memory
-pub record IsGenerated (script : List ℕ) (size : ℕ) (taken_old taken_new : Option (List ℕ)) (status : ℕ) (log : List Reply) : Type 0 where
-  pub statuses : (status ≡ 0) ⊎ (status ≡ 4) ⊎ (status ≡ 5)
-  pub answered : (status ≡ 0) ⊎ (status ≡ 4) → IsAnsweredWhole script log
+pub record IsGenerated (script : List ℕ) (size : ℕ) (taken_old taken_new : Option (List ℕ)) (status : Status) (log : List Reply) : Type 0 where
+  pub statuses : (status ≡ Answered) ⊎ (status ≡ WriteFailed) ⊎ (status ≡ NoMemory)
+  pub answered : (status ≡ Answered) ⊎ (status ≡ WriteFailed) → IsAnsweredWhole script log
   pub front : IsAnsweredFront script log
-  pub took : status ≡ 0 → Appends taken_old taken_new (summary_text size (tally_of log))
+  pub took : status ≡ Answered → Appends taken_old taken_new (summary_text size (tally_of log))
   pub cut : (count : ℕ) × Appends taken_old taken_new (take count (summary_text size (tally_of log)))
 
 -- a reply behind the early ones is one for a front of the script

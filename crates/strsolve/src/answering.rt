@@ -6,13 +6,13 @@ ghost use Rattle.strsolve.specs.Runs.{IsCut};
 ghost use Rattle.strsolve.specs.Standing.{Adds, IsAnswering, IsFaulty, IsGiven, IsWaiting, Stops};
 
 use crate::log::Log;
-use crate::outcome::Ending;
+use crate::status::Status;
 use crate::transfer::write_reply;
 use sexpr_reader::{Reader, Sexpr, SyntaxFault, more_bytes_may_follow};
 use smt_session::{ErrorKind, Reply, Session};
 use std::alloc::{AllocError, Global};
 use std::thread::Threads;
-use sv_io::{Sink, SinkFault};
+use sv_io::Sink;
 
 /// A script while it is answered: the reader of its bytes, the session, and the replies so far.
 #[derive(Drop)]
@@ -73,13 +73,13 @@ impl Answering {
         rt: &R,
         alloc: Global,
         sink: &mut K,
-    ) -> Option<Ending>
+    ) -> Option<Status>
         requires answering { (bytes : List ℕ) × (taken : Optional (List ℕ)) × IsAnswering false self.old bytes taken (K.taken sink.old) }
         ensures went { (bytes : List ℕ) (taken : Optional (List ℕ)) → IsAnswering false self.old bytes taken (K.taken sink.old)
-            → MatchOption result (IsWaiting self.new bytes taken (K.taken sink.new)) (λ ending. Stops false bytes taken (K.taken sink.new) self.new.replies ending) }
+            → MatchOption result (IsWaiting self.new bytes taken (K.taken sink.new)) (λ status. Stops false bytes taken (K.taken sink.new) self.new.replies status) }
         ensures added { Adds self.old.replies self.new.replies (K.taken sink.old) (K.taken sink.new) }
         ensures later { K.faults sink.old ≤ K.faults sink.new }
-        ensures failed { IfSome result (λ ending. ending ≡ Ending.WriteFailed → Rose (K.faults sink.old) (K.faults sink.new)) }
+        ensures failed { IfSome result (λ status. status ≡ Status.WriteFailed → Rose (K.faults sink.old) (K.faults sink.new)) }
     {
         'items: loop {
             let item = match self.reader.next() {
@@ -89,7 +89,7 @@ impl Answering {
             };
             match self.answer(rt, alloc, sink, &item) {
                 None => {}
-                Some(ending) => return Some(ending),
+                Some(status) => return Some(status),
             }
         }
     }
@@ -100,23 +100,23 @@ impl Answering {
         rt: &R,
         alloc: Global,
         sink: &mut K,
-    ) -> Ending
+    ) -> Status
         requires answering { (bytes : List ℕ) × (taken : Optional (List ℕ)) × IsAnswering false self.old bytes taken (K.taken sink.old) }
         ensures went { (bytes : List ℕ) (taken : Optional (List ℕ)) → IsAnswering false self.old bytes taken (K.taken sink.old) → Stops true bytes taken (K.taken sink.new) self.new.replies result }
         ensures added { Adds self.old.replies self.new.replies (K.taken sink.old) (K.taken sink.new) }
         ensures later { K.faults sink.old ≤ K.faults sink.new }
-        ensures failed { result ≡ Ending.WriteFailed → Rose (K.faults sink.old) (K.faults sink.new) }
+        ensures failed { result ≡ Status.WriteFailed → Rose (K.faults sink.old) (K.faults sink.new) }
     {
         more_bytes_may_follow();
         'items: loop {
             let item = match self.reader.end() {
                 Ok(Some(item)) => item,
-                Ok(None) => return Ending::Answered,
+                Ok(None) => return self.replies.status(),
                 Err(fault) => return self.refuse(alloc, sink, fault),
             };
             match self.answer(rt, alloc, sink, &item) {
                 None => {}
-                Some(ending) => return ending,
+                Some(status) => return status,
             }
         }
     }
@@ -128,50 +128,48 @@ impl Answering {
         alloc: Global,
         sink: &mut K,
         item: &Sexpr,
-    ) -> Option<Ending>
+    ) -> Option<Status>
         ensures went { (ended : Bool) (bytes : List ℕ) (taken : Optional (List ℕ)) → IsGiven ended self.old item.now bytes taken (K.taken sink.old)
-            → MatchOption result (IsAnswering ended self.new bytes taken (K.taken sink.new)) (λ ending. Stops ended bytes taken (K.taken sink.new) self.new.replies ending) }
+            → MatchOption result (IsAnswering ended self.new bytes taken (K.taken sink.new)) (λ status. Stops ended bytes taken (K.taken sink.new) self.new.replies status) }
         ensures count { IfNone result (length self.new.replies ≡ length self.old.replies + 1) }
         ensures fed { self.new.fed ≡ self.old.fed }
         ensures added { Adds self.old.replies self.new.replies (K.taken sink.old) (K.taken sink.new) }
         ensures later { K.faults sink.old ≤ K.faults sink.new }
-        ensures failed { IfSome result (λ ending. ending ≡ Ending.WriteFailed → Rose (K.faults sink.old) (K.faults sink.new)) }
+        ensures failed { IfSome result (λ status. status ≡ Status.WriteFailed → Rose (K.faults sink.old) (K.faults sink.new)) }
     {
         let reply = match self.session.step(rt, alloc, item) {
             Ok(reply) => reply,
-            Err(_) => return Some(Ending::NoMemory),
+            Err(_) => return Some(Status::NoMemory),
         };
         let written = write_reply(alloc, sink, &reply);
         self.replies = self.replies.and(&reply);
         match written {
             Ok(()) => {}
-            Err(SinkFault::Failed) => return Some(Ending::WriteFailed),
-            Err(SinkFault::Memory(_)) => return Some(Ending::NoMemory),
+            Err(fault) => return Some(Status::of_fault(fault)),
         }
         if self.session.has_ended() {
-            return Some(Ending::Answered);
+            return Some(self.replies.status());
         }
         None
     }
 
     // Answers a syntax fault by its error.
-    fn refuse<K: Sink>(&mut self, alloc: Global, sink: &mut K, fault: SyntaxFault) -> Ending
+    fn refuse<K: Sink>(&mut self, alloc: Global, sink: &mut K, fault: SyntaxFault) -> Status
         ensures went { (ended : Bool) (bytes : List ℕ) (taken : Optional (List ℕ)) → IsFaulty ended self.old fault bytes taken (K.taken sink.old) → Stops ended bytes taken (K.taken sink.new) self.new.replies result }
         ensures added { Adds self.old.replies self.new.replies (K.taken sink.old) (K.taken sink.new) }
         ensures later { K.faults sink.old ≤ K.faults sink.new }
-        ensures failed { result ≡ Ending.WriteFailed → Rose (K.faults sink.old) (K.faults sink.new) }
+        ensures failed { result ≡ Status.WriteFailed → Rose (K.faults sink.old) (K.faults sink.new) }
     {
         let kind = match ErrorKind::of_syntax(fault) {
             Ok(kind) => kind,
-            Err(_) => return Ending::NoMemory,
+            Err(_) => return Status::NoMemory,
         };
         let error = Reply::Error(kind);
         let written = write_reply(alloc, sink, &error);
         self.replies = self.replies.and(&error);
         match written {
-            Ok(()) => Ending::Answered,
-            Err(SinkFault::Failed) => Ending::WriteFailed,
-            Err(SinkFault::Memory(_)) => Ending::NoMemory,
+            Ok(()) => self.replies.status(),
+            Err(fault) => Status::of_fault(fault),
         }
     }
 }

@@ -13,17 +13,17 @@ ghost use Rattle.strsolve.specs.CommandLine.{AskFor, usage};
 ghost use Rattle.strsolve.specs.Generated.{IsGenerated, IsTrueIn};
 ghost use Rattle.strsolve.specs.Runs.{IsTrueBehind, IsAnswered, IsFront, IsPrompt, IsRefused, StopsAtExit, IsUnfinished};
 ghost use Rattle.strsolve.specs.Scripts.{has_error};
-ghost use Rattle.strsolve.specs.Standing.{Ended};
+ghost use Rattle.strsolve.specs.Standing.{Ended, IsWaiting};
 
 use crate::answering::Answering;
 use crate::generating::answer_generated;
 use crate::log::Log;
-use crate::outcome::{Ending, NO_MEMORY, Outcome, Run, WRITE_FAILED, WRONG_WORDS};
+use crate::status::{Run, Status};
 use crate::transfer::write_all;
 use command_words::{Task, WordsFault, read};
 use std::alloc::Global;
 use std::thread::Threads;
-use sv_io::{Sink, SinkFault, Source, Words};
+use sv_io::{Sink, Source, Words};
 
 /// How many bytes are asked for at once: each item that was whole before them is answered by then.
 const PIECE: usize = 4_096;
@@ -41,16 +41,15 @@ fn workers_of(asked: u64) -> u32
 }
 
 // Writes how the program is called, and says how that went.
-fn refuse_words<K: Sink>(sink: &mut K) -> u8
-    ensures statuses { (result ≡ 2) ⊎ (result ≡ 4) ⊎ (result ≡ 5) }
-    ensures whole { result ≡ 2 → Appends (K.taken sink.old) (K.taken sink.new) usage }
+fn refuse_words<K: Sink>(sink: &mut K) -> Status
+    ensures statuses { (result ≡ Status.WrongWords) ⊎ (result ≡ Status.WriteFailed) ⊎ (result ≡ Status.NoMemory) }
+    ensures whole { result ≡ Status.WrongWords → Appends (K.taken sink.old) (K.taken sink.new) usage }
     ensures front { (count : ℕ) × Appends (K.taken sink.old) (K.taken sink.new) (take count usage) }
-    ensures failed { result ≡ 4 → Rose (K.faults sink.old) (K.faults sink.new) }
+    ensures failed { result ≡ Status.WriteFailed → Rose (K.faults sink.old) (K.faults sink.new) }
 {
     match write_all(sink, USAGE.as_bytes()) {
-        Ok(()) => WRONG_WORDS,
-        Err(SinkFault::Failed) => WRITE_FAILED,
-        Err(SinkFault::Memory(_)) => NO_MEMORY,
+        Ok(()) => Status::WrongWords,
+        Err(fault) => Status::of_fault(fault),
     }
 }
 
@@ -58,55 +57,35 @@ fn refuse_words<K: Sink>(sink: &mut K) -> u8
 fn answer_source<R: Threads + Sync, S: Source, K: Sink>(
     rt: &R,
     alloc: Global,
-    workers: u32,
+    answering: &mut Answering,
     source: &mut S,
     sink: &mut K,
-) -> Outcome
-    requires workers { 1 ≤ workers }
+) -> Status
+    requires waits { IsWaiting answering.old [] (K.taken sink.old) (K.taken sink.old) }
     requires open { S.is_open source.old ≡ true }
-    ensures went { Ended (S.left source.old) (S.left source.new) (K.taken sink.old) (K.taken sink.new) result.log result.ending }
-    ensures prompt { IsPrompt (S.left source.old) (S.left source.new) (K.taken sink.old) (K.taken sink.new) result.log }
-    ensures unread { result.ending ≡ Ending.ReadFailed → Rose (S.faults source.old) (S.faults source.new) }
-    ensures unwritten { result.ending ≡ Ending.WriteFailed → Rose (K.faults sink.old) (K.faults sink.new) }
+    ensures went { Ended (S.left source.old) (S.left source.new) (K.taken sink.old) (K.taken sink.new) answering.new.replies result }
+    ensures prompt { IsPrompt (S.left source.old) (S.left source.new) (K.taken sink.old) (K.taken sink.new) answering.new.replies }
+    ensures unread { result ≡ Status.ReadFailed → Rose (S.faults source.old) (S.faults source.new) }
+    ensures unwritten { result ≡ Status.WriteFailed → Rose (K.faults sink.old) (K.faults sink.new) }
     ensures open { S.is_open source.new ≡ true }
     ensures astray { S.is_astray source.new ≡ S.is_astray source.old }
 {
-    let mut answering = Answering::new(alloc, workers);
     let mut buffer = [0u8; PIECE];
     'pieces: loop {
         let count = match source.read(&mut buffer) {
             Ok(count) => count,
-            Err(_) => {
-                return Outcome {
-                    ending: Ending::ReadFailed,
-                    log: answering.into_log(),
-                };
-            }
+            Err(_) => return Status::ReadFailed,
         };
         if count == 0 {
-            let ending = answering.answer_rest(rt, alloc, sink);
-            return Outcome {
-                ending,
-                log: answering.into_log(),
-            };
+            return answering.answer_rest(rt, alloc, sink);
         }
         match answering.feed(&buffer[..count]) {
             Ok(()) => {}
-            Err(_) => {
-                return Outcome {
-                    ending: Ending::NoMemory,
-                    log: answering.into_log(),
-                };
-            }
+            Err(_) => return Status::NoMemory,
         }
         match answering.answer_whole(rt, alloc, sink) {
             None => {}
-            Some(ending) => {
-                return Outcome {
-                    ending,
-                    log: answering.into_log(),
-                };
-            }
+            Some(status) => return status,
         }
     }
 }
@@ -119,21 +98,28 @@ fn answer_script<R: Threads + Sync, S: Source, K: Sink>(
     name: Option<&str>,
     source: &mut S,
     sink: &mut K,
-) -> Outcome
+) -> Run
     requires workers { 1 ≤ workers }
     requires closed { S.is_open source.old ≡ false }
-    ensures went { Ended (S.left source.old) (S.left source.new) (K.taken sink.old) (K.taken sink.new) result.log result.ending }
+    ensures went { Ended (S.left source.old) (S.left source.new) (K.taken sink.old) (K.taken sink.new) result.log result.status }
     ensures prompt { IsPrompt (S.left source.old) (S.left source.new) (K.taken sink.old) (K.taken sink.new) result.log }
-    ensures unread { result.ending ≡ Ending.ReadFailed → Rose (S.faults source.old) (S.faults source.new) }
-    ensures unwritten { result.ending ≡ Ending.WriteFailed → Rose (K.faults sink.old) (K.faults sink.new) }
-    ensures open { result.ending ≡ Ending.Answered → (S.is_open source.new ≡ true) × IsOwn (S.own_name source.old) (option_map (λ text. text.now) name.entry) }
+    ensures unread { result.status ≡ Status.ReadFailed → Rose (S.faults source.old) (S.faults source.new) }
+    ensures unwritten { result.status ≡ Status.WriteFailed → Rose (K.faults sink.old) (K.faults sink.new) }
+    ensures open { (result.status ≡ Status.Answered) ⊎ (result.status ≡ Status.ErrorAnswered) → (S.is_open source.new ≡ true) × IsOwn (S.own_name source.old) (option_map (λ text. text.now) name.entry) }
     ensures astray { IsOwn (S.own_name source.old) (option_map (λ text. text.now) name.entry) → S.is_astray source.new ≡ S.is_astray source.old }
 {
     match source.open(name) {
-        Ok(()) => answer_source(rt, alloc, workers, source, sink),
-        Err(_) => Outcome {
-            ending: Ending::ReadFailed,
-            log: Answering::new(alloc, workers).into_log(),
+        Ok(()) => {
+            let mut answering = Answering::new(alloc, workers);
+            let status = answer_source(rt, alloc, &mut answering, source, sink);
+            Run {
+                status,
+                log: answering.into_log(),
+            }
+        }
+        Err(_) => Run {
+            status: Status::ReadFailed,
+            log: Log::new(),
         },
     }
 }
@@ -156,21 +142,20 @@ pub fn run<R: Threads + Sync, S: Source, K: Sink>(
     sink: &mut K,
 ) -> Run
     requires { S.is_open source.old ≡ false }
-    ensures statuses { result.status ≤ 5 }
-    ensures answered { is_some (named words.now) ≡ true → (result.status ≡ 0) ⊎ (result.status ≡ 1) → IsAnswered (S.left source.old) (S.left source.new) (K.taken sink.old) (K.taken sink.new) result.log }
-    ensures right { is_some (named words.now) ≡ true → result.status ≡ 0 → has_error result.log ≡ false }
-    ensures error { result.status ≡ 1 → has_error result.log ≡ true }
+    ensures answered { is_some (named words.now) ≡ true → (result.status ≡ Status.Answered) ⊎ (result.status ≡ Status.ErrorAnswered) → IsAnswered (S.left source.old) (S.left source.new) (K.taken sink.old) (K.taken sink.new) result.log }
+    ensures right { is_some (named words.now) ≡ true → result.status ≡ Status.Answered → has_error result.log ≡ false }
+    ensures error { result.status ≡ Status.ErrorAnswered → has_error result.log ≡ true }
     ensures verdicts { is_some (named words.now) ≡ true → (early late : List AnyReply) (verdict : AnyReply) → result.log ≡ early ++ verdict ∷ late → IsTrueBehind (S.left source.old) (S.left source.new) early verdict }
-    ensures wrong_words { result.status ≡ 2 → (is_in_form words.now ≡ false) × Appends (K.taken sink.old) (K.taken sink.new) usage }
-    ensures words { is_in_form words.now ≡ false → (result.status ≡ 2) ⊎ (result.status ≡ 4) ⊎ (result.status ≡ 5) }
+    ensures wrong_words { result.status ≡ Status.WrongWords → (is_in_form words.now ≡ false) × Appends (K.taken sink.old) (K.taken sink.new) usage }
+    ensures words { is_in_form words.now ≡ false → (result.status ≡ Status.WrongWords) ⊎ (result.status ≡ Status.WriteFailed) ⊎ (result.status ≡ Status.NoMemory) }
     ensures refused { is_in_form words.now ≡ false → (source.new ≡ source.old) × IsRefused (K.taken sink.old) (K.taken sink.new) result.log }
-    ensures read_fault { result.status ≡ 3 → Rose (S.faults source.old) (S.faults source.new) × IsUnfinished (S.left source.old) (S.left source.new) (K.taken sink.old) (K.taken sink.new) result.log }
-    ensures write_fault { result.status ≡ 4 → Rose (K.faults sink.old) (K.faults sink.new) }
+    ensures read_fault { result.status ≡ Status.ReadFailed → Rose (S.faults source.old) (S.faults source.new) × IsUnfinished (S.left source.old) (S.left source.new) (K.taken sink.old) (K.taken sink.new) result.log }
+    ensures write_fault { result.status ≡ Status.WriteFailed → Rose (K.faults sink.old) (K.faults sink.new) }
     ensures front { is_some (named words.now) ≡ true → IsFront (S.left source.old) (S.left source.new) (K.taken sink.old) (K.taken sink.new) result.log }
     ensures prompt { is_some (named words.now) ≡ true → IsPrompt (S.left source.old) (S.left source.new) (K.taken sink.old) (K.taken sink.new) result.log }
     ensures exit { is_some (named words.now) ≡ true → StopsAtExit (S.left source.old) (S.left source.new) result.log }
-    ensures open { is_some (named words.now) ≡ true → (result.status ≡ 0) ⊎ (result.status ≡ 1) → S.is_open source.new ≡ true }
-    ensures name { (name : Optional (List ℕ)) → named words.now ≡ Some name → (result.status ≡ 0) ⊎ (result.status ≡ 1) → IsOwn (S.own_name source.old) name }
+    ensures open { is_some (named words.now) ≡ true → (result.status ≡ Status.Answered) ⊎ (result.status ≡ Status.ErrorAnswered) → S.is_open source.new ≡ true }
+    ensures name { (name : Optional (List ℕ)) → named words.now ≡ Some name → (result.status ≡ Status.Answered) ⊎ (result.status ≡ Status.ErrorAnswered) → IsOwn (S.own_name source.old) name }
     ensures astray { (name : Optional (List ℕ)) → named words.now ≡ Some name → IsOwn (S.own_name source.old) name → S.is_astray source.new ≡ S.is_astray source.old }
     ensures generated { (seed size : ℕ) → AskFor words.now seed size → (source.new ≡ source.old) × IsGenerated (script seed size) size (K.taken sink.old) (K.taken sink.new) result.status result.log }
     ensures generated_verdicts { (seed size : ℕ) → AskFor words.now seed size → (early late : List AnyReply) (verdict : AnyReply) → result.log ≡ early ++ verdict ∷ late → IsTrueIn (script seed size) early verdict }
@@ -178,27 +163,21 @@ pub fn run<R: Threads + Sync, S: Source, K: Sink>(
     let line = match read(alloc, words.as_slice()) {
         Ok(line) => line,
         Err(WordsFault::Outside) => {
-            let status = refuse_words(sink);
             return Run {
-                status,
+                status: refuse_words(sink),
                 log: Log::new(),
             };
         }
         Err(WordsFault::Memory(_)) => {
             return Run {
-                status: NO_MEMORY,
+                status: Status::NoMemory,
                 log: Log::new(),
             };
         }
     };
     let workers = workers_of(line.workers);
     match line.task {
-        Task::Answer(name) => {
-            let outcome = answer_script(rt, alloc, workers, name, source, sink);
-            let status = outcome.status();
-            let Outcome { log, .. } = outcome;
-            Run { status, log }
-        }
+        Task::Answer(name) => answer_script(rt, alloc, workers, name, source, sink),
         Task::Generate { seed, size } => answer_generated(rt, alloc, workers, seed, size, sink),
     }
 }
