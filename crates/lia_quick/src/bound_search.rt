@@ -1,12 +1,13 @@
 use crate::bounds::{Bounds, Origin, Range, Reason, Rounding, Side, Step};
-use crate::lifting::{Reduction, lift_multipliers};
+use crate::lifter::Lifter;
+use crate::lifting::Reduction;
 use crate::reasons::{Far, multipliers_of};
 use farkas_check::Tree;
 use std::alloc::{AllocError, Global};
 use sv_list::{Boxed, Items};
 
-/// How many splits a search may make.
-const MOST_SPLITS: u32 = 2000;
+/// How many splits a search may make. Coins of six lengths up to 107 take some 2,200.
+const MOST_SPLITS: u32 = 4000;
 
 /// What a search within bounds ends with.
 #[derive(Drop)]
@@ -26,9 +27,8 @@ struct Cut {
 
 /// What is known of the other side of a split.
 #[derive(Drop)]
-enum Way {
-    /// The node is on the low side, and the high one waits.
-    Low,
+enum Other {
+    Waits,
     /// The tree closes it.
     Closed(Tree),
 }
@@ -39,17 +39,18 @@ struct Level {
     cut: Cut,
     /// Whether the node is on the low side.
     is_low: bool,
-    way: Way,
+    other: Other,
     /// How many facts stood before.
     facts: usize,
 }
 
-/// Searches the reduced system within the bounds of its unknowns, first sides first; `None` where a number leaves
+/// Searches the reduced system within the bounds of its unknowns; `None` where a number leaves
 /// 128 bits or too much would have to be looked at.
 pub(crate) fn search(alloc: Global, reduction: Reduction) -> Result<Option<Ending>, AllocError> {
     let rows = reduction.reduced.system.rows.as_slice();
     let unknowns = reduction.reduced.system.unknowns;
     let mut bounds = Bounds::new(alloc, rows, unknowns)?;
+    let mut lifter = Lifter::new(alloc, reduction)?;
     let mut levels: Vec<Level> = Vec::new(alloc);
     let mut left = MOST_SPLITS;
     for _ in 0..u32::MAX {
@@ -59,6 +60,7 @@ pub(crate) fn search(alloc: Global, reduction: Reduction) -> Result<Option<Endin
                 let Some(leaf) = leaf_of(
                     alloc,
                     reduction,
+                    &mut lifter,
                     &mut bounds,
                     levels.len(),
                     &reason,
@@ -73,19 +75,29 @@ pub(crate) fn search(alloc: Global, reduction: Reduction) -> Result<Option<Endin
             }
             Step::Rounded(rounding) => {
                 left = left.saturating_sub(1);
-                if left == 0 || !round(alloc, reduction, &mut bounds, &mut levels, rounding)? {
+                if left == 0
+                    || !round(
+                        alloc,
+                        reduction,
+                        &mut lifter,
+                        &mut bounds,
+                        &mut levels,
+                        rounding,
+                    )?
+                {
                     return Ok(None);
                 }
             }
             Step::Quiet => {
-                let Some(cut) = pick(&bounds, unknowns) else {
+                let Some(choice) = choose(&bounds, unknowns) else {
                     return Ok(Some(Ending::Point(point_of(alloc, &bounds, unknowns)?)));
                 };
                 left = left.saturating_sub(1);
                 if left == 0 {
                     return Ok(None);
                 }
-                enter(&mut bounds, &mut levels, cut, true, Way::Low)?;
+                let Choice { cut, low_first } = choice;
+                enter(&mut bounds, &mut levels, cut, low_first, Other::Waits)?;
             }
         }
     }
@@ -96,6 +108,7 @@ pub(crate) fn search(alloc: Global, reduction: Reduction) -> Result<Option<Endin
 fn leaf_of(
     alloc: Global,
     reduction: Reduction,
+    lifter: &mut Lifter,
     bounds: &mut Bounds,
     branches: usize,
     reason: &Reason,
@@ -106,7 +119,7 @@ fn leaf_of(
     else {
         return Ok(None);
     };
-    match lift_multipliers(alloc, reduction, multipliers.as_slice(), None)? {
+    match lifter.lift(alloc, reduction, multipliers.as_slice())? {
         None => Ok(None),
         Some(multipliers) => {
             bounds.spend(multipliers.len());
@@ -115,7 +128,7 @@ fn leaf_of(
     }
 }
 
-/// Goes up from a node that the tree closes, and to the high side of the nearest split where that waits; the tree of
+/// Goes up from a node that the tree closes, and to the other side of the nearest split where that waits; the tree of
 /// all where none does.
 fn close(
     alloc: Global,
@@ -131,20 +144,20 @@ fn close(
         let Level {
             cut,
             is_low,
-            way,
+            other,
             facts,
         } = level;
         bounds.undo(facts);
-        match way {
-            Way::Low => {
-                enter(bounds, levels, cut, false, Way::Closed(tree))?;
+        match other {
+            Other::Waits => {
+                enter(bounds, levels, cut, !is_low, Other::Closed(tree))?;
                 return Ok(None);
             }
-            Way::Closed(other) => {
+            Other::Closed(closed) => {
                 tree = if is_low {
-                    split(alloc, cut, tree, other)?
+                    split(alloc, cut, tree, closed)?
                 } else {
-                    split(alloc, cut, other, tree)?
+                    split(alloc, cut, closed, tree)?
                 };
             }
         }
@@ -165,6 +178,7 @@ fn split(alloc: Global, cut: Cut, low: Tree, high: Tree) -> Result<Tree, AllocEr
 fn round(
     alloc: Global,
     reduction: Reduction,
+    lifter: &mut Lifter,
     bounds: &mut Bounds,
     levels: &mut Vec<Level>,
     rounding: Rounding,
@@ -177,6 +191,7 @@ fn round(
     let Some(leaf) = leaf_of(
         alloc,
         reduction,
+        lifter,
         bounds,
         branches,
         &rounding.reason,
@@ -198,7 +213,7 @@ fn round(
         levels,
         Cut { unknown, at },
         is_low,
-        Way::Closed(leaf),
+        Other::Closed(leaf),
     )?;
     Ok(true)
 }
@@ -209,13 +224,13 @@ fn enter(
     levels: &mut Vec<Level>,
     cut: Cut,
     is_low: bool,
-    way: Way,
+    other: Other,
 ) -> Result<(), AllocError> {
     let branch = levels.len();
     levels.push(Level {
         cut,
         is_low,
-        way,
+        other,
         facts: bounds.facts().len(),
     })?;
     let origin = Origin::Branch(branch);
@@ -226,11 +241,40 @@ fn enter(
     }
 }
 
-/// Where the range of some unknown is cut, in the middle of the narrowest one; `None` where all are of one number.
-fn pick(bounds: &Bounds, unknowns: u32) -> Option<Cut> {
+/// A split to be made, and which side comes first.
+#[derive(Clone, Copy)]
+struct Choice {
+    cut: Cut,
+    low_first: bool,
+}
+
+/// Where the range of some unknown is cut; `None` where all are of one number.
+///
+/// Unknowns that equations hold come first: an equation that is left has no coefficient 1 or -1, so that whole numbers
+/// may fail to meet it. Of the others, counts of edges alone, 1 comes before 0, since an edge that is used joins what
+/// comes behind it.
+fn choose(bounds: &Bounds, unknowns: u32) -> Option<Choice> {
+    match narrowest_cut(bounds, unknowns, true) {
+        Some((_, cut)) => Some(Choice {
+            cut,
+            low_first: true,
+        }),
+        None => {
+            let (width, cut) = narrowest_cut(bounds, unknowns, false)?;
+            Some(Choice {
+                cut,
+                low_first: width > 1,
+            })
+        }
+    }
+}
+
+/// The middle of the narrowest range that holds more than one number, of the unknowns that equations hold or of the
+/// others, behind how far it reaches above one number.
+fn narrowest_cut(bounds: &Bounds, unknowns: u32, in_equation: bool) -> Option<(u128, Cut)> {
     let mut best: Option<(u128, Cut)> = None;
     for unknown in 0..unknowns {
-        if bounds.is_held(unknown) {
+        if bounds.is_held(unknown) && bounds.is_in_equation(unknown) == in_equation {
             if let Some((width, at)) = middle(bounds.range(unknown)) {
                 if is_narrower(best, width) {
                     best = Some((width, Cut { unknown, at }));
@@ -238,10 +282,7 @@ fn pick(bounds: &Bounds, unknowns: u32) -> Option<Cut> {
             }
         }
     }
-    match best {
-        None => None,
-        Some((_, cut)) => Some(cut),
-    }
+    best
 }
 
 fn is_narrower(best: Option<(u128, Cut)>, width: u128) -> bool {

@@ -109,6 +109,8 @@ pub(crate) struct Bounds {
     facts: Vec<Fact>,
     /// For each unknown the rows that hold it.
     holders: Vec<Vec<usize>>,
+    /// For each unknown whether an equation holds it.
+    in_equation: Vec<bool>,
     queue: Queue,
     most_facts: usize,
     /// How many terms may still be looked at or written down.
@@ -125,6 +127,7 @@ impl Bounds {
             ranges: Vec::new(alloc),
             facts: Vec::new(alloc),
             holders: Vec::new(alloc),
+            in_equation: Vec::new(alloc),
             queue: Queue::new(alloc, rows)?,
             most_facts: rows.len().saturating_mul(8).saturating_add(256),
             work: WORK,
@@ -135,22 +138,34 @@ impl Bounds {
                 upper: None,
             })?;
             bounds.holders.push(Vec::new(alloc))?;
+            bounds.in_equation.push(false)?;
         }
         for (at, row) in rows.iter().enumerate() {
-            bounds.hold(&row.form, at)?;
+            bounds.hold(row, at)?;
             bounds.queue.put(at)?;
         }
         Ok(bounds)
     }
 
-    fn hold(&mut self, form: &Form, row: usize) -> Result<(), AllocError> {
-        for (unknown, _) in form.coefficients.as_slice() {
+    fn hold(&mut self, row: &Row, at: usize) -> Result<(), AllocError> {
+        for (unknown, _) in row.form.coefficients.as_slice() {
             let place = *unknown as usize;
-            if place < self.holders.len() {
-                self.holders[place].push(row)?;
+            if place < self.holders.len() && place < self.in_equation.len() {
+                self.holders[place].push(at)?;
+                if matches!(row.kind, RowKind::Eq) {
+                    self.in_equation[place] = true;
+                }
             }
         }
         Ok(())
+    }
+
+    /// Whether an equation holds the unknown.
+    pub fn is_in_equation(&self, unknown: u32) -> bool {
+        match self.in_equation.get(unknown as usize) {
+            Some(is_in) => *is_in,
+            None => false,
+        }
     }
 
     /// Whether some row holds the unknown.

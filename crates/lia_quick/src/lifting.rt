@@ -118,7 +118,7 @@ pub(crate) fn lift_multipliers(
 }
 
 /// The number of a branch's row behind the rows of the whole system.
-fn branch_place(reduction: Reduction, at: u32) -> Option<u32> {
+pub(crate) fn branch_place(reduction: Reduction, at: u32) -> Option<u32> {
     let branch = (at as usize).checked_sub(reduction.reduced.sums.len())?;
     let place = branch.checked_add(reduction.system.rows.len())?;
     if place <= u32::MAX as usize {

@@ -78,8 +78,9 @@ fn accept(alloc: Global, system: &System, tree: Tree) -> Result<Option<Tree>, Al
 /// Solves or closes a system by the bounds that the rows of its reduced system give one another.
 ///
 /// A bound that isn't a whole number is rounded behind a split whose other side is closed at once; where no row
-/// narrows a range further, the narrowest range is cut in the middle, low side first. `None` behind 2,000 splits,
-/// where a number leaves 128 bits, or where 2^21 terms have been looked at and multipliers written down.
+/// narrows a range further, the narrowest range is cut in the middle, those of unknowns that equations hold first.
+/// `None` behind 4,000 splits, where a number leaves 128 bits, or where 2^21 terms have been looked at and multipliers
+/// written down.
 pub fn solve_by_bounds(
     alloc: Global,
     system: &System,

@@ -43,6 +43,23 @@ impl Weights {
         true
     }
 
+    /// Takes each of these rows so often more, `times` over; false where a number leaves 128 bits.
+    pub fn add_rows(&mut self, rows: &[(u32, i128)], times: i128) -> bool {
+        for (row, factor) in rows {
+            if !self.add_product(*row as usize, times, *factor) {
+                return false;
+            }
+        }
+        true
+    }
+
+    /// Takes nothing.
+    pub fn clear(&mut self) {
+        for number in &mut self.numbers {
+            *number = 0;
+        }
+    }
+
     fn add_product(&mut self, place: usize, times: i128, factor: i128) -> bool {
         if place >= self.numbers.len() {
             return false;
@@ -60,12 +77,24 @@ impl Weights {
     /// The numbers that aren't 0, each behind its place.
     pub fn entries(&self, alloc: Global) -> Result<Items<(u32, i128)>, AllocError> {
         let mut list = Items::new(alloc);
+        list.reserve(self.count())?;
         for (at, number) in self.numbers.iter().enumerate() {
             if *number != 0 && at <= u32::MAX as usize {
                 list.push((at as u32, *number))?;
             }
         }
         Ok(list)
+    }
+
+    /// How many numbers aren't 0.
+    fn count(&self) -> usize {
+        let mut count: usize = 0;
+        for number in &self.numbers {
+            if *number != 0 {
+                count = count.saturating_add(1);
+            }
+        }
+        count
     }
 }
 

@@ -1,0 +1,101 @@
+use crate::lifting::{Reduction, branch_place, lift_multipliers};
+use crate::weights::Weights;
+use std::alloc::{AllocError, Global};
+use sv_list::Items;
+
+/// A row that so many leaves name is unfolded once for all that follow.
+const MANY: u32 = 8;
+
+/// A row of the reduced system, as leaves name it.
+#[derive(Drop)]
+struct Named {
+    leaves: u32,
+    /// How often each row of the whole system is taken for it, once it is unfolded.
+    unfolded: Option<Items<(u32, i128)>>,
+}
+
+/// Takes the leaves of a search in the reduced system to the whole one, with memory that they share.
+#[derive(Drop)]
+pub(crate) struct Lifter {
+    named: Vec<Named>,
+    /// How often each row of the whole system is taken.
+    rows: Weights,
+    /// How often each sum of the elimination is taken.
+    sums: Weights,
+}
+
+impl Lifter {
+    pub fn new(alloc: Global, reduction: Reduction) -> Result<Lifter, AllocError> {
+        let mut named = Vec::new(alloc);
+        for _ in 0..reduction.reduced.sums.len() {
+            named.push(Named {
+                leaves: 0,
+                unfolded: None,
+            })?;
+        }
+        Ok(Lifter {
+            named,
+            rows: Weights::new(alloc, reduction.system.rows.len(), None)?,
+            sums: Weights::new(alloc, reduction.elimination.sums().len(), None)?,
+        })
+    }
+
+    /// The multipliers of a leaf over the rows of the whole system, and then over those of the branches above it, or
+    /// `None` where a number leaves 128 bits.
+    pub fn lift(
+        &mut self,
+        alloc: Global,
+        reduction: Reduction,
+        multipliers: &[(u32, i128)],
+    ) -> Result<Option<Items<(u32, i128)>>, AllocError> {
+        self.rows.clear();
+        self.sums.clear();
+        let mut branches: Items<(u32, i128)> = Items::new(alloc);
+        for (at, times) in multipliers {
+            if (*at as usize) < self.named.len() {
+                if !self.take(alloc, reduction, *at, *times)? {
+                    return Ok(None);
+                }
+            } else {
+                let Some(place) = branch_place(reduction, *at) else {
+                    return Ok(None);
+                };
+                branches.push((place, *times))?;
+            }
+        }
+        if !reduction.elimination.unfold(&mut self.sums, &mut self.rows) {
+            return Ok(None);
+        }
+        let mut list = self.rows.entries(alloc)?;
+        list.append(branches)?;
+        Ok(Some(list))
+    }
+
+    /// Takes a row of the reduced system so often; false where a number leaves 128 bits.
+    fn take(
+        &mut self,
+        alloc: Global,
+        reduction: Reduction,
+        row: u32,
+        times: i128,
+    ) -> Result<bool, AllocError> {
+        let at = row as usize;
+        let Some(sum) = reduction.reduced.sums.get(at) else {
+            return Ok(false);
+        };
+        if at >= self.named.len() {
+            return Ok(false);
+        }
+        let leaves = self.named[at].leaves.saturating_add(1);
+        self.named[at].leaves = leaves;
+        if leaves == MANY {
+            self.named[at].unfolded = lift_multipliers(alloc, reduction, &[(row, 1)], None)?;
+        }
+        match &self.named[at].unfolded {
+            Some(rows) => Ok(self.rows.add_rows(rows.as_slice(), times)),
+            None => Ok(
+                self.rows.add(sum.row, times) && self.sums.add_each(sum.steps.as_slice(), times),
+            ),
+        }
+    }
+}
