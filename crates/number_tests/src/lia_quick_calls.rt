@@ -11,7 +11,7 @@ use std::test::Fail;
 use sv_linear::RowKind;
 use sv_list::Items;
 
-#[derive(Clone, Copy, Debug, PartialEq, Eq)]
+#[derive(Clone, Copy, PartialEq, Eq)]
 enum Answer {
     Point,
     Closed,
@@ -60,9 +60,9 @@ fn bounded(alloc: Global, constant: i128) -> Result<Answer, Fail> {
 #[test]
 fn coins_of_6_and_10(rt: HostRuntime) -> Result<(), Fail> {
     let alloc = rt.alloc();
-    assert_eq!(rt; is_divided(alloc, -27)?, true);
-    assert_eq!(rt; is_divided(alloc, -14)?, false);
-    assert_eq!(rt; bounded(alloc, -28)?, Answer::Point);
-    assert_eq!(rt; bounded(alloc, -14)?, Answer::Closed);
+    assert!(rt; is_divided(alloc, -27)?);
+    assert!(rt; !is_divided(alloc, -14)?);
+    assert!(rt; bounded(alloc, -28)? == Answer::Point);
+    assert!(rt; bounded(alloc, -14)? == Answer::Closed);
     Ok(())
 }
