@@ -109,11 +109,11 @@ fn found(alloc: Global, sum: i128) -> Result<Option<(usize, i128)>, AllocError>
 #[test]
 fn lengths_that_add_up(rt: HostRuntime) -> Result<(), AllocError> {
     let alloc = rt.alloc();
-    assert_eq!(rt; found(alloc, 41)?, None);
-    assert_eq!(rt; found(alloc, 40)?, Some((40, 0)));
-    assert_eq!(rt; found(alloc, 32)?, Some((32, 0)));
-    assert_eq!(rt; found(alloc, 0)?, Some((0, 0)));
-    assert_eq!(rt; found(alloc, 100)?, None);
+    assert!(rt; found(alloc, 41)?.is_none());
+    assert!(rt; found(alloc, 40)? == Some((40, 0)));
+    assert!(rt; found(alloc, 32)? == Some((32, 0)));
+    assert!(rt; found(alloc, 0)? == Some((0, 0)));
+    assert!(rt; found(alloc, 100)?.is_none());
     Ok(())
 }
 
@@ -178,7 +178,7 @@ fn letter_and_number(alloc: Global) -> Result<Question, AllocError>
 #[test]
 fn a_letter_and_a_number_below_0(rt: HostRuntime) -> Result<(), AllocError> {
     let found = hit(rt.alloc(), &letter_and_number(rt.alloc())?)?;
-    assert_eq!(rt; found.map(|hit| sizes(&hit)), Some((1, -5)));
+    assert!(rt; found.map(|hit| sizes(&hit)) == Some((1, -5)));
     Ok(())
 }
 
@@ -228,10 +228,10 @@ fn is_reached(alloc: Global, total: u64) -> Result<bool, AllocError> {
 fn totals_of_pieces_of_3_and_5(rt: HostRuntime) -> Result<(), AllocError> {
     let alloc = rt.alloc();
     for total in [1, 2, 4, 7] {
-        assert_eq!(rt; is_reached(alloc, total)?, false);
+        assert!(rt; !is_reached(alloc, total)?);
     }
     for total in [0, 3, 5, 6, 8, 63, 64, 65, 127, 128, 1000] {
-        assert_eq!(rt; is_reached(alloc, total)?, true);
+        assert!(rt; is_reached(alloc, total)?);
     }
     Ok(())
 }

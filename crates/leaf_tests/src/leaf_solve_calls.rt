@@ -149,22 +149,16 @@ fn answered_at(alloc: Global, machine: Explicit, length: u32) -> Result<Ending, 
 #[test]
 fn a_word_of_a_given_length(rt: HostRuntime) -> Result<(), AllocError> {
     let alloc = rt.alloc();
-    assert_eq!(rt; answered_at(alloc, sample(alloc)?, 5)?, Ending::Sat(5));
-    assert_eq!(rt; answered_at(alloc, sample(alloc)?, 4)?, Ending::Tree);
+    assert!(rt; answered_at(alloc, sample(alloc)?, 5)? == Ending::Sat(5));
+    assert!(rt; answered_at(alloc, sample(alloc)?, 4)? == Ending::Tree);
     Ok(())
 }
 
 #[test]
 fn words_at_the_reach(rt: HostRuntime) -> Result<(), AllocError> {
     let alloc = rt.alloc();
-    assert_eq!(rt;
-        answered_at(alloc, all_words(alloc)?, 4_194_303)?,
-        Ending::Sat(4_194_303)
-    );
-    assert_eq!(rt;
-        answered_at(alloc, all_words(alloc)?, 4_194_304)?,
-        Ending::Values
-    );
+    assert!(rt; answered_at(alloc, all_words(alloc)?, 4_194_303)? == Ending::Sat(4_194_303));
+    assert!(rt; answered_at(alloc, all_words(alloc)?, 4_194_304)? == Ending::Values);
     Ok(())
 }
 
@@ -172,9 +166,9 @@ fn words_at_the_reach(rt: HostRuntime) -> Result<(), AllocError> {
 fn shortest_words(rt: HostRuntime) -> Result<(), AllocError> {
     let alloc = rt.alloc();
     let none = Explicit::new(alloc, 1, 1)?;
-    assert_eq!(rt; answered(alloc, none, &[], REACH)?, Ending::Empty(0));
-    assert_eq!(rt; answered(alloc, sample(alloc)?, &[], 1)?, Ending::Sat(1));
-    assert_eq!(rt; answered(alloc, sample(alloc)?, &[], 0)?, Ending::Words);
+    assert!(rt; answered(alloc, none, &[], REACH)? == Ending::Empty(0));
+    assert!(rt; answered(alloc, sample(alloc)?, &[], 1)? == Ending::Sat(1));
+    assert!(rt; answered(alloc, sample(alloc)?, &[], 0)? == Ending::Words);
     Ok(())
 }
 
@@ -218,6 +212,6 @@ fn answered_of_numbers(alloc: Global, small: bool) -> Result<Ending, AllocError>
 #[test]
 fn bounds_close_what_no_tableau_holds(rt: HostRuntime) -> Result<(), AllocError> {
     let alloc = rt.alloc();
-    assert_eq!(rt; answered_of_numbers(alloc, true)?, Ending::Tree);
+    assert!(rt; answered_of_numbers(alloc, true)? == Ending::Tree);
     Ok(())
 }

@@ -100,6 +100,6 @@ fn a_cutter_finds_the_cycle(rt: HostRuntime) -> Result<(), AllocError> {
 #[test]
 fn a_run_has_the_counts_that_it_is_made_of(rt: HostRuntime) -> Result<(), FlowFault> {
     let counts = counted(rt.alloc())?;
-    assert_eq!(rt; counts.as_slice(), [0, 1, 1, 2, 2, 2, 0, 1].as_slice());
+    assert!(rt; counts.as_slice() == [0, 1, 1, 2, 2, 2, 0, 1].as_slice());
     Ok(())
 }

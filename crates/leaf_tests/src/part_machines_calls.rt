@@ -92,45 +92,60 @@ fn digests_of(alloc: Global, expressions: &[Regex]) -> Result<Vec<u64>, AllocErr
     Ok(digests)
 }
 
+fn keep_for(alloc: Global, expressions: &[Regex]) -> Result<Machines, AllocError> {
+    let digests = digests_of(alloc, expressions)?;
+    Machines::new(alloc, digests)
+}
+
+// Makes the machine of a word that is, or isn't, in the expression.
+fn ask(alloc: Global, kept: &Machines, expression: Regex, holds: bool) -> Result<(), BuildFault> {
+    let part = (Own::InRe(expression), holds);
+    part_machine(alloc, &part, kept)?;
+    Ok(())
+}
+
 #[test]
 fn machines_are_kept_where_they_have_a_place(rt: HostRuntime) -> Result<(), BuildFault> {
-    let alloc = rt.alloc();
-    let kept = Machines::new(alloc, digests_of(alloc, &[Regex::All, Regex::All])?)?;
-    let part = (Own::InRe(Regex::All), true);
-    part_machine(alloc, &part, &kept)?;
-    assert!(rt; is_kept(alloc, &kept, &Regex::All)?);
-    assert!(rt; !is_kept(alloc, &kept, &Regex::AnyChar)?);
+    let kept = keep_for(rt.alloc(), &[Regex::All, Regex::All])?;
+    ask(rt.alloc(), &kept, Regex::All, true)?;
+    assert!(rt; is_kept(rt.alloc(), &kept, &Regex::All)?);
+    assert!(rt; !is_kept(rt.alloc(), &kept, &Regex::AnyChar)?);
     Ok(())
 }
 
 // An expression is kept though others were before it: its place is its own.
 #[test]
 fn each_expression_has_one_place(rt: HostRuntime) -> Result<(), BuildFault> {
-    let alloc = rt.alloc();
     let expressions = [Regex::All, Regex::AnyChar, Regex::All, Regex::Empty];
-    let kept = Machines::new(alloc, digests_of(alloc, &expressions)?)?;
-    assert!(rt; is_kept(alloc, &kept, &Regex::All)?);
-    assert!(rt; is_kept(alloc, &kept, &Regex::AnyChar)?);
-    assert!(rt; is_kept(alloc, &kept, &Regex::Empty)?);
+    let kept = keep_for(rt.alloc(), &expressions)?;
+    assert!(rt; is_kept(rt.alloc(), &kept, &Regex::All)?);
+    assert!(rt; is_kept(rt.alloc(), &kept, &Regex::AnyChar)?);
+    assert!(rt; is_kept(rt.alloc(), &kept, &Regex::Empty)?);
     Ok(())
 }
 
-fn others_alone(alloc: Global, expression: &Regex) -> Result<Vec<u64>, AllocError> {
+fn keep_for_others(alloc: Global, expression: &Regex) -> Result<Machines, AllocError> {
     let mut digests = Vec::new(alloc);
     digests.push(digest_of_others(expression))?;
-    Ok(digests)
+    Machines::new(alloc, digests)
+}
+
+fn is_complement_kept(
+    alloc: Global,
+    kept: &Machines,
+    expression: Regex,
+) -> Result<bool, BuildFault> {
+    let others = Regex::Comp(Boxed::new(alloc, expression)?);
+    is_kept(alloc, kept, &others)
 }
 
 // The complement of an expression is kept as one, though the expression isn't asked for.
 #[test]
 fn complements_are_kept(rt: HostRuntime) -> Result<(), BuildFault> {
-    let alloc = rt.alloc();
-    let kept = Machines::new(alloc, others_alone(alloc, &Regex::AnyChar)?)?;
-    let part = (Own::InRe(Regex::AnyChar), false);
-    part_machine(alloc, &part, &kept)?;
-    let others = Regex::Comp(Boxed::new(alloc, Regex::AnyChar)?);
-    assert!(rt; is_kept(alloc, &kept, &others)?);
-    assert!(rt; !is_kept(alloc, &kept, &Regex::AnyChar)?);
+    let kept = keep_for_others(rt.alloc(), &Regex::AnyChar)?;
+    ask(rt.alloc(), &kept, Regex::AnyChar, false)?;
+    assert!(rt; is_complement_kept(rt.alloc(), &kept, Regex::AnyChar)?);
+    assert!(rt; !is_kept(rt.alloc(), &kept, &Regex::AnyChar)?);
     Ok(())
 }
 
@@ -140,24 +155,41 @@ fn a_or_b(alloc: Global) -> Result<Regex, AllocError> {
     Ok(Regex::Union(letters))
 }
 
+fn any_a_or_b(alloc: Global) -> Result<Regex, AllocError> {
+    Ok(Regex::Star(Boxed::new(alloc, a_or_b(alloc)?)?))
+}
+
+fn twenty(alloc: Global) -> Result<Regex, AllocError> {
+    Ok(Regex::Loop(Boxed::new(alloc, a_or_b(alloc)?)?, 20, 20))
+}
+
 // The words over "a" and "b" in which the last letter but 20 is "a": a complete machine of sets has 2^21 states.
 fn a_before_twenty(alloc: Global) -> Result<Regex, AllocError> {
     let mut parts = Items::new(alloc);
-    parts.push(Regex::Star(Boxed::new(alloc, a_or_b(alloc)?)?))?;
+    parts.push(any_a_or_b(alloc)?)?;
     parts.push(Regex::Text(letter(alloc)?))?;
-    parts.push(Regex::Loop(Boxed::new(alloc, a_or_b(alloc)?)?, 20, 20))?;
+    parts.push(twenty(alloc)?)?;
     Ok(Regex::Concat(parts))
+}
+
+// The word "a", which may not be one of these.
+fn parts_of_letter(alloc: Global) -> Result<Items<(Own, bool)>, AllocError> {
+    let mut parts = Items::new(alloc);
+    parts.push((Own::InRe(a_before_twenty(alloc)?), false))?;
+    parts.push((Own::Word(letter(alloc)?), true))?;
+    Ok(parts)
+}
+
+fn machine_of_letter(alloc: Global) -> Result<Explicit, BuildFault> {
+    let parts = parts_of_letter(alloc)?;
+    let kept = Machines::new(alloc, Vec::new(alloc))?;
+    own_machine(alloc, parts.as_slice(), &Cost::new(alloc), &kept)
 }
 
 // A word that may not be in an expression takes the sets that it leads to alone.
 #[test]
 fn others_are_met_as_far_as_a_word_leads(rt: HostRuntime) -> Result<(), BuildFault> {
-    let alloc = rt.alloc();
-    let kept = Machines::new(alloc, Vec::new(alloc))?;
-    let mut parts = Items::new(alloc);
-    parts.push((Own::InRe(a_before_twenty(alloc)?), false))?;
-    parts.push((Own::Word(letter(alloc)?), true))?;
-    let machine = own_machine(alloc, parts.as_slice(), &Cost::new(alloc), &kept)?;
+    let machine = machine_of_letter(rt.alloc())?;
     assert!(rt; reads(&machine, "a"));
     assert!(rt; machine.states() <= 3);
     Ok(())

@@ -18,18 +18,23 @@ fn word(alloc: Global, text: &str) -> Result<Word, AllocError> {
     Ok(word)
 }
 
-// One state, and one edge that writes each character from `lo` to `hi` moved by a number.
-fn moving(alloc: Global, lo: u32, hi: u32, by: i32) -> Result<Transducer, AllocError> {
-    let mut items = Items::new(alloc);
-    items.push(Item::Shift(by))?;
-    let mut edges = Items::new(alloc);
-    edges.push(TransEdge {
+// Reads the characters from `lo` to `hi`, and stays in the one state.
+fn edge(lo: u32, hi: u32, items: Items<Item>) -> TransEdge {
+    TransEdge {
         from: 0,
         lo,
         hi,
         items,
         to: 0,
-    })?;
+    }
+}
+
+// One state, and one edge that writes each character from `lo` to `hi` moved by a number.
+fn moving(alloc: Global, lo: u32, hi: u32, by: i32) -> Result<Transducer, AllocError> {
+    let mut items = Items::new(alloc);
+    items.push(Item::Shift(by))?;
+    let mut edges = Items::new(alloc);
+    edges.push(edge(lo, hi, items))?;
     let mut ends = Items::new(alloc);
     ends.push((0, Word::new(alloc)))?;
     Ok(Transducer {
@@ -40,9 +45,24 @@ fn moving(alloc: Global, lo: u32, hi: u32, by: i32) -> Result<Transducer, AllocE
     })
 }
 
+// How many steps lead from the one word to the other, if any.
+fn steps(
+    alloc: Global,
+    made: Result<Transducer, AllocError>,
+    read: &str,
+    written: &str,
+) -> Result<Option<usize>, AllocError> {
+    let machine = made?;
+    let read = word(alloc, read)?;
+    let written = word(alloc, written)?;
+    match run_pair(alloc, &machine, &read, &written)? {
+        Some(places) => Ok(Some(places.len())),
+        None => Ok(None),
+    }
+}
+
 #[test]
 fn characters_are_moved(rt: HostRuntime) -> Result<(), AllocError> {
-    let alloc = rt.alloc();
     for (lo, hi, by, read, written, count) in [
         (97, 121, 1, "abc", "bcd", Some(3)),
         (97, 121, 1, "abz", "bc{", None),
@@ -51,9 +71,28 @@ fn characters_are_moved(rt: HostRuntime) -> Result<(), AllocError> {
         (97, 97, -97, "a", "\0", Some(1)),
         (97, 122, 196_607, "a", "", None),
     ] {
-        let machine = moving(alloc, lo, hi, by)?;
-        let run = run_pair(alloc, &machine, &word(alloc, read)?, &word(alloc, written)?)?;
-        assert_eq!(rt; run.map(|places| places.len()), count, "{read}");
+        let made = moving(rt.alloc(), lo, hi, by);
+        assert!(rt; steps(rt.alloc(), made, read, written)? == count, "{read}");
+    }
+    Ok(())
+}
+
+// Adds where the machine stands after one character more, from one state.
+fn follow(
+    alloc: Global,
+    machine: &Explicit,
+    state: u32,
+    c: u32,
+    next: &mut Items<u32>,
+) -> Result<(), AllocError> {
+    if state >= machine.states() {
+        return Ok(());
+    }
+    let moves = machine.moves(alloc, &state)?;
+    for step in moves.as_slice() {
+        if step.on.holds(c) {
+            next.push(step.to)?;
+        }
     }
     Ok(())
 }
@@ -62,26 +101,25 @@ fn characters_are_moved(rt: HostRuntime) -> Result<(), AllocError> {
 fn after(alloc: Global, machine: &Explicit, at: &[u32], c: u32) -> Result<Items<u32>, AllocError> {
     let mut next = Items::new(alloc);
     for state in at {
-        if *state < machine.states() {
-            let moves = machine.moves(alloc, state)?;
-            for step in moves.as_slice() {
-                if step.on.holds(c) {
-                    next.push(step.to)?;
-                }
-            }
-        }
+        follow(alloc, machine, *state, c, &mut next)?;
     }
     Ok(next)
+}
+
+// Whether a word may end in this state.
+fn is_end(alloc: Global, machine: &Explicit, state: u32) -> Result<bool, AllocError> {
+    if state >= machine.states() {
+        return Ok(false);
+    }
+    let costs = machine.ends(alloc, &state)?;
+    Ok(costs.len() > 0)
 }
 
 // Whether a word may end in one of these states.
 fn ends(alloc: Global, machine: &Explicit, at: &[u32]) -> Result<bool, AllocError> {
     for state in at {
-        if *state < machine.states() {
-            let costs = machine.ends(alloc, state)?;
-            if costs.len() > 0 {
-                return Ok(true);
-            }
+        if is_end(alloc, machine, *state)? {
+            return Ok(true);
         }
     }
     Ok(false)
@@ -93,7 +131,7 @@ fn reads(alloc: Global, machine: &Explicit, text: &str) -> Result<bool, AllocErr
     for byte in text.as_bytes() {
         at = after(alloc, machine, at.as_slice(), u32::from(*byte))?;
     }
-    Ok(ends(alloc, machine, at.as_slice())?)
+    ends(alloc, machine, at.as_slice())
 }
 
 // What stands in a word is characters.
@@ -146,37 +184,49 @@ fn is_formed(transducer: &Transducer) -> bool
     are_formed_ends(transducer.states, transducer.ends.as_slice())
 }
 
-// Whether the transducer may write the one word for the other, by the machine of what it may write.
+// Whether the transducer that was made may write the one word for the other, by the machine of what it may write.
 fn writes(
     alloc: Global,
-    transducer: &Transducer,
+    made: Result<Transducer, AllocError>,
     read: &str,
     text: &str,
 ) -> Result<bool, AllocError> {
-    if !is_formed(transducer) {
+    let transducer = made?;
+    if !is_formed(&transducer) {
         return Ok(false);
     }
-    let machine = outputs(alloc, transducer, &word(alloc, read)?)?;
-    Ok(reads(alloc, &machine, text)?)
+    let read = word(alloc, read)?;
+    let machine = outputs(alloc, &transducer, &read)?;
+    reads(alloc, &machine, text)
 }
 
-// On "a" nothing, "b" or "cc" is written, and at the end "" or "!".
-fn choosing(alloc: Global) -> Result<Transducer, AllocError> {
+// On "a" this text is written.
+fn writing(alloc: Global, text: &str) -> Result<TransEdge, AllocError> {
+    let mut items = Items::new(alloc);
+    items.push(Item::Text(word(alloc, text)?))?;
+    Ok(edge(97, 97, items))
+}
+
+// On "a" nothing, "b" or "cc" is written.
+fn edges_choosing(alloc: Global) -> Result<Items<TransEdge>, AllocError> {
     let mut edges = Items::new(alloc);
     for text in ["", "b", "cc"] {
-        let mut items = Items::new(alloc);
-        items.push(Item::Text(word(alloc, text)?))?;
-        edges.push(TransEdge {
-            from: 0,
-            lo: 97,
-            hi: 97,
-            items,
-            to: 0,
-        })?;
+        edges.push(writing(alloc, text)?)?;
     }
+    Ok(edges)
+}
+
+// At the end "" or "!" is written.
+fn ends_choosing(alloc: Global) -> Result<Items<(u32, Word)>, AllocError> {
     let mut ends = Items::new(alloc);
     ends.push((0, Word::new(alloc)))?;
     ends.push((0, word(alloc, "!")?))?;
+    Ok(ends)
+}
+
+fn choosing(alloc: Global) -> Result<Transducer, AllocError> {
+    let edges = edges_choosing(alloc)?;
+    let ends = ends_choosing(alloc)?;
     Ok(Transducer {
         states: 1,
         start: 0,
@@ -187,8 +237,6 @@ fn choosing(alloc: Global) -> Result<Transducer, AllocError> {
 
 #[test]
 fn outputs_are_what_may_be_written(rt: HostRuntime) -> Result<(), AllocError> {
-    let alloc = rt.alloc();
-    let transducer = choosing(alloc)?;
     for (read, text, written) in [
         ("", "", true),
         ("", "!", true),
@@ -202,7 +250,8 @@ fn outputs_are_what_may_be_written(rt: HostRuntime) -> Result<(), AllocError> {
         ("aa", "!b", false),
         ("ab", "b", false),
     ] {
-        assert_eq!(rt; writes(alloc, &transducer, read, text)?, written, "{text}");
+        let is = writes(rt.alloc(), choosing(rt.alloc()), read, text)?;
+        assert!(rt; is == written, "{text}");
     }
     Ok(())
 }

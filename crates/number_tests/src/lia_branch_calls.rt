@@ -6,7 +6,7 @@ ghost use Rattle.lia_branch.specs.Nodes.{IsRowOf};
 ghost use Rattle.sv_linear.specs.Rows.{IsRowWithin};
 ghost use Rattle.sv_linear.specs.declared.row.Row.{Row as AnyRow};
 
-use crate::systems::{row_of, system_over};
+use crate::systems::{add_term, row_of, system_over};
 use farkas_check::{Cutter, Net, NetEdge, System, Tree, closes};
 use lia_branch::{Evidence, NoCut, Outcome, solve};
 use std::alloc::{AllocError, Global};
@@ -28,7 +28,7 @@ const LARGER: i128 = (1 << 101) + 1;
 type Entries = (RowKind, [i128; 3], i128);
 
 /// What a search ended in.
-#[derive(Clone, Copy, Debug, PartialEq, Eq)]
+#[derive(Clone, Copy, PartialEq, Eq)]
 enum Ending {
     Solution,
     Farkas,
@@ -41,21 +41,56 @@ enum Ending {
     PastSum,
 }
 
+fn rows_of(alloc: Global, table: &[Entries]) -> Result<Items<Row>, Fail> {
+    let mut rows = Items::new(alloc);
+    for entries in table {
+        let (kind, [first, second, third], constant) = *entries;
+        let terms = [(0, first), (1, second), (2, third)];
+        rows.push(row_of(alloc, kind, &terms, constant)?)?;
+    }
+    Ok(rows)
+}
+
 fn system_of(alloc: Global, table: &[Entries]) -> Result<System, Fail>
     ensures nets { IfOk result (λ s. s.nets ≡ []) }
     ensures rows { IfOk result (λ s. (i : ℕ) (r : AnyRow) → slice_get s.rows i ≡ Some r → IsRowWithin s.unknowns r) }
 {
-    let mut rows = Items::new(alloc);
-    for entries in table {
-        let (kind, [first, second, third], constant) = *entries;
-        rows.push(row_of(
-            alloc,
-            kind,
-            &[(0, first), (1, second), (2, third)],
-            constant,
-        )?)?;
-    }
+    let rows = rows_of(alloc, table)?;
     system_over(alloc, 3, rows)
+}
+
+fn push_row(
+    alloc: Global,
+    rows: &mut Items<Row>,
+    kind: RowKind,
+    terms: &[(u32, i128)],
+    constant: i128,
+) -> Result<(), Fail> {
+    let row = row_of(alloc, kind, terms, constant)?;
+    rows.push(row)?;
+    Ok(())
+}
+
+/// The rows of an edge, which is used as often as the next one.
+fn push_edge(alloc: Global, rows: &mut Items<Row>, edge: u32) -> Result<(), Fail> {
+    push_row(
+        alloc,
+        rows,
+        RowKind::Eq,
+        &[(edge, 1), (edge.saturating_add(1), -1)],
+        0,
+    )?;
+    push_row(alloc, rows, RowKind::Le, &[(edge, -1)], 0)
+}
+
+/// The rows of a chain's length, of its end and of its start.
+fn outer_rows(alloc: Global, end: u32, odd: i128) -> Result<Items<Row>, Fail> {
+    let mut rows = Items::new(alloc);
+    push_row(alloc, &mut rows, RowKind::Eq, &[(0, 2), (1, -1)], odd)?;
+    push_row(alloc, &mut rows, RowKind::Eq, &[(end, 1)], -1)?;
+    push_row(alloc, &mut rows, RowKind::Eq, &[(2, -1)], 1)?;
+    rows.push(length_row(alloc, end)?)?;
+    Ok(rows)
 }
 
 /// A word of so many characters, whose length is twice n, and `odd`: unknown 0 is n, 1 the length, and then come
@@ -65,23 +100,18 @@ fn chain(alloc: Global, length: u32, odd: i128) -> Result<System, Fail>
     ensures rows { IfOk result (λ s. (i : ℕ) (r : AnyRow) → slice_get s.rows i ≡ Some r → IsRowWithin s.unknowns r) }
 {
     let end = length.saturating_add(2);
-    let mut rows = Items::new(alloc);
-    rows.push(row_of(alloc, RowKind::Eq, &[(0, 2), (1, -1)], odd)?)?;
-    rows.push(length_row(alloc, end)?)?;
-    rows.push(row_of(alloc, RowKind::Eq, &[(end, 1)], -1)?)?;
-    rows.push(row_of(alloc, RowKind::Eq, &[(2, -1)], 1)?)?;
+    let mut rows = outer_rows(alloc, end, odd)?;
     for edge in 2..end {
-        rows.push(row_of(alloc, RowKind::Eq, &[(edge, 1), (edge + 1, -1)], 0)?)?;
-        rows.push(row_of(alloc, RowKind::Le, &[(edge, -1)], 0)?)?;
+        push_edge(alloc, &mut rows, edge)?;
     }
     system_over(alloc, end.saturating_add(1), rows)
 }
 
 /// The length is what the edges before the end count.
 fn length_row(alloc: Global, end: u32) -> Result<Row, Fail> {
-    let mut form = Form::of_unknown(alloc, 1)?.scale(alloc, -1)?;
+    let mut form = add_term(alloc, &Form::of_constant(alloc, 0), 1, -1)?;
     for edge in 2..end {
-        form = form.add(alloc, &Form::of_unknown(alloc, edge)?)?;
+        form = add_term(alloc, &form, edge, 1)?;
     }
     Ok(Row {
         form,
@@ -91,24 +121,29 @@ fn length_row(alloc: Global, end: u32) -> Result<Row, Fail> {
 
 /// How the search of a system without nets ends; a tree that closes it is shown to the checker.
 fn end_of(alloc: Global, table: &[Entries]) -> Result<Ending, Fail> {
-    end_of_system(alloc, &system_of(alloc, table)?)
+    let system = system_of(alloc, table)?;
+    let outcome = solve(alloc, &system, &NoCut)?;
+    ending_of(alloc, &system, &outcome)
 }
 
-fn end_of_system(alloc: Global, system: &System) -> Result<Ending, Fail>
-    requires nets { system.now.nets ≡ [] }
-    requires rows { (i : ℕ) (r : AnyRow) → slice_get system.now.rows i ≡ Some r → IsRowWithin system.now.unknowns r }
-{
-    match solve(alloc, system, &NoCut)? {
+fn end_of_chain(alloc: Global, length: u32, odd: i128) -> Result<Ending, Fail> {
+    let system = chain(alloc, length, odd)?;
+    let outcome = solve(alloc, &system, &NoCut)?;
+    ending_of(alloc, &system, &outcome)
+}
+
+fn ending_of(alloc: Global, system: &System, outcome: &Outcome) -> Result<Ending, Fail> {
+    match outcome {
         Outcome::Solution(_) => Ok(Ending::Solution),
         Outcome::Closed(tree) => {
-            if closes(system, &tree) {
-                Ok(kind_of(&tree))
+            if closes(system, tree) {
+                Ok(kind_of(tree))
             } else {
                 Err(Fail::new("the checker refuses the tree"))
             }
         }
         Outcome::GaveUp(Evidence::Branches(tree)) => {
-            Ok(Ending::Branches(count_splits(alloc, &tree)?))
+            Ok(Ending::Branches(count_splits(alloc, tree)?))
         }
         Outcome::GaveUp(Evidence::PastRow { .. }) => Ok(Ending::PastRow),
         Outcome::GaveUp(Evidence::PastSum(_, _)) => Ok(Ending::PastSum),
@@ -145,22 +180,21 @@ fn count_splits(alloc: Global, tree: &Tree) -> Result<u32, Fail> {
 /// Rows over n and m.
 #[test]
 fn endings(rt: HostRuntime) -> Result<(), Fail> {
-    let alloc = rt.alloc();
     let odd = [(RowKind::Eq, [2, -2, 0], -1)];
-    assert_eq!(rt; end_of(alloc, odd.as_slice())?, Ending::Divisor);
+    assert!(rt; end_of(rt.alloc(), &odd)? == Ending::Divisor);
     let between = [(RowKind::Le, [3, -2, 0], 1), (RowKind::Le, [-3, 2, 0], 0)];
-    assert_eq!(rt; end_of(alloc, between.as_slice())?, Ending::Farkas);
+    assert!(rt; end_of(rt.alloc(), &between)? == Ending::Farkas);
     let past = [
         (RowKind::Eq, [0, 1, 0], LEAST),
         (RowKind::Eq, [1, -1, 0], -1),
     ];
-    assert_eq!(rt; end_of(alloc, past.as_slice())?, Ending::PastRow);
+    assert!(rt; end_of(rt.alloc(), &past)? == Ending::PastRow);
     let met = [
         (RowKind::Eq, [3, 5, 0], -7),
         (RowKind::Le, [-1, 0, 0], 1),
         (RowKind::Le, [0, 1, 0], 0),
     ];
-    assert_eq!(rt; end_of(alloc, met.as_slice())?, Ending::Solution);
+    assert!(rt; end_of(rt.alloc(), &met)? == Ending::Solution);
     Ok(())
 }
 
@@ -173,7 +207,7 @@ fn a_sum_past_its_bounds(rt: HostRuntime) -> Result<(), Fail> {
         (RowKind::Eq, [2, LARGE, 0], 1),
         (RowKind::Eq, [2, LARGER, 0], 2),
     ];
-    assert_eq!(rt; end_of(alloc, table.as_slice())?, Ending::PastSum);
+    assert!(rt; end_of(alloc, table.as_slice())? == Ending::PastSum);
     Ok(())
 }
 
@@ -189,7 +223,7 @@ fn closed_by_splits(rt: HostRuntime) -> Result<(), Fail> {
         (RowKind::Le, [-2, 2, 0], 1),
         (RowKind::Le, [2, -2, 0], -1),
     ];
-    assert_eq!(rt; end_of(alloc, table.as_slice())?, Ending::Splits);
+    assert!(rt; end_of(alloc, table.as_slice())? == Ending::Splits);
     Ok(())
 }
 
@@ -204,7 +238,7 @@ fn coins(rt: HostRuntime) -> Result<(), Fail> {
             (RowKind::Le, [0, -1, 0], 0),
             (RowKind::Le, [0, 0, -1], 0),
         ];
-        assert_eq!(rt; end_of(alloc, table.as_slice())?, ending);
+        assert!(rt; end_of(alloc, table.as_slice())? == ending);
     }
     Ok(())
 }
@@ -214,7 +248,7 @@ fn coins(rt: HostRuntime) -> Result<(), Fail> {
 fn an_endless_strip(rt: HostRuntime) -> Result<(), Fail> {
     let alloc = rt.alloc();
     let table = [(RowKind::Le, [-2, -2, 0], 1), (RowKind::Le, [2, 2, 0], -1)];
-    assert_eq!(rt; end_of(alloc, table.as_slice())?, Ending::Branches(2_000));
+    assert!(rt; end_of(alloc, table.as_slice())? == Ending::Branches(2_000));
     Ok(())
 }
 
@@ -227,7 +261,7 @@ fn closed_by_elimination(rt: HostRuntime) -> Result<(), Fail> {
         (RowKind::Eq, [0, 1, -2], 0),
         (RowKind::Le, [0, 0, -1], 0),
     ];
-    assert_eq!(rt; end_of(alloc, table.as_slice())?, Ending::Divisor);
+    assert!(rt; end_of(alloc, table.as_slice())? == Ending::Divisor);
     Ok(())
 }
 
@@ -236,14 +270,8 @@ fn closed_by_elimination(rt: HostRuntime) -> Result<(), Fail> {
 fn chains_of_edges(rt: HostRuntime) -> Result<(), Fail> {
     let alloc = rt.alloc();
     for length in [2, 100, 1_000] {
-        assert_eq!(rt;
-            end_of_system(alloc, &chain(alloc, length, 0)?)?,
-            Ending::Solution
-        );
-        assert_eq!(rt;
-            end_of_system(alloc, &chain(alloc, length, 1)?)?,
-            Ending::Divisor
-        );
+        assert!(rt; end_of_chain(alloc, length, 0)? == Ending::Solution);
+        assert!(rt; end_of_chain(alloc, length, 1)? == Ending::Divisor);
     }
     Ok(())
 }
@@ -332,6 +360,6 @@ fn end_of_used_loop(alloc: Global) -> Result<Ending, Fail> {
 /// A used loop that lies apart from the start.
 #[test]
 fn closed_by_a_set_split(rt: HostRuntime) -> Result<(), Fail> {
-    assert_eq!(rt; end_of_used_loop(rt.alloc())?, Ending::SetSplits);
+    assert!(rt; end_of_used_loop(rt.alloc())? == Ending::SetSplits);
     Ok(())
 }

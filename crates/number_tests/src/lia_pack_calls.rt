@@ -28,6 +28,6 @@ fn read_back(alloc: Global) -> Result<(usize, i128), Fail> {
 
 #[test]
 fn a_tableau_is_read_back(rt: HostRuntime) -> Result<(), Fail> {
-    assert_eq!(rt; read_back(rt.alloc())?, (2, 1 << 100));
+    assert!(rt; read_back(rt.alloc())? == (2, 1 << 100));
     Ok(())
 }

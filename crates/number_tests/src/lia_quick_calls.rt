@@ -12,7 +12,7 @@ use std::test::Fail;
 use sv_linear::RowKind;
 use sv_list::Items;
 
-#[derive(Clone, Copy, Debug, PartialEq, Eq)]
+#[derive(Clone, Copy, PartialEq, Eq)]
 enum Answer {
     Point,
     Closed,
@@ -72,17 +72,17 @@ fn bounded(
 #[test]
 fn coins_of_6_and_10(rt: HostRuntime) -> Result<(), Fail> {
     let alloc = rt.alloc();
-    assert_eq!(rt; is_divided(alloc, -27)?, true);
-    assert_eq!(rt; is_divided(alloc, -14)?, false);
-    assert_eq!(rt; bounded(alloc, 2, &TWO, -28)?, Answer::Point);
-    assert_eq!(rt; bounded(alloc, 2, &TWO, -14)?, Answer::Closed);
+    assert!(rt; is_divided(alloc, -27)?);
+    assert!(rt; !is_divided(alloc, -14)?);
+    assert!(rt; bounded(alloc, 2, &TWO, -28)? == Answer::Point);
+    assert!(rt; bounded(alloc, 2, &TWO, -14)? == Answer::Closed);
     Ok(())
 }
 
 #[test]
 fn coins_of_six_kinds(rt: HostRuntime) -> Result<(), Fail> {
     let alloc = rt.alloc();
-    assert_eq!(rt; bounded(alloc, 6, &SIX, -769)?, Answer::Closed);
-    assert_eq!(rt; bounded(alloc, 6, &SIX, -770)?, Answer::Point);
+    assert!(rt; bounded(alloc, 6, &SIX, -769)? == Answer::Closed);
+    assert!(rt; bounded(alloc, 6, &SIX, -770)? == Answer::Point);
     Ok(())
 }

@@ -4,7 +4,6 @@ ghost use Rattle.sv_linear.specs.Rows.{HasSymmetricEntries, IsRowWithin};
 
 use lia_tableau::{Status, Tableau, TableauFault, settle};
 use std::alloc::Global;
-use std::process::Abort;
 use std::test::Fail;
 use sv_linear::{Form, Row, RowKind};
 use sv_list::{Copied, Items};
@@ -106,68 +105,6 @@ fn pivot(alloc: Global, tableau: &mut Tableau) -> Result<Option<Refusal>, Fail>
     }
 }
 
-/// Compares what is told of a tableau of three rows and two unknowns.
-fn check(
-    rt: &impl Abort,
-    tableau: &Tableau,
-    lines: [Line; 3],
-    x: (i128, i128),
-    y: (i128, i128),
-    status: Status,
-)
-    requires unknowns { tableau.now.unknowns ≡ 2 }
-    requires rows { length tableau.now.rows ≡ 3 }
-{
-    assert_eq!(rt; line_of(tableau.identity(0)), lines[0]);
-    assert_eq!(rt; line_of(tableau.identity(1)), lines[1]);
-    assert_eq!(rt; line_of(tableau.identity(2)), lines[2]);
-    assert_eq!(rt; tableau.value(0), x);
-    assert_eq!(rt; tableau.value(1), y);
-    assert_eq!(rt; tableau.status(), status);
-}
-
-/// 2 x is at least 3, 3 y is at least 1, and x + y is at least 7: solved by hand.
-#[test]
-fn three_pivots(rt: HostRuntime) -> Result<(), Fail> {
-    let alloc = rt.alloc();
-    let table = [
-        (RowKind::Le, [-2, 0], 3),
-        (RowKind::Le, [0, -3], 1),
-        (RowKind::Le, [-1, -1], 7),
-    ];
-    let mut tableau = tableau_of(alloc, table.as_slice())?;
-    let start = [
-        [-2, 0, 1, 0, 0, 3],
-        [0, -3, 0, 1, 0, 1],
-        [-1, -1, 0, 0, 1, 7],
-    ];
-    check(&rt, &tableau, start, (0, 1), (0, 1), Status::Due);
-    assert_eq!(rt; pivot(alloc, &mut tableau)?, None);
-    let first = [
-        [2, 0, -1, 0, 0, -3],
-        [0, -3, 0, 1, 0, 1],
-        [0, -2, -1, 0, 2, 11],
-    ];
-    check(&rt, &tableau, first, (3, 2), (0, 1), Status::Due);
-    assert_eq!(rt; pivot(alloc, &mut tableau)?, None);
-    let second = [
-        [2, 0, -1, 0, 0, -3],
-        [0, 3, 0, -1, 0, -1],
-        [0, 0, -3, -2, 6, 31],
-    ];
-    check(&rt, &tableau, second, (3, 2), (1, 3), Status::Due);
-    assert_eq!(rt; pivot(alloc, &mut tableau)?, None);
-    let third = [
-        [3, 0, 0, 1, -3, -20],
-        [0, 3, 0, -1, 0, -1],
-        [0, 0, 3, 2, -6, -31],
-    ];
-    let copy = tableau.copy(alloc)?;
-    check(&rt, &copy, third, (20, 3), (1, 3), Status::Point);
-    assert_eq!(rt; copy.pivots(), 3);
-    Ok(())
-}
-
 /// The three lines of a tableau of three rows.
 fn lines_of(tableau: &Tableau) -> [Line; 3]
     requires { length tableau.now.rows ≡ 3 }
@@ -177,6 +114,98 @@ fn lines_of(tableau: &Tableau) -> [Line; 3]
         line_of(tableau.identity(1)),
         line_of(tableau.identity(2)),
     ]
+}
+
+/// What is told of a tableau of three rows and two unknowns: its lines, x, y and its status.
+type State = ([Line; 3], (i128, i128), (i128, i128), Status);
+
+fn state_of(tableau: &Tableau) -> State
+    requires unknowns { tableau.now.unknowns ≡ 2 }
+    requires rows { length tableau.now.rows ≡ 3 }
+{
+    (
+        lines_of(tableau),
+        tableau.value(0),
+        tableau.value(1),
+        tableau.status(),
+    )
+}
+
+/// Makes a pivot, which isn't to be refused.
+fn turn(alloc: Global, tableau: &mut Tableau) -> Result<(), Fail>
+    ensures unknowns { tableau.new.unknowns ≡ tableau.old.unknowns }
+    ensures rows { tableau.new.rows ≡ tableau.old.rows }
+{
+    match pivot(alloc, tableau)? {
+        None => Ok(()),
+        Some(_) => Err(Fail::new("a pivot is refused")),
+    }
+}
+
+/// 2 x is at least 3, 3 y is at least 1, and x + y is at least 7: solved by hand.
+const SOLVED: [Entries; 3] = [
+    (RowKind::Le, [-2, 0], 3),
+    (RowKind::Le, [0, -3], 1),
+    (RowKind::Le, [-1, -1], 7),
+];
+
+const START: State = (
+    [
+        [-2, 0, 1, 0, 0, 3],
+        [0, -3, 0, 1, 0, 1],
+        [-1, -1, 0, 0, 1, 7],
+    ],
+    (0, 1),
+    (0, 1),
+    Status::Due,
+);
+
+const FIRST: State = (
+    [
+        [2, 0, -1, 0, 0, -3],
+        [0, -3, 0, 1, 0, 1],
+        [0, -2, -1, 0, 2, 11],
+    ],
+    (3, 2),
+    (0, 1),
+    Status::Due,
+);
+
+const SECOND: State = (
+    [
+        [2, 0, -1, 0, 0, -3],
+        [0, 3, 0, -1, 0, -1],
+        [0, 0, -3, -2, 6, 31],
+    ],
+    (3, 2),
+    (1, 3),
+    Status::Due,
+);
+
+const THIRD: State = (
+    [
+        [3, 0, 0, 1, -3, -20],
+        [0, 3, 0, -1, 0, -1],
+        [0, 0, 3, 2, -6, -31],
+    ],
+    (20, 3),
+    (1, 3),
+    Status::Point,
+);
+
+#[test]
+fn three_pivots(rt: HostRuntime) -> Result<(), Fail> {
+    let mut tableau = tableau_of(rt.alloc(), SOLVED.as_slice())?;
+    assert!(rt; state_of(&tableau) == START);
+    turn(rt.alloc(), &mut tableau)?;
+    assert!(rt; state_of(&tableau) == FIRST);
+    turn(rt.alloc(), &mut tableau)?;
+    assert!(rt; state_of(&tableau) == SECOND);
+    turn(rt.alloc(), &mut tableau)?;
+    let copy = tableau.copy(rt.alloc())?;
+    assert!(rt; state_of(&copy) == THIRD);
+    assert!(rt; copy.pivots() == 3);
+    Ok(())
 }
 
 /// Makes the due pivots, and says whether some list of lines came twice.
@@ -200,10 +229,25 @@ fn comes_back(alloc: Global, tableau: &mut Tableau) -> Result<bool, Fail>
     Err(Fail::new("too many pivots"))
 }
 
+/// Whether some list of lines comes twice before the tableau of these rows is settled, and its status then.
+fn goes_round(alloc: Global, table: &[Entries]) -> Result<(bool, Status), Fail>
+    requires { length table.now ≡ 3 }
+{
+    let mut tableau = tableau_of(alloc, table)?;
+    let back = comes_back(alloc, &mut tableau)?;
+    Ok((back, tableau.status()))
+}
+
+/// The status when `settle` is done, and how many rows there are.
+fn settle_all(alloc: Global, table: &[Entries]) -> Result<(Status, usize), Fail> {
+    let mut tableau = tableau_of(alloc, table)?;
+    settle(alloc, &mut tableau)?;
+    Ok((tableau.status(), tableau.rows().len()))
+}
+
 /// At the nodes of a split, each line of which is an identity of its rows.
 #[test]
 fn no_basis_twice(rt: HostRuntime) -> Result<(), Fail> {
-    let alloc = rt.alloc();
     for third in [
         (RowKind::Le, [1, 0], -1),
         (RowKind::Le, [-1, 0], 2),
@@ -212,13 +256,9 @@ fn no_basis_twice(rt: HostRuntime) -> Result<(), Fail> {
         (RowKind::Eq, [1, -1], 3),
     ] {
         let table = [(RowKind::Le, [-2, 3], 1), (RowKind::Le, [3, -5], 2), third];
-        let mut tableau = tableau_of(alloc, table.as_slice())?;
-        let back = comes_back(alloc, &mut tableau)?;
+        let (back, status) = goes_round(rt.alloc(), &table)?;
         assert!(rt; !back, "{third:?}");
-        let mut settled = tableau_of(alloc, table.as_slice())?;
-        settle(alloc, &mut settled)?;
-        assert_eq!(rt; settled.status(), tableau.status(), "{third:?}");
-        assert_eq!(rt; settled.rows().len(), 3);
+        assert!(rt; settle_all(rt.alloc(), &table)? == (status, 3), "{third:?}");
     }
     Ok(())
 }
@@ -234,127 +274,158 @@ fn statuses(rt: HostRuntime) -> Result<(), Fail> {
     let alloc = rt.alloc();
     let none = (RowKind::Le, [0, 0], 1);
     let halves = (RowKind::Eq, [2, -2], 1);
-    assert_eq!(rt; status_of(alloc, halves, none)?, Status::Divisor(0));
+    assert!(rt; status_of(alloc, halves, none)? == Status::Divisor(0));
     let loose = (RowKind::Le, [2, -2], 1);
     let thirds = (RowKind::Eq, [3, 0], MAX);
-    assert_eq!(rt; status_of(alloc, loose, thirds)?, Status::Divisor(1));
+    assert!(rt; status_of(alloc, loose, thirds)? == Status::Divisor(1));
     let large = (RowKind::Eq, [MAX, 0], 1);
-    assert_eq!(rt; status_of(alloc, large, none)?, Status::Divisor(0));
+    assert!(rt; status_of(alloc, large, none)? == Status::Divisor(0));
     let whole = (RowKind::Eq, [2, 3], 1);
-    assert_eq!(rt; status_of(alloc, whole, none)?, Status::Conflict(1));
+    assert!(rt; status_of(alloc, whole, none)? == Status::Conflict(1));
     let below = (RowKind::Eq, [0, 0], -1);
-    assert_eq!(rt; status_of(alloc, below, none)?, Status::Conflict(0));
+    assert!(rt; status_of(alloc, below, none)? == Status::Conflict(0));
     let even = (RowKind::Eq, [2, 0], 4);
     let first = (RowKind::Le, [1, 0], 1);
-    assert_eq!(rt; status_of(alloc, even, first)?, Status::Due);
+    assert!(rt; status_of(alloc, even, first)? == Status::Due);
     let least = (RowKind::Le, [1, 0], -MAX);
     let zero = (RowKind::Eq, [2, 0], 0);
-    assert_eq!(rt; status_of(alloc, zero, least)?, Status::Point);
+    assert!(rt; status_of(alloc, zero, least)? == Status::Point);
     Ok(())
 }
 
-/// Makes the pivot of the first row's slack against the second row, both with their constants last, and
-/// compares the refusal at quantity 0 and this column, or none.
+/// Makes the pivot of the first row's slack against the second row, both with their constants last: what is refused,
+/// and how many pivots are made.
+fn pivot_of(
+    alloc: Global,
+    [a, b, c]: [i128; 3],
+    [d, e, f]: [i128; 3],
+) -> Result<(Option<Refusal>, u64), Fail> {
+    let table = [(RowKind::Le, [a, b], c), (RowKind::Le, [d, e], f)];
+    let mut tableau = tableau_of(alloc, table.as_slice())?;
+    let got = pivot(alloc, &mut tableau)?;
+    Ok((got, tableau.pivots()))
+}
+
+/// Whether that pivot is refused at quantity 0 and this column, or made where there is none.
 fn refuses(
-    rt: &impl Abort,
     alloc: Global,
     first: [i128; 3],
     second: [i128; 3],
     column: Option<u32>,
-) -> Result<(), Fail> {
+) -> Result<bool, Fail> {
     let [a, b, c] = first;
     let [d, e, f] = second;
-    let table = [(RowKind::Le, [a, b], c), (RowKind::Le, [d, e], f)];
-    let mut tableau = tableau_of(alloc, table.as_slice())?;
-    let got = pivot(alloc, &mut tableau)?;
-    match column {
-        None => {
-            assert_eq!(rt; got, None);
-            assert_eq!(rt; tableau.pivots(), 1);
-        }
-        Some(column) => {
-            let (left, right) = ([a, b, 1, 0, 0, c], [d, e, 0, 1, 0, f]);
-            assert_eq!(rt; got, Some((left, right, 0, column)));
-            assert_eq!(rt; tableau.pivots(), 0);
-        }
-    }
-    Ok(())
+    let (left, right) = ([a, b, 1, 0, 0, c], [d, e, 0, 1, 0, f]);
+    let want = match column {
+        None => (None, 1),
+        Some(column) => (Some((left, right, 0, column)), 0),
+    };
+    Ok(pivot_of(alloc, first, second)? == want)
 }
 
 /// 2^127 - 1 at each place.
 #[test]
 fn refused_pivots(rt: HostRuntime) -> Result<(), Fail> {
-    let alloc = rt.alloc();
-    refuses(&rt, alloc, [-1, 0, 1], [1, MAX, MAX], Some(4))?;
-    refuses(&rt, alloc, [-1, 0, 1], [1, MAX, MAX - 1], None)?;
-    refuses(&rt, alloc, [-1, 0, 1], [MAX, 1, 0], None)?;
-    refuses(&rt, alloc, [-MAX, 0, 1], [1, 1, 0], None)?;
-    refuses(&rt, alloc, [-MAX, 0, 1], [1, 2, 0], Some(1))?;
-    refuses(&rt, alloc, [-2, 0, 1], [1, MAX, 0], Some(1))?;
-    refuses(&rt, alloc, [-2, 0, 1], [1, 0, MAX], Some(4))?;
-    refuses(&rt, alloc, [-1, MAX, 1], [2, 0, 0], Some(1))?;
-    refuses(&rt, alloc, [-1, 0, MAX], [2, 0, 0], Some(4))?;
-    refuses(&rt, alloc, [-1, 1, 1], [1, MAX, 0], Some(1))?;
-    refuses(&rt, alloc, [-2, 0, 1], [0, MAX, -MAX], None)?;
+    for (first, second, column) in [
+        ([-1, 0, 1], [1, MAX, MAX], Some(4)),
+        ([-1, 0, 1], [1, MAX, MAX - 1], None),
+        ([-1, 0, 1], [MAX, 1, 0], None),
+        ([-MAX, 0, 1], [1, 1, 0], None),
+        ([-MAX, 0, 1], [1, 2, 0], Some(1)),
+        ([-2, 0, 1], [1, MAX, 0], Some(1)),
+        ([-2, 0, 1], [1, 0, MAX], Some(4)),
+        ([-1, MAX, 1], [2, 0, 0], Some(1)),
+        ([-1, 0, MAX], [2, 0, 0], Some(4)),
+        ([-1, 1, 1], [1, MAX, 0], Some(1)),
+        ([-2, 0, 1], [0, MAX, -MAX], None),
+    ] {
+        assert!(rt;
+            refuses(rt.alloc(), first, second, column)?,
+            "{first:?} {second:?}"
+        );
+    }
     Ok(())
 }
 
-/// Adds a row after one pivot, which made 2 x - s - 1 a line, and compares the line that it becomes, or
-/// the line that is refused at quantity 0 and this column.
-fn adds(
-    rt: &impl Abort,
+/// A tableau of one row after one pivot, which made 2 x - s - 1 its line.
+fn turn_once(alloc: Global) -> Result<Tableau, Fail>
+    ensures unknowns { IfOk result (λ t. t.unknowns ≡ 2) }
+    ensures rows { IfOk result (λ t. length t.rows ≡ 1) }
+{
+    let mut tableau = tableau_of(alloc, &[(RowKind::Le, [-2, 0], 1)])?;
+    turn(alloc, &mut tableau)?;
+    Ok(tableau)
+}
+
+/// Adds a row to that tableau: the line that it becomes, and the status.
+fn add_row(
     alloc: Global,
     kind: RowKind,
-    entries: [i128; 3],
-    column: Option<u32>,
-    line: Line,
-) -> Result<(), Fail> {
-    let first = [2, 0, -1, 0, 0, -1];
-    let table = [(RowKind::Le, [-2, 0], 1)];
-    let mut tableau = tableau_of(alloc, table.as_slice())?;
-    assert_eq!(rt; pivot(alloc, &mut tableau)?, None);
-    let row = row_of(alloc, kind, [entries[0], entries[1]], entries[2])?;
+    [x, y, constant]: [i128; 3],
+) -> Result<(Line, Line, Status), Fail> {
+    let mut tableau = turn_once(alloc)?;
+    let row = row_of(alloc, kind, [x, y], constant)?;
     match tableau.add_row(alloc, &row) {
-        Ok(()) => {
-            assert_eq!(rt; column, None);
-            assert_eq!(rt; line_of(tableau.identity(1)), line);
-            assert_eq!(rt; tableau.status(), Status::Point);
-        }
-        Err(fault) => {
-            let (left, right, unknown, at) = refusal(fault)?;
-            assert_eq!(rt; (left, right), (first, line));
-            assert_eq!(rt; (unknown, Some(at)), (0, column));
-        }
+        Ok(()) => Ok((
+            line_of(tableau.identity(0)),
+            line_of(tableau.identity(1)),
+            tableau.status(),
+        )),
+        Err(_) => Err(Fail::new("a row is refused")),
     }
-    assert_eq!(rt; line_of(tableau.identity(0)), first);
-    Ok(())
 }
+
+/// Adds a row to that tableau, which is to be refused: what is refused, and the line that was there before.
+fn refuse_row(
+    alloc: Global,
+    kind: RowKind,
+    [x, y, constant]: [i128; 3],
+) -> Result<(Line, Refusal), Fail> {
+    let mut tableau = turn_once(alloc)?;
+    let row = row_of(alloc, kind, [x, y], constant)?;
+    match tableau.add_row(alloc, &row) {
+        Ok(()) => Err(Fail::new("a row is added")),
+        Err(fault) => Ok((line_of(tableau.identity(0)), refusal(fault)?)),
+    }
+}
+
+/// The line of the one row.
+const FIRST_LINE: Line = [2, 0, -1, 0, 0, -1];
 
 #[test]
 fn added_rows(rt: HostRuntime) -> Result<(), Fail> {
-    let alloc = rt.alloc();
-    let sum = [0, 2, 3, 2, 0, -7];
-    adds(&rt, alloc, RowKind::Le, [3, 1, -5], None, sum)?;
-    let above = [0, MAX, 0, 1, 0, 0];
-    adds(&rt, alloc, RowKind::Eq, [0, MAX, 0], None, above)?;
-    let below = [0, -MAX, 0, 1, 0, 0];
-    adds(&rt, alloc, RowKind::Eq, [0, -MAX, 0], None, below)?;
-    let second = [1, MAX, 0, 1, 0, 0];
-    adds(&rt, alloc, RowKind::Le, [1, MAX, 0], Some(1), second)?;
-    let constant = [1, 0, 0, 1, 0, MAX];
-    adds(&rt, alloc, RowKind::Le, [1, 0, MAX], Some(4), constant)?;
-    let own = [MAX, 0, 0, 1, 0, 0];
-    adds(&rt, alloc, RowKind::Le, [MAX, 0, 0], Some(0), own)?;
+    for (kind, entries, line) in [
+        (RowKind::Le, [3, 1, -5], [0, 2, 3, 2, 0, -7]),
+        (RowKind::Eq, [0, MAX, 0], [0, MAX, 0, 1, 0, 0]),
+        (RowKind::Eq, [0, -MAX, 0], [0, -MAX, 0, 1, 0, 0]),
+    ] {
+        let got = add_row(rt.alloc(), kind, entries)?;
+        assert!(rt; got == (FIRST_LINE, line, Status::Point), "{entries:?}");
+    }
+    Ok(())
+}
+
+/// The lines and the column at which quantity 0 isn't eliminated.
+#[test]
+fn refused_rows(rt: HostRuntime) -> Result<(), Fail> {
+    for (entries, column, line) in [
+        ([1, MAX, 0], 1, [1, MAX, 0, 1, 0, 0]),
+        ([1, 0, MAX], 4, [1, 0, 0, 1, 0, MAX]),
+        ([MAX, 0, 0], 0, [MAX, 0, 0, 1, 0, 0]),
+    ] {
+        let got = refuse_row(rt.alloc(), RowKind::Le, entries)?;
+        assert!(rt;
+            got == (FIRST_LINE, (FIRST_LINE, line, 0, column)),
+            "{entries:?}"
+        );
+    }
     Ok(())
 }
 
 fn crosses<T: Send + Sync>() {}
 
-#[test]
-fn shared(rt: HostRuntime) -> Result<(), Fail> {
-    let alloc = rt.alloc();
-    crosses::<Tableau>();
-    crosses::<TableauFault>();
+/// The printed form of a fault over one row twice.
+fn fault_text(alloc: Global) -> Result<String, Fail> {
     let row = row_of(alloc, RowKind::Eq, [1, 0], 0)?;
     let fault = TableauFault::Past {
         first: row.copy(alloc)?,
@@ -362,10 +433,17 @@ fn shared(rt: HostRuntime) -> Result<(), Fail> {
         unknown: 0,
         column: 3,
     };
-    let text = fault.to_string(alloc)?;
-    assert_eq!(rt;
-        text.as_str(),
-        "the cross product of two rows at quantity 0 and column 3 needs more than 128 bits"
+    Ok(fault.to_string(alloc)?)
+}
+
+#[test]
+fn shared(rt: HostRuntime) -> Result<(), Fail> {
+    crosses::<Tableau>();
+    crosses::<TableauFault>();
+    let text = fault_text(rt.alloc())?;
+    assert!(rt;
+        text.as_str()
+            == "the cross product of two rows at quantity 0 and column 3 needs more than 128 bits"
     );
     Ok(())
 }

@@ -7,8 +7,20 @@ use farkas_check::System;
 use lia_quick::is_within;
 use std::alloc::Global;
 use std::test::Fail;
-use sv_linear::{Form, Row, RowKind};
+use sv_linear::{Form, FormFault, Row, RowKind};
 use sv_list::Items;
+
+/// The form, and so many times the unknown.
+pub(crate) fn add_term(
+    alloc: Global,
+    form: &Form,
+    unknown: u32,
+    times: i128,
+) -> Result<Form, FormFault> {
+    let one = Form::of_unknown(alloc, unknown)?;
+    let term = one.scale(alloc, times)?;
+    form.add(alloc, &term)
+}
 
 /// The row of these terms.
 pub(crate) fn row_of(
@@ -19,8 +31,7 @@ pub(crate) fn row_of(
 ) -> Result<Row, Fail> {
     let mut form = Form::of_constant(alloc, constant);
     for (unknown, coefficient) in terms {
-        let term = Form::of_unknown(alloc, *unknown)?.scale(alloc, *coefficient)?;
-        form = form.add(alloc, &term)?;
+        form = add_term(alloc, &form, *unknown, *coefficient)?;
     }
     Ok(Row { form, kind })
 }

@@ -78,15 +78,28 @@ fn has_letter(alloc: Global, answer: &CubeAnswer) -> Result<bool, AllocError> {
     }
 }
 
+// Whether the letter is found in the expression of it alone.
+fn finds_letter(alloc: Global) -> Result<bool, AllocError> {
+    let found = answer(alloc, Regex::Text(letter(alloc)?))?;
+    has_letter(alloc, &found)
+}
+
+fn is_refuted(alloc: Global, regex: Regex) -> Result<bool, AllocError> {
+    let found = answer(alloc, regex)?;
+    Ok(matches!(found, CubeAnswer::Unsat(_)))
+}
+
+// Whether so many characters have too many states.
+fn has_many_states(alloc: Global, count: u32) -> Result<bool, AllocError> {
+    let any = Boxed::new(alloc, Regex::AnyChar)?;
+    let found = answer(alloc, Regex::Loop(any, count, count))?;
+    Ok(matches!(found, CubeAnswer::Open(Reason::States(_))))
+}
+
 #[test]
 fn a_cube_has_a_model_or_none_or_a_reason(rt: HostRuntime) -> Result<(), AllocError> {
-    let alloc = rt.alloc();
-    let found = answer(alloc, Regex::Text(letter(alloc)?))?;
-    assert!(rt; has_letter(alloc, &found)?);
-    let none = answer(alloc, Regex::Empty)?;
-    assert!(rt; matches!(none, CubeAnswer::Unsat(_)));
-    let long = Regex::Loop(Boxed::new(alloc, Regex::AnyChar)?, 300_000, 300_000);
-    let open = answer(alloc, long)?;
-    assert!(rt; matches!(open, CubeAnswer::Open(Reason::States(_))));
+    assert!(rt; finds_letter(rt.alloc())?);
+    assert!(rt; is_refuted(rt.alloc(), Regex::Empty)?);
+    assert!(rt; has_many_states(rt.alloc(), 300_000)?);
     Ok(())
 }

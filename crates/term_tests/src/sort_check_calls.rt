@@ -519,7 +519,7 @@ fn passed(alloc: Global) -> Result<usize, Fail> {
 
 #[test]
 fn rows(rt: HostRuntime) -> Result<(), Fail> {
-    assert_eq!(rt; passed(rt.alloc())?, COUNT);
+    assert!(rt; passed(rt.alloc())? == COUNT);
     Ok(())
 }
 
@@ -542,47 +542,68 @@ fn nested(
     Ok(out)
 }
 
-/// What an assertion of a term is, by its first byte: `a` where it is taken, `s` where it is Size.
-fn first_of(alloc: Global, term: &[u8]) -> Result<Option<u8>, Fail> {
+/// What the last item of a script behind the names is.
+fn last_alone(alloc: Global, script: &[u8]) -> Result<Vec<u8>, Fail> {
     let mut symbols = Declarations::new(alloc);
     last_of(alloc, &mut symbols, NAMES)?;
+    last_of(alloc, &mut symbols, script)
+}
+
+/// What an assertion of a term is, by its first byte: `a` where it is taken, `s` where it is Size.
+fn first_of(alloc: Global, term: &[u8]) -> Result<Option<u8>, Fail> {
     let script = [b"(assert ", term, b")"].concat(alloc)?;
-    let out = last_of(alloc, &mut symbols, script.as_slice())?;
+    let out = last_alone(alloc, script.as_slice())?;
     Ok(out.as_slice().first().copied())
+}
+
+/// So many `let`s, each of which doubles p, around `inner`.
+fn double(alloc: Global, times: usize, inner: &[u8]) -> Result<Vec<u8>, Fail> {
+    let doubled = nested(alloc, b"(let ((a (and a a))) ", times, inner, b")")?;
+    Ok([b"(let ((a p)) ", doubled.as_slice(), b")"].concat(alloc)?)
+}
+
+fn first_of_double(alloc: Global, times: usize, inner: &[u8]) -> Result<Option<u8>, Fail> {
+    let term = double(alloc, times, inner)?;
+    first_of(alloc, term.as_slice())
 }
 
 #[test]
 fn nodes(rt: HostRuntime) -> Result<(), Fail> {
-    let alloc = rt.alloc();
     let rows: [(usize, &[u8], Option<u8>); 3] = [
         (10, b"a", Some(b'a')),
         (19, b"(not (not a))", Some(b's')),
         (900, b"p", Some(b's')),
     ];
     for (times, inner, expected) in rows {
-        let doubled = nested(alloc, b"(let ((a (and a a))) ", times, inner, b")")?;
-        let term = [b"(let ((a p)) ", doubled.as_slice(), b")"].concat(alloc)?;
-        let is = first_of(alloc, term.as_slice())?;
+        let is = first_of_double(rt.alloc(), times, inner)?;
         assert!(rt; is == expected, "{times} {is:?}");
     }
     Ok(())
 }
 
+/// So many `not`s around a name for 500 of them around p.
+fn deny(alloc: Global, times: usize) -> Result<Vec<u8>, Fail> {
+    let half = nested(alloc, b"(not ", 500, b"p", b")")?;
+    let inner = nested(alloc, b"(not ", times, b"a", b")")?;
+    let parts = [
+        b"(let ((a ",
+        half.as_slice(),
+        b")) ",
+        inner.as_slice(),
+        b")",
+    ];
+    Ok(parts.concat(alloc)?)
+}
+
+fn first_of_deny(alloc: Global, times: usize) -> Result<Option<u8>, Fail> {
+    let term = deny(alloc, times)?;
+    first_of(alloc, term.as_slice())
+}
+
 #[test]
 fn nesting(rt: HostRuntime) -> Result<(), Fail> {
-    let alloc = rt.alloc();
-    let half = nested(alloc, b"(not ", 500, b"p", b")")?;
     for (times, expected) in [(500, Some(b'a')), (501, Some(b's'))] {
-        let inner = nested(alloc, b"(not ", times, b"a", b")")?;
-        let term = [
-            b"(let ((a ",
-            half.as_slice(),
-            b")) ",
-            inner.as_slice(),
-            b")",
-        ]
-        .concat(alloc)?;
-        let is = first_of(alloc, term.as_slice())?;
+        let is = first_of_deny(rt.alloc(), times)?;
         assert!(rt; is == expected, "{times} {is:?}");
     }
     Ok(())
@@ -601,9 +622,13 @@ fn asked(alloc: Global, item: &[u8]) -> Result<Vec<u8>, Fail> {
     Ok(out)
 }
 
+fn is_asked_as(alloc: Global, item: &[u8], expected: &[u8]) -> Result<bool, Fail> {
+    let is = asked(alloc, item)?;
+    Ok(is.as_slice() == expected)
+}
+
 #[test]
 fn terms_alone(rt: HostRuntime) -> Result<(), Fail> {
-    let alloc = rt.alloc();
     let rows: [(&[u8], &[u8]); 6] = [
         (b"(let ((a x)) (str.len a)) ", b"(len x)"),
         (b"(and q (g)) ", b"arity"),
@@ -613,8 +638,7 @@ fn terms_alone(rt: HostRuntime) -> Result<(), Fail> {
         (b"(and n (unknown)) ", b"unknown"),
     ];
     for (item, expected) in rows {
-        let is = asked(alloc, item)?;
-        assert!(rt; is.as_slice() == expected);
+        assert!(rt; is_asked_as(rt.alloc(), item, expected)?);
     }
     Ok(())
 }

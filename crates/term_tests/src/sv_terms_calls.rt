@@ -13,17 +13,22 @@ fn in_turn(alloc: Global, first: &str, second: &str) -> Result<Regex, AllocError
     Ok(Regex::Concat(pair(alloc, first, second)?))
 }
 
-fn is_copied(alloc: Global, regex: &Regex) -> Result<bool, AllocError> {
+fn is_copied(alloc: Global, first: &str, second: &str) -> Result<bool, AllocError> {
+    let regex = in_turn(alloc, first, second)?;
     let copy = regex.copy(alloc)?;
-    Ok(copy == *regex && copy.same(regex))
+    Ok(copy == regex && copy.same(&regex))
+}
+
+fn differ(alloc: Global, one: (&str, &str), other: (&str, &str)) -> Result<bool, AllocError> {
+    let one = in_turn(alloc, one.0, one.1)?;
+    let other = in_turn(alloc, other.0, other.1)?;
+    Ok(one != other)
 }
 
 #[test]
 fn regexes_are_copied_and_told_apart(rt: HostRuntime) -> Result<(), AllocError> {
-    let one = in_turn(rt.alloc(), "ab", "cd")?;
-    let other = in_turn(rt.alloc(), "ab", "ce")?;
-    assert!(rt; is_copied(rt.alloc(), &one)?);
-    assert!(rt; one != other);
+    assert!(rt; is_copied(rt.alloc(), "ab", "cd")?);
+    assert!(rt; differ(rt.alloc(), ("ab", "cd"), ("ab", "ce"))?);
     Ok(())
 }
 
@@ -58,14 +63,22 @@ fn values(alloc: Global) -> Result<Model, AllocError> {
     model.copy(alloc)
 }
 
-fn is_value(alloc: Global, model: &Model, text: &str, want: &Value) -> Result<bool, AllocError> {
-    match model.get(&name(alloc, text)?) {
+fn is_value(alloc: Global, text: &str, want: &Value) -> Result<bool, AllocError> {
+    let model = values(alloc)?;
+    let name = name(alloc, text)?;
+    match model.get(&name) {
         Some(value) => Ok(value.same(want)),
         None => Ok(false),
     }
 }
 
-fn is_at(alloc: Global, model: &Model, place: usize, text: &str) -> Result<bool, AllocError> {
+fn is_text(alloc: Global, text: &str, want: &str) -> Result<bool, AllocError> {
+    let want = Value::Text(word(alloc, want)?);
+    is_value(alloc, text, &want)
+}
+
+fn is_at(alloc: Global, place: usize, text: &str) -> Result<bool, AllocError> {
+    let model = values(alloc)?;
     let want = name(alloc, text)?;
     match model.at(place) {
         Some((name, _)) => Ok(name.same(&want)),
@@ -75,13 +88,11 @@ fn is_at(alloc: Global, model: &Model, place: usize, text: &str) -> Result<bool,
 
 #[test]
 fn values_by_name(rt: HostRuntime) -> Result<(), AllocError> {
-    let model = values(rt.alloc())?;
-    let text = Value::Text(word(rt.alloc(), "b")?);
-    assert_eq!(rt; model.len(), 2);
-    assert!(rt; is_value(rt.alloc(), &model, "a", &text)?);
-    assert!(rt; is_value(rt.alloc(), &model, "b", &Value::Number(-3))?);
-    assert!(rt; !is_value(rt.alloc(), &model, "c", &text)?);
-    assert!(rt; is_at(rt.alloc(), &model, 0, "a")?);
+    assert!(rt; values(rt.alloc())?.len() == 2);
+    assert!(rt; is_text(rt.alloc(), "a", "b")?);
+    assert!(rt; is_value(rt.alloc(), "b", &Value::Number(-3))?);
+    assert!(rt; !is_text(rt.alloc(), "c", "b")?);
+    assert!(rt; is_at(rt.alloc(), 0, "a")?);
     Ok(())
 }
 
@@ -137,12 +148,18 @@ fn joined(alloc: Global, by: i32) -> Result<Term, AllocError> {
     Ok(Term::Apply(Op::And, parts))
 }
 
+// Whether a copy of the term with the one number is the term with the other one.
+fn is_copy(alloc: Global, by: i32, other: i32) -> Result<bool, AllocError> {
+    let term = joined(alloc, by)?;
+    let copy = term.copy(alloc)?;
+    let other = joined(alloc, other)?;
+    Ok(copy.same(&other))
+}
+
 #[test]
 fn terms_are_copied_and_told_apart(rt: HostRuntime) -> Result<(), AllocError> {
-    let term = joined(rt.alloc(), 1)?;
-    let copy = term.copy(rt.alloc())?;
-    assert!(rt; copy.same(&term));
-    assert!(rt; !copy.same(&joined(rt.alloc(), -1)?));
+    assert!(rt; is_copy(rt.alloc(), 1, 1)?);
+    assert!(rt; !is_copy(rt.alloc(), 1, -1)?);
     Ok(())
 }
 
@@ -164,7 +181,7 @@ fn symbols_by_name(rt: HostRuntime) -> Result<(), AllocError> {
     let mut symbols = Symbols::new(rt.alloc());
     declare(rt.alloc(), &mut symbols, "x")?;
     declare(rt.alloc(), &mut symbols, "|y|")?;
-    assert_eq!(rt; symbols.len(), 2);
+    assert!(rt; symbols.len() == 2);
     assert!(rt; symbols.at(1).is_some());
     assert!(rt; is_declared(rt.alloc(), &symbols, "y")?);
     symbols.truncate(1);

@@ -80,17 +80,25 @@ fn put_words(
     equal(alloc, draft, first, second)
 }
 
-#[test]
-fn a_part_is_used_twice(rt: HostRuntime) -> Result<(), Fail> {
-    let alloc = rt.alloc();
-    let mut draft = Draft::new(alloc);
-    let inner = put_words(alloc, &mut draft, "a", "b")?;
-    let outer = equal(alloc, &mut draft, inner, inner)?;
-    assert!(rt; draft.fits(outer));
-    assert_eq!(rt; draft.sort(outer), Sort::Bool);
+// The place of an equality of that with itself.
+fn put_twice(alloc: Global, draft: &mut Draft<'_>) -> Result<usize, AllocError> {
+    let inner = put_words(alloc, draft, "a", "b")?;
+    equal(alloc, draft, inner, inner)
+}
+
+fn is_twice(alloc: Global, draft: &Draft<'_>, place: usize) -> Result<bool, AllocError> {
     let part = words_equal(alloc, "a", "b")?;
     let whole = equality(alloc, part.copy(alloc)?, part)?;
-    assert!(rt; is_built(alloc, &draft, outer, &whole)?);
+    is_built(alloc, draft, place, &whole)
+}
+
+#[test]
+fn a_part_is_used_twice(rt: HostRuntime) -> Result<(), Fail> {
+    let mut draft = Draft::new(rt.alloc());
+    let outer = put_twice(rt.alloc(), &mut draft)?;
+    assert!(rt; draft.fits(outer));
+    assert!(rt; draft.sort(outer) == Sort::Bool);
+    assert!(rt; is_twice(rt.alloc(), &draft, outer)?);
     Ok(())
 }
 
@@ -147,16 +155,28 @@ fn call<'a>(
     }
 }
 
+// The place of the question whether the word "a" is "b".
+fn call_of_word<'a>(
+    alloc: Global,
+    draft: &mut Draft<'a>,
+    names: &'a Declarations,
+) -> Result<usize, AllocError> {
+    let argument = draft.put_word(word(alloc, "a")?)?;
+    call(alloc, draft, names, "is-b", argument)
+}
+
+fn compares_words(alloc: Global, draft: &Draft<'_>, place: usize) -> Result<bool, AllocError> {
+    let wanted = words_equal(alloc, "a", "b")?;
+    is_built(alloc, draft, place, &wanted)
+}
+
 #[test]
 fn a_macro_is_called(rt: HostRuntime) -> Result<(), Fail> {
-    let alloc = rt.alloc();
-    let names = macros(alloc)?;
-    let mut draft = Draft::new(alloc);
-    let argument = draft.put_word(word(alloc, "a")?)?;
-    let place = call(alloc, &mut draft, &names, "is-b", argument)?;
-    assert_eq!(rt; draft.sort(place), Sort::Bool);
-    let wanted = words_equal(alloc, "a", "b")?;
-    assert!(rt; is_built(alloc, &draft, place, &wanted)?);
+    let names = macros(rt.alloc())?;
+    let mut draft = Draft::new(rt.alloc());
+    let place = call_of_word(rt.alloc(), &mut draft, &names)?;
+    assert!(rt; draft.sort(place) == Sort::Bool);
+    assert!(rt; compares_words(rt.alloc(), &draft, place)?);
     Ok(())
 }
 
@@ -181,16 +201,20 @@ fn places_left(alloc: Global, names: &Declarations, times: usize) -> Result<usiz
     draft.put_opaque(Sort::Bool)
 }
 
+// Whether so many calls around a word are that word.
+fn is_word_left(alloc: Global, names: &Declarations, times: usize) -> Result<bool, AllocError> {
+    let wanted = Term::Text(word(alloc, "a")?);
+    let mut draft = Draft::new(alloc);
+    let place = call_often(alloc, &mut draft, names, times)?;
+    is_built(alloc, &draft, place, &wanted)
+}
+
 #[test]
 fn a_parameter_alone_adds_no_place(rt: HostRuntime) -> Result<(), Fail> {
-    let alloc = rt.alloc();
-    let names = macros(alloc)?;
-    assert_eq!(rt; places_left(alloc, &names, 1)?, 1);
-    assert_eq!(rt; places_left(alloc, &names, 2_000)?, 1);
-    let mut draft = Draft::new(alloc);
-    let place = call_often(alloc, &mut draft, &names, 2_000)?;
-    let wanted = Term::Text(word(alloc, "a")?);
-    assert!(rt; is_built(alloc, &draft, place, &wanted)?);
+    let names = macros(rt.alloc())?;
+    assert!(rt; places_left(rt.alloc(), &names, 1)? == 1);
+    assert!(rt; places_left(rt.alloc(), &names, 2_000)? == 1);
+    assert!(rt; is_word_left(rt.alloc(), &names, 2_000)?);
     Ok(())
 }
 
@@ -198,9 +222,9 @@ fn a_parameter_alone_adds_no_place(rt: HostRuntime) -> Result<(), Fail> {
 fn no_macro_is_left(rt: HostRuntime) -> Result<(), Fail> {
     let alloc = rt.alloc();
     let mut names = macros(alloc)?;
-    assert_eq!(rt; names.len(), 2);
+    assert!(rt; names.len() == 2);
     names.truncate(0);
-    assert_eq!(rt; names.len(), 0);
+    assert!(rt; names.len() == 0);
     assert!(rt; names.find(&name(alloc, "same")?).is_none());
     Ok(())
 }
