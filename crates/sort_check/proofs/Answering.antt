@@ -17,7 +17,7 @@ use Rattle.smt_names.specs.Answering.{answers-same, fault-passes}
 use Rattle.smt_names.specs.Shapes.{seen-Atom, seen-List, none-seen, one-seen}
 use Rattle.sort_check.proofs.Counted.{assertion-few, assertion-many}
 use Rattle.item_passes.specs.Passes.{passed}
-use Rattle.sort_check.specs.Meant.{Names, settled_sorts}
+use Rattle.term_walk.specs.Meant.{Names, settled_sorts}
 
 -- a fault of what is looked for first
 pub first-fault : {A : Type 0} (m : Result Unit CheckFault) (w : Result A CheckFault) (f : CheckFault) → Answers m (Err f) → Answers (m >> w) (Err f)

@@ -13,7 +13,7 @@ use Rattle.smt_names.specs.declared.check_fault.CheckFault.{CheckFault}
 use Rattle.smt_names.specs.declared.check_fault.CheckFault.TheVariants as fault
 use Rattle.sort_check.proofs.WellTerms.{both, Each}
 use Rattle.sort_check.specs.Checking.{asked, asked_term, has_values, passed_term, IsAskable}
-use Rattle.sort_check.specs.Meant.{Names, any_size, meant, meant_all, settled, settled_sorts}
+use Rattle.term_walk.specs.Meant.{Names, any_size, meant, meant_all, settled, settled_sorts}
 use Rattle.term_weight.specs.Bodies.{body_sort, term_of}
 use Rattle.term_weight.specs.Sizes.{fits}
 

@@ -6,7 +6,7 @@ use Rattle.sort_check.specs.declared.commands.Command.{Command}
 use Rattle.sort_check.specs.declared.commands.Command.TheVariants as command
 use Rattle.sort_check.specs.Checking.{plain, set_logic, set_option, declare_const, declare_fun, define_fun, define_transducer, assertion, stepped, get_value, get_info, echo}
 use Rattle.smt_names.specs.Form.{forms, seen}
-use Rattle.sort_check.specs.Meant.{Names}
+use Rattle.term_walk.specs.Meant.{Names}
 use Rattle.smt_names.specs.Shapes.{none-seen, one-seen, two-seen, first-seen, seen-Atom, seen-List}
 
 pub plain-many : (c : Command) (xs : List Sexpr) → 1 ≤ length xs → plain c (forms (map seen xs)) ≡ Err fault.Shape

@@ -1,11 +1,6 @@
 mod Answering
 mod Asked
 mod Counted
-mod Reading
-mod Scoping
-mod Shapes
-mod Termwise
-mod Walking
 mod WellApplied
 mod WellCommands
 mod WellMeant

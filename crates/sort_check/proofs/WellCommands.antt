@@ -24,8 +24,8 @@ use Rattle.item_passes.specs.Passes.{passed}
 use Rattle.sort_check.specs.Checking as c
 use Rattle.smt_names.specs.Faults.{◌>>◌, refuse, or_fault}
 use Rattle.smt_names.specs.Form.{Form, Forms, token, group, end, ◌⨾◌, count}
-use Rattle.sort_check.specs.Meant as m
-use Rattle.sort_check.specs.Meant.{Scope, Names, meant_all, any_size, parameters_of}
+use Rattle.term_walk.specs.Meant as m
+use Rattle.term_walk.specs.Meant.{Scope, Names, meant_all, any_size, parameters_of}
 use Rattle.smt_names.specs.Signature.{Name, same_name, is_reserved, is_some}
 use Rattle.term_weight.specs.Sizes.{fits}
 use Rattle.smt_names.specs.Tokens as t

@@ -22,7 +22,7 @@ use Rattle.item_passes.specs.Binders.{is_binding, is_variable, are_some, variabl
 use Rattle.term_weight.specs.Bodies.{body_sort, term_of, called, related, arguments_for, or_constant}
 use Rattle.smt_names.specs.Faults.{and_then, or_fault}
 use Rattle.smt_names.specs.Form.{Form, Forms, token, group, end, ◌⨾◌, count}
-use Rattle.sort_check.specs.Meant.{Scope, Names, Head, theory, constant, macro, machine, of_entry, mapped, named, index_of, powered, looped, charred, indexed, identified, of_theory, named_if, head, head_count, head_sorts, head_applied, application, alone, in_parentheses, latest, meant_name, meant_token, as_constants, quantified_over, quantified, bind, meant, meant_all, meant_let, meant_values, meant_value, meant_quantifier, meant_annotated}
+use Rattle.term_walk.specs.Meant.{Scope, Names, Head, theory, constant, macro, machine, of_entry, mapped, named, index_of, powered, looped, charred, indexed, identified, of_theory, named_if, head, head_count, head_sorts, head_applied, application, alone, in_parentheses, latest, meant_name, meant_token, as_constants, quantified_over, quantified, bind, meant, meant_all, meant_let, meant_values, meant_value, meant_quantifier, meant_annotated}
 use Rattle.term_weight.specs.Ranks.{are_of}
 use Rattle.smt_names.specs.Signature.{Name, same_name, stands_in, signature, indexed_names, power, loop, character}
 use Rattle.smt_names.specs.Tokens.{symbol, digits, value, is_too_large, literal_word, character_token, opening, is_identifier}

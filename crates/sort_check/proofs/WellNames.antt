@@ -14,7 +14,7 @@ use Rattle.sv_terms.specs.declared.term.Term.{Term}
 use Rattle.sv_terms.specs.Meaning.{Named}
 use Rattle.sv_terms.specs.Sorting.{sort_of, is_of, is_valued}
 use Rattle.term_weight.specs.Bodies.{body_sort, is_escaped}
-use Rattle.sort_check.specs.Meant.{Names}
+use Rattle.term_walk.specs.Meant.{Names}
 use Rattle.smt_names.specs.Signature.{Name, same_name, is_some}
 use Rattle.sort_check.specs.WellFormed.{constants_are, is_constant_of, is_declared, constants_known, has_formed, hidden_by, is_bound, is_sort, is_body, is_entry, is_new, follow, is_well_formed, is_given, AreGiven}
 use Rattle.smt_names.specs.Lookups.{lookup-there}

@@ -5,7 +5,7 @@ use Rattle.smt_names.specs.declared.check_fault.CheckFault.{CheckFault}
 use Rattle.smt_names.specs.declared.opening.Opening.{Opening}
 use Rattle.smt_names.specs.declared.opening.Opening.TheVariants.{Let, Quantifier, Annotation, Identifier, Application}
 use Rattle.smt_names.specs.Giving.{Gives, Maybe}
-use Rattle.sort_check.specs.Meant.{mapped, or_else, variable_or}
+use Rattle.term_walk.specs.Meant.{mapped, or_else, variable_or}
 use Rattle.smt_names.specs.Tokens.{chosen}
 use Rattle.sort_check.proofs.WellTerms.{Each}
 

@@ -22,7 +22,7 @@ use Rattle.smt_names.specs.Form.{are_all}
 use Rattle.term_weight.specs.Bodies.{body_sort, term_of, parameter_name, is_escaped}
 use Rattle.smt_names.specs.Faults.{and_then, ◌>>◌, need, refuse, or_fault}
 use Rattle.smt_names.specs.Form.{Form, Forms, end, ◌⨾◌, seen, raws}
-use Rattle.sort_check.specs.Meant.{Names, settled, settled_sorts, parameters_of}
+use Rattle.term_walk.specs.Meant.{Names, settled, settled_sorts, parameters_of}
 use Rattle.item_passes.specs.Passes.{at_variables, looked, passed}
 use Rattle.smt_names.specs.Signature.{Name, same_name, is_reserved, is_some}
 use Rattle.smt_names.specs.Tokens.{symbol, word, digits, keyword, literal_text, listed, truth, is_too_large, level, is_sort_form, sort_of}

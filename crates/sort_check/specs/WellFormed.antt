@@ -15,7 +15,7 @@ use Rattle.sv_terms.specs.Parts.{every_step}
 use Rattle.sv_terms.specs.Sorting.{same_sort, sort_of, is_of}
 use Rattle.sv_terms.specs.TransducerSizes.{is_formed}
 use Rattle.term_weight.specs.Bodies.{body_sort, is_escaped}
-use Rattle.sort_check.specs.Meant.{Names}
+use Rattle.term_walk.specs.Meant.{Names}
 use Rattle.smt_names.specs.Signature.{Name, same_name, is_some}
 
 -- whether each constant of a term is known, by its name and sort

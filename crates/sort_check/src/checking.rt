@@ -13,8 +13,6 @@ ghost use Rattle.smt_names.specs.Verbs.{verb_of as verb_is};
 ghost use Rattle.transducer_form.specs.Written as written;
 
 use crate::commands::{Command, Product};
-use crate::scope::parameter_name;
-use crate::walk::{settle_one, settle_sorts};
 use item_passes::{Pass, are_parameters, at_variables, look, pass_over, repeats, variables};
 use sexpr_reader::Sexpr;
 use smt_names::signature::{is_reserved, sort_of, truth, verb};
@@ -26,6 +24,7 @@ use std::alloc::{AllocError, Global};
 use sv_list::{Copied, Items};
 use sv_terms::{Body, Entry, Name, Sort, Term};
 use term_draft::{body_sort, into_term};
+use term_walk::{parameter_name, settle_one, settle_sorts};
 use term_weight::{Declarations, same_sort};
 use transducer_form::{Description, build_transducer};
 

@@ -12,7 +12,7 @@ ghost use Rattle.sv_terms.specs.declared.term.Term.{Term as AnyTerm};
 ghost use Rattle.sort_check.specs.declared.commands.Command.TheVariants as command;
 ghost use Rattle.sort_check.specs.Checking.{checked, asked_term, IsAskable};
 ghost use Rattle.smt_names.specs.Form.{Form};
-ghost use Rattle.sort_check.specs.Meant.{Names};
+ghost use Rattle.term_walk.specs.Meant.{Names};
 ghost use Rattle.smt_names.specs.Signature.{Name, same_name};
 ghost use Rattle.sort_check.specs.WellFormed.{is_well_formed, constants_known, is_entry, AreGiven, IsTermOf, IsWritten, IsAdded};
 

@@ -1,0 +1,5 @@
+mod Reading
+mod Scoping
+mod Shapes
+mod Termwise
+mod Walking

@@ -1,0 +1,4 @@
+pub mod Heads
+pub mod Meant
+pub mod Scopes
+pub mod Walks
