@@ -11,7 +11,7 @@
 //! ```text
 //! let word = draft.put_word(word)?; // of "a"
 //! let twice = draft.put_applied(alloc, concat, places)?; // of (str.++ y y), y at the first place
-//! built(alloc, &draft, twice)? // of (str.++ "a" "a")
+//! build_at(alloc, &draft, twice)? // of (str.++ "a" "a")
 //! ```
 #![tactic(auto)]
 

@@ -10,7 +10,7 @@
 //!
 //! ```text
 //! // of (q) q ((q "a" "y" ((in 1)) q)) ((q ()))
-//! described(alloc, &description)? // each letter is moved to the next one
+//! build_transducer(alloc, &description)? // each letter is moved to the next one
 //! ```
 #![tactic(auto)]
 
