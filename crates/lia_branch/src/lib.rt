@@ -9,8 +9,8 @@
 //! are those of chains, is solved or closed by bounds, or else searched as a system of its own, and its solution or
 //! tree taken to the rows of the whole. All are heuristics, and tested before they are answered. Then the tree of the
 //! whole system whose splits are due is searched, depth first and low before high, by a loop with a stack of its
-//! own. The trail of a node ends by itself, since no basis comes twice. A node that waits keeps its tableau packed, so
-//! memory is that of the lines' terms times the depth, at two to four bytes a term where the numbers are small.
+//! own. The trail of a node ends by itself, since no basis comes twice. A node that waits keeps its tableau packed, over
+//! that of the node that waits below it, so memory is mostly that of the terms that a split changes times the depth.
 //!
 //! ```text
 //! solve(alloc, &system, &NoCut)?   // a system without nets: Solution, Closed or GaveUp

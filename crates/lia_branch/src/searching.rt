@@ -94,6 +94,16 @@ fn enter(alloc: Global, tableau: Tableau, row: Row) -> Result<Entered, AllocErro
     }
 }
 
+/// The tableau of the last split whose second side waits.
+fn last_tableau(levels: &[Level]) -> Option<&PackedTableau> {
+    for level in levels.iter().rev() {
+        if let Level::First { packed, .. } = level {
+            return Some(packed);
+        }
+    }
+    None
+}
+
 /// Goes to the first side of a split that is due.
 fn descend(
     alloc: Global,
@@ -108,7 +118,7 @@ fn descend(
     ensures waiting { IfOk result (λ _. count_by is_first levels.new ≡ suc (count_by is_first levels.old)) }
 {
     let row = fork.first_row(alloc, system)?;
-    let packed = PackedTableau::of(alloc, &tableau)?;
+    let packed = PackedTableau::of(alloc, &tableau, last_tableau(levels.as_slice()))?;
     levels.push(Level::First { fork, packed })?;
     enter(alloc, tableau, row)
 }

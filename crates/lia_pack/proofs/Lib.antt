@@ -1,3 +1,4 @@
+mod Joining
 pub mod Bytes
 pub mod Reading
 pub mod Unpacking

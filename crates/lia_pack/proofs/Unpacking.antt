@@ -14,6 +14,7 @@ use Rattle.lia_tableau.specs.declared.standing.Standing.{Standing}
 use Rattle.lia_tableau.specs.declared.standing.Standing.TheVariants.{Outside, Basic}
 use Rattle.lia_tableau.specs.declared.table.Table.{Table}
 use Rattle.lia_pack.specs.Numbers.{numbers_from, Say, AreWritten}
+use Rattle.lia_pack.specs.Shares.{bytes_of}
 use Rattle.lia_pack.specs.Tables.{kind_number, form_numbers, row_numbers, standing_numbers, IsPackedOf}
 use Rattle.lia_pack.specs.declared.packed.PackedTableau.{PackedTableau}
 
@@ -52,7 +53,7 @@ pub standing_row : (s : Standing) (ns left after : List ℕ) (number : ℕ) → 
 standing_row Outside ns left after number h read say = absurd (omega (arith, h, (read 0 ns say).0))
 standing_row (Basic r) ns left after number h read say = let k = read (kind_number r.kind) (form_numbers r ++ ns) say in (r, (refl, k))
 
-pub both_read : (t : Table) (p : PackedTableau) (left after last : List ℕ) (rows : List Row) (lines : List Standing) → left ≡ p.bytes → IsPackedOf t p →
+pub both_read : (t : Table) (p : PackedTableau) (left after last : List ℕ) (rows : List Row) (lines : List Standing) → left ≡ bytes_of p.bytes → IsPackedOf t p →
     ((xs : List Row) (ns : List ℕ) → length xs ≡ p.row_count → Say left (flat_map row_numbers xs ++ ns) → (rows ≡ xs) × Say after ns) →
     ((xs : List Standing) (ns : List ℕ) → length xs ≡ p.unknowns + p.row_count → Say after (flat_map standing_numbers xs ++ ns) → (lines ≡ xs) × Say last ns) → (rows ≡ t.rows) × (lines ≡ t.lines)
 both_read t p left after last rows lines e k read more =

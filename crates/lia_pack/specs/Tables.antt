@@ -8,6 +8,7 @@ use Rattle.lia_tableau.specs.declared.standing.Standing.{Standing}
 use Rattle.lia_tableau.specs.declared.standing.Standing.TheVariants.{Outside, Basic}
 use Rattle.lia_tableau.specs.declared.table.Table.{Table}
 use Rattle.lia_pack.specs.Numbers.{Say, folded}
+use Rattle.lia_pack.specs.Shares.{bytes_of}
 use Rattle.lia_pack.specs.declared.packed.PackedTableau.{PackedTableau}
 
 abbrev pub kind_number : RowKind → ℕ
@@ -32,4 +33,4 @@ pub record IsPackedOf (t : Table) (p : PackedTableau) : Type 0 where
   pub unknowns : p.unknowns ≡ t.unknowns
   pub pivots : p.pivots ≡ t.pivots
   pub count : p.row_count ≡ length t.rows
-  pub say : Say p.bytes (flat_map row_numbers t.rows ++ flat_map standing_numbers t.lines)
+  pub say : Say (bytes_of p.bytes) (flat_map row_numbers t.rows ++ flat_map standing_numbers t.lines)

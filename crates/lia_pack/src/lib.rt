@@ -4,15 +4,21 @@
 //! `unpack` reads the same tableau back. The central fact is the contract of `unpack`: it answers the very table that
 //! was packed. Both are linear in the tableau's terms.
 //!
+//! Bytes that a tableau packed before has too are kept once: both have pieces of one base, whose references are counted.
+//! Which pieces is a guess, tested before it is kept: joined, they are the bytes.
+//!
 //! ```text
-//! let packed = PackedTableau::of(alloc, &tableau)?;   // some 3 bytes a term in place of 32
+//! let packed = PackedTableau::of(alloc, &tableau, None)?;   // some 3 bytes a term in place of 32
+//! let next = PackedTableau::of(alloc, &changed, Some(&packed))?;   // the terms that aren't the same
 //! let same = packed.unpack(alloc)?;
 //! ```
 #![tactic(auto)]
 
 mod numbers;
 mod packed;
+mod pieces;
 mod reader;
+mod shared;
 mod writing;
 
 pub use packed::PackedTableau;

@@ -1,16 +1,18 @@
 use crate::reader::{Reader, next_lines, next_rows};
+use crate::shared::SharedBytes;
 use crate::writing::{push_lines, push_rows};
 use lia_tableau::{Table, Tableau};
 use std::alloc::{AllocError, Global};
 use sv_list::Items;
 
-/// A tableau in few bytes: each number of its rows and lines takes a byte for seven bits.
+/// A tableau in few bytes: each number of its rows and lines takes a byte for seven bits, and bytes that a tableau packed
+/// before has too are shared with it.
 #[derive(Drop)]
 pub struct PackedTableau {
     unknowns: u32,
     pivots: u64,
     row_count: u32,
-    bytes: Items<u8>,
+    bytes: SharedBytes,
 }
 
 impl PackedTableau {
@@ -18,8 +20,13 @@ impl PackedTableau {
     ghost use Rattle.lia_tableau.specs.declared.table.Table.{Table as AnyTable};
     ghost use Rattle.lia_pack.specs.Tables.{IsPackedOf};
 
-    /// Packs a tableau. Linear in the terms of its rows and lines; the only refusal is want of memory.
-    pub fn of(alloc: Global, tableau: &Tableau) -> Result<PackedTableau, AllocError>
+    /// Packs a tableau, over the bytes of one that was packed before where these are much the same. Linear in the terms of
+    /// its rows and lines; the only refusal is want of memory.
+    pub fn of(
+        alloc: Global,
+        tableau: &Tableau,
+        before: Option<&PackedTableau>,
+    ) -> Result<PackedTableau, AllocError>
         ensures { IfOk result (IsPackedOf tableau.now) }
     {
         let table = tableau.table();
@@ -30,7 +37,7 @@ impl PackedTableau {
             unknowns: table.unknowns,
             pivots: table.pivots,
             row_count: table.rows.len() as u32,
-            bytes: Items::from_slice(alloc, bytes.as_slice())?,
+            bytes: SharedBytes::of(alloc, bytes, shared_by(before))?,
         })
     }
 
@@ -39,8 +46,9 @@ impl PackedTableau {
         requires { (t : AnyTable) × IsPackedOf t self.now }
         ensures { (t : AnyTable) → IsPackedOf t self.now → IfOk result (λ r. r ≡ t) }
     {
+        let bytes = self.bytes.to_items(alloc)?;
         let mut reader = Reader {
-            left: self.bytes.as_slice(),
+            left: bytes.as_slice(),
         };
         let rows = next_rows(alloc, &mut reader, self.row_count)?;
         let lines = next_lines(alloc, &mut reader, self.unknowns + self.row_count)?;
@@ -51,5 +59,12 @@ impl PackedTableau {
             pivots: self.pivots,
         };
         Tableau::of_table(alloc, table)
+    }
+}
+
+fn shared_by(packed: Option<&PackedTableau>) -> Option<&SharedBytes> {
+    match packed {
+        None => None,
+        Some(packed) => Some(&packed.bytes),
     }
 }

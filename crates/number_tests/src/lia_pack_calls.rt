@@ -18,7 +18,7 @@ fn tableau(alloc: Global) -> Result<Tableau, Fail> {
 
 /// How many rows come back, and the constant of the last one.
 fn read_back(alloc: Global) -> Result<(usize, i128), Fail> {
-    let packed = PackedTableau::of(alloc, &tableau(alloc)?)?;
+    let packed = PackedTableau::of(alloc, &tableau(alloc)?, None)?;
     let same = packed.unpack(alloc)?;
     match same.rows() {
         [.., last] => Ok((same.rows().len(), last.form.constant)),

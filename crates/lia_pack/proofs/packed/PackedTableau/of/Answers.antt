@@ -21,5 +21,5 @@ returns c =
       unknowns = ap (λ (z : Table). z.unknowns) e;
       pivots = ap (λ (z : Table). z.pivots) e;
       count = c.len.ensures ∙ ap (λ (z : Table). length z.rows) e;
-      say = subst (λ bytes. Say bytes (flat_map row_numbers t.rows ++ flat_map standing_numbers t.lines)) (sym (c.in_ok-from_slice.ensures ∙ c.as_slice-3.ensures)) whole;
+      say = subst (λ bytes. Say bytes (flat_map row_numbers t.rows ++ flat_map standing_numbers t.lines)) (sym c.in_ok-of.ensures) whole;
     }

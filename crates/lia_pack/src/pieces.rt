@@ -1,0 +1,181 @@
+ghost use Rattle.std.specs.Prelude.{◌≡◌, take, drop, IfOk};
+ghost use Rattle.lia_pack.specs.Shares.{joined};
+
+use crate::shared::Piece;
+use std::alloc::{AllocError, Global};
+use sv_list::Items;
+
+/// The bytes that pieces of a base and fresh ones make. Linear in them.
+pub(crate) fn join(
+    alloc: Global,
+    base: &[u8],
+    pieces: &[Piece],
+    fresh: &[u8],
+) -> Result<Items<u8>, AllocError>
+    ensures { IfOk result (λ bytes. bytes ≡ joined base.now pieces.now fresh.now) }
+{
+    let mut bytes = Vec::new(alloc);
+    let mut rest = base;
+    let mut left = fresh;
+    for piece in pieces {
+        let (_, behind) = cut(rest, piece.skip as usize);
+        let (shared, further) = cut(behind, piece.length as usize);
+        let (own, later) = cut(left, piece.fresh as usize);
+        bytes.extend_from_slice(shared)?;
+        bytes.extend_from_slice(own)?;
+        rest = further;
+        left = later;
+    }
+    bytes.extend_from_slice(rest)?;
+    bytes.extend_from_slice(left)?;
+    Ok(Items::from_vec(bytes))
+}
+
+/// The first bytes, so many of them at most, and those behind them.
+fn cut(bytes: &[u8], at: usize) -> (&[u8], &[u8])
+    ensures front { result.0.now ≡ take at bytes.now }
+    ensures back { result.1.now ≡ drop at bytes.now }
+{
+    bytes.split_at(if at < bytes.len() { at } else { bytes.len() })
+}
+
+/// How many bytes go on alike behind a gap.
+const FEWEST: usize = 8;
+
+/// A gap has fewer bytes than this.
+const GAP: usize = 32;
+
+/// The most bytes of one piece.
+const MOST: usize = u16::MAX as usize;
+
+/// The memory of a piece.
+const PIECE: usize = 6;
+
+/// Pieces of a base that the bytes are made of, and the bytes that it doesn't have; `None` where these take more than a
+/// sixth of the bytes. Linear in the bytes: where both don't go on alike, a gap of at most 31 bytes is looked for.
+pub(crate) fn pieces_of(
+    alloc: Global,
+    base: &[u8],
+    bytes: &[u8],
+) -> Result<Option<(Items<Piece>, Items<u8>)>, AllocError> {
+    let mut pieces = Items::new(alloc);
+    let mut fresh = Items::new(alloc);
+    let mut rest = base;
+    let mut left = bytes;
+    let mut skip: usize = 0;
+    for _ in 0..bytes.len() {
+        if left.is_empty() {
+            break;
+        }
+        let length = count_same(rest, left);
+        let (_, shared) = cut(rest, length);
+        let (_, own) = cut(left, length);
+        let gap = if length == MOST {
+            Gap { shared: 0, own: 0 }
+        } else {
+            next_gap(shared, own)
+        };
+        let (own, later) = cut(own, gap.own);
+        add_bytes(&mut fresh, own)?;
+        pieces.push(piece_of(skip, length, own.len()))?;
+        let (_, behind) = cut(shared, gap.shared);
+        skip = shared.len().saturating_sub(behind.len());
+        rest = behind;
+        left = later;
+        let memory = pieces
+            .len()
+            .saturating_mul(PIECE)
+            .saturating_add(fresh.len());
+        if memory > bytes.len() / 6 {
+            return Ok(None);
+        }
+    }
+    leave_out(&mut pieces, skip.saturating_add(rest.len()))?;
+    Ok(Some((pieces, fresh)))
+}
+
+fn add_bytes(list: &mut Items<u8>, bytes: &[u8]) -> Result<(), AllocError> {
+    for byte in bytes {
+        list.push(*byte)?;
+    }
+    Ok(())
+}
+
+/// Pieces that leave out so many bytes of the base.
+fn leave_out(pieces: &mut Items<Piece>, count: usize) -> Result<(), AllocError> {
+    let mut count = count;
+    for _ in 0..count {
+        if count == 0 {
+            return Ok(());
+        }
+        let skip = if count < MOST { count } else { MOST };
+        pieces.push(piece_of(skip, 0, 0))?;
+        count = count.saturating_sub(skip);
+    }
+    Ok(())
+}
+
+fn piece_of(skip: usize, length: usize, fresh: usize) -> Piece {
+    Piece {
+        skip: narrow(skip),
+        length: narrow(length),
+        fresh: narrow(fresh),
+    }
+}
+
+/// A number of 16 bits, or the largest of them.
+fn narrow(number: usize) -> u16 {
+    if number < MOST {
+        number as u16
+    } else {
+        u16::MAX
+    }
+}
+
+/// What lies between two pieces: so many bytes of the base, and so many others in their place.
+#[derive(Clone, Copy)]
+struct Gap {
+    shared: usize,
+    own: usize,
+}
+
+/// The shortest gap behind which both go on alike.
+fn next_gap(base: &[u8], bytes: &[u8]) -> Gap {
+    for size in 1..GAP {
+        if let Some(gap) = gap_of(base, bytes, size) {
+            return gap;
+        }
+    }
+    Gap {
+        shared: GAP,
+        own: GAP,
+    }
+}
+
+/// A gap of so many bytes of both together behind which both go on alike.
+fn gap_of(base: &[u8], bytes: &[u8], size: usize) -> Option<Gap> {
+    for shared in 0..size {
+        let own = size - shared;
+        if go_alike(cut(base, shared).1, cut(bytes, own).1) {
+            return Some(Gap { shared, own });
+        }
+    }
+    None
+}
+
+/// Whether both begin with the same few bytes, or both are at their end.
+fn go_alike(base: &[u8], bytes: &[u8]) -> bool {
+    cut(base, FEWEST).0 == cut(bytes, FEWEST).0
+}
+
+/// How many bytes are the same from the first on, as far as one piece goes.
+fn count_same(base: &[u8], bytes: &[u8]) -> usize {
+    let mut count: usize = 0;
+    for (one, other) in base.iter().zip(bytes) {
+        if *one != *other || count == MOST {
+            return count;
+        }
+        count = count.saturating_add(1);
+    }
+    count
+}
