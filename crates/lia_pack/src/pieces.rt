@@ -51,8 +51,12 @@ const MOST: usize = u16::MAX as usize;
 /// The memory of a piece.
 const PIECE: usize = 6;
 
-/// Pieces of a base that the bytes are made of, and the bytes that it doesn't have; `None` where these take more than a
-/// sixth of the bytes. Linear in the bytes: where both don't go on alike, a gap of at most 31 bytes is looked for.
+/// Bytes that the base doesn't have may come thick in so many bytes before the pieces are given up.
+const SLACK: usize = 4096;
+
+/// Pieces of a base that the bytes are made of, and the bytes that it doesn't have; `None` where these take more than an
+/// eighth of the bytes, or well before the end more than a quarter of those so far. Linear in the bytes: where both don't
+/// go on alike, a gap of at most 31 bytes is looked for.
 pub(crate) fn pieces_of(
     alloc: Global,
     base: &[u8],
@@ -86,7 +90,8 @@ pub(crate) fn pieces_of(
             .len()
             .saturating_mul(PIECE)
             .saturating_add(fresh.len());
-        if memory > bytes.len() / 6 {
+        let done = bytes.len().saturating_sub(left.len());
+        if memory > bytes.len() / 8 || memory > SLACK.saturating_add(done / 4) {
             return Ok(None);
         }
     }

@@ -43,11 +43,11 @@ impl SharedBytes {
         SharedBytes::keep(alloc, bytes)
     }
 
-    /// The bytes as a base of their own.
+    /// The bytes as a base of their own, with no room behind them.
     fn keep(alloc: Global, bytes: Items<u8>) -> Result<SharedBytes, AllocError>
         ensures { IfOk result (λ s. bytes_of s ≡ bytes) }
     {
-        match Rc::new(alloc, bytes) {
+        match Rc::new(alloc, Items::from_slice(alloc, bytes.as_slice())?) {
             Ok(base) => Ok(SharedBytes {
                 base,
                 pieces: Items::new(alloc),
@@ -71,8 +71,8 @@ impl SharedBytes {
         }
         Ok(Some(SharedBytes {
             base: self.base.clone()?,
-            pieces,
-            fresh,
+            pieces: Items::from_slice(alloc, pieces.as_slice())?,
+            fresh: Items::from_slice(alloc, fresh.as_slice())?,
         }))
     }
 
