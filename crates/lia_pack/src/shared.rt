@@ -3,6 +3,9 @@ use std::alloc::{AllocError, Global};
 use std::rc::Rc;
 use sv_list::Items;
 
+/// Fewer bytes share nothing, since a thousand such lists take 64 MB, and pieces take time to find.
+const FEW: usize = 1 << 16;
+
 /// Some bytes of a base, and then some that it doesn't have.
 #[derive(Clone, Copy)]
 pub(crate) struct Piece {
@@ -27,7 +30,7 @@ impl SharedBytes {
     ghost use Rattle.std.specs.Prelude.{◌≡◌, IfOk, IfSome};
     ghost use Rattle.lia_pack.specs.Shares.{bytes_of};
 
-    /// The bytes, as pieces of what others have where that takes little memory.
+    /// The bytes, as pieces of what others have where they are many and that takes little memory.
     pub fn of(
         alloc: Global,
         bytes: Items<u8>,
@@ -35,9 +38,11 @@ impl SharedBytes {
     ) -> Result<SharedBytes, AllocError>
         ensures { IfOk result (λ s. bytes_of s ≡ bytes) }
     {
-        if let Some(others) = others {
-            if let Some(shared) = others.share(alloc, bytes.as_slice())? {
-                return Ok(shared);
+        if bytes.len() >= FEW {
+            if let Some(others) = others {
+                if let Some(shared) = others.share(alloc, bytes.as_slice())? {
+                    return Ok(shared);
+                }
             }
         }
         SharedBytes::keep(alloc, bytes)
