@@ -2,7 +2,7 @@
 # Runs the program in the caller's folder, with the caller's words and input, and ends with its
 # status. Where it isn't built from the present sources, it is proved and built first, which is told
 # on standard error. Crates that don't stand on each other are built at the same time. Broken off,
-# it goes on where it was.
+# it keeps the crates that were done.
 set -u
 root=$(cd "$(dirname "${BASH_SOURCE[0]}")" && pwd) || exit 70
 program=$root/crates/strsolve/out/strsolve
@@ -34,19 +34,42 @@ list_below() {
     done
 }
 
+# A repository of its own for a run over the crate $1, of hard links: its crates are this one, with what an earlier run
+# kept, and those that are built. A run of the toolchain keeps others out of each folder that it reads, so that over one
+# folder they would go in turn.
+link_repository() {
+    local name part
+    for name in "$1" "${!is_done[@]}"; do
+        mkdir -p "$building/$1/crates/$name/out" || return 1
+        grep "^$name[ :]" "$root/crates.txt" >>"$building/$1/crates.txt" || return 1
+        for part in src specs proofs args data status stdin stdout out/rlib; do
+            if [ -e "$root/crates/$name/$part" ]; then
+                cp -al "$root/crates/$name/$part" "$building/$1/crates/$name/$part" || return 1
+            fi
+        done
+    done
+    if [ -d "$root/crates/$1/out/incremental" ]; then
+        cp -a "$root/crates/$1/out/incremental" "$building/$1/crates/$1/out" || return 1
+    fi
+}
+
 # Proves the crate $1 and builds its library, or the program where $2 is run. A failure is told with
 # what the toolchain said.
 build_crate() {
-    local log
-    log=$(mktemp) || return 1
+    local log=$building/$1.log status
     echo "strsolve:   $1 begins" >&2
-    if ! (cd "$root/crates/$1" && rt "$2") </dev/null >"$log" 2>&1 && [ "$2" = lib ]; then
+    link_repository "$1" || return 1
+    (cd "$building/$1/crates/$1" && rt "$2") </dev/null >"$log" 2>&1 9>&-
+    status=$?
+    rm -rf "$root/crates/$1/out"
+    mv "$building/$1/crates/$1/out" "$root/crates/$1/out" || return 1
+    rm -rf "${building:?}/$1"
+    # What the program itself ends with says nothing of its building.
+    if [ "$2" = run ] && [ -x "$program" ]; then status=0; fi
+    if [ "$status" -ne 0 ]; then
         cat "$log" >&2
-        rm -f "$log"
         return 1
     fi
-    if [ "$2" = run ] && [ ! -x "$program" ]; then cat "$log" >&2; fi
-    rm -f "$log"
     echo "strsolve:   $1 is done" >&2
 }
 
@@ -59,8 +82,8 @@ is_ready() {
     done
 }
 
-# Builds all crates below the program, each as soon as those below it are done, as many at once as there are
-# processors; stops at the first that fails.
+# Builds all crates below the program, each as soon as those below it are done, as many at once as there are processors;
+# begins none after the first that fails. What an earlier run built stays where it is the present sources'.
 build_below() {
     local -A name_of=()
     local -a waiting=("${order[@]}") left
@@ -76,24 +99,41 @@ build_below() {
             fi
         done
         waiting=("${left[@]}")
-        wait -n -p job "${!name_of[@]}" || return 1
+        if ! wait -n -p job "${!name_of[@]}"; then
+            wait
+            return 1
+        fi
         is_done[${name_of[$job]}]=yes
         unset "name_of[$job]"
     done
 }
 
 build() {
+    mkdir -p "$root/out"
+    exec 9>"$root/out/lock"
+    flock 9
+    # Another run may have built it meanwhile.
+    if is_built; then
+        exec 9>&-
+        return
+    fi
+    touch "$root/out/begun"
+    building=$root/out/building
+    rm -rf "$building"
+    # A run of the toolchain over the whole checkout refuses a list of crates below the top.
+    trap 'rm -rf "$building"' EXIT
     list_below strsolve
     echo "strsolve: proving and building the program, crate by crate, which takes long the first time" >&2
-    if build_below; then
-        rm -f "$program"
-        build_crate strsolve run
-    fi
+    rm -f "$program"
+    if build_below; then build_crate strsolve run; fi
+    rm -rf "$building"
     if [ ! -x "$program" ]; then
         echo "strsolve: it could not be built" >&2
         exit 70
     fi
-    touch "$program"
+    # What was changed while it was built is newer.
+    touch -r "$root/out/begun" "$program"
+    exec 9>&-
 }
 
 is_built || build

@@ -2,9 +2,9 @@
 """Lists the definitions that the contract of the top call rests on.
 
 It begins with the definitions that the clauses of `run` name (crates/strsolve/src/top.rt), follows
-what each definition of a specs/ folder names, and prints one row a file: how many lines of it are
-reached, and what it restates, which is the first comment of the file. A file's comment line
-`-- Belief isn't needed: ..` names a law that makes it so, and is printed with it.
+what each definition of a specs/ folder names, and what the public ghost fields of the types that it
+names say, and those of the types in their fields. It prints one row a file: how many lines of it are
+reached, and what it restates, which is the first comment of the file.
 
     docs/trusted.py           prints the table
     docs/trusted.py --check   compares it with docs/TRUST.md, prints what differs, and ends with 1 if something does
@@ -85,6 +85,43 @@ class Spec:
         return " ".join(said)
 
 
+class Types:
+    """The structs and enums of the sources, by crate and name: what their public ghost fields name, and their fields' types."""
+
+    def __init__(self):
+        self.ghosts, self.fields, self.crates = {}, {}, {}
+        for path in sorted((ROOT / "crates").glob("*/src/**/*.rt")):
+            crate = path.relative_to(ROOT / "crates").parts[0]
+            text = path.read_text()
+            imports = {}
+            for line in text.splitlines():
+                use = USE.match(line)
+                if use:
+                    for item in (use.group(3) or "").split(","):
+                        words = item.split(" as ")
+                        imports[words[-1].strip()] = (use.group(1), use.group(2), words[0].strip())
+            for name, body in re.findall(r"^pub (?:struct|enum) (\w+)[^{;]*\{\n(.*?)^\}", text, re.S | re.M):
+                said = [line for line in body.splitlines() if re.match(r"\s*pub ghost ", line)]
+                words = set(re.split(r"[\s(){},.;:]+", " ".join(said)))
+                self.ghosts[crate, name] = [imports[word] for word in sorted(words) if word in imports]
+                self.fields[crate, name] = set(re.findall(r"\b[A-Z]\w+", body))
+                self.crates.setdefault(name, []).append(crate)
+
+    def reach(self, crate, name):
+        """What the ghost fields name of a type and of those in its fields."""
+        waiting, seen = [(crate, name)], set()
+        while waiting:
+            at = waiting.pop()
+            if at in seen or at not in self.ghosts:
+                continue
+            seen.add(at)
+            yield from self.ghosts[at]
+            for inner in sorted(self.fields[at]):
+                homes = self.crates.get(inner, [])
+                # a name that several crates have is the crate's own where it has one
+                waiting += [(home, inner) for home in homes if home == at[0] or at[0] not in homes]
+
+
 def load():
     specs = {}
     for path in sorted((ROOT / "crates").glob("*/specs/*.antt")):
@@ -107,9 +144,12 @@ def reach(specs):
                 words = item.split(" as ")
                 if words[-1].strip() in said:
                     waiting.append((crate, module, words[0].strip()))
-    reached = {}
+    reached, types, met = {}, Types(), set()
     while waiting:
         crate, module, name = waiting.pop()
+        if module.startswith("declared.") and (crate, module.split(".")[2]) not in met:
+            met.add((crate, module.split(".")[2]))
+            waiting += types.reach(crate, module.split(".")[2])
         spec = specs.get((crate, module))
         if spec is None or name not in spec.names:
             continue

@@ -2,7 +2,7 @@
 use Rattle.std.proofs.Common.{◌≡◌, ℕ, zero, suc, ◌↔◌, cond, List, [], ◌∷◌, length, map, Contains, Option, Some, None, slice_get, slice_set, refl, sym, ap, ◌∙◌, subst, arith}
 use Rattle.std.proofs.lemmas.Bool.{eq-eqb, ne_eqb}
 use Rattle.machine_core.specs.declared.graph.Graph.{Graph}
-use Rattle.machine_core.specs.Costs.{add_costs, zeros}
+use Rattle.machine_core.specs.Costs.{add_costs}
 use Rattle.machine_core.specs.CostLaws.{zeros-length, add_costs-length, add_costs-assoc}
 use Rattle.machine_core.specs.Graphs.{Accepts}
 use Rattle.sv_terms.specs.Language.{Word}

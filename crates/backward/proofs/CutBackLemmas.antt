@@ -17,16 +17,16 @@ use Rattle.pre_image.specs.SliceLaws.{slice_end_cost}
 use Rattle.pre_image.specs.Lifts.{IsJoined}
 use Rattle.backward.specs.Families.{Family, Words, HasMachine, without}
 use Rattle.backward.specs.Pieces.{first_of}
-use Rattle.backward.specs.Kept.{IsKept, IsPartRun, IsApart}
+use Rattle.backward.specs.Kept.{IsKeptMeeting, IsPartRun, IsApart}
 use Rattle.backward.specs.Made.{AreMet, IsCut}
 use Rattle.backward.specs.Back.{AreBack}
 use Rattle.backward.specs.PiecesBack.{met_at, HasMet, AreTakenBack}
 use Rattle.backward.specs.Runs.{Runs, AreRuns, run_words, run_totals}
 use Rattle.backward.specs.declared.leaf_state.LeafState.{LeafState}
-use Rattle.backward.specs.declared.leaf_state.Made.{Made}
-use Rattle.backward.specs.declared.leaf_state.Made.TheVariants as made
+use Rattle.backward.specs.declared.leaf_state.FamilyOrigin.{FamilyOrigin}
+use Rattle.backward.specs.declared.leaf_state.FamilyOrigin.TheVariants as made
 use Rattle.backward.specs.declared.meeting.Apart.{Apart}
-use Rattle.backward.specs.declared.meeting.Meeting.{Meeting}
+use Rattle.backward.specs.declared.meeting.MetPart.{MetPart}
 use Rattle.backward.proofs.ConfLemmas.{set-same, set-other, without-other}
 use Rattle.backward.proofs.LoopLemmas.{same-found, get-below, get-in, drop-at, drop-all, first-drop}
 use Rattle.backward.proofs.RunsBack.{run-of, no-run, runs-back, totals-less, totals-more, word-there, word-other, word-of}
@@ -79,7 +79,7 @@ abbrev pub Joins : Graph → ℕ → Option ℕ → Type 0
 Joins m from to = (t : ℕ) (first second whole : Run ℕ) → IsPartRun m from (Some t) first → IsPartRun m t to second → IsJoined first second whole → IsPartRun m from to whole
 
 -- one meeting for each piece
-met-count : (target : Graph) (ss ps : List ℕ) (base : Family) (qs : List Meeting) (ns : Family) → AreMet target ss ps base qs ns → length qs ≡ length ps
+met-count : (target : Graph) (ss ps : List ℕ) (base : Family) (qs : List MetPart) (ns : Family) → AreMet target ss ps base qs ns → length qs ≡ length ps
 met-count target [] [] base qs ns h = ap length h.0
 met-count target [] (p ∷ ps) base qs ns h = absurd h
 met-count target (s ∷ ss) [] base qs ns h = absurd h
@@ -87,16 +87,16 @@ met-count target (s ∷ ss) (p ∷ ps) base qs ns h =
     let rest = met-count target ss ps base h.3 h.0 h.4 in
     ap length h.7 ∙ more h.3 h.2 ∙ ap suc rest
   where
-    more : (xs : List Meeting) (x : Meeting) → length (xs ++ x ∷ []) ≡ suc (length xs)
+    more : (xs : List MetPart) (x : MetPart) → length (xs ++ x ∷ []) ≡ suc (length xs)
     more [] x = refl
     more (y ∷ ys) x = ap suc (more ys x)
 
 -- the machine of a variable, where this is what it was met to
-abbrev Holds : Family → ℕ → Graph → Option Meeting → Type 0
-Holds ms v k o = MatchOption o (HasMachine ms v k) (λ (q : Meeting). k ≡ q.small.machine)
+abbrev Holds : Family → ℕ → Graph → Option MetPart → Type 0
+Holds ms v k o = MatchOption o (HasMachine ms v k) (λ (q : MetPart). k ≡ q.small.machine)
 
 -- one piece more
-met-step : (base mid ns : Family) (p : ℕ) (ps : List ℕ) (k : Graph) (q : Meeting) (rest qs done : List Meeting) → length rest ≡ length ps → HasMachine mid p k → qs ≡ rest ++ q ∷ []
+met-step : (base mid ns : Family) (p : ℕ) (ps : List ℕ) (k : Graph) (q : MetPart) (rest qs done : List MetPart) → length rest ≡ length ps → HasMachine mid p k → qs ≡ rest ++ q ∷ []
     → ns ≡ slice_set mid p (Some q.small.machine) → (v : ℕ) (m : Graph) → HasMachine ns v m → (HasMachine mid v m → HasMet base v ps (rest ++ q ∷ done) m) → HasMet base v (p ∷ ps) (qs ++ done) m
 met-step base mid ns p ps k q rest qs done count old last now v m e more = elim (eqb_tells p v) [
   | inl is ↦
@@ -112,7 +112,7 @@ met-step base mid ns p ps k q rest qs done count old last now v m e more = elim 
 ]
 
 -- the machine of a variable once these pieces are met
-met-machine : (target : Graph) (ss ps : List ℕ) (base : Family) (qs done : List Meeting) (ns : Family) → AreMet target ss ps base qs ns
+met-machine : (target : Graph) (ss ps : List ℕ) (base : Family) (qs done : List MetPart) (ns : Family) → AreMet target ss ps base qs ns
     → (v : ℕ) (m : Graph) → HasMachine ns v m → HasMet base v ps (qs ++ done) m
 met-machine target [] [] base qs done ns h v m e = subst (λ l. HasMachine l v m) h.1 e
 met-machine target [] (p ∷ ps) base qs done ns h v m e = absurd h
@@ -120,11 +120,11 @@ met-machine target (s ∷ ss) [] base qs done ns h v m e = absurd h
 met-machine target (s ∷ ss) (p ∷ ps) base qs done ns h v m e =
     met-step base h.0 ns p ps h.1 h.2 h.3 qs done (met-count target ss ps base h.3 h.0 h.4) h.5 h.7 h.8 v m e (λ f. met-machine target ss ps base h.3 (h.2 ∷ done) h.0 h.4 v m f)
 
-now-there : (mid ns : Family) (p : ℕ) (k : Graph) (q : Meeting) → ns ≡ slice_set mid p (Some q.small.machine) → HasMachine mid p k → HasMachine ns p q.small.machine
+now-there : (mid ns : Family) (p : ℕ) (k : Graph) (q : MetPart) → ns ≡ slice_set mid p (Some q.small.machine) → HasMachine mid p k → HasMachine ns p q.small.machine
 now-there mid ns p k q e h = subst (λ l. HasMachine l p q.small.machine) (sym e) (set-same mid p (Some k) (Some q.small.machine) h)
 
 -- no piece is the variable that was cut
-others-step : (x p : ℕ) (ps : List ℕ) (mid ns : Family) (k : Graph) (q : Meeting) → HasMachine mid p k → ns ≡ slice_set mid p (Some q.small.machine)
+others-step : (x p : ℕ) (ps : List ℕ) (mid ns : Family) (k : Graph) (q : MetPart) → HasMachine mid p k → ns ≡ slice_set mid p (Some q.small.machine)
     → (slice_get mid x ≡ Some None) × ((r : ℕ) → Contains ps r → r ≡ x → ⊥) → (slice_get ns x ≡ Some None) × ((r : ℕ) → Contains (p ∷ ps) r → r ≡ x → ⊥)
 others-step x p ps mid ns k q there now rest = (ap (λ l. slice_get l x) now ∙ set-other mid p x (Some q.small.machine) (λ e. other (sym e)) ∙ rest.0, each)
   where
@@ -135,7 +135,7 @@ others-step x p ps mid ns k q there now rest = (ap (λ l. slice_get l x) now ∙
     each r (zero, lt, e) = subst (λ u. u ≡ x → ⊥) e other
     each r (suc i, lt, e) = rest.1 r (i, omega (arith, lt), e)
 
-met-others : (target : Graph) (x : ℕ) (ss ps : List ℕ) (base : Family) → slice_get base x ≡ Some None → (qs : List Meeting) (ns : Family) → AreMet target ss ps base qs ns
+met-others : (target : Graph) (x : ℕ) (ss ps : List ℕ) (base : Family) → slice_get base x ≡ Some None → (qs : List MetPart) (ns : Family) → AreMet target ss ps base qs ns
     → (slice_get ns x ≡ Some None) × ((p : ℕ) → Contains ps p → p ≡ x → ⊥)
 met-others target x [] [] base gone qs ns h = (ap (λ l. slice_get l x) h.1 ∙ gone, λ p c e. omega (arith, c.1))
 met-others target x [] (p ∷ ps) base gone qs ns h = absurd h
@@ -143,36 +143,36 @@ met-others target x (s ∷ ss) [] base gone qs ns h = absurd h
 met-others target x (s ∷ ss) (p ∷ ps) base gone qs ns h = others-step x p ps h.0 ns h.1 h.2 h.5 h.8 (met-others target x ss ps base gone h.3 h.0 h.4)
 
 -- the variable's machine in the family from which it was taken out
-has-met : (ms : Family) (x v : ℕ) (ps : List ℕ) (qs : List Meeting) (k : Graph) → HasMet (without ms x) v ps qs k → HasMet ms v ps qs k
+has-met : (ms : Family) (x v : ℕ) (ps : List ℕ) (qs : List MetPart) (k : Graph) → HasMet (without ms x) v ps qs k → HasMet ms v ps qs k
 has-met ms x v ps qs k h = by (met_at v ps qs) h
   where
-    by : (o : Option Meeting) → Holds (without ms x) v k o → Holds ms v k o
+    by : (o : Option MetPart) → Holds (without ms x) v k o → Holds ms v k o
     by None e = sym (set-other ms x v None (without-other ms x v k e)) ∙ e
     by (Some q) e = e
 
 -- a variable has one machine
-pub one-met : (ms : Family) (v : ℕ) (ps : List ℕ) (qs : List Meeting) (k g : Graph) → HasMet ms v ps qs k → HasMet ms v ps qs g → k ≡ g
+pub one-met : (ms : Family) (v : ℕ) (ps : List ℕ) (qs : List MetPart) (k g : Graph) → HasMet ms v ps qs k → HasMet ms v ps qs g → k ≡ g
 one-met ms v ps qs k g = by (met_at v ps qs)
   where
-    by : (o : Option Meeting) → Holds ms v k o → Holds ms v g o → k ≡ g
+    by : (o : Option MetPart) → Holds ms v k o → Holds ms v g o → k ≡ g
     by None e f = cc
     by (Some q) e f = e ∙ sym f
 
 -- what is known of the piece that is taken back next
-record IsNext (target : Graph) (base : Family) (starts pieces : List ℕ) (qs : List Meeting) (ns : Family) (i p : ℕ) : Type 0 where
+record IsNext (target : Graph) (base : Family) (starts pieces : List ℕ) (qs : List MetPart) (ns : Family) (i p : ℕ) : Type 0 where
   from : ℕ
   begins : slice_get starts i ≡ Some from
   mid : Family
   k : Graph
-  q : Meeting
-  rest : List Meeting
+  q : MetPart
+  rest : List MetPart
   met : AreMet target (drop (suc i) starts) (drop (suc i) pieces) base rest mid
   there : HasMachine mid p k
-  kept : IsKept k target from (first_of (drop (suc i) starts)) q
+  kept : IsKeptMeeting k target from (first_of (drop (suc i) starts)) q
   last : qs ≡ rest ++ q ∷ []
   now : ns ≡ slice_set mid p (Some q.small.machine)
 
-is-next : (target : Graph) (base : Family) (starts pieces : List ℕ) (qs : List Meeting) (ns : Family) (i p : ℕ) → slice_get pieces i ≡ Some p
+is-next : (target : Graph) (base : Family) (starts pieces : List ℕ) (qs : List MetPart) (ns : Family) (i p : ℕ) → slice_get pieces i ≡ Some p
     → AreMet target (drop i starts) (drop i pieces) base qs ns → IsNext target base starts pieces qs ns i p
 is-next target base starts pieces qs ns i p at met = by (slice_get starts i) refl
   where
@@ -185,7 +185,7 @@ is-next target base starts pieces qs ns i p at met = by (slice_get starts i) ref
         let h = subst (λ l. AreMet target l (p ∷ drop (suc i) pieces) base qs ns) (drop-at starts i s e) behind in
         record { from = s; begins = e; mid = h.0; k = h.1; q = h.2; rest = h.3; met = h.4; there = h.5; kept = h.6; last = h.7; now = h.8 }
 
-module _ (ms : Family) (x : ℕ) (target : Graph) (cuts pieces : List ℕ) (meetings : List Meeting) (old : Runs) (i : ℕ) (lt : i < length pieces) (rs : Runs) (whole : Run ℕ)
+module _ (ms : Family) (x : ℕ) (target : Graph) (cuts pieces : List ℕ) (meetings : List MetPart) (old : Runs) (i : ℕ) (lt : i < length pieces) (rs : Runs) (whole : Run ℕ)
     (b : AreTakenBack target (without ms x) cuts pieces meetings old i rs whole) where
   abbrev piece : ℕ
   piece = get_or pieces i 0
@@ -241,7 +241,7 @@ module _ (ms : Family) (x : ℕ) (target : Graph) (cuts pieces : List ℕ) (meet
   pub piece-below : piece < length rs
   piece-below = get-below rs piece (Some run-held.0) run-held.1
 
-  module _ (g : Graph) (mg : HasMet ms piece (drop (suc i) pieces) meetings g) (q : Meeting) (mq : slice_get meetings (length pieces - 1 - i) ≡ Some q)
+  module _ (g : Graph) (mg : HasMet ms piece (drop (suc i) pieces) meetings g) (q : MetPart) (mq : slice_get meetings (length pieces - 1 - i) ≡ Some q)
       (r : Run ℕ) (mr : slice_get rs piece ≡ Some (Some r)) (from : ℕ) (mf : slice_get (0 ∷ cuts) i ≡ Some from) (to : Option ℕ) (mt : to ≡ slice_get cuts i) where
     same-machine : next.k ≡ g
     same-machine = one-met ms piece (drop (suc i) pieces) meetings next.k g machine-met mg
@@ -255,19 +255,19 @@ module _ (ms : Family) (x : ℕ) (target : Graph) (cuts pieces : List ℕ) (meet
     same-to : first_of (drop (suc i) (0 ∷ cuts)) ≡ to
     same-to = first-drop cuts i ∙ sym mt
 
-    pub piece-kept : IsKept g target from to q
+    pub piece-kept : IsKeptMeeting g target from to q
     piece-kept =
-        let met = subst (IsKept next.k target next.from (first_of (drop (suc i) (0 ∷ cuts)))) same-meeting next.kept in
-        let begun = subst (λ s. IsKept next.k target s (first_of (drop (suc i) (0 ∷ cuts))) q) same-from met in
-        let ended = subst (λ t. IsKept next.k target from t q) same-to begun in
-        subst (λ k. IsKept k target from to q) same-machine ended
+        let met = subst (IsKeptMeeting next.k target next.from (first_of (drop (suc i) (0 ∷ cuts)))) same-meeting next.kept in
+        let begun = subst (λ s. IsKeptMeeting next.k target s (first_of (drop (suc i) (0 ∷ cuts))) q) same-from met in
+        let ended = subst (λ t. IsKeptMeeting next.k target from t q) same-to begun in
+        subst (λ k. IsKeptMeeting k target from to q) same-machine ended
 
     pub piece-run : IsRunOf q.small.machine r
     piece-run =
         let w = run-held in
         let f = w.1 in
         let same : w.0 ≡ r = cc in
-        subst (λ (m : Meeting). IsRunOf m.small.machine r) same-meeting (subst (IsRunOf next.q.small.machine) same w.2)
+        subst (λ (m : MetPart). IsRunOf m.small.machine r) same-meeting (subst (IsRunOf next.q.small.machine) same w.2)
 
     -- the run so far ends where the piece's part begins
     pub so-far : IsPartRun target 0 (Some from) whole
@@ -331,18 +331,18 @@ module _ (ms : Family) (x : ℕ) (target : Graph) (cuts pieces : List ℕ) (meet
             | inr off ↦ word-other rs piece v a.whole off.1
           ]
 
-same-cut : (p q : List Meeting) → ◌≡◌ {A = Made} (made.Cut p) (made.Cut q) → p ≡ q
+same-cut : (p q : List MetPart) → ◌≡◌ {A = FamilyOrigin} (made.Cut p) (made.Cut q) → p ≡ q
 same-cut p q e = cc
 
 -- what was met, where these meetings were kept
-pub cut-with : {ms : Family} {x : ℕ} {pieces cuts : List ℕ} {ns : LeafState} {meetings : List Meeting} {g : Graph} → IsCut ms x pieces cuts ns → ns.made ≡ made.Cut meetings → HasMachine ms x g
+pub cut-with : {ms : Family} {x : ℕ} {pieces cuts : List ℕ} {ns : LeafState} {meetings : List MetPart} {g : Graph} → IsCut ms x pieces cuts ns → ns.made ≡ made.Cut meetings → HasMachine ms x g
     → AreMet g (0 ∷ cuts) pieces (without ms x) meetings ns.machines
 cut-with {ms = ms} {x = x} {pieces = pieces} {cuts = cuts} {ns = ns} {meetings = meetings} {g = g} c e hg =
     subst (λ qs. AreMet g (0 ∷ cuts) pieces (without ms x) qs ns.machines) (same-cut c.meetings meetings (sym c.made ∙ e))
     (subst (λ m. AreMet m (0 ∷ cuts) pieces (without ms x) c.meetings ns.machines) (same-found ms x c.target g c.machine hg) c.met)
 
 -- before the first piece is taken back
-module _ (ms : Family) (x : ℕ) (target : Graph) (cuts pieces : List ℕ) (meetings : List Meeting) (ns : Family) (met : AreMet target (0 ∷ cuts) pieces (without ms x) meetings ns)
+module _ (ms : Family) (x : ℕ) (target : Graph) (cuts pieces : List ℕ) (meetings : List MetPart) (ns : Family) (met : AreMet target (0 ∷ cuts) pieces (without ms x) meetings ns)
     (rs : Runs) (runs : AreRuns ns rs) where
   some-pieces : (ps : List ℕ) → AreMet target (0 ∷ cuts) ps (without ms x) meetings ns → 0 < length ps
   some-pieces [] h = absurd h
@@ -383,7 +383,7 @@ module _ (ms : Family) (x : ℕ) (target : Graph) (cuts pieces : List ℕ) (meet
       total = rw costs last
 
 -- once all are taken back, the run of the machine that was cut goes in its place
-module _ (ms : Family) (x : ℕ) (target : Graph) (there : HasMachine ms x target) (cuts pieces : List ℕ) (meetings : List Meeting) (ns : Family)
+module _ (ms : Family) (x : ℕ) (target : Graph) (there : HasMachine ms x target) (cuts pieces : List ℕ) (meetings : List MetPart) (ns : Family)
     (met : AreMet target (0 ∷ cuts) pieces (without ms x) meetings ns) (old rs : Runs) (whole : Run ℕ)
     (b : AreTakenBack target (without ms x) cuts pieces meetings old (length pieces) rs whole) where
   all-done : (starts : List ℕ) → AreMet target starts [] (without ms x) b.left b.family → (starts ≡ []) × (b.family ≡ without ms x)
@@ -431,25 +431,25 @@ module _ (ms : Family) (x : ℕ) (target : Graph) (there : HasMachine ms x targe
         take-whole (y ∷ ys) = ap (λ l. y ∷ l) (take-whole ys)
 
 -- where the machine of a variable is found, from a piece on
-pub met-skip : (v : ℕ) (ps : List ℕ) (i p : ℕ) (qs : List Meeting) → slice_get ps i ≡ Some p → (p ≡ v → ⊥) → met_at v (drop i ps) qs ≡ met_at v (drop (suc i) ps) qs
+pub met-skip : (v : ℕ) (ps : List ℕ) (i p : ℕ) (qs : List MetPart) → slice_get ps i ≡ Some p → (p ≡ v → ⊥) → met_at v (drop i ps) qs ≡ met_at v (drop (suc i) ps) qs
 met-skip v ps i p qs at off =
     ap (λ l. met_at v l qs) (drop-at ps i p at) ∙ ap (λ b. cond b (slice_get qs (length (drop (suc i) ps))) (met_at v (drop (suc i) ps) qs)) (ne_eqb p v off)
 
-pub met-here : (v : ℕ) (ps : List ℕ) (i p : ℕ) (qs : List Meeting) → slice_get ps i ≡ Some p → p ≡ v → met_at v (drop i ps) qs ≡ slice_get qs (length ps - 1 - i)
+pub met-here : (v : ℕ) (ps : List ℕ) (i p : ℕ) (qs : List MetPart) → slice_get ps i ≡ Some p → p ≡ v → met_at v (drop i ps) qs ≡ slice_get qs (length ps - 1 - i)
 met-here v ps i p qs at is =
     let lt = get-below ps i p at in
     let behind = length-drop (suc i) ps in
     let n : length (drop (suc i) ps) ≡ length ps - 1 - i = omega arith in
     ap (λ l. met_at v l qs) (drop-at ps i p at) ∙ ap (λ b. cond b (slice_get qs (length (drop (suc i) ps))) (met_at v (drop (suc i) ps) qs)) (eq-eqb p v is) ∙ ap (slice_get qs) n
 
-pub met-end : (v : ℕ) (ps : List ℕ) (i : ℕ) (qs : List Meeting) → length ps ≤ i → met_at v (drop i ps) qs ≡ None
+pub met-end : (v : ℕ) (ps : List ℕ) (i : ℕ) (qs : List MetPart) → length ps ≤ i → met_at v (drop i ps) qs ≡ None
 met-end v ps i qs h = ap (λ l. met_at v l qs) (drop-all ps i h)
 
-pub met-none : (ms : Family) (v : ℕ) (ps : List ℕ) (qs : List Meeting) (k : Graph) → met_at v ps qs ≡ None → HasMet ms v ps qs k → HasMachine ms v k
-met-none ms v ps qs k e h = subst (λ o. MatchOption o (HasMachine ms v k) (λ (q : Meeting). k ≡ q.small.machine)) e h
+pub met-none : (ms : Family) (v : ℕ) (ps : List ℕ) (qs : List MetPart) (k : Graph) → met_at v ps qs ≡ None → HasMet ms v ps qs k → HasMachine ms v k
+met-none ms v ps qs k e h = subst (λ o. MatchOption o (HasMachine ms v k) (λ (q : MetPart). k ≡ q.small.machine)) e h
 
-pub none-met : (ms : Family) (v : ℕ) (ps : List ℕ) (qs : List Meeting) (k : Graph) → met_at v ps qs ≡ None → HasMachine ms v k → HasMet ms v ps qs k
-none-met ms v ps qs k e h = subst (λ o. MatchOption o (HasMachine ms v k) (λ (q : Meeting). k ≡ q.small.machine)) (sym e) h
+pub none-met : (ms : Family) (v : ℕ) (ps : List ℕ) (qs : List MetPart) (k : Graph) → met_at v ps qs ≡ None → HasMachine ms v k → HasMet ms v ps qs k
+none-met ms v ps qs k e h = subst (λ o. MatchOption o (HasMachine ms v k) (λ (q : MetPart). k ≡ q.small.machine)) (sym e) h
 
-pub some-met : (ms : Family) (v : ℕ) (ps : List ℕ) (qs : List Meeting) (q : Meeting) → met_at v ps qs ≡ Some q → HasMet ms v ps qs q.small.machine
-some-met ms v ps qs q e = subst (λ o. MatchOption o (HasMachine ms v q.small.machine) (λ (r : Meeting). q.small.machine ≡ r.small.machine)) (sym e) refl
+pub some-met : (ms : Family) (v : ℕ) (ps : List ℕ) (qs : List MetPart) (q : MetPart) → met_at v ps qs ≡ Some q → HasMet ms v ps qs q.small.machine
+some-met ms v ps qs q e = subst (λ o. MatchOption o (HasMachine ms v q.small.machine) (λ (r : MetPart). q.small.machine ≡ r.small.machine)) (sym e) refl

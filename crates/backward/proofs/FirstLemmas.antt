@@ -9,8 +9,9 @@ use Rattle.machine_core.specs.declared.graph.Graph.{Graph}
 use Rattle.machine_core.specs.Lists.{slice_get-push_cases}
 use Rattle.sv_terms.specs.Language.{Word}
 use Rattle.part_machines.specs.Parts.{IsOfParts, times}
-use Rattle.straight_line.specs.Bounds.{carried, carried_all, own_bound, part_bound, product_by, states, states_at, states_of, through_states, times_all, used}
-use Rattle.straight_line.specs.NumberLaws.{factor, StatesAreBounded, StatesAreSolved}
+use Rattle.straight_line.specs.Using.{used}
+use Rattle.cube_bounds.specs.Bounds.{carried_all, own_bound, part_bound, product_by, states, states_at, states_of, through_states, times_all}
+use Rattle.cube_bounds.specs.NumberLaws.{factor, StatesAreBounded, StatesAreSolved}
 use Rattle.straight_line.specs.Straight.{HasFormed, IsFormedBy, IsStraight}
 use Rattle.straight_line.specs.declared.definition.By.{By}
 use Rattle.straight_line.specs.declared.definition.By.TheVariants as by
@@ -19,7 +20,7 @@ use Rattle.straight_line.specs.declared.flat.Flat.{Flat}
 use Rattle.straight_line.specs.declared.variable.Own.{Own}
 use Rattle.straight_line.specs.declared.variable.Variable.{Variable}
 use Rattle.backward.specs.Chains.{own_cost, width}
-use Rattle.backward.specs.Meetings.{IsWithin}
+use Rattle.backward.specs.Meetings.{IsCostWithin}
 use Rattle.backward.specs.States.{AreOwnMachines, IsOwnMachine}
 
 -- what a character costs
@@ -59,7 +60,7 @@ own-of flat v variable each m is h = (
     few = h.few;
     within = λ register z e.
         let slope = ap (λ k. slice_index k register) is ∙ character-at flat.registers v register z e in
-        subst (λ n. IsWithin m register n 0) slope (record { runs = h.runs register; paths = h.paths register });
+        subst (λ n. IsCostWithin m register n 0) slope (record { runs = h.runs register; paths = h.paths register });
   },
   h.registers ∙ ap length is ∙ length-map flat.registers (λ z. cond (nat_eq z v) 1 0),
 )

@@ -8,7 +8,7 @@ use Rattle.machine_core.specs.EdgeLaws.{listed_top-within, run_width, path_width
 use Rattle.machine_core.specs.Graphs.{graph_top}
 use Rattle.backward.specs.Families.{Family, HasMachine, without, IsWithout}
 use Rattle.backward.specs.Pieces.{occurrences}
-use Rattle.backward.specs.Meetings.{IsWithin}
+use Rattle.backward.specs.Meetings.{IsCostWithin}
 use Rattle.backward.specs.Carried.{IsCarried, IsCarriedThrough}
 use Rattle.backward.specs.Bounds.{IsGrownWithin, total_over, sum_of}
 use Rattle.backward.proofs.ConfLemmas.{set-other}
@@ -53,14 +53,14 @@ past-zero [] k h = refl
 past-zero (x ∷ cost) zero h = absurd (omega (arith, h))
 past-zero (x ∷ cost) (suc k) h = past-zero cost k (omega (arith, h))
 
-pub past-within : (m : Graph) (k : ℕ) → m.registers ≤ k → IsWithin m k 0 0
+pub past-within : (m : Graph) (k : ℕ) → m.registers ≤ k → IsCostWithin m k 0 0
 past-within m k h = record {
   runs = λ s word cost ok r. (let e = run_width m.states m.registers m.edges m.ends m.formed word s cost r in let z = past-zero cost k (omega (arith, e, h)) in omega arith);
   paths = λ t s word cost ok r. (let e = path_width m.states m.registers m.edges m.ends m.formed t word s cost r in let z = past-zero cost k (omega (arith, e, h)) in omega arith);
 }
 
 -- where nothing costs anything at the register, no way leads there
-pub grown-free : (growth : ℕ → ℕ) (limit : ℕ) (ms : Family) (register : ℕ) → ((v : ℕ) (m : Graph) → HasMachine ms v m → IsWithin m register 0 0)
+pub grown-free : (growth : ℕ → ℕ) (limit : ℕ) (ms : Family) (register : ℕ) → ((v : ℕ) (m : Graph) → HasMachine ms v m → IsCostWithin m register 0 0)
     → IsGrownWithin growth limit ms register
 grown-free growth limit ms register free = record {
   ways = λ v. 0;
@@ -73,7 +73,7 @@ grown-free growth limit ms register free = record {
 
 -- before a definition is carried, the register of a variable costs its length, and one way leads there: from itself
 pub grown-first : (growth : ℕ → ℕ) (limit : ℕ) (ms : Family) (register z : ℕ)
-    → ((v : ℕ) (m : Graph) → HasMachine ms v m → IsWithin m register (cond (nat_eq v z) 1 0) 0) → growth z ≤ limit → IsGrownWithin growth limit ms register
+    → ((v : ℕ) (m : Graph) → HasMachine ms v m → IsCostWithin m register (cond (nat_eq v z) 1 0) 0) → growth z ≤ limit → IsGrownWithin growth limit ms register
 grown-first growth limit ms register z own le = record {
   ways = λ v. cond (nat_eq v z) 1 0;
   slope = λ v. cond (nat_eq v z) 1 0;
@@ -192,15 +192,15 @@ module _ (growth : ℕ → ℕ) (limit : ℕ) (ms : Family) (register : ℕ) (h 
       at u n = cond (nat_eq u v) n 0
 
       within : (u : ℕ) (k n : Graph) → HasMachine ms u k → HasMachine ns u n
-          → IsWithin n register (h.slope u + cond (nat_eq u v) (h.slope x * m) 0) (h.base u + cond (nat_eq u v) (h.slope x * e + h.base x) 0)
+          → IsCostWithin n register (h.slope u + cond (nat_eq u v) (h.slope x * m) 0) (h.base u + cond (nat_eq u v) (h.slope x * e + h.base x) 0)
       within u k n a b = elim (eqb_tells u v) [
         | inl is ↦
             rw is.0 (let a' = subst (λ w. HasMachine ms w k) is.1 a in let b' = subst (λ w. HasMachine ns w n) is.1 b in
             c.within k n a' b' register (h.slope u) (h.base u) (h.slope x) (h.base x) (h.within u k a) (h.within x target there))
         | inr off ↦
             rw off.0 (let same = c.same u k n off.1 a b in
-            subst (λ i. IsWithin n register i (h.base u + 0)) (more (h.slope u)) (subst (λ i. IsWithin n register (h.slope u) i) (more (h.base u))
-            (subst (λ g. IsWithin g register (h.slope u) (h.base u)) (sym same) (h.within u k a))))
+            subst (λ i. IsCostWithin n register i (h.base u + 0)) (more (h.slope u)) (subst (λ i. IsCostWithin n register (h.slope u) i) (more (h.base u))
+            (subst (λ g. IsCostWithin g register (h.slope u) (h.base u)) (sym same) (h.within u k a))))
       ]
         where
           more : (n : ℕ) → n ≡ n + 0

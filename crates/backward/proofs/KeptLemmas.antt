@@ -2,17 +2,17 @@
 use Rattle.std.proofs.Common.{◌≡◌, ℕ, ◌+◌, List, [], ◌∷◌, ◌++◌, length, map, Option, None, refl, sym, ap, ◌∙◌, subst}
 use Rattle.machine_core.specs.declared.graph.Graph.{Graph}
 use Rattle.machine_core.specs.declared.run.Run.{Run}
-use Rattle.machine_core.specs.Costs.{add_costs, zeros, sum_costs}
+use Rattle.machine_core.specs.Costs.{add_costs, sum_costs}
 use Rattle.machine_core.specs.CostLaws.{add_costs-zeros}
 use Rattle.machine_core.specs.Edges.{StepsBy}
 use Rattle.machine_core.specs.Graphs.{IsRunOf}
 use Rattle.machine_core.specs.Runs.{IsPath, IsRun, run_total}
 use Rattle.machine_core.specs.RunLaws.{run_accepted}
 use Rattle.machine_meet.specs.Products.{MeetEnds, MeetSteps, meet_width}
-use Rattle.machine_meet.specs.Splits.{AreRuns}
+use Rattle.machine_meet.specs.Splits.{ArePartRuns}
 use Rattle.pre_image.specs.Slices.{SliceEnds}
 use Rattle.pre_image.specs.declared.slice.Slice.{Slice}
-use Rattle.backward.specs.Kept.{Part, part_ends, part_steps, IsPartRun, IsRunOfBoth}
+use Rattle.backward.specs.Kept.{MachinePart, part_ends, part_steps, IsPartRun, IsRunOfBoth}
 use Rattle.backward.proofs.MeetingLemmas.{slice_width, slice_first, slice_ends, slice_steps, AreTwo, between-width}
 
 module _ {S : Type 0} (E F : S → List ℕ → Type 0) (M N : S → ℕ → List ℕ → S → Type 0) (ends : (s : S) (k : List ℕ) → E s k → F s k) (steps : (s t : S) (c : ℕ) (k : List ℕ) → M s c k t → N s c k t) where
@@ -27,7 +27,7 @@ module _ {S : Type 0} (E F : S → List ℕ → Type 0) (M N : S → ℕ → Lis
   pub run-within : (first : S) (run : Run S) → IsRun E M first run → IsRun F N first run
   run-within first run r = record { after = r.after; stop = r.stop; states = r.states; path = path-within first r.after run.word run.costs r.stop r.path; last = ends r.stop run.last r.last }
 
-abbrev part_of : Slice → Part
+abbrev part_of : Slice → MachinePart
 part_of s = (s.target.now, s.from, s.to)
 
 module _ (w p : Slice) (width : ℕ) where
@@ -55,13 +55,13 @@ module _ (w p : Slice) (width : ℕ) where
   parts-steps (s ∷ t ∷ []) us c k h = h
   parts-steps (s ∷ t ∷ u ∷ ss) us c k h = absurd h.5.5
 
-part-same : (g h : Graph) (i j : ℕ) (t u : Option ℕ) → g ≡ h → i ≡ j → t ≡ u → ◌≡◌ {A = Part} (g, i, t) (h, j, u)
+part-same : (g h : Graph) (i j : ℕ) (t u : Option ℕ) → g ≡ h → i ≡ j → t ≡ u → ◌≡◌ {A = MachinePart} (g, i, t) (h, j, u)
 part-same g h i j t u e f k = ap (λ (x : Graph). (x, i, t)) e ∙ ap (λ (x : ℕ). (h, x, t)) f ∙ ap (λ (x : Option ℕ). (h, j, x)) k
 
 abbrev IsSliceRun : Slice → Slice → Run (List ℕ) → Type 0
 IsSliceRun w p run = IsRun (MeetEnds slice_ends (meet_width slice_width (w ∷ p ∷ [])) (w ∷ p ∷ [])) (MeetSteps slice_steps (meet_width slice_width (w ∷ p ∷ [])) (w ∷ p ∷ [])) (map slice_first (w ∷ p ∷ [])) run
 
-abbrev IsPartsRun : ℕ → Part → Part → Run (List ℕ) → Type 0
+abbrev IsPartsRun : ℕ → MachinePart → MachinePart → Run (List ℕ) → Type 0
 IsPartsRun width a b run = IsRun (MeetEnds part_ends width (a ∷ b ∷ [])) (MeetSteps part_steps width (a ∷ b ∷ [])) (a.1 ∷ b.1 ∷ []) run
 
 module _ (w p : Slice) (m target : Graph) (from : ℕ) (to : Option ℕ) (two : AreTwo w p m target from to) where
@@ -93,7 +93,7 @@ module _ (w p : Slice) (m target : Graph) (from : ℕ) (to : Option ℕ) (two : 
       (parts-ends w p width) (parts-steps w p width) (map slice_first (w ∷ p ∷ [])) run plain
 
   -- one run of each
-  pub two-runs : (word : List ℕ) (runs : List (Run ℕ)) → AreRuns slice_ends slice_steps slice_first (w ∷ p ∷ []) word runs
+  pub two-runs : (word : List ℕ) (runs : List (Run ℕ)) → ArePartRuns slice_ends slice_steps slice_first (w ∷ p ∷ []) word runs
       → (a b : Run ℕ) × (runs ≡ a ∷ b ∷ []) × IsRunOf m a × IsPartRun target from to b × (a.word ≡ word) × (b.word ≡ word)
   two-runs word [] h = absurd h
   two-runs word (a ∷ []) h = absurd h.2
@@ -101,8 +101,8 @@ module _ (w p : Slice) (m target : Graph) (from : ℕ) (to : Option ℕ) (two : 
     a,
     b,
     refl,
-    subst (λ (q : Part). IsPartRun q.0 q.1 q.2 a) whole-is h.0,
-    subst (λ (q : Part). IsPartRun q.0 q.1 q.2 b) part-is h.2.0,
+    subst (λ (q : MachinePart). IsPartRun q.0 q.1 q.2 a) whole-is h.0,
+    subst (λ (q : MachinePart). IsPartRun q.0 q.1 q.2 b) part-is h.2.0,
     h.1,
     h.2.1,
   )

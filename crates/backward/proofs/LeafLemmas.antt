@@ -10,9 +10,10 @@ use Rattle.sv_terms.specs.Transduction.{Pairs}
 use Rattle.machine_core.specs.Costs.{add_costs, zeros}
 use Rattle.machine_core.specs.Graphs.{Accepts}
 use Rattle.machine_core.specs.declared.graph.Graph.{Graph}
-use Rattle.straight_line.specs.Bounds.{used, is_defined, states, states_at, own_bound, product_by}
-use Rattle.straight_line.specs.NumberLaws.{factor, StatesAreBounded, StatesAreSolved}
-use Rattle.straight_line.specs.Satisfying.{ComesBy, Defines, Meets, word_at}
+use Rattle.straight_line.specs.Using.{used, is_defined}
+use Rattle.cube_bounds.specs.Bounds.{states, states_at, own_bound, product_by}
+use Rattle.cube_bounds.specs.NumberLaws.{factor, StatesAreBounded, StatesAreSolved}
+use Rattle.straight_line.specs.Satisfying.{ComesBy, Defines, MeetsParts, word_at}
 use Rattle.straight_line.specs.Straight.{IsStraight, InOrder, AreBelow}
 use Rattle.straight_line.specs.declared.definition.By.{By}
 use Rattle.straight_line.specs.declared.definition.By.TheVariants as by
@@ -21,7 +22,7 @@ use Rattle.straight_line.specs.declared.flat.Flat.{Flat}
 use Rattle.straight_line.specs.declared.variable.Variable.{Variable}
 use Rattle.backward.specs.Families.{Family, Words, after, HasMachine, AreWide, put, Conf}
 use Rattle.backward.specs.Definitions.{definition}
-use Rattle.backward.specs.Chains.{width, own_cost, ReadsOwn, IsOwn, IsLed, begun, same, cut, through, IsLedFrom}
+use Rattle.backward.specs.Chains.{width, own_cost, ReadsOwn, IsOwnFamily, IsLed, begun, same, cut, through, IsLedFrom}
 use Rattle.backward.specs.Leaves.{ExtendsTo, IsLeaf, IsLess, IsLessened, IsOverSources, IsUseful, machines_of}
 use Rattle.backward.specs.States.{IsState}
 use Rattle.backward.specs.declared.leaf_state.LeafState.{LeafState}
@@ -74,7 +75,7 @@ map-below : (f : Words) (n : ℕ) (us : List ℕ) → AreBelow n us → map (own
 map-below f n [] h = refl
 map-below f n (u ∷ us) h = let here = entry-at f 0 n u (omega arith) (omega (arith, h.0)) in let rest = map-below f n us h.1 in cc
 
-own-full : (flat : Flat) (ms : Family) → IsOwn flat ms → (v : ℕ) → slice_get ms v ≡ Some None → ⊥
+own-full : (flat : Flat) (ms : Family) → IsOwnFamily flat ms → (v : ℕ) → slice_get ms v ≡ Some None → ⊥
 own-full flat ms own v e =
     let below = get-below ms v None e in
     let size = own.size in
@@ -83,7 +84,7 @@ own-full flat ms own v e =
     let at = m.1 in
     cc
 
-own-reads : (flat : Flat) (ms : Family) → IsOwn flat ms → (v : ℕ) (m : Graph) → HasMachine ms v m → (variable : Variable) × (slice_get flat.variables v ≡ Some variable) × ReadsOwn flat v variable m
+own-reads : (flat : Flat) (ms : Family) → IsOwnFamily flat ms → (v : ℕ) (m : Graph) → HasMachine ms v m → (variable : Variable) × (slice_get flat.variables v ≡ Some variable) × ReadsOwn flat v variable m
 own-reads flat ms own v m h =
     let below = get-below ms v (Some m) h in
     let size = own.size in
@@ -98,11 +99,11 @@ range-at f k zero v h = absurd (omega arith)
 range-at f k (suc n) zero h = ap f (omega arith)
 range-at f k (suc n) (suc v) h = range-at f (k + 1) n v (omega arith) ∙ ap f (omega arith)
 
-zip-range : (f : Words) (k : ℕ) (xs : List Variable) → ((v : ℕ) (x : Variable) → slice_get xs v ≡ Some x → Meets x (f (k + v))) → AllZip Meets xs (map f (range_with_len k (length xs)))
+zip-range : (f : Words) (k : ℕ) (xs : List Variable) → ((v : ℕ) (x : Variable) → slice_get xs v ≡ Some x → MeetsParts x (f (k + v))) → AllZip MeetsParts xs (map f (range_with_len k (length xs)))
 zip-range f k [] h = tt
 zip-range f k (x ∷ xs) h = (
-  subst (λ j. Meets x (f j)) (omega arith) (h 0 x refl),
-  zip-range f (k + 1) xs (λ v y e. let at : k + suc v ≡ k + 1 + v = omega arith in subst (λ j. Meets y (f j)) at (h (suc v) y e)),
+  subst (λ j. MeetsParts x (f j)) (omega arith) (h 0 x refl),
+  zip-range f (k + 1) xs (λ v y e. let at : k + suc v ≡ k + 1 + v = omega arith in subst (λ j. MeetsParts y (f j)) at (h (suc v) y e)),
 )
 
 below-agree : (f g : Words) (n : ℕ) → ((v : ℕ) → v < n → f v ≡ g v) → (vs : List ℕ) → AreBelow n vs → AllByRecursion (λ u. f u ≡ g u) vs
@@ -162,11 +163,11 @@ conf-totals registers f (Some m ∷ ms) k g agree full h totals c =
 record Extended (flat : Flat) (left : ℕ) (words : Words) (totals : List ℕ) : Type 0 where
   all : Words
   agree : (v : ℕ) → is_defined (drop left flat.definitions) v ≡ false → all v ≡ words v
-  parts : (v : ℕ) (x : Variable) → slice_get flat.variables v ≡ Some x → Meets x (all v)
+  parts : (v : ℕ) (x : Variable) → slice_get flat.variables v ≡ Some x → MeetsParts x (all v)
   lengths : map (λ v. length (all v)) flat.registers ≡ totals
   obey : Obey (drop left flat.definitions) all
 
-own-extended : (flat : Flat) (ms : Family) → IsStraight flat → IsOwn flat ms → (words : Words) (totals : List ℕ) → Conf (width flat) ms words totals
+own-extended : (flat : Flat) (ms : Family) → IsStraight flat → IsOwnFamily flat ms → (words : Words) (totals : List ℕ) → Conf (width flat) ms words totals
     → Extended flat (length flat.definitions) words totals
 own-extended flat ms straight own words totals conf = record {
   all = words;
@@ -202,7 +203,7 @@ step-extended flat left d straight e words w totals defined ext =
       obey = subst (λ ds. Obey ds ext.all) (sym front) (comes-agree d.by words ext.all w (ext.all d.variable) uses (sym own) defined, ext.obey);
     }
 
-led-extended : (flat : Flat) → IsStraight flat → (left : ℕ) (ms : Family) → IsLed (width flat) flat.definitions (states_at flat) (IsOwn flat) left ms
+led-extended : (flat : Flat) → IsStraight flat → (left : ℕ) (ms : Family) → IsLed (width flat) flat.definitions (states_at flat) (IsOwnFamily flat) left ms
     → (words : Words) (totals : List ℕ) → Conf (width flat) ms words totals → Extended flat left words totals
 led-extended flat straight left ms (begun {ms = ns} own) words totals conf = own-extended flat ns straight own words totals conf
 led-extended flat straight left ms (same {left = k} {ms = ns} before is) words totals conf = led-extended flat straight k ns before words totals ((is words totals).1 conf)
@@ -237,7 +238,7 @@ leaf-extends flat ms straight led words totals conf =
       all = ws;
       same = sources-same flat ws f words at ext.agree 0 n (omega arith);
       satisfies = record {
-        parts = zip-range f 0 flat.variables (λ v x e. let here : v ≡ 0 + v = omega arith in subst (λ j. Meets x (f j)) here (ext.parts v x e));
+        parts = zip-range f 0 flat.variables (λ v x e. let here : v ≡ 0 + v = omega arith in subst (λ j. MeetsParts x (f j)) here (ext.parts v x e));
         definitions = obeyed ws f n (λ v h. sym (at v h)) flat.definitions straight.order ext.obey;
       };
       lengths = sym (lengths-agree f (word_at ws) n (λ v h. sym (at v h)) flat.registers straight.registers) ∙ ext.lengths;

@@ -12,7 +12,7 @@ use Rattle.machine_meet.specs.Products.{AreStates, MeetEnds, MeetSteps, MeetsAll
 use Rattle.pre_image.specs.Slices.{SliceEnds, Between}
 use Rattle.pre_image.specs.SliceLaws.{slice_runs_within}
 use Rattle.pre_image.specs.declared.slice.Slice.{Slice}
-use Rattle.backward.specs.Meetings.{IsWithin, IsTrimmed, IsMeeting}
+use Rattle.backward.specs.Meetings.{IsCostWithin, IsTrimmed, IsMeeting}
 use Rattle.backward.proofs.CarryLemmas.{first-power}
 use Rattle.backward.proofs.PairLemmas.{both-out, both-in}
 
@@ -105,11 +105,11 @@ module _ (w p : Slice) (m target : Graph) (from : ℕ) (to : Option ℕ) (two : 
   states-within : (s : ℕ) → s < m.states → s < w.target.now.states
   states-within s lt = subst (λ (g : Graph). s < g.states) (sym two.whole) lt
 
-  whole-within : (register s d : ℕ) → IsWithin m register s d → IsWithin w.target.now register s d
-  whole-within register s d h = subst (λ g. IsWithin g register s d) (sym two.whole) h
+  whole-within : (register s d : ℕ) → IsCostWithin m register s d → IsCostWithin w.target.now register s d
+  whole-within register s d h = subst (λ g. IsCostWithin g register s d) (sym two.whole) h
 
-  part-within : (register s d : ℕ) → IsWithin target register s d → IsWithin p.target.now register s d
-  part-within register s d h = subst (λ g. IsWithin g register s d) (sym two.part) h
+  part-within : (register s d : ℕ) → IsCostWithin target register s d → IsCostWithin p.target.now register s d
+  part-within register s d h = subst (λ g. IsCostWithin g register s d) (sym two.part) h
 
   same-registers : p.target.now.registers ≡ w.target.now.registers
   same-registers = ap (λ (g : Graph). g.registers) two.part ∙ sym two.registers ∙ ap (λ (g : Graph). g.registers) (sym two.whole)
@@ -158,8 +158,8 @@ module _ (w p : Slice) (m target : Graph) (from : ℕ) (to : Option ℕ) (two : 
           let paths = b.paths_bounded register slopes bases (h'.paths, (k'.paths, tt)) in
           let a = t.runs_within register (total slopes) (total bases) (b.runs_within register (total slopes) (total bases) runs) in
           let c = t.paths_within register (total slopes) (total bases) (b.paths_within register (total slopes) (total bases) paths) in
-          let whole : IsWithin small register (total slopes) (total bases) = record { runs = a; paths = c } in
-          subst (λ n. IsWithin small register n (d + 1 * up)) (one-time s more) (subst (IsWithin small register (total slopes)) (one-time d up) whole);
+          let whole : IsCostWithin small register (total slopes) (total bases) = record { runs = a; paths = c } in
+          subst (λ n. IsCostWithin small register n (d + 1 * up)) (one-time s more) (subst (IsCostWithin small register (total slopes)) (one-time d up) whole);
       trimmed = λ h. t.used;
     };
     trimmed = t.used;

@@ -1,6 +1,6 @@
 -- What holds of a family while the definitions of a flat cube are carried: at first, and from step to step.
 use Rattle.std.proofs.Common.{◌≡◌, ℕ, zero, suc, ◌+◌, ◌*◌, ◌^◌, ◌<◌, ◌≤◌, ◌||◌, ◌↔◌, nat_eq, cond, true, false, List, [], ◌∷◌, length, map, drop, Contains, Option, Some, None, slice_get, refl, sym, ap, ◌∙◌, subst, arith, inl, inr, one-mul, mul-le-mul_left, mul-le-mul_right, mul_assoc, mul_comm}
-use Rattle.std.specs.List.{AllByRecursion, count_by, sum_by}
+use Rattle.std.specs.List.{AllByRecursion, count_by}
 use Rattle.std.proofs.lemmas.Bool.{ne_eqb, false≢true}
 use Rattle.std.proofs.lemmas.Bool.Decides.{eqb_tells}
 use Rattle.std.proofs.lemmas.List.{length-map}
@@ -10,9 +10,10 @@ use Rattle.machine_core.specs.declared.graph.Graph.{Graph}
 use Rattle.machine_core.specs.Lists.{slice_get-contains}
 use Rattle.sv_terms.specs.Transduction.{Pairs}
 use Rattle.sv_terms.specs.declared.transducer.Transducer.{Transducer}
-use Rattle.straight_line.specs.Bounds.{is_defined, own_bound, product_by, states_at, through_states, used}
-use Rattle.straight_line.specs.Growth.{growth, growth_at, growth_by, growth_of}
-use Rattle.straight_line.specs.NumberLaws.{factor, GrowsAlong, slope_of, base_of, GrowthGoesAlong, GrowthIsBounded, GrowthIsSolved, StatesAreSolved}
+use Rattle.straight_line.specs.Using.{is_defined, used}
+use Rattle.cube_bounds.specs.Bounds.{own_bound, product_by, states_at, through_states}
+use Rattle.cube_bounds.specs.Growth.{growth, growth_at, growth_by, growth_of}
+use Rattle.cube_bounds.specs.NumberLaws.{factor, GrowsAlong, slope_of, base_of, GrowthGoesAlong, GrowthIsBounded, GrowthIsSolved, StatesAreSolved}
 use Rattle.straight_line.specs.Straight.{HasFormed, IsFormedBy, IsStraight, StandsBefore}
 use Rattle.straight_line.specs.declared.definition.By.{By}
 use Rattle.straight_line.specs.declared.definition.By.TheVariants as by

@@ -1,5 +1,5 @@
 -- The definition at a place of a flat cube, carried.
-use Rattle.std.proofs.Common.{◌≡◌, ℕ, suc, ◌+◌, ◌*◌, ◌<◌, ◌≤◌, ◌↔◌, max, List, [], ◌∷◌, length, map, Some, slice_get, refl, sym, ap, ◌∙◌, subst, arith, mul-le-mul_left, mul_comm, add-mul, one-mul}
+use Rattle.std.proofs.Common.{◌≡◌, ℕ, ◌+◌, ◌*◌, ◌<◌, ◌≤◌, ◌↔◌, max, List, [], ◌∷◌, length, map, Some, slice_get, refl, sym, ap, ◌∙◌, subst, arith, mul-le-mul_left, mul_comm, add-mul, one-mul}
 use Rattle.std.proofs.Math.Nat.{max_comm}
 use Rattle.sv_word.specs.Words.{IsWord}
 use Rattle.machine_core.specs.declared.graph.Graph.{Graph}
@@ -11,7 +11,7 @@ use Rattle.sv_terms.specs.TransductionLaws.{within_weaker}
 use Rattle.sv_terms.specs.TransducerSizeLaws.{within-most}
 use Rattle.sv_terms.specs.TransducerSizes.{edges_most, ends_most}
 use Rattle.sv_terms.specs.declared.transducer.Transducer.{Transducer}
-use Rattle.straight_line.specs.NumberLaws.{slope_of, base_of}
+use Rattle.cube_bounds.specs.NumberLaws.{slope_of, base_of}
 use Rattle.straight_line.specs.Satisfying.{ComesBy}
 use Rattle.straight_line.specs.declared.definition.By.{By}
 use Rattle.straight_line.specs.declared.definition.By.TheVariants as by
@@ -20,7 +20,7 @@ use Rattle.straight_line.specs.declared.flat.Flat.{Flat}
 use Rattle.backward.specs.Families.{Family, Words, put, Conf}
 use Rattle.backward.specs.Pieces.{RunsInTurn, ConfCut}
 use Rattle.backward.specs.Carried.{IsCarried, IsCarriedThrough, CanCut, CanPass}
-use Rattle.backward.specs.Definitions.{definition, reads, Gives, IsFor}
+use Rattle.backward.specs.Definitions.{definition, reads, RelatesBy, IsFor}
 use Rattle.backward.specs.Chains.{ConfBefore}
 use Rattle.backward.specs.Made.{IsCut, IsPassed}
 use Rattle.backward.specs.Steps.{CanCutAt, CanPassAt, CanPassBy, IsCutAt, IsPassedAt, IsMadeAt, IsMadeBy, IsPassedBy, Either}
@@ -100,13 +100,13 @@ can-pass-through {m = m} {b = b} {t = t} can f = record {
 }
 
 -- what the transducer relates comes by the definition
-pub gives-comes : (b : By) (v : ℕ) → reads b ≡ Some v → (t : Transducer) → Gives b t → (words : Words) (w : Word) → Pairs t (words v) w → ComesBy words w b
+pub gives-comes : (b : By) (v : ℕ) → reads b ≡ Some v → (t : Transducer) → RelatesBy b t → (words : Words) (w : Word) → Pairs t (words v) w → ComesBy words w b
 gives-comes (by.Concat vs) v e t g words w p = cc
 gives-comes (by.First q u z) v e t g words w p = let same : v ≡ z = cc in ((g (words v) w).0 p).1 ∙ ap (λ n. replace_first q u (words n)) same
 gives-comes (by.All q u z) v e t g words w p = let same : v ≡ z = cc in ((g (words v) w).0 p).1 ∙ ap (λ n. replace_all q u (words n)) same
 gives-comes (by.Through s z) v e t g words w p = let same : v ≡ z = cc in subst (λ r. Pairs r (words z) w) g (subst (λ n. Pairs t (words n) w) same p)
 
-comes-gives : (b : By) (v : ℕ) → reads b ≡ Some v → (t : Transducer) → Gives b t → (words : Words) (w : Word) → IsWord (words v) → ComesBy words w b → Pairs t (words v) w
+comes-gives : (b : By) (v : ℕ) → reads b ≡ Some v → (t : Transducer) → RelatesBy b t → (words : Words) (w : Word) → IsWord (words v) → ComesBy words w b → Pairs t (words v) w
 comes-gives (by.Concat vs) v e t g words w is p = cc
 comes-gives (by.First q u z) v e t g words w is p = let same : z ≡ v = cc in (g (words v) w).1 (is, p ∙ ap (λ n. replace_first q u (words n)) same)
 comes-gives (by.All q u z) v e t g words w is p = let same : z ≡ v = cc in (g (words v) w).1 (is, p ∙ ap (λ n. replace_all q u (words n)) same)
@@ -124,11 +124,11 @@ either-out A B (by.First q u z) v e h = h
 either-out A B (by.All q u z) v e h = h
 either-out A B (by.Through s z) v e h = h
 
-made-by : (b : By) (x v : ℕ) (ms : Family) (ns : LeafState) (t : Transducer) → reads b ≡ Some v → Gives b t → IsPassed ms x v t ns → IsMadeBy b x [] ms ns
+made-by : (b : By) (x v : ℕ) (ms : Family) (ns : LeafState) (t : Transducer) → reads b ≡ Some v → RelatesBy b t → IsPassed ms x v t ns → IsMadeBy b x [] ms ns
 made-by b x v ms ns t e g p = either-in (λ pieces. IsCut ms x pieces [] ns) (IsPassedBy x ms ns) b v e (t, v, e, g, p)
 
 -- what made a family through a transducer
-pub made-through : (b : By) (x v : ℕ) (cuts : List ℕ) (ms : Family) (ns : LeafState) → reads b ≡ Some v → IsMadeBy b x cuts ms ns → (t : Transducer) × Gives b t × IsPassed ms x v t ns
+pub made-through : (b : By) (x v : ℕ) (cuts : List ℕ) (ms : Family) (ns : LeafState) → reads b ≡ Some v → IsMadeBy b x cuts ms ns → (t : Transducer) × RelatesBy b t × IsPassed ms x v t ns
 made-through b x v cuts ms ns e h =
     let o : IsPassedBy x ms ns b = either-out (λ pieces. IsCut ms x pieces cuts ns) (IsPassedBy x ms ns) b v e h in
     (o.0, o.3, subst (λ n. IsPassed ms x n o.0 ns) (same-number o.1 v (sym o.2 ∙ e)) o.4)

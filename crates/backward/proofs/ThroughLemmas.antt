@@ -1,5 +1,5 @@
 -- A machine carried through a transducer.
-use Rattle.std.proofs.Common.{◌≡◌, ℕ, suc, ◌+◌, ◌*◌, Some, None, slice_get, slice_set, sym, ap, ◌∙◌, subst, arith, mul-le-mul_left, inl, inr}
+use Rattle.std.proofs.Common.{◌≡◌, ℕ, ◌+◌, ◌*◌, Some, None, slice_get, slice_set, sym, ap, ◌∙◌, subst, arith, mul-le-mul_left, inl, inr}
 use Rattle.std.proofs.lemmas.Bool.Decides.{eqb_tells}
 use Rattle.machine_core.specs.declared.graph.Graph.{Graph}
 use Rattle.machine_core.specs.Graphs.{Accepts}
@@ -7,7 +7,7 @@ use Rattle.sv_terms.specs.Transduction.{Pairs, WritesWithin}
 use Rattle.sv_terms.specs.declared.transducer.Transducer.{Transducer}
 use Rattle.pre_image.specs.Slices.{Between}
 use Rattle.backward.specs.Families.{Family, HasMachine, IsWithout, without, put, AreWide}
-use Rattle.backward.specs.Meetings.{IsWithin, IsTrimmed, IsMeeting}
+use Rattle.backward.specs.Meetings.{IsCostWithin, IsTrimmed, IsMeeting}
 use Rattle.backward.specs.PreBuilt.{IsPreImage}
 use Rattle.backward.specs.Carried.{IsCarriedThrough}
 use Rattle.backward.proofs.ConfLemmas.{grow-out, grow-in, take-out, take-in, free-put, put-same, set-same, set-other, without-other}
@@ -52,9 +52,9 @@ module _ (width : ℕ) (ms : Family) (wide : AreWide width ms) (x : ℕ) (target
         let last = ap (λ i. i * (t.states * target.states)) m' in
         omega arith;
     within = λ m g e f register a b c d w u.
-        let r = met.grown.within register a b (c * slope) (c * base + d) (subst (λ h. IsWithin h register a b) (sym (was m e)) w) (pre.within slope base register c d writes u) in
-        subst (λ h. IsWithin h register (a + c * slope) (b + (c * base + d))) (now g f)
-        (subst (λ i. IsWithin n register i (b + (c * base + d))) (one-more a (c * slope)) (subst (IsWithin n register (a + 1 * (c * slope))) (one-more b (c * base + d)) r));
+        let r = met.grown.within register a b (c * slope) (c * base + d) (subst (λ h. IsCostWithin h register a b) (sym (was m e)) w) (pre.within slope base register c d writes u) in
+        subst (λ h. IsCostWithin h register (a + c * slope) (b + (c * base + d))) (now g f)
+        (subst (λ i. IsCostWithin n register i (b + (c * base + d))) (one-more a (c * slope)) (subst (IsCostWithin n register (a + 1 * (c * slope))) (one-more b (c * base + d)) r));
     trimmed = λ g f. subst IsTrimmed (now g f) met.trimmed;
   }
     where

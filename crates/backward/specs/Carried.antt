@@ -1,16 +1,15 @@
 -- What a definition carried backward leaves.
-use Rattle.std.specs.Prelude.{◌≡◌, ℕ, ◌<◌, ◌≤◌, ◌+◌, ◌*◌, ◌^◌, ◌↔◌, max, List, [], ◌∷◌, length, map, Contains, Some, slice_get}
+use Rattle.std.specs.Prelude.{◌≡◌, ℕ, ◌<◌, ◌≤◌, ◌+◌, ◌*◌, ◌^◌, ◌↔◌, List, map, Contains}
 use Rattle.machine_core.specs.declared.graph.Graph.{Graph}
 use Rattle.machine_core.specs.Costs.{add_costs}
-use Rattle.machine_core.specs.Edges.{edges_top, ends_top}
 use Rattle.machine_core.specs.Graphs.{graph_top}
 use Rattle.sv_terms.specs.Language.{Word}
 use Rattle.sv_terms.specs.declared.transducer.Transducer.{Transducer}
 use Rattle.pre_image.specs.PreImages.{pre_top}
 use Rattle.backward.specs.Families.{Family, Words, HasMachine, IsWithout, without, put, Conf}
 use Rattle.backward.specs.Pieces.{RunsInTurn, AreCuts, occurrences}
-use Rattle.backward.specs.Meetings.{IsGrown, IsWithin, IsTrimmed}
-use Rattle.sv_terms.specs.Transduction.{IsFormed, WritesWithin}
+use Rattle.backward.specs.Meetings.{IsGrown, IsCostWithin, IsTrimmed}
+use Rattle.sv_terms.specs.Transduction.{IsFormed}
 
 -- `ns` is the family in which the machine `target` of `x` was met with the machines of these pieces, from these states on
 pub record IsCarried (width : ℕ) (ms : Family) (x : ℕ) (target : Graph) (starts pieces : List ℕ) (ns : Family) : Type 0 where
@@ -39,7 +38,7 @@ pub record IsCarriedThrough (Gives : Word → Word → Type 0) (states slope bas
   pub registers : (m n : Graph) → HasMachine ms v m → HasMachine ns v n → n.registers ≡ m.registers
   pub bounded : (m n : Graph) → HasMachine ms v m → HasMachine ns v n → n.states ≤ m.states * (states * target.states)
   pub within : (m n : Graph) → HasMachine ms v m → HasMachine ns v n → (register a b c d : ℕ)
-      → IsWithin m register a b → IsWithin target register c d → IsWithin n register (a + c * slope) (b + (c * base + d))
+      → IsCostWithin m register a b → IsCostWithin target register c d → IsCostWithin n register (a + c * slope) (b + (c * base + d))
   pub trimmed : (n : Graph) → HasMachine ns v n → IsTrimmed n
 
 -- a machine can be carried through a transducer to the variable v, which has the machine k: it is another one, the transducer is well formed,

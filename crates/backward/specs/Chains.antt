@@ -3,8 +3,8 @@ use Rattle.std.specs.Prelude.{◌≡◌, ℕ, suc, ◌≤◌, ◌↔◌, nat_eq,
 use Rattle.machine_core.specs.declared.graph.Graph.{Graph}
 use Rattle.machine_core.specs.Graphs.{Accepts}
 use Rattle.sv_terms.specs.Language.{Word}
-use Rattle.straight_line.specs.Bounds.{states_at}
-use Rattle.straight_line.specs.Satisfying.{Meets, ComesBy}
+use Rattle.cube_bounds.specs.Bounds.{states_at}
+use Rattle.straight_line.specs.Satisfying.{MeetsParts, ComesBy}
 use Rattle.straight_line.specs.declared.definition.By.{By}
 use Rattle.straight_line.specs.declared.definition.By.TheVariants.{Concat}
 use Rattle.straight_line.specs.declared.definition.Definition.{Definition}
@@ -46,13 +46,13 @@ own_cost registers v w = map (λ z. cond (nat_eq z v) (length w) 0) registers
 
 -- the machine reads exactly the words that meet the variable's parts, each with its length at each register of the variable
 abbrev pub ReadsOwn : Flat → ℕ → Variable → Graph → Type 0
-ReadsOwn flat v variable m = (word cost : List ℕ) → Accepts m word cost ↔ (Meets variable word × (cost ≡ own_cost flat.registers v word))
+ReadsOwn flat v variable m = (word cost : List ℕ) → Accepts m word cost ↔ (MeetsParts variable word × (cost ≡ own_cost flat.registers v word))
 
 -- a machine for each variable, of its own parts alone
-pub record IsOwn (flat : Flat) (ms : Family) : Type 0 where
+pub record IsOwnFamily (flat : Flat) (ms : Family) : Type 0 where
   pub size : length ms ≡ length flat.variables
   pub each : (v : ℕ) (variable : Variable) → slice_get flat.variables v ≡ Some variable → (m : Graph) × HasMachine ms v m × ReadsOwn flat v variable m
 
 -- a chain leads from the text of the cube to the family, in which so many definitions are still to be carried
 abbrev pub IsLedFrom : Flat → ℕ → Family → Type 0
-IsLedFrom flat left ms = IsLed (width flat) flat.definitions (states_at flat) (IsOwn flat) left ms
+IsLedFrom flat left ms = IsLed (width flat) flat.definitions (states_at flat) (IsOwnFamily flat) left ms

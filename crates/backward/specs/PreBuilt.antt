@@ -10,7 +10,7 @@ use Rattle.machine_core.specs.Runs.{IsRun}
 use Rattle.trim_search.specs.Lifted.{IsLift}
 use Rattle.pre_image.specs.PreImages.{PreEnds, PreSteps}
 use Rattle.backward.specs.declared.through.PreBuilt.{PreBuilt}
-use Rattle.backward.specs.Meetings.{IsWithin}
+use Rattle.backward.specs.Meetings.{IsCostWithin}
 use Rattle.sv_terms.specs.Transduction.{WritesWithin, IsFormed}
 
 pub record IsPreImage (t : Transducer) (target built : Graph) : Type 0 where
@@ -18,7 +18,7 @@ pub record IsPreImage (t : Transducer) (target built : Graph) : Type 0 where
   pub registers : built.registers ≡ target.registers
   pub states : built.states ≤ t.states * target.states
   pub top : graph_top built ≤ pre_top t target
-  pub within : (m e register slope base : ℕ) → WritesWithin t (λ n. m * n + e) → IsWithin target register slope base → IsWithin built register (slope * m) (slope * e + base)
+  pub within : (m e register slope base : ℕ) → WritesWithin t (λ n. m * n + e) → IsCostWithin target register slope base → IsCostWithin built register (slope * m) (slope * e + base)
 
 -- the pre-image, and names by which a run of it is one of the pairs of states
 pub record IsPreKept (t : Transducer) (target : Graph) (before : PreBuilt) : Type 0 where

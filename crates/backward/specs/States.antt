@@ -1,13 +1,14 @@
 -- What holds of a family while the definitions of a flat cube are carried, from the last one to the first.
 use Rattle.std.specs.Prelude.{◌≡◌, ℕ, ◌≤◌, ◌*◌, ◌⊎◌, nat_eq, cond, Bool, true, false, List, [], length, drop, Some, None, slice_get}
 use Rattle.machine_core.specs.declared.graph.Graph.{Graph}
-use Rattle.straight_line.specs.Bounds.{is_defined, own_bound, product_by}
-use Rattle.straight_line.specs.Growth.{growth, growth_at, longest_word}
-use Rattle.straight_line.specs.NumberLaws.{factor}
+use Rattle.straight_line.specs.Using.{is_defined}
+use Rattle.cube_bounds.specs.Bounds.{own_bound, product_by}
+use Rattle.cube_bounds.specs.Growth.{growth, growth_at, longest_word}
+use Rattle.cube_bounds.specs.NumberLaws.{factor}
 use Rattle.straight_line.specs.declared.flat.Flat.{Flat}
 use Rattle.straight_line.specs.declared.variable.Variable.{Variable}
 use Rattle.backward.specs.Families.{HasMachine}
-use Rattle.backward.specs.Meetings.{IsWithin}
+use Rattle.backward.specs.Meetings.{IsCostWithin}
 use Rattle.backward.specs.Bounds.{IsGrownWithin}
 use Rattle.backward.specs.Chains.{width, ReadsOwn, IsLedFrom}
 use Rattle.backward.specs.declared.leaf_state.LeafState.{LeafState}
@@ -16,7 +17,7 @@ use Rattle.backward.specs.declared.leaf_state.LeafState.{LeafState}
 pub record IsOwnMachine (flat : Flat) (v : ℕ) (variable : Variable) (m : Graph) : Type 0 where
   pub reads : ReadsOwn flat v variable m
   pub few : m.states ≤ own_bound variable
-  pub within : (register z : ℕ) → slice_get flat.registers register ≡ Some z → IsWithin m register (cond (nat_eq v z) 1 0) 0
+  pub within : (register z : ℕ) → slice_get flat.registers register ≡ Some z → IsCostWithin m register (cond (nat_eq v z) 1 0) 0
 
 -- one for each variable, in their order
 pub record AreOwnMachines (flat : Flat) (machines : List Graph) : Type 0 where

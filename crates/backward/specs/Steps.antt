@@ -5,7 +5,7 @@ use Rattle.machine_core.specs.Edges.{edges_top, ends_top}
 use Rattle.machine_core.specs.Graphs.{graph_top}
 use Rattle.straight_line.specs.Satisfying.{ComesBy}
 use Rattle.straight_line.specs.Straight.{IsFormedBy}
-use Rattle.straight_line.specs.NumberLaws.{slope_of, base_of}
+use Rattle.cube_bounds.specs.NumberLaws.{slope_of, base_of}
 use Rattle.straight_line.specs.declared.definition.By.{By}
 use Rattle.straight_line.specs.declared.definition.By.TheVariants as by
 use Rattle.straight_line.specs.declared.definition.Definition.{Definition}
@@ -14,7 +14,7 @@ use Rattle.sv_terms.specs.declared.transducer.Transducer.{Transducer}
 use Rattle.backward.specs.Families.{Family, Words, HasMachine, Conf}
 use Rattle.backward.specs.Pieces.{ConfCut}
 use Rattle.backward.specs.Carried.{CanCut}
-use Rattle.backward.specs.Definitions.{definition, reads, Gives}
+use Rattle.backward.specs.Definitions.{definition, reads, RelatesBy}
 use Rattle.backward.specs.Chains.{ConfBefore}
 use Rattle.backward.specs.Made.{IsCut, IsPassed}
 use Rattle.backward.specs.Back.{AreBack}
@@ -66,7 +66,7 @@ Either OfPieces Of b = Of b
 
 -- the family came of the one before through a transducer for the definition of x
 abbrev pub IsPassedBy : ℕ → Family → LeafState → By → Type 0
-IsPassedBy x ms ns b = (t : Transducer) × (v : ℕ) × (reads b ≡ Some v) × Gives b t × IsPassed ms x v t ns
+IsPassedBy x ms ns b = (t : Transducer) × (v : ℕ) × (reads b ≡ Some v) × RelatesBy b t × IsPassed ms x v t ns
 
 -- the family was made of the one before by the definition of x, at these cuts where it is a concatenation
 abbrev pub IsMadeBy : By → ℕ → List ℕ → Family → LeafState → Type 0

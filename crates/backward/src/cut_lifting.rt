@@ -1,5 +1,5 @@
 //! Runs taken back over a concatenation.
-ghost use Rattle.std.specs.Prelude.{◌≡◌, ℕ, ◌<◌, ◌+◌, [], ◌∷◌, map, drop, length, get_or, slice_get, Some, IfOk};
+ghost use Rattle.std.specs.Prelude.{◌≡◌, ◌<◌, ◌+◌, [], ◌∷◌, map, drop, length, get_or, slice_get, Some, IfOk};
 ghost use Rattle.machine_core.specs.declared.graph.Graph.{Graph};
 ghost use Rattle.machine_core.specs.Costs.{zeros};
 ghost use Rattle.sv_terms.specs.Meaning.{joined};
@@ -11,9 +11,9 @@ ghost use Rattle.backward.specs.Runs.{Runs, AreRuns, run_words};
 
 use crate::carrying::{start_at, stop_at};
 use crate::family::machine_at;
-use crate::leaf_state::{LeafState, Made};
+use crate::leaf_state::{FamilyOrigin, LeafState};
 use crate::lifting::run_at;
-use crate::meeting::{Apart, Meeting, take_apart};
+use crate::meeting::{Apart, MetPart, take_apart};
 use machine_core::{Cost, Explicit, Machine, Run};
 use pre_image::{Slice, joined_runs_are_runs, lift_concat};
 use std::alloc::{AllocError, Global};
@@ -23,13 +23,13 @@ use sv_word::Word;
 // A concatenation that was carried: the machines before it, its variable with the machine that was
 // cut, the pieces, the cuts, and the meetings of the pieces, the last piece first.
 #[derive(Drop)]
-struct Cut<'a> {
+struct CarriedCut<'a> {
     machines: &'a [Option<Explicit>],
     x: u32,
     target: &'a Explicit,
     pieces: &'a [u32],
     cuts: &'a [u32],
-    meetings: &'a [Meeting],
+    meetings: &'a [MetPart],
 }
 
 // The runs once some pieces are taken back, and the run of the machine that was cut on their words.
@@ -55,12 +55,12 @@ pub fn lift_cut(
     ensures back { IfOk result (AreBack before.now.machines x runs) }
     ensures defined { IfOk result (λ rs. run_words rs x ≡ joined (map (run_words rs) pieces.now)) }
 {
-    let Made::Cut(meetings) = &after.made else {
+    let FamilyOrigin::Cut(meetings) = &after.made else {
         unreachable!();
     };
     let machines = before.machines.as_slice();
     let target = machine_at(machines, x);
-    let cut = Cut {
+    let cut = CarriedCut {
         machines,
         x,
         target,
@@ -96,7 +96,7 @@ fn standing_run(alloc: Global, registers: usize) -> Result<Run<u32>, AllocError>
 }
 
 // All pieces, from the first to the last.
-fn lift_pieces(alloc: Global, cut: &Cut, first: TakenBack) -> Result<TakenBack, AllocError>
+fn lift_pieces(alloc: Global, cut: &CarriedCut, first: TakenBack) -> Result<TakenBack, AllocError>
     requires { (old : Runs) × AreTakenBack cut.now.target.now (without cut.now.machines.now cut.now.x) cut.now.cuts.now cut.now.pieces.now cut.now.meetings.now old 0 first.runs first.whole }
     ensures { IfOk result (λ t. (old : Runs) → AreTakenBack cut.now.target.now (without cut.now.machines.now cut.now.x) cut.now.cuts.now cut.now.pieces.now cut.now.meetings.now old 0 first.runs first.whole
         → AreTakenBack cut.now.target.now (without cut.now.machines.now cut.now.x) cut.now.cuts.now cut.now.pieces.now cut.now.meetings.now old (length cut.now.pieces.now) t.runs t.whole) }
@@ -112,7 +112,7 @@ fn lift_pieces(alloc: Global, cut: &Cut, first: TakenBack) -> Result<TakenBack, 
 // that was cut, which goes behind the parts so far.
 fn lift_piece(
     alloc: Global,
-    cut: &Cut,
+    cut: &CarriedCut,
     place: usize,
     taken: TakenBack,
 ) -> Result<TakenBack, AllocError>
@@ -142,7 +142,7 @@ fn lift_piece(
 }
 
 // The meeting at this place, which there is.
-fn meeting_at(meetings: &[Meeting], place: usize) -> &Meeting
+fn meeting_at(meetings: &[MetPart], place: usize) -> &MetPart
     requires { place < length meetings.now }
     ensures { slice_get meetings.now place ≡ Some result.now }
 {
@@ -151,7 +151,7 @@ fn meeting_at(meetings: &[Meeting], place: usize) -> &Meeting
 
 // The machine with which the piece at this place was met: what the next such piece behind it was met
 // to, or else the machine of the family.
-fn machine_before<'a>(cut: &Cut<'a>, place: usize) -> &'a Explicit
+fn machine_before<'a>(cut: &CarriedCut<'a>, place: usize) -> &'a Explicit
     requires place { place < length cut.now.pieces.now }
     requires meetings { length cut.now.meetings.now ≡ length cut.now.pieces.now }
     requires machine { (k : Graph) × HasMet cut.now.machines.now (get_or cut.now.pieces.now place 0) (drop (place + 1) cut.now.pieces.now) cut.now.meetings.now k }

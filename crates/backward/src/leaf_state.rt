@@ -1,6 +1,6 @@
 ghost use Rattle.backward.specs.Families.{AreWide};
 
-use crate::meeting::Meeting;
+use crate::meeting::MetPart;
 use crate::through::PreBuilt;
 use machine_core::Explicit;
 use sv_list::Items;
@@ -9,13 +9,13 @@ use sv_terms::Transducer;
 /// How a family was made: of the variables' own parts; or of another one, with what its runs are taken
 /// back by.
 #[derive(Drop)]
-pub enum Made {
+pub enum FamilyOrigin {
     /// A first family.
     First,
     /// By a concatenation: what each piece was met to, the last piece first.
-    Cut(Items<Meeting>),
+    Cut(Items<MetPart>),
     /// Through this transducer: the pre-image, and what it was met to.
-    Through(Transducer, PreBuilt, Meeting),
+    Through(Transducer, PreBuilt, MetPart),
 }
 
 /// A family of machines by the numbers of their variables: one for each variable that isn't carried
@@ -24,6 +24,6 @@ pub enum Made {
 pub struct LeafState {
     pub registers: usize,
     pub machines: Items<Option<Explicit>>,
-    pub made: Made,
+    pub made: FamilyOrigin,
     pub ghost wide: { AreWide registers machines },
 }

@@ -38,8 +38,8 @@ pub use first_family::first_state;
 pub use laws::{
     costs_fit, cuts_are_exact, families_become_leaves, growth_is_kept, next_can_be_carried,
 };
-pub use leaf_state::{LeafState, Made};
+pub use leaf_state::{FamilyOrigin, LeafState};
 pub use lifting::lift_through;
-pub use meeting::Meeting;
+pub use meeting::MetPart;
 pub use stepping::{lift_step, step_concat, step_through};
 pub use through::{PreBuilt, carry_through};

@@ -4,15 +4,15 @@ ghost use Rattle.machine_core.specs.declared.run.Run.{Run as AnyRun};
 ghost use Rattle.machine_core.specs.Graphs.{IsRunOf};
 ghost use Rattle.sv_terms.specs.Transduction.{Pairs};
 ghost use Rattle.sv_terms.specs.declared.transducer.Transducer.{Transducer as AnyTransducer};
-ghost use Rattle.backward.specs.Kept.{IsKept};
+ghost use Rattle.backward.specs.Kept.{IsKeptMeeting};
 ghost use Rattle.backward.specs.Made.{IsPassed};
 ghost use Rattle.backward.specs.PreBuilt.{IsPreKept};
-ghost use Rattle.backward.specs.Back.{AreBack, IsRead};
+ghost use Rattle.backward.specs.Back.{AreBack, IsReadRun};
 ghost use Rattle.backward.specs.Runs.{AreRuns, run_words};
 
 use crate::family::machine_at;
-use crate::leaf_state::{LeafState, Made};
-use crate::meeting::{Apart, Meeting, take_apart};
+use crate::leaf_state::{FamilyOrigin, LeafState};
+use crate::meeting::{Apart, MetPart, take_apart};
 use crate::through::PreBuilt;
 use machine_core::{Explicit, Run};
 use pre_image::{Pre, lift_pre};
@@ -51,7 +51,7 @@ pub fn lift_through(
     ensures back { IfOk result (AreBack before.now.machines x runs) }
     ensures defined { IfOk result (λ rs. (t : AnyTransducer) → IsPassed before.now.machines x v t after.now → Pairs t (run_words rs v) (run_words rs x)) }
 {
-    let Made::Through(through, pre, meeting) = &after.made else {
+    let FamilyOrigin::Through(through, pre, meeting) = &after.made else {
         unreachable!();
     };
     let target = machine_at(before.machines.as_slice(), x);
@@ -70,13 +70,13 @@ fn lift_read(
     target: &Explicit,
     reader: &Explicit,
     pre: &PreBuilt,
-    meeting: &Meeting,
+    meeting: &MetPart,
     run: &Run<u32>,
 ) -> Result<ReadRun, AllocError>
     requires pre { IsPreKept through.now target.now pre.now }
-    requires kept { IsKept reader.now pre.now.built.machine 0 None meeting.now }
+    requires kept { IsKeptMeeting reader.now pre.now.built.machine 0 None meeting.now }
     requires run { IsRunOf meeting.now.small.machine run.now }
-    ensures { IfOk result (IsRead through.now target.now reader.now run.now) }
+    ensures { IfOk result (IsReadRun through.now target.now reader.now run.now) }
 {
     let apart = take_apart(alloc, reader, &pre.built.machine, 0, None, meeting, run)?;
     let pairs = pre.built.lift(alloc, &apart.part)?;

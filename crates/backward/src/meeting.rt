@@ -2,7 +2,7 @@
 ghost use Rattle.std.specs.Prelude.{◌≡◌, ℕ, ◌<◌, ◌+◌, ◌^◌, Err, IfOk};
 ghost use Rattle.machine_core.specs.Graphs.{graph_top, IsRunOf};
 ghost use Rattle.trim_search.specs.declared.build_fault.BuildFault.TheVariants.{States};
-ghost use Rattle.backward.specs.Kept.{IsKept, IsApart};
+ghost use Rattle.backward.specs.Kept.{IsKeptMeeting, IsApart};
 
 use machine_core::{Explicit, Run};
 use machine_meet::{Meet, costs_of_meets_are_bounded, split_run};
@@ -14,7 +14,7 @@ use trim_search::{BuildFault, Built, lifted_runs_are_runs, materialise, trim_nam
 /// A machine met with a part of another one's runs: the product with the pair of each state, and what
 /// was left of it, with the product's state of each state.
 #[derive(Drop)]
-pub struct Meeting {
+pub struct MetPart {
     pub both: Built<Items<u32>>,
     pub small: Built<u32>,
 }
@@ -37,11 +37,11 @@ pub fn meet_slice(
     from: u32,
     to: Option<u32>,
     limit: u64,
-) -> Result<Meeting, BuildFault>
+) -> Result<MetPart, BuildFault>
     requires from { from < target.now.states }
     requires registers { machine.now.registers ≡ target.now.registers }
     requires fits { graph_top machine.now + graph_top target.now < 2 ^ 64 }
-    ensures kept { IfOk result (IsKept machine.now target.now from to) }
+    ensures kept { IfOk result (IsKeptMeeting machine.now target.now from to) }
     ensures refused { (n : ℕ) → result ≡ Err (States n) → limit < 2 ^ 32 }
 {
     let whole = Slice::of(machine, 0, None);
@@ -52,7 +52,7 @@ pub fn meet_slice(
     let both = materialise(alloc, &meet, limit)?;
     lifted_runs_are_runs(&meet, &both);
     let small = trim_named(alloc, &both.machine)?;
-    Ok(Meeting { both, small })
+    Ok(MetPart { both, small })
 }
 
 /// A run of the machine and one of the part that it was met with, which the run of the meeting came
@@ -63,10 +63,10 @@ pub fn take_apart(
     target: &Explicit,
     from: u32,
     to: Option<u32>,
-    meeting: &Meeting,
+    meeting: &MetPart,
     run: &Run<u32>,
 ) -> Result<Apart, AllocError>
-    requires kept { IsKept machine.now target.now from to meeting.now }
+    requires kept { IsKeptMeeting machine.now target.now from to meeting.now }
     requires run { IsRunOf meeting.now.small.machine run.now }
     ensures { IfOk result (IsApart machine.now target.now from to run.now) }
 {

@@ -1,7 +1,6 @@
 //! One definition of a flat cube carried backward, and runs taken back over it.
 ghost use Rattle.std.specs.Prelude.{◌≡◌, ◌<◌, ◌+◌, ◌^◌, ℕ, [], length, slice_get, Some, Err, IfOk};
 ghost use Rattle.straight_line.specs.Straight.{IsFormedBy, IsStraight};
-ghost use Rattle.straight_line.specs.declared.definition.Definition.{Definition as AnyDefinition};
 ghost use Rattle.trim_search.specs.declared.build_fault.BuildFault.TheVariants.{States};
 ghost use Rattle.backward.specs.Back.{AreBack};
 ghost use Rattle.backward.specs.Definitions.{IsFor, reads};
@@ -15,10 +14,11 @@ use crate::cut_lifting::lift_cut;
 use crate::leaf_state::LeafState;
 use crate::lifting::lift_through;
 use crate::through::carry_through;
+use cube_bounds::{growth_goes_along, growth_is_solved, states_are_solved};
 use machine_core::Run;
 use replace_machines::{replace_all, replace_first};
 use std::alloc::{AllocError, Global};
-use straight_line::{By, Definition, Flat, growth_goes_along, growth_is_solved, states_are_solved};
+use straight_line::{By, Definition, Flat};
 use sv_list::{Copied, Items};
 use sv_terms::Transducer;
 use trim_search::BuildFault;

@@ -9,7 +9,7 @@ ghost use Rattle.backward.specs.Made.{IsPassed};
 ghost use Rattle.backward.specs.Carried.{CanPass, IsCarriedThrough};
 
 use crate::family::{copy_without, machine_at};
-use crate::leaf_state::{LeafState, Made};
+use crate::leaf_state::{FamilyOrigin, LeafState};
 use crate::meeting::meet_slice;
 use machine_core::Explicit;
 use pre_image::{Pre, pre_costs_are_bounded, pre_is_exact};
@@ -75,6 +75,6 @@ pub fn carry_through(
     Ok(LeafState {
         registers: state.registers,
         machines,
-        made: Made::Through(through, before, meeting),
+        made: FamilyOrigin::Through(through, before, meeting),
     })
 }

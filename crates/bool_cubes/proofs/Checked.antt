@@ -10,7 +10,7 @@ use Rattle.bool_cubes.specs.Cubes.{SomeOf}
 use Rattle.bool_cubes.specs.Linear.{Linear, Step, added, addition, scaling, less, less_steps, linear, minus_one, of_number, scaled, steps}
 use Rattle.bool_cubes.specs.Marked.{AreDifferences}
 use Rattle.bool_cubes.specs.Mirrors.{raw-seen, seen-Apply}
-use Rattle.bool_cubes.specs.Numbered.{AreNumbered, IsMadeBy, IsMore, IsNumbered}
+use Rattle.bool_cubes.specs.Numbered.{AreNumbered, IsFormOrPast, IsMore, IsNumbered}
 use Rattle.bool_cubes.specs.Past.{ArePlain, IsPast, IsPlainExactly, atom_steps, comparison_steps, equal_steps, equality_steps, relation_of, relation_steps, two_steps}
 use Rattle.bool_cubes.specs.Shapes.{Shape, truth, number, text, constant, apply, member, related, opaque, shapes, seen, raw, head_sort}
 use Rattle.bool_cubes.specs.declared.fault.CubeFault.{CubeFault}
@@ -146,7 +146,7 @@ module _ (t : Term) (o : Op) (ts : List Term) (x y : Term) (k : Relation) (e : t
       none sort.RegLan n = refl
 
 -- a fault goes on where its steps are among others
-pub err_plain : (X : Type 0) (us : List (List ℤ)) (a : Linear) (ss ts : List Step) (e : CubeFault) → ((l r : ℤ) → SomeOf (IsPast l r) ss → SomeOf (IsPast l r) ts) → IsMadeBy us a ss (Err e) → IsPlainExactly {X = X} ts (Err e)
+pub err_plain : (X : Type 0) (us : List (List ℤ)) (a : Linear) (ss ts : List Step) (e : CubeFault) → ((l r : ℤ) → SomeOf (IsPast l r) ss → SomeOf (IsPast l r) ts) → IsFormOrPast us a ss (Err e) → IsPlainExactly {X = X} ts (Err e)
 err_plain X us a ss ts (Past l r) h p = h l r p
 err_plain X us a ss ts (TooMany n) h p = p
 err_plain X us a ss ts (Memory e) h p = tt
@@ -157,24 +157,24 @@ err_kept X Y ss ts (TooMany n) h p = p
 err_kept X Y ss ts (Memory e) h p = tt
 
 module _ (X : Type 0) (s t : Shape) (us vs : List (List ℤ)) (f g : TermForm) (m : IsMore us vs) (a : IsNumbered us (linear s) f) (b : IsNumbered vs (linear t) g) where
-  pub less_fault : (e : CubeFault) → ((us : List (List ℤ)) (a b : Linear) → AreNumbered us → IsNumbered us a f → IsNumbered us b g → IsMadeBy us (less a b) (less_steps a b) (Err e)) → IsPlainExactly {X = X} (equality_steps s t) (Err e)
+  pub less_fault : (e : CubeFault) → ((us : List (List ℤ)) (a b : Linear) → AreNumbered us → IsNumbered us a f → IsNumbered us b g → IsFormOrPast us (less a b) (less_steps a b) (Err e)) → IsPlainExactly {X = X} (equality_steps s t) (Err e)
   less_fault (Past l r) h = less_past s t us vs f g m a b l r h
   less_fault (TooMany n) h = h vs (linear s) (linear t) m.numbered (formed_more us vs (linear s) f m a) b
   less_fault (Memory e) h = tt
 
   pub more_fault : (d : TermForm) (e : CubeFault) → ((us : List (List ℤ)) (a b : Linear) → AreNumbered us → IsNumbered us a f → IsNumbered us b g → ArePlain (less_steps a b) × IsNumbered us (less a b) d)
-      → ((us : List (List ℤ)) (a : Linear) → AreNumbered us → IsNumbered us a d → IsMadeBy us (scaled a minus_one) (scaling a minus_one ∷ []) (Err e)) → IsPlainExactly {X = X} (equality_steps s t) (Err e)
+      → ((us : List (List ℤ)) (a : Linear) → AreNumbered us → IsNumbered us a d → IsFormOrPast us (scaled a minus_one) (scaling a minus_one ∷ []) (Err e)) → IsPlainExactly {X = X} (equality_steps s t) (Err e)
   more_fault d (Past l r) h k = more_past s t us vs f g m a b d l r h k
   more_fault d (TooMany n) h k = k vs (less (linear s) (linear t)) m.numbered (h vs (linear s) (linear t) m.numbered (formed_more us vs (linear s) f m a) b).1
   more_fault d (Memory e) h k = tt
 
 module _ (X : Type 0) (s t : Shape) (us : List (List ℤ)) (d : Differences) (one : TermForm) (h : AreDifferences us (linear s) (linear t) d) (n : (us : List (List ℤ)) → IsNumbered us (of_number (pos 1)) one) where
-  pub less_one_fault : (e : CubeFault) → ((us : List (List ℤ)) (a b : Linear) → AreNumbered us → IsNumbered us a d.less → IsNumbered us b one → IsMadeBy us (added a b) (addition a b ∷ []) (Err e)) → IsPlainExactly {X = X} (comparison_steps s t) (Err e)
+  pub less_one_fault : (e : CubeFault) → ((us : List (List ℤ)) (a b : Linear) → AreNumbered us → IsNumbered us a d.less → IsNumbered us b one → IsFormOrPast us (added a b) (addition a b ∷ []) (Err e)) → IsPlainExactly {X = X} (comparison_steps s t) (Err e)
   less_one_fault (Past l r) k = less_one_past s t us d one h n l r k
   less_one_fault (TooMany x) k = k us (less (linear s) (linear t)) (of_number (pos 1)) h.numbered h.first (n us)
   less_one_fault (Memory x) k = tt
 
-  pub more_one_fault : (e : CubeFault) → ((us : List (List ℤ)) (a b : Linear) → AreNumbered us → IsNumbered us a d.more → IsNumbered us b one → IsMadeBy us (added a b) (addition a b ∷ []) (Err e)) → IsPlainExactly {X = X} (comparison_steps s t) (Err e)
+  pub more_one_fault : (e : CubeFault) → ((us : List (List ℤ)) (a b : Linear) → AreNumbered us → IsNumbered us a d.more → IsNumbered us b one → IsFormOrPast us (added a b) (addition a b ∷ []) (Err e)) → IsPlainExactly {X = X} (comparison_steps s t) (Err e)
   more_one_fault (Past l r) k = more_one_past s t us d one h n l r k
   more_one_fault (TooMany x) k = k us (scaled (less (linear s) (linear t)) minus_one) (of_number (pos 1)) h.numbered h.second (n us)
   more_one_fault (Memory x) k = tt

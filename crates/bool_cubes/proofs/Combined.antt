@@ -15,7 +15,7 @@ use Rattle.bool_cubes.specs.Flats.{flat, opening}
 use Rattle.bool_cubes.specs.Formed.{IsUnknownForm, combined_by, combining_steps, linears_of, steps_of}
 use Rattle.bool_cubes.specs.Linear.{Linear, Unknown, integer, length_of, other, Step, scaling, from_left, joined_of, joined_steps, length_form, linear, minus_one, of_number, of_unknown, read, read_steps, reading_of, scaled, steps, steps_from, unknown_code, whole, written}
 use Rattle.bool_cubes.specs.Mirrors.{raw-seen, seen-Truth, seen-Number, seen-Text, seen-Constant, seen-Apply, seen-InRe, seen-Related, seen-Opaque}
-use Rattle.bool_cubes.specs.Numbered.{AreNumbered, HasNumber, IsMadeBy, IsMore, IsNumbered, joint_of, joint_steps}
+use Rattle.bool_cubes.specs.Numbered.{AreNumbered, HasNumber, IsFormOrPast, IsMore, IsNumbered, joint_of, joint_steps}
 use Rattle.bool_cubes.specs.Past.{ArePlain, IsPast}
 use Rattle.bool_cubes.specs.Shapes.{Shape, Shapes, truth, number, text, constant, apply, member, related, opaque, end, ◌⨾◌, shapes, seen, raw}
 use Rattle.bool_cubes.specs.declared.fault.CubeFault.{CubeFault}
@@ -308,24 +308,24 @@ pub combined_more : (a b c : List (List ℤ)) → IsMore a b → IsMore b c → 
 combined_more a b c p q = more_trans a b c p q
 
 -- a fault goes on where its steps are among others
-pub err_made : (us vs : List (List ℤ)) (a b : Linear) (ss ts : List Step) (e : CubeFault) → ((l r : ℤ) → SomeOf (IsPast l r) ss → SomeOf (IsPast l r) ts) → IsMadeBy us a ss (Err e) → IsMadeBy vs b ts (Err e)
+pub err_made : (us vs : List (List ℤ)) (a b : Linear) (ss ts : List Step) (e : CubeFault) → ((l r : ℤ) → SomeOf (IsPast l r) ss → SomeOf (IsPast l r) ts) → IsFormOrPast us a ss (Err e) → IsFormOrPast vs b ts (Err e)
 err_made us vs a b ss ts (Past l r) h p = h l r p
 err_made us vs a b ss ts (TooMany n) h p = p
 err_made us vs a b ss ts (Memory e) h p = tt
 
 pub joint_err : (us vs : List (List ℤ)) (j : Joint) (ts : List Term) (i : ℕ) (t : Term) (f g : TermForm) (e : CubeFault) → 0 < i → i < length ts → 2 ≤ length ts → t ≡ get_or ts i t → IsMore us vs → IsCombined us j (take i ts) f → IsNumbered vs (linear (seen t)) g
-    → ((us : List (List ℤ)) (a b : Linear) → AreNumbered us → IsNumbered us a f → IsNumbered us b g → IsMadeBy us (joint_of j a b) (joint_steps j a b) (Err e)) → IsMadeBy vs (joined_of j (linears_of ts)) (steps_of ts ++ joined_steps j (linears_of ts)) (Err e)
+    → ((us : List (List ℤ)) (a b : Linear) → AreNumbered us → IsNumbered us a f → IsNumbered us b g → IsFormOrPast us (joint_of j a b) (joint_steps j a b) (Err e)) → IsFormOrPast vs (joined_of j (linears_of ts)) (steps_of ts ++ joined_steps j (linears_of ts)) (Err e)
 joint_err us vs j ts i t f g (Past l r) o k two d m c n made = joint_past us vs j ts i t f g l r o k two d m c n made
 joint_err us vs j ts i t f g (TooMany x) o k two d m c n made = made vs (combined_by j (linears_of (take i ts))) (linear (seen t)) m.numbered (formed_more us vs _ f m c.form) n
 joint_err us vs j ts i t f g (Memory x) o k two d m c n made = tt
 
-pub one_err : (us : List (List ℤ)) (ts : List Term) (t : Term) (f : TermForm) (e : CubeFault) → length ts ≡ 1 → t ≡ get_or ts 0 t → AreNumbered us → IsNumbered us (linear (seen t)) f → ((us : List (List ℤ)) (a : Linear) → AreNumbered us → IsNumbered us a f → IsMadeBy us (scaled a minus_one) (scaling a minus_one ∷ []) (Err e)) → IsMadeBy us (joined_of joint.Difference (linears_of ts)) (steps_of ts ++ joined_steps joint.Difference (linears_of ts)) (Err e)
+pub one_err : (us : List (List ℤ)) (ts : List Term) (t : Term) (f : TermForm) (e : CubeFault) → length ts ≡ 1 → t ≡ get_or ts 0 t → AreNumbered us → IsNumbered us (linear (seen t)) f → ((us : List (List ℤ)) (a : Linear) → AreNumbered us → IsNumbered us a f → IsFormOrPast us (scaled a minus_one) (scaling a minus_one ∷ []) (Err e)) → IsFormOrPast us (joined_of joint.Difference (linears_of ts)) (steps_of ts ++ joined_steps joint.Difference (linears_of ts)) (Err e)
 one_err us ts t f (Past l r) k d m n h = one_past us ts t f l r k d m n h
 one_err us ts t f (TooMany x) k d m n h = h us (linear (seen t)) m n
 one_err us ts t f (Memory x) k d m n h = tt
 
 abbrev pub IsJoined : List (List ℤ) → List Term → Result TermForm CubeFault → Joint → Type 0
-IsJoined us ts q j = IsMadeBy us (joined_of j (linears_of ts)) (steps_of ts ++ joined_steps j (linears_of ts)) q
+IsJoined us ts q j = IsFormOrPast us (joined_of j (linears_of ts)) (steps_of ts ++ joined_steps j (linears_of ts)) q
 
 pub joined_as : (us : List (List ℤ)) (ts : List Term) (q : Result TermForm CubeFault) (j k : Joint) → j ≡ k → IsJoined us ts q k → IsJoined us ts q j
 joined_as us ts q j k e h = subst (IsJoined us ts q) (sym e) h

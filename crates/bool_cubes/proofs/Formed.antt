@@ -5,7 +5,7 @@ use Rattle.std.specs.Int.{w128}
 use Rattle.std.proofs.lemmas.Bool.{cases_lt}
 use Rattle.std.proofs.lemmas.Bool.Decides.{Decides-eqb}
 use Rattle.std.proofs.lemmas.Int.{ints}
-use Rattle.sv_linear.specs.Faults.{IsFirstPast, IsPastExactly}
+use Rattle.sv_linear.specs.Faults.{ArePastOperands, IsPastExactly}
 use Rattle.sv_linear.specs.declared.fault.FormFault.{FormFault}
 use Rattle.sv_linear.specs.declared.fault.FormFault.TheVariants as form
 use Rattle.sv_linear.specs.Forms.{entry, form_value}
@@ -18,7 +18,7 @@ use Rattle.sv_linear.specs.declared.form.Form.{Form}
 use Rattle.bool_cubes.specs.Cubes.{SomeOf}
 use Rattle.bool_cubes.specs.Flats.{flat}
 use Rattle.bool_cubes.specs.Linear.{Linear, Unknown, Place, at_unknown, at_constant, entry_at, is_empty, is_constant, less, less_steps, minus_one, multiple_of, multiplied, product_steps, same_unknown, unknown_code, of_number, of_unknown, added, scaled, addition, scaling}
-use Rattle.bool_cubes.specs.Numbered.{AreNumbered, IsMadeBy, IsMore, IsNumbered, fault_of, place_in}
+use Rattle.bool_cubes.specs.Numbered.{AreNumbered, IsFormOrPast, IsMore, IsNumbered, fault_of, place_in}
 use Rattle.bool_cubes.specs.Past.{ArePlain, IsPast}
 use Rattle.bool_cubes.specs.declared.fault.CubeFault.{CubeFault}
 use Rattle.bool_cubes.specs.declared.fault.CubeFault.TheVariants.{Past, TooMany, Memory}
@@ -152,7 +152,7 @@ module _ (us : List (List ℤ)) (a b : Linear) (f g : TermForm) (h : IsNumbered 
       s.1 (subst (λ z. FitsSigned w128 z) (λ i. sym e i +ℤ sym d i) (p (column_of us s.0.0)))
   added_plain p l r (inr s) = s
 
-  pub added_past : (l r : ℤ) → AreNumbered us → IsFirstPast (λ x y. x +ℤ y) (λ c. entry c f.form) (λ c. entry c g.form) l r → SomeOf (IsPast l r) (addition a b ∷ [])
+  pub added_past : (l r : ℤ) → AreNumbered us → ArePastOperands (λ x y. x +ℤ y) (λ c. entry c f.form) (λ c. entry c g.form) l r → SomeOf (IsPast l r) (addition a b ∷ [])
   added_past l r n p = elim (place_at us n p.column) [
     | inl q ↦ inl ((q.0, p.left_is ∙ q.1 a f h, p.right_is ∙ q.1 b g k), p.outside)
     | inr z ↦ absurd (p.outside (subst (λ y. FitsSigned w128 y) (sym ((λ i. (p.left_is ∙ z a f h) i +ℤ (p.right_is ∙ z b g k) i) ∙ refl)) zero_fits))
@@ -165,7 +165,7 @@ module _ (us : List (List ℤ)) (a : Linear) (f : TermForm) (by : ℤ) (h : IsNu
       s.1 (subst (λ z. FitsSigned w128 z) (λ i. sym e i *ℤ sym s.0.2 i) (p (column_of us s.0.0)))
   scaled_plain p l r (inr s) = s
 
-  pub scaled_past : (l r : ℤ) → AreNumbered us → IsFirstPast (λ x y. x *ℤ y) (λ c. entry c f.form) (λ c. by) l r → SomeOf (IsPast l r) (scaling a by ∷ [])
+  pub scaled_past : (l r : ℤ) → AreNumbered us → ArePastOperands (λ x y. x *ℤ y) (λ c. entry c f.form) (λ c. by) l r → SomeOf (IsPast l r) (scaling a by ∷ [])
   scaled_past l r n p = elim (place_at us n p.column) [
     | inl q ↦ inl ((q.0, p.left_is ∙ q.1 a f h, p.right_is), p.outside)
     | inr z ↦ absurd (p.outside (subst (λ y. FitsSigned w128 y) (sym (ap (λ x. x *ℤ r) (p.left_is ∙ z a f h) ∙ zero_times r)) zero_fits))
@@ -191,49 +191,49 @@ formed_more us vs a f m n = subst (λ z. IsNumbered z a f) (sym m.whole) (record
 
 -- what a call on a form answers
 module _ (us : List (List ℤ)) (a : Linear) (f : TermForm) (by : ℤ) (n : AreNumbered us) (h : IsNumbered us a f) where
-  pub scaled_err : (fault : FormFault) (e : CubeFault) → e ≡ fault_of fault → IsPastExactly (λ x y. x *ℤ y) (λ c. entry c f.form) (λ c. by) (Err fault) → IsMadeBy us (scaled a by) (scaling a by ∷ []) (Err e)
-  scaled_err fault e q p = subst (λ z. IsMadeBy us (scaled a by) (scaling a by ∷ []) (Err z)) (sym q) (by_fault fault p)
+  pub scaled_err : (fault : FormFault) (e : CubeFault) → e ≡ fault_of fault → IsPastExactly (λ x y. x *ℤ y) (λ c. entry c f.form) (λ c. by) (Err fault) → IsFormOrPast us (scaled a by) (scaling a by ∷ []) (Err e)
+  scaled_err fault e q p = subst (λ z. IsFormOrPast us (scaled a by) (scaling a by ∷ []) (Err z)) (sym q) (by_fault fault p)
     where
-      by_fault : (fault : FormFault) → IsPastExactly (λ x y. x *ℤ y) (λ c. entry c f.form) (λ c. by) (Err fault) → IsMadeBy us (scaled a by) (scaling a by ∷ []) (Err (fault_of fault))
+      by_fault : (fault : FormFault) → IsPastExactly (λ x y. x *ℤ y) (λ c. entry c f.form) (λ c. by) (Err fault) → IsFormOrPast us (scaled a by) (scaling a by ∷ []) (Err (fault_of fault))
       by_fault (form.Past l r) p = scaled_past us a f by h l r n p
       by_fault (form.Memory e) p = tt
 
 module _ (us : List (List ℤ)) (a b : Linear) (f g : TermForm) (n : AreNumbered us) (h : IsNumbered us a f) (k : IsNumbered us b g) where
-  pub added_err : (fault : FormFault) (e : CubeFault) → e ≡ fault_of fault → IsPastExactly (λ x y. x +ℤ y) (λ c. entry c f.form) (λ c. entry c g.form) (Err fault) → IsMadeBy us (added a b) (addition a b ∷ []) (Err e)
-  added_err fault e q p = subst (λ z. IsMadeBy us (added a b) (addition a b ∷ []) (Err z)) (sym q) (by_fault fault p)
+  pub added_err : (fault : FormFault) (e : CubeFault) → e ≡ fault_of fault → IsPastExactly (λ x y. x +ℤ y) (λ c. entry c f.form) (λ c. entry c g.form) (Err fault) → IsFormOrPast us (added a b) (addition a b ∷ []) (Err e)
+  added_err fault e q p = subst (λ z. IsFormOrPast us (added a b) (addition a b ∷ []) (Err z)) (sym q) (by_fault fault p)
     where
-      by_fault : (fault : FormFault) → IsPastExactly (λ x y. x +ℤ y) (λ c. entry c f.form) (λ c. entry c g.form) (Err fault) → IsMadeBy us (added a b) (addition a b ∷ []) (Err (fault_of fault))
+      by_fault : (fault : FormFault) → IsPastExactly (λ x y. x +ℤ y) (λ c. entry c f.form) (λ c. entry c g.form) (Err fault) → IsFormOrPast us (added a b) (addition a b ∷ []) (Err (fault_of fault))
       by_fault (form.Past l r) p = added_past us a b f g h k l r n p
       by_fault (form.Memory e) p = tt
 
   -- a difference: its negative first, then a sum
-  pub less_failed : (e : CubeFault) → ((us : List (List ℤ)) (a : Linear) → AreNumbered us → IsNumbered us a g → IsMadeBy us (scaled a minus_one) (scaling a minus_one ∷ []) (Err e)) → IsMadeBy us (less a b) (less_steps a b) (Err e)
+  pub less_failed : (e : CubeFault) → ((us : List (List ℤ)) (a : Linear) → AreNumbered us → IsNumbered us a g → IsFormOrPast us (scaled a minus_one) (scaling a minus_one ∷ []) (Err e)) → IsFormOrPast us (less a b) (less_steps a b) (Err e)
   less_failed e m = by_fault e (m us b n k)
     where
-      by_fault : (e : CubeFault) → IsMadeBy us (scaled b minus_one) (scaling b minus_one ∷ []) (Err e) → IsMadeBy us (less a b) (less_steps a b) (Err e)
+      by_fault : (e : CubeFault) → IsFormOrPast us (scaled b minus_one) (scaling b minus_one ∷ []) (Err e) → IsFormOrPast us (less a b) (less_steps a b) (Err e)
       by_fault (Past l r) p = some_left (IsPast l r) (scaling b minus_one ∷ []) (addition a (scaled b minus_one) ∷ []) p
       by_fault (TooMany x) p = p
       by_fault (Memory x) p = tt
 
   pub less_made : (d : TermForm) (q : Result TermForm CubeFault) → ((us : List (List ℤ)) (a : Linear) → AreNumbered us → IsNumbered us a g → ArePlain (scaling a minus_one ∷ []) × IsNumbered us (scaled a minus_one) d)
-      → ((us : List (List ℤ)) (a b : Linear) → AreNumbered us → IsNumbered us a f → IsNumbered us b d → IsMadeBy us (added a b) (addition a b ∷ []) q) → IsMadeBy us (less a b) (less_steps a b) q
+      → ((us : List (List ℤ)) (a b : Linear) → AreNumbered us → IsNumbered us a f → IsNumbered us b d → IsFormOrPast us (added a b) (addition a b ∷ []) q) → IsFormOrPast us (less a b) (less_steps a b) q
   less_made d q m p = let x = m us b n k in by_result q x.0 (p us a (scaled b minus_one) n h x.1)
     where
-      by_result : (q : Result TermForm CubeFault) → ArePlain (scaling b minus_one ∷ []) → IsMadeBy us (added a (scaled b minus_one)) (addition a (scaled b minus_one) ∷ []) q → IsMadeBy us (less a b) (less_steps a b) q
+      by_result : (q : Result TermForm CubeFault) → ArePlain (scaling b minus_one ∷ []) → IsFormOrPast us (added a (scaled b minus_one)) (addition a (scaled b minus_one) ∷ []) q → IsFormOrPast us (less a b) (less_steps a b) q
       by_result (Ok r) x y = ((λ l r z. elim (some_cases (IsPast l r) (scaling b minus_one ∷ []) (addition a (scaled b minus_one) ∷ []) z) [ inl i ↦ x l r i | inr j ↦ y.0 l r j ]), y.1)
       by_result (Err (Past l r)) x y = some_right (IsPast l r) (scaling b minus_one ∷ []) (addition a (scaled b minus_one) ∷ []) y
       by_result (Err (TooMany z)) x y = y
       by_result (Err (Memory z)) x y = tt
 
   -- a product, by the one without unknowns
-  pub product_right : (q : Result TermForm CubeFault) (z : ℤ) → z ≡ g.form.constant → g.constant ≡ true → ((us : List (List ℤ)) (a : Linear) → AreNumbered us → IsNumbered us a f → IsMadeBy us (scaled a z) (scaling a z ∷ []) q) → IsMadeBy us (multiplied a b) (product_steps a b) q
+  pub product_right : (q : Result TermForm CubeFault) (z : ℤ) → z ≡ g.form.constant → g.constant ≡ true → ((us : List (List ℤ)) (a : Linear) → AreNumbered us → IsNumbered us a f → IsFormOrPast us (scaled a z) (scaling a z ∷ []) q) → IsFormOrPast us (multiplied a b) (product_steps a b) q
   product_right q z e t m =
       let c : is_constant b ≡ true = sym k.constant ∙ t in
       let d : z ≡ b.constant = e ∙ k.number in
-      subst (λ x. IsMadeBy us (if x then scaled a b.constant else scaled b a.constant) ((if x then scaling a b.constant else scaling b a.constant) ∷ []) q) (sym c) (subst (λ y. IsMadeBy us (scaled a y) (scaling a y ∷ []) q) d (m us a n h))
+      subst (λ x. IsFormOrPast us (if x then scaled a b.constant else scaled b a.constant) ((if x then scaling a b.constant else scaling b a.constant) ∷ []) q) (sym c) (subst (λ y. IsFormOrPast us (scaled a y) (scaling a y ∷ []) q) d (m us a n h))
 
-  pub product_left : (q : Result TermForm CubeFault) (z : ℤ) → z ≡ f.form.constant → g.constant ≡ false → ((us : List (List ℤ)) (a : Linear) → AreNumbered us → IsNumbered us a g → IsMadeBy us (scaled a z) (scaling a z ∷ []) q) → IsMadeBy us (multiplied a b) (product_steps a b) q
+  pub product_left : (q : Result TermForm CubeFault) (z : ℤ) → z ≡ f.form.constant → g.constant ≡ false → ((us : List (List ℤ)) (a : Linear) → AreNumbered us → IsNumbered us a g → IsFormOrPast us (scaled a z) (scaling a z ∷ []) q) → IsFormOrPast us (multiplied a b) (product_steps a b) q
   product_left q z e t m =
       let c : is_constant b ≡ false = sym k.constant ∙ t in
       let d : z ≡ a.constant = e ∙ h.number in
-      subst (λ x. IsMadeBy us (if x then scaled a b.constant else scaled b a.constant) ((if x then scaling a b.constant else scaling b a.constant) ∷ []) q) (sym c) (subst (λ y. IsMadeBy us (scaled b y) (scaling b y ∷ []) q) d (m us b n k))
+      subst (λ x. IsFormOrPast us (if x then scaled a b.constant else scaled b a.constant) ((if x then scaling a b.constant else scaling b a.constant) ∷ []) q) (sym c) (subst (λ y. IsFormOrPast us (scaled b y) (scaling b y ∷ []) q) d (m us b n k))

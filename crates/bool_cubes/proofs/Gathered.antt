@@ -19,16 +19,16 @@ use Rattle.bool_cubes.specs.Trees.{both, either, conjunction, every_of, formula,
 use Rattle.bool_cubes.specs.Shapes.{seen}
 use Rattle.bool_cubes.specs.declared.literal.Cube.{Cube}
 use Rattle.bool_cubes.specs.declared.literal.Literal.{Literal}
-use Rattle.bool_cubes.specs.declared.node.Node.{Node}
+use Rattle.bool_cubes.specs.declared.node.CubeNode.{CubeNode}
 use Rattle.bool_cubes.specs.declared.node.NodeKind.{NodeKind}
 use Rattle.bool_cubes.specs.declared.node.NodeKind.TheVariants as kind
-use Rattle.bool_cubes.specs.declared.node.Sides.{Sides}
+use Rattle.bool_cubes.specs.declared.node.NodePair.{NodePair}
 use Rattle.sv_terms.specs.declared.term.Term.{Term}
 use Rattle.bool_cubes.proofs.Choosing.{cubes_length}
 use Rattle.bool_cubes.proofs.Picked.{digit_below, picked}
 
 -- a number of a cube of a node's tree, which has not too many
-pub record IsNumberIn (ns : List Node) (k n : ℕ) : Type 0 where
+pub record IsNumberIn (ns : List CubeNode) (k n : ℕ) : Type 0 where
   pub within : k < length ns
   pub below : n < count (tree_at ns k)
   pub most : count (tree_at ns k) ≤ most_cubes
@@ -48,14 +48,14 @@ factors a b n h =
     one_up : (x : ℕ) → 0 < x → 1 ≤ x
     one_up x h = omega arith
 
-module _ (ns : List Node) (at : ℕ) (n : Node) (left : ℕ) (p : IsPlan ns) (d : IsNumberIn ns at left) (g : n ≡ get_or ns at n) where
+module _ (ns : List CubeNode) (at : ℕ) (n : CubeNode) (left : ℕ) (p : IsPlan ns) (d : IsNumberIn ns at left) (g : n ≡ get_or ns at n) where
   is_made : IsMade ns at n
   is_made = p.each at n d.within g
 
   tree_is : (m : NodeKind) → n.kind ≡ m → tree_at ns at ≡ made (trees_of ns) m
   tree_is m e = is_made.tree ∙ ap (made (trees_of ns)) e
 
-  stored : (k : ℕ) (m : Node) → k < length ns → m ≡ get_or ns k m → count (tree_at ns k) ≤ most_cubes → m.cubes ≡ count (tree_at ns k)
+  stored : (k : ℕ) (m : CubeNode) → k < length ns → m ≡ get_or ns k m → count (tree_at ns k) ≤ most_cubes → m.cubes ≡ count (tree_at ns k)
   stored k m l e h = (p.each k m l e).cubes ∙ uncut (count (tree_at ns k)) h
 
   pub gathered_always : n.kind ≡ kind.Always → cube_at (tree_at ns at) left ≡ []
@@ -68,7 +68,7 @@ module _ (ns : List Node) (at : ℕ) (n : Node) (left : ℕ) (p : IsPlan ns) (d 
   gathered_one l e = ap (λ t. cube_at t left) (tree_is (kind.One l) e)
 
 -- a node of both, and one of either
-pub record AreBoth (ns : List Node) (at left i j : ℕ) (m : Node) : Type 0 where
+pub record AreBoth (ns : List CubeNode) (at left i j : ℕ) (m : CubeNode) : Type 0 where
   pub some : 0 < m.cubes
   pub first_before : i < at
   pub second_before : j < at
@@ -76,7 +76,7 @@ pub record AreBoth (ns : List Node) (at left i j : ℕ) (m : Node) : Type 0 wher
   pub second : IsNumberIn ns j (left % m.cubes)
   pub whole : cube_at (tree_at ns at) left ≡ cube_at (tree_at ns i) (left / m.cubes) ++ cube_at (tree_at ns j) (left % m.cubes)
 
-pub record AreEither (ns : List Node) (at left i j : ℕ) (m : Node) : Type 0 where
+pub record AreEither (ns : List CubeNode) (at left i j : ℕ) (m : CubeNode) : Type 0 where
   pub first_before : i < at
   pub second_before : j < at
   pub first : left < m.cubes → IsNumberIn ns i left
@@ -101,8 +101,8 @@ chosen_second k c x y h = by_test (nat_lt k c) refl
     by_test false e = ap (λ b. choose b x y) e
     by_test true e = absurd (let l = ltb-true k c e in omega arith)
 
-module _ (ns : List Node) (at : ℕ) (n : Node) (left i j : ℕ) (p : IsPlan ns) (d : IsNumberIn ns at left) (g : n ≡ get_or ns at n) where
-  pub both_parts : (m : Node) → n.kind ≡ kind.Both i j → m ≡ get_or ns j m → AreBoth ns at left i j m
+module _ (ns : List CubeNode) (at : ℕ) (n : CubeNode) (left i j : ℕ) (p : IsPlan ns) (d : IsNumberIn ns at left) (g : n ≡ get_or ns at n) where
+  pub both_parts : (m : CubeNode) → n.kind ≡ kind.Both i j → m ≡ get_or ns j m → AreBoth ns at left i j m
   both_parts m e h =
       let t = tree_at ns i in
       let u = tree_at ns j in
@@ -129,7 +129,7 @@ module _ (ns : List Node) (at : ℕ) (n : Node) (left i j : ℕ) (p : IsPlan ns)
         whole = ap (λ x. cube_at x left) whole ∙ ap (λ c. cube_at (tree_at ns i) (left / c) ++ cube_at (tree_at ns j) (left % c)) (sym kept);
       }
 
-  pub either_parts : (m : Node) → n.kind ≡ kind.Either i j → m ≡ get_or ns i m → AreEither ns at left i j m
+  pub either_parts : (m : CubeNode) → n.kind ≡ kind.Either i j → m ≡ get_or ns i m → AreEither ns at left i j m
   either_parts m e h =
       let whole : tree_at ns at ≡ either (tree_at ns i) (tree_at ns j) = tree_is ns at n left p d g (kind.Either i j) e in
       let early : (i < at) × (j < at) = subst (λ k. IsOfEarlier at k) e (is_made ns at n left p d g).earlier in
@@ -158,20 +158,20 @@ assertions_tree ts = ap every_of (same ts)
     same [] = refl
     same (t ∷ ts) = ap (λ us. formula (seen t) true ∷ us) (same ts)
 
-pub planned_tree : (ts : List Term) (old new : List Node) (s : Sides) → IsPlanned old new s (conjunction (formulas_of ts)) → tree_at new s.holding ≡ tree_of ts
+pub planned_tree : (ts : List Term) (old new : List CubeNode) (s : NodePair) → IsPlanned old new s (conjunction (formulas_of ts)) → tree_at new s.holding ≡ tree_of ts
 planned_tree ts old new s h = h.stands.holds ∙ sym (assertions_tree ts)
 
-pub empty_plan : (ns : List Node) → ns ≡ [] → IsPlan ns
+pub empty_plan : (ns : List CubeNode) → ns ≡ [] → IsPlan ns
 empty_plan ns e = subst IsPlan (sym e) (record { each = λ k n l g. absurd (omega arith) })
 
 -- the cubes that are still to be given
-abbrev pub rest_of : List Node → ℕ → ℕ → List Cube
+abbrev pub rest_of : List CubeNode → ℕ → ℕ → List Cube
 rest_of ns root given = drop given (map cube (cubes (tree_at ns root)))
 
-all_length : (ns : List Node) (root : ℕ) → length (map cube (cubes (tree_at ns root))) ≡ count (tree_at ns root)
+all_length : (ns : List CubeNode) (root : ℕ) → length (map cube (cubes (tree_at ns root))) ≡ count (tree_at ns root)
 all_length ns root = length-map (cubes (tree_at ns root)) cube ∙ cubes_length (tree_at ns root)
 
-pub none_left : (ns : List Node) (root all given : ℕ) → IsGiving ns root all given → all ≤ given → rest_of ns root given ≡ []
+pub none_left : (ns : List CubeNode) (root all given : ℕ) → IsGiving ns root all given → all ≤ given → rest_of ns root given ≡ []
 none_left ns root all given h l = let n = h.number in drop_all given (map cube (cubes (tree_at ns root))) (omega (arith, all_length ns root))
 
 get_map : (cs : List (List Literal)) (k : ℕ) (c : List Literal) → slice_get cs k ≡ Some c → slice_get (map cube cs) k ≡ Some (cube c)
@@ -191,7 +191,7 @@ drop_get (y ∷ xs) zero x e = let g : y ≡ x = cc in ap (λ z. z ∷ xs) g ∙
         drop_zero (z ∷ xs) = refl
 drop_get (y ∷ xs) (suc k) x e = let up : suc (k + 1) ≡ suc k + 1 = omega arith in drop_get xs k x e ∙ ap (λ n. x ∷ drop n (y ∷ xs)) up
 
-pub one_given : (ns : List Node) (root all given : ℕ) (ls : List Literal) → IsGiving ns root all given → given < all → ls ≡ cube_at (tree_at ns root) given → rest_of ns root given ≡ cube ls ∷ rest_of ns root (given + 1)
+pub one_given : (ns : List CubeNode) (root all given : ℕ) (ls : List Literal) → IsGiving ns root all given → given < all → ls ≡ cube_at (tree_at ns root) given → rest_of ns root given ≡ cube ls ∷ rest_of ns root (given + 1)
 one_given ns root all given ls h l e =
     let n = h.number in
     let got = get_map (cubes (tree_at ns root)) given (cube_at (tree_at ns root) given) (picked (tree_at ns root) given (omega arith)) in
@@ -216,16 +216,16 @@ drop_drop a zero xs = ap (drop a) (drop_zero xs) ∙ ap (λ n. drop n xs) (plus_
 drop_drop a (suc b) [] = drop_empty a ∙ sym (drop_empty (suc b + a))
 drop_drop a (suc b) (x ∷ xs) = drop_drop a b xs ∙ ap (λ n. drop n (x ∷ xs)) (plus_suc a b)
 
-pub skipped_some : (ns : List Node) (root given more : ℕ) → rest_of ns root (given + more) ≡ drop more (rest_of ns root given)
+pub skipped_some : (ns : List CubeNode) (root given more : ℕ) → rest_of ns root (given + more) ≡ drop more (rest_of ns root given)
 skipped_some ns root given more = sym (drop_drop more given (map cube (cubes (tree_at ns root))))
 
-pub skipped_all : (ns : List Node) (root all given more : ℕ) → IsGiving ns root all given → all - given ≤ more → rest_of ns root all ≡ drop more (rest_of ns root given)
+pub skipped_all : (ns : List CubeNode) (root all given more : ℕ) → IsGiving ns root all given → all - given ≤ more → rest_of ns root all ≡ drop more (rest_of ns root given)
 skipped_all ns root all given more h l =
     let n = h.number in
     let s = h.some in
     drop_all all (map cube (cubes (tree_at ns root))) (omega (arith, all_length ns root)) ∙ sym (drop_drop more given (map cube (cubes (tree_at ns root))) ∙ drop_all (given + more) (map cube (cubes (tree_at ns root))) (omega (arith, all_length ns root)))
 
-pub skipped : (ns : List Node) (root all given more n : ℕ) → IsGiving ns root all given → n ≡ given + min more (all - given) → rest_of ns root n ≡ drop more (rest_of ns root given)
+pub skipped : (ns : List CubeNode) (root all given more n : ℕ) → IsGiving ns root all given → n ≡ given + min more (all - given) → rest_of ns root n ≡ drop more (rest_of ns root given)
 skipped ns root all given more n h e =
     let s = h.some in
     ⊎_elim
@@ -245,7 +245,7 @@ many ts n e l = omega arith
 pub few : (ts : List Term) (n : ℕ) → n ≡ cut_off (count_of ts) → n ≤ most_cubes → count_of ts ≤ most_cubes
 few ts n e l = omega arith
 
-pub giving_all : (ts : List Term) (old new : List Node) (s : Sides) (n : ℕ) → IsPlanned old new s (conjunction (formulas_of ts)) → n ≡ cut_off (count_of ts) → n ≤ most_cubes → IsGiving new s.holding n 0
+pub giving_all : (ts : List Term) (old new : List CubeNode) (s : NodePair) (n : ℕ) → IsPlanned old new s (conjunction (formulas_of ts)) → n ≡ cut_off (count_of ts) → n ≤ most_cubes → IsGiving new s.holding n 0
 giving_all ts old new s n p e l = record {
   plan = p.longer.plan;
   within = p.stands.holding;

@@ -2,14 +2,14 @@
 use Rattle.std.proofs.Common.{◌≡◌, refl, sym, ap, ◌∙◌, subst, ℕ, zero, suc, ◌+◌, ◌*◌, ◌<◌, ◌≤◌, true, false, List, [], ◌∷◌, ◌++◌, length, get_or, length-append, arith, ⊎_elim}
 use Rattle.std.proofs.lemmas.Bool.{cases_lt}
 use Rattle.bool_cubes.specs.Cubes.{count}
-use Rattle.bool_cubes.specs.Nodes.{AreOf, IsAdded, IsLonger, IsMade, IsOfEarlier, IsPlan, IsPlanned, Stands, listed_at, made, tree_at, trees_from, trees_of}
+use Rattle.bool_cubes.specs.Nodes.{AreOf, IsAddedNode, IsLonger, IsMade, IsOfEarlier, IsPlan, IsPlanned, HasBothTrees, listed_at, made, tree_at, trees_from, trees_of}
 use Rattle.sv_terms.specs.CutOff.{cut_off}
 use Rattle.bool_cubes.proofs.Tallies.{cut_product, cut_sum}
 use Rattle.bool_cubes.specs.Trees.{Formula, Tree, both, either, negated, conjoined, disjoined, agreement, choice, fixed, implication}
-use Rattle.bool_cubes.specs.declared.node.Node.{Node}
+use Rattle.bool_cubes.specs.declared.node.CubeNode.{CubeNode}
 use Rattle.bool_cubes.specs.declared.node.NodeKind.{NodeKind}
 use Rattle.bool_cubes.specs.declared.node.NodeKind.TheVariants as kind
-use Rattle.bool_cubes.specs.declared.node.Sides.{Sides}
+use Rattle.bool_cubes.specs.declared.node.NodePair.{NodePair}
 
 pub got_left : {X : Type 0} (xs ys : List X) (k : ℕ) (x : X) → k < length xs → get_or (xs ++ ys) k x ≡ get_or xs k x
 got_left [] ys k x h = absurd (omega arith)
@@ -33,15 +33,15 @@ listed_last [] t (suc k) e = absurd (omega arith)
 listed_last (u ∷ ts) t zero e = absurd (omega arith)
 listed_last (u ∷ ts) t (suc k) e = listed_last ts t k (omega arith)
 
-from_push : (ts : List Tree) (ns : List Node) (n : Node) → trees_from ts (ns ++ n ∷ []) ≡ trees_from ts ns ++ made (trees_from ts ns) n.kind ∷ []
+from_push : (ts : List Tree) (ns : List CubeNode) (n : CubeNode) → trees_from ts (ns ++ n ∷ []) ≡ trees_from ts ns ++ made (trees_from ts ns) n.kind ∷ []
 from_push ts [] n = refl
 from_push ts (m ∷ ns) n = from_push (ts ++ made ts m.kind ∷ []) ns n
 
-from_length : (ts : List Tree) (ns : List Node) → length (trees_from ts ns) ≡ length ts + length ns
+from_length : (ts : List Tree) (ns : List CubeNode) → length (trees_from ts ns) ≡ length ts + length ns
 from_length ts [] = omega arith
 from_length ts (m ∷ ns) = from_length (ts ++ made ts m.kind ∷ []) ns ∙ ap (λ k. k + length ns) (length-append ts (made ts m.kind ∷ [])) ∙ omega arith
 
-trees_length : (ns : List Node) → length (trees_of ns) ≡ length ns
+trees_length : (ns : List CubeNode) → length (trees_of ns) ≡ length ns
 trees_length ns = from_length [] ns ∙ omega arith
 
 made_kept : (ts us : List Tree) (m : NodeKind) (k : ℕ) → IsOfEarlier k m → k ≤ length ts → made (ts ++ us) m ≡ made ts m
@@ -51,8 +51,8 @@ made_kept ts us (kind.One l) k e h = refl
 made_kept ts us (kind.Both i j) k e h = let a = listed_left ts us i (omega arith) in let b = listed_left ts us j (omega arith) in λ m. both (a m) (b m)
 made_kept ts us (kind.Either i j) k e h = let a = listed_left ts us i (omega arith) in let b = listed_left ts us j (omega arith) in λ m. either (a m) (b m)
 
-module _ (ns : List Node) (n : Node) where
-  abbrev new : List Node
+module _ (ns : List CubeNode) (n : CubeNode) where
+  abbrev new : List CubeNode
   new = ns ++ n ∷ []
 
   kept_one : (k : ℕ) → k < length ns → tree_at new k ≡ tree_at ns k
@@ -64,14 +64,14 @@ module _ (ns : List Node) (n : Node) where
   made_new : (m : NodeKind) (k : ℕ) → IsOfEarlier k m → k ≤ length ns → made (trees_of new) m ≡ made (trees_of ns) m
   made_new m k e h = ap (λ ts. made ts m) (from_push [] ns n) ∙ made_kept (trees_of ns) (made (trees_of ns) n.kind ∷ []) m k e (omega (arith, trees_length ns))
 
-  made_old : (k : ℕ) (m : Node) → k < length ns → IsMade ns k m → IsMade new k m
+  made_old : (k : ℕ) (m : CubeNode) → k < length ns → IsMade ns k m → IsMade new k m
   made_old k m h i = record {
     earlier = i.earlier;
     tree = kept_one k h ∙ i.tree ∙ sym (made_new m.kind k i.earlier (omega arith));
     cubes = i.cubes ∙ ap (λ t. cut_off (count t)) (sym (kept_one k h));
   }
 
-  made_each : IsPlan ns → IsOfEarlier (length ns) n.kind → n.cubes ≡ cut_off (count (made (trees_of ns) n.kind)) → (k : ℕ) (m : Node) → k < length new → m ≡ get_or new k m → IsMade new k m
+  made_each : IsPlan ns → IsOfEarlier (length ns) n.kind → n.cubes ≡ cut_off (count (made (trees_of ns) n.kind)) → (k : ℕ) (m : CubeNode) → k < length new → m ≡ get_or new k m → IsMade new k m
   made_each p e c k m h g = ⊎_elim (λ l. made_old k m l (p.each k m l (g ∙ got_left ns (n ∷ []) k m l))) (λ l. at_end (omega (arith, length-append ns (n ∷ [])))) (cases_lt k (length ns))
     where
       at_end : k ≡ length ns → IsMade new k m
@@ -83,21 +83,21 @@ module _ (ns : List Node) (n : Node) where
             cubes = c ∙ ap (λ t. cut_off (count t)) (sym (last_one k q));
           })
 
-  pub pushed : IsPlan ns → IsOfEarlier (length ns) n.kind → n.cubes ≡ cut_off (count (made (trees_of ns) n.kind)) → IsAdded ns new (length ns) (made (trees_of ns) n.kind)
+  pub pushed : IsPlan ns → IsOfEarlier (length ns) n.kind → n.cubes ≡ cut_off (count (made (trees_of ns) n.kind)) → IsAddedNode ns new (length ns) (made (trees_of ns) n.kind)
   pushed p e c = record {
     longer = record { more = omega (arith, length-append ns (n ∷ [])); kept = kept_one; plan = record { each = made_each p e c } };
     within = omega (arith, length-append ns (n ∷ []));
     tree = last_one (length ns) refl;
   }
 
-pub longer_trans : (a b c : List Node) → IsLonger a b → IsLonger b c → IsLonger a c
+pub longer_trans : (a b c : List CubeNode) → IsLonger a b → IsLonger b c → IsLonger a c
 longer_trans a b c p q = record {
   more = omega arith;
   kept = λ k h. q.kept k (omega arith) ∙ p.kept k h;
   plan = q.plan;
 }
 
-pub stands_longer : (a b : List Node) (s : Sides) (f : Formula) → IsLonger a b → Stands a s f → Stands b s f
+pub stands_longer : (a b : List CubeNode) (s : NodePair) (f : Formula) → IsLonger a b → HasBothTrees a s f → HasBothTrees b s f
 stands_longer a b s f p h = record {
   holding = omega arith;
   failing = omega arith;
@@ -105,14 +105,14 @@ stands_longer a b s f p h = record {
   fails = p.kept s.failing h.failing ∙ h.fails;
 }
 
-pub stands_of : (a : List Node) (s : Sides) (f : Formula) → Stands a s f → AreOf a s
+pub stands_of : (a : List CubeNode) (s : NodePair) (f : Formula) → HasBothTrees a s f → AreOf a s
 stands_of a s f h = (h.holding, h.failing)
 
-pub added_trans : (a b c : List Node) (k : ℕ) (t u : Tree) → IsLonger a b → IsAdded b c k t → t ≡ u → IsAdded a c k u
+pub added_trans : (a b c : List CubeNode) (k : ℕ) (t u : Tree) → IsLonger a b → IsAddedNode b c k t → t ≡ u → IsAddedNode a c k u
 added_trans a b c k t u p q e = record { longer = longer_trans a b c p q.longer; within = q.within; tree = q.tree ∙ e }
 
 -- two nodes that were added one after the other
-pub two_added : (a b c : List Node) (h k : ℕ) (t u : Tree) (f : Formula) → IsAdded a b h t → IsAdded b c k u → t ≡ f true → u ≡ f false → IsPlanned a c (record { holding = h; failing = k }) f
+pub two_added : (a b c : List CubeNode) (h k : ℕ) (t u : Tree) (f : Formula) → IsAddedNode a b h t → IsAddedNode b c k u → t ≡ f true → u ≡ f false → IsPlanned a c (record { holding = h; failing = k }) f
 two_added a b c h k t u f p q d e = record {
   longer = longer_trans a b c p.longer q.longer;
   stands = record {
@@ -123,7 +123,7 @@ two_added a b c h k t u f p q d e = record {
   };
 }
 
-pub turned : (a b : List Node) (s r : Sides) (f : Formula) → IsPlanned a b s f → r.holding ≡ s.failing → r.failing ≡ s.holding → IsPlanned a b r (negated f)
+pub turned : (a b : List CubeNode) (s r : NodePair) (f : Formula) → IsPlanned a b s f → r.holding ≡ s.failing → r.failing ≡ s.holding → IsPlanned a b r (negated f)
 turned a b s r f p d e = record {
   longer = p.longer;
   stands = record {
@@ -134,39 +134,39 @@ turned a b s r f p d e = record {
   };
 }
 
-pub relabelled : (a b : List Node) (s : Sides) (f g : Formula) → IsPlanned a b s f → f true ≡ g true → f false ≡ g false → IsPlanned a b s g
+pub relabelled : (a b : List CubeNode) (s : NodePair) (f g : Formula) → IsPlanned a b s f → f true ≡ g true → f false ≡ g false → IsPlanned a b s g
 relabelled a b s f g p d e = record {
   longer = p.longer;
   stands = record { holding = p.stands.holding; failing = p.stands.failing; holds = p.stands.holds ∙ d; fails = p.stands.fails ∙ e };
 }
 
-pub planned_trans : (a b c : List Node) (s : Sides) (f : Formula) → IsLonger a b → IsPlanned b c s f → IsPlanned a c s f
+pub planned_trans : (a b c : List CubeNode) (s : NodePair) (f : Formula) → IsLonger a b → IsPlanned b c s f → IsPlanned a c s f
 planned_trans a b c s f p q = record { longer = longer_trans a b c p q.longer; stands = q.stands }
 
-module _ (a b c : List Node) (l r : Sides) (f g : Formula) (h k : ℕ) where
-  pub and_added : Stands a l f → Stands a r g → IsAdded a b h (both (tree_at a l.holding) (tree_at a r.holding)) → IsAdded b c k (either (tree_at b l.failing) (tree_at b r.failing)) → IsPlanned a c (record { holding = h; failing = k }) (conjoined f g)
+module _ (a b c : List CubeNode) (l r : NodePair) (f g : Formula) (h k : ℕ) where
+  pub and_added : HasBothTrees a l f → HasBothTrees a r g → IsAddedNode a b h (both (tree_at a l.holding) (tree_at a r.holding)) → IsAddedNode b c k (either (tree_at b l.failing) (tree_at b r.failing)) → IsPlanned a c (record { holding = h; failing = k }) (conjoined f g)
   and_added x y p q =
       let x' = stands_longer a b l f p.longer x in
       let y' = stands_longer a b r g p.longer y in
       two_added a b c h k _ _ (conjoined f g) p q (λ i. both (x.holds i) (y.holds i)) (λ i. either (x'.fails i) (y'.fails i))
 
-  pub or_added : Stands a l f → Stands a r g → IsAdded a b h (either (tree_at a l.holding) (tree_at a r.holding)) → IsAdded b c k (both (tree_at b l.failing) (tree_at b r.failing)) → IsPlanned a c (record { holding = h; failing = k }) (disjoined f g)
+  pub or_added : HasBothTrees a l f → HasBothTrees a r g → IsAddedNode a b h (either (tree_at a l.holding) (tree_at a r.holding)) → IsAddedNode b c k (both (tree_at b l.failing) (tree_at b r.failing)) → IsPlanned a c (record { holding = h; failing = k }) (disjoined f g)
   or_added x y p q =
       let x' = stands_longer a b l f p.longer x in
       let y' = stands_longer a b r g p.longer y in
       two_added a b c h k _ _ (disjoined f g) p q (λ i. either (x.holds i) (y.holds i)) (λ i. both (x'.fails i) (y'.fails i))
 
-abbrev pub ways : List Node → ℕ → ℕ → ℕ → ℕ → Tree
+abbrev pub ways : List CubeNode → ℕ → ℕ → ℕ → ℕ → Tree
 ways ns i j k l = either (both (tree_at ns i) (tree_at ns j)) (both (tree_at ns k) (tree_at ns l))
 
-module _ (a b c : List Node) (h k : ℕ) where
-  pub agreement_added : (l r : Sides) (f g : Formula) → Stands a l f → Stands a r g → IsAdded a b h (ways a l.holding r.holding l.failing r.failing) → IsAdded b c k (ways b l.holding r.failing l.failing r.holding) → IsPlanned a c (record { holding = h; failing = k }) (agreement f g)
+module _ (a b c : List CubeNode) (h k : ℕ) where
+  pub agreement_added : (l r : NodePair) (f g : Formula) → HasBothTrees a l f → HasBothTrees a r g → IsAddedNode a b h (ways a l.holding r.holding l.failing r.failing) → IsAddedNode b c k (ways b l.holding r.failing l.failing r.holding) → IsPlanned a c (record { holding = h; failing = k }) (agreement f g)
   agreement_added l r f g x y p q =
       let x' = stands_longer a b l f p.longer x in
       let y' = stands_longer a b r g p.longer y in
       two_added a b c h k _ _ (agreement f g) p q (λ i. either (both (x.holds i) (y.holds i)) (both (x.fails i) (y.fails i))) (λ i. either (both (x'.holds i) (y'.fails i)) (both (x'.fails i) (y'.holds i)))
 
-  pub choice_added : (t l r : Sides) (e f g : Formula) → Stands a t e → Stands a l f → Stands a r g → IsAdded a b h (ways a t.holding l.holding t.failing r.holding) → IsAdded b c k (ways b t.holding l.failing t.failing r.failing) → IsPlanned a c (record { holding = h; failing = k }) (choice e f g)
+  pub choice_added : (t l r : NodePair) (e f g : Formula) → HasBothTrees a t e → HasBothTrees a l f → HasBothTrees a r g → IsAddedNode a b h (ways a t.holding l.holding t.failing r.holding) → IsAddedNode b c k (ways b t.holding l.failing t.failing r.failing) → IsPlanned a c (record { holding = h; failing = k }) (choice e f g)
   choice_added t l r e f g z x y p q =
       let z' = stands_longer a b t e p.longer z in
       let x' = stands_longer a b l f p.longer x in
@@ -174,36 +174,36 @@ module _ (a b c : List Node) (h k : ℕ) where
       two_added a b c h k _ _ (choice e f g) p q (λ i. either (both (z.holds i) (x.holds i)) (both (z.fails i) (y.holds i))) (λ i. either (both (z'.holds i) (x'.fails i)) (both (z'.fails i) (y'.fails i)))
 
 -- two of both trees and one of either of them
-pub ways_added : (a b c d : List Node) (i j k l g h m : ℕ) → i < length a → j < length a → k < length a → l < length a → IsAdded a b g (both (tree_at a i) (tree_at a j)) → IsAdded b c h (both (tree_at b k) (tree_at b l)) → IsAdded c d m (either (tree_at c g) (tree_at c h)) → IsAdded a d m (ways a i j k l)
+pub ways_added : (a b c d : List CubeNode) (i j k l g h m : ℕ) → i < length a → j < length a → k < length a → l < length a → IsAddedNode a b g (both (tree_at a i) (tree_at a j)) → IsAddedNode b c h (both (tree_at b k) (tree_at b l)) → IsAddedNode c d m (either (tree_at c g) (tree_at c h)) → IsAddedNode a d m (ways a i j k l)
 ways_added a b c d i j k l g h m p q r s x y z =
     let first : tree_at c g ≡ both (tree_at a i) (tree_at a j) = y.longer.kept g x.within ∙ x.tree in
     let second : tree_at c h ≡ both (tree_at a k) (tree_at a l) = y.tree ∙ (λ n. both (x.longer.kept k r n) (x.longer.kept l s n)) in
     added_trans a c d m _ _ (longer_trans a b c x.longer y.longer) z (λ n. either (first n) (second n))
 
-pub pushed_at : (ns all : List Node) (m : NodeKind) (q k : ℕ) → IsPlan ns → IsOfEarlier (length ns) m → q ≡ cut_off (count (made (trees_of ns) m)) → all ≡ ns ++ record { kind = m; cubes = q } ∷ [] → k ≡ length ns → IsAdded ns all k (made (trees_of ns) m)
+pub pushed_at : (ns all : List CubeNode) (m : NodeKind) (q k : ℕ) → IsPlan ns → IsOfEarlier (length ns) m → q ≡ cut_off (count (made (trees_of ns) m)) → all ≡ ns ++ record { kind = m; cubes = q } ∷ [] → k ≡ length ns → IsAddedNode ns all k (made (trees_of ns) m)
 pushed_at ns all m q k p e c a l =
-    subst (λ z. IsAdded ns z k (made (trees_of ns) m)) (sym a)
-    (subst (λ j. IsAdded ns (ns ++ record { kind = m; cubes = q } ∷ []) j (made (trees_of ns) m)) (sym l) (pushed ns (record { kind = m; cubes = q }) p e c))
+    subst (λ z. IsAddedNode ns z k (made (trees_of ns) m)) (sym a)
+    (subst (λ j. IsAddedNode ns (ns ++ record { kind = m; cubes = q } ∷ []) j (made (trees_of ns) m)) (sym l) (pushed ns (record { kind = m; cubes = q }) p e c))
 
-module _ (ns : List Node) (l r : ℕ) (m n : Node) (q : ℕ) (p : IsPlan ns) (a : l < length ns) (b : r < length ns) (d : m ≡ get_or ns l m) (e : n ≡ get_or ns r n) where
+module _ (ns : List CubeNode) (l r : ℕ) (m n : CubeNode) (q : ℕ) (p : IsPlan ns) (a : l < length ns) (b : r < length ns) (d : m ≡ get_or ns l m) (e : n ≡ get_or ns r n) where
   pub both_cubes : q ≡ cut_off (m.cubes * n.cubes) → q ≡ cut_off (count (tree_at ns l) * count (tree_at ns r))
   both_cubes c = c ∙ (λ i. cut_off ((p.each l m a d).cubes i * (p.each r n b e).cubes i)) ∙ cut_product (count (tree_at ns l)) (count (tree_at ns r))
 
   pub either_cubes : q ≡ cut_off (m.cubes + n.cubes) → q ≡ cut_off (count (tree_at ns l) + count (tree_at ns r))
   either_cubes c = c ∙ (λ i. cut_off ((p.each l m a d).cubes i + (p.each r n b e).cubes i)) ∙ cut_sum (count (tree_at ns l)) (count (tree_at ns r))
 
-pub plan_of : (a b : List Node) → IsLonger a b → IsPlan b
+pub plan_of : (a b : List CubeNode) → IsLonger a b → IsPlan b
 plan_of a b p = p.plan
 
-pub or_within : (a b c : List Node) (h k : ℕ) (t u : Tree) → IsAdded a b h t → IsAdded b c k u → AreOf c (record { holding = h; failing = k })
+pub or_within : (a b c : List CubeNode) (h k : ℕ) (t u : Tree) → IsAddedNode a b h t → IsAddedNode b c k u → AreOf c (record { holding = h; failing = k })
 or_within a b c h k t u p q = ((let x = p.within in let y = q.longer.more in omega arith), q.within)
 
-pub implication_added : (a b c d : List Node) (l r n m o t : Sides) (f g : Formula) → Stands a l f → Stands a r g → IsPlanned a b n (fixed false) → ((f g : Formula) → Stands b r f → Stands b n g → IsPlanned b c m (disjoined f g)) → t.holding ≡ l.failing → t.failing ≡ l.holding → ((f g : Formula) → Stands c t f → Stands c m g → IsPlanned c d o (disjoined f g)) → IsPlanned a d o (implication f g)
+pub implication_added : (a b c d : List CubeNode) (l r n m o t : NodePair) (f g : Formula) → HasBothTrees a l f → HasBothTrees a r g → IsPlanned a b n (fixed false) → ((f g : Formula) → HasBothTrees b r f → HasBothTrees b n g → IsPlanned b c m (disjoined f g)) → t.holding ≡ l.failing → t.failing ≡ l.holding → ((f g : Formula) → HasBothTrees c t f → HasBothTrees c m g → IsPlanned c d o (disjoined f g)) → IsPlanned a d o (implication f g)
 implication_added a b c d l r n m o t f g x y p h i j k =
     let q = h g (fixed false) (stands_longer a b r g p.longer y) p.stands in
     let ac = longer_trans a b c p.longer q.longer in
     let z = stands_longer a c l f ac x in
-    let z' : Stands c t (negated f) = record {
+    let z' : HasBothTrees c t (negated f) = record {
       holding = let w = z.failing in omega arith;
       failing = let w = z.holding in omega arith;
       holds = ap (tree_at c) i ∙ z.fails;
@@ -212,8 +212,8 @@ implication_added a b c d l r n m o t f g x y p h i j k =
     let w = k (negated f) (disjoined g (fixed false)) z' q.stands in
     relabelled a d o (disjoined (negated f) (disjoined g (fixed false))) (implication f g) (planned_trans a c d o _ ac w) refl refl
 
-pub within_longer : (a b : List Node) (s : Sides) → IsLonger a b → AreOf a s → AreOf b s
+pub within_longer : (a b : List CubeNode) (s : NodePair) → IsLonger a b → AreOf a s → AreOf b s
 within_longer a b s p h = ((let x = p.more in omega arith), (let x = p.more in omega arith))
 
-pub turned_within : (a : List Node) (s t : Sides) → AreOf a s → t.holding ≡ s.failing → t.failing ≡ s.holding → AreOf a t
+pub turned_within : (a : List CubeNode) (s t : NodePair) → AreOf a s → t.holding ≡ s.failing → t.failing ≡ s.holding → AreOf a t
 turned_within a s t h i j = (omega arith, omega arith)

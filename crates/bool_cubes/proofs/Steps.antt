@@ -8,16 +8,16 @@ use Rattle.sv_terms.specs.declared.term.Term.{Term}
 use Rattle.sv_terms.specs.declared.term.Term.TheVariants as term
 use Rattle.bool_cubes.specs.Counting.{first_pairs, formulas_of, part_of, parts_of}
 use Rattle.bool_cubes.specs.Mirrors.{raw-seen, seen-Truth, seen-Apply}
-use Rattle.bool_cubes.specs.Nodes.{IsLonger, IsPlanned, Stands}
-use Rattle.bool_cubes.specs.Planned.{AreSides, AreBooleanSides, HasSide}
+use Rattle.bool_cubes.specs.Nodes.{IsLonger, IsPlanned, HasBothTrees}
+use Rattle.bool_cubes.specs.Planned.{AreNodePairs, AreBooleanSides, HasSide}
 use Rattle.bool_cubes.specs.Shapes.{Shape, truth, number, text, constant, apply, member, related, opaque, shapes, seen, raw, head_sort}
 use Rattle.bool_cubes.specs.Trees.{Formula, Part, agreement, applied, atom, chain, comparison, choice, conjoined, conjunction, disjoined, disjunction, equal, equal_at, equal_numbers, exclusive, fixed, formula, implication, implied, negated, neighbours, pairs}
-use Rattle.bool_cubes.specs.declared.node.Node.{Node}
-use Rattle.bool_cubes.specs.declared.node.Sides.{Sides}
+use Rattle.bool_cubes.specs.declared.node.CubeNode.{CubeNode}
+use Rattle.bool_cubes.specs.declared.node.NodePair.{NodePair}
 use Rattle.bool_cubes.proofs.Plans.{longer_trans, stands_longer, planned_trans, relabelled, turned}
 use Rattle.bool_cubes.proofs.Tallies.{exclusive_push, formulas_more, parts_formulas}
 
-pub planned_as : (a b : List Node) (s : Sides) (f g : Formula) → IsPlanned a b s f → f ≡ g → IsPlanned a b s g
+pub planned_as : (a b : List CubeNode) (s : NodePair) (f g : Formula) → IsPlanned a b s f → f ≡ g → IsPlanned a b s g
 planned_as a b s f g p e = subst (λ h. IsPlanned a b s h) e p
 
 -- the formula of a term, by its head
@@ -50,21 +50,21 @@ front_at ts k t o l e =
     drop-cons ts (k - 1) t (omega arith) ∙ (λ i. sym e i ∷ drop (up i) ts)
 
 -- a function of two formulas at one that stood before, and a new one
-pub joined : (J : Formula → Formula → Formula) (a b c d : List Node) (x s r : Sides) (f g : Formula) → IsPlanned a b x g → IsPlanned b c s f → ((f g : Formula) → Stands c s f → Stands c x g → IsPlanned c d r (J f g)) → IsPlanned a d r (J f g)
+pub joined : (J : Formula → Formula → Formula) (a b c d : List CubeNode) (x s r : NodePair) (f g : Formula) → IsPlanned a b x g → IsPlanned b c s f → ((f g : Formula) → HasBothTrees c s f → HasBothTrees c x g → IsPlanned c d r (J f g)) → IsPlanned a d r (J f g)
 joined J a b c d x s r f g p q h = planned_trans a c d r (J f g) (longer_trans a b c p.longer q.longer) (h f g q.stands (stands_longer b c x g q.longer p.stands))
 
-module _ (a b c d : List Node) (x s r : Sides) (ts : List Term) (k : ℕ) (t : Term) (o : 0 < k) (l : k ≤ length ts) (e : t ≡ get_or ts (k - 1) t) where
-  pub all_step : IsPlanned a b x (conjunction (formulas_of (drop k ts))) → IsPlanned b c s (formula (seen t)) → ((f g : Formula) → Stands c s f → Stands c x g → IsPlanned c d r (conjoined f g)) → IsPlanned a d r (conjunction (formulas_of (drop (k - 1) ts)))
+module _ (a b c d : List CubeNode) (x s r : NodePair) (ts : List Term) (k : ℕ) (t : Term) (o : 0 < k) (l : k ≤ length ts) (e : t ≡ get_or ts (k - 1) t) where
+  pub all_step : IsPlanned a b x (conjunction (formulas_of (drop k ts))) → IsPlanned b c s (formula (seen t)) → ((f g : Formula) → HasBothTrees c s f → HasBothTrees c x g → IsPlanned c d r (conjoined f g)) → IsPlanned a d r (conjunction (formulas_of (drop (k - 1) ts)))
   all_step p q h =
       subst (λ us. IsPlanned a d r (conjunction (formulas_of us))) (sym (front_at ts k t o l e))
       (relabelled a d r (conjoined (formula (seen t)) (conjunction (formulas_of (drop k ts)))) (conjunction (formulas_of (t ∷ drop k ts))) (joined conjoined a b c d x s r (formula (seen t)) (conjunction (formulas_of (drop k ts))) p q h) refl refl)
 
-  pub any_step : IsPlanned a b x (disjunction (formulas_of (drop k ts))) → IsPlanned b c s (formula (seen t)) → ((f g : Formula) → Stands c s f → Stands c x g → IsPlanned c d r (disjoined f g)) → IsPlanned a d r (disjunction (formulas_of (drop (k - 1) ts)))
+  pub any_step : IsPlanned a b x (disjunction (formulas_of (drop k ts))) → IsPlanned b c s (formula (seen t)) → ((f g : Formula) → HasBothTrees c s f → HasBothTrees c x g → IsPlanned c d r (disjoined f g)) → IsPlanned a d r (disjunction (formulas_of (drop (k - 1) ts)))
   any_step p q h =
       subst (λ us. IsPlanned a d r (disjunction (formulas_of us))) (sym (front_at ts k t o l e))
       (relabelled a d r (disjoined (formula (seen t)) (disjunction (formulas_of (drop k ts)))) (disjunction (formulas_of (t ∷ drop k ts))) (joined disjoined a b c d x s r (formula (seen t)) (disjunction (formulas_of (drop k ts))) p q h) refl refl)
 
-  pub implied_step : k < length ts → IsPlanned a b x (implied (formulas_of (drop k ts))) → IsPlanned b c s (formula (seen t)) → ((f g : Formula) → Stands c s f → Stands c x g → IsPlanned c d r (implication f g)) → IsPlanned a d r (implied (formulas_of (drop (k - 1) ts)))
+  pub implied_step : k < length ts → IsPlanned a b x (implied (formulas_of (drop k ts))) → IsPlanned b c s (formula (seen t)) → ((f g : Formula) → HasBothTrees c s f → HasBothTrees c x g → IsPlanned c d r (implication f g)) → IsPlanned a d r (implied (formulas_of (drop (k - 1) ts)))
   implied_step m p q h =
       subst (λ us. IsPlanned a d r (implied (formulas_of us))) (sym (front_at ts k t o l e))
       (planned_as a d r (implication (formula (seen t)) (implied (formulas_of (drop k ts)))) (implied (formulas_of (t ∷ drop k ts))) (joined implication a b c d x s r (formula (seen t)) (implied (formulas_of (drop k ts))) p q h) (sym (more (drop k ts) (omega (arith, length-drop k ts)))))
@@ -74,35 +74,35 @@ module _ (a b c d : List Node) (x s r : Sides) (ts : List Term) (k : ℕ) (t : T
       more (u ∷ us) z = refl
 
 -- at the end of a list
-pub at_end : (a b : List Node) (s : Sides) (ts : List Term) (k : ℕ) (F : List Term → Formula) → length ts ≤ k → IsPlanned a b s (F []) → IsPlanned a b s (F (drop k ts))
+pub at_end : (a b : List CubeNode) (s : NodePair) (ts : List Term) (k : ℕ) (F : List Term → Formula) → length ts ≤ k → IsPlanned a b s (F []) → IsPlanned a b s (F (drop k ts))
 at_end a b s ts k F l p = subst (λ us. IsPlanned a b s (F us)) (sym (drop_all k ts l)) p
 
-pub all_none : (a b : List Node) (s : Sides) (ts : List Term) (k : ℕ) → length ts ≤ k → IsPlanned a b s (fixed true) → IsPlanned a b s (conjunction (formulas_of (drop k ts)))
+pub all_none : (a b : List CubeNode) (s : NodePair) (ts : List Term) (k : ℕ) → length ts ≤ k → IsPlanned a b s (fixed true) → IsPlanned a b s (conjunction (formulas_of (drop k ts)))
 all_none a b s ts k l p = at_end a b s ts k (λ us. conjunction (formulas_of us)) l (relabelled a b s (fixed true) (conjunction []) p refl refl)
 
-pub any_none : (a b : List Node) (s : Sides) (ts : List Term) (k : ℕ) → length ts ≤ k → IsPlanned a b s (fixed false) → IsPlanned a b s (disjunction (formulas_of (drop k ts)))
+pub any_none : (a b : List CubeNode) (s : NodePair) (ts : List Term) (k : ℕ) → length ts ≤ k → IsPlanned a b s (fixed false) → IsPlanned a b s (disjunction (formulas_of (drop k ts)))
 any_none a b s ts k l p = at_end a b s ts k (λ us. disjunction (formulas_of us)) l (relabelled a b s (fixed false) (disjunction []) p refl refl)
 
-pub exclusive_none : (a b : List Node) (s : Sides) (ts : List Term) → length ts ≡ 0 → IsPlanned a b s (fixed false) → IsPlanned a b s (exclusive (formulas_of ts))
+pub exclusive_none : (a b : List CubeNode) (s : NodePair) (ts : List Term) → length ts ≡ 0 → IsPlanned a b s (fixed false) → IsPlanned a b s (exclusive (formulas_of ts))
 exclusive_none a b s [] l p = p
 exclusive_none a b s (t ∷ ts) l p = absurd (omega arith)
 
-pub implied_none : (a b : List Node) (s : Sides) (ts : List Term) → length ts ≡ 0 → IsPlanned a b s (fixed true) → IsPlanned a b s (implied (formulas_of ts))
+pub implied_none : (a b : List CubeNode) (s : NodePair) (ts : List Term) → length ts ≡ 0 → IsPlanned a b s (fixed true) → IsPlanned a b s (implied (formulas_of ts))
 implied_none a b s [] l p = p
 implied_none a b s (t ∷ ts) l p = absurd (omega arith)
 
 -- the first term of xor, and the last of =>
-pub exclusive_first : (a b : List Node) (s : Sides) (ts : List Term) (t : Term) → 0 < length ts → t ≡ get_or ts 0 t → IsPlanned a b s (formula (seen t)) → IsPlanned a b s (exclusive (formulas_of (take 1 ts)))
+pub exclusive_first : (a b : List CubeNode) (s : NodePair) (ts : List Term) (t : Term) → 0 < length ts → t ≡ get_or ts 0 t → IsPlanned a b s (formula (seen t)) → IsPlanned a b s (exclusive (formulas_of (take 1 ts)))
 exclusive_first a b s [] t l e p = absurd (omega arith)
 exclusive_first a b s (u ∷ ts) t l e p = subst (λ x. IsPlanned a b s (formula (seen x))) e p
 
-pub implied_last_one : (a b : List Node) (s : Sides) (ts : List Term) (k : ℕ) (t : Term) → k + 1 ≡ length ts → t ≡ get_or ts k t → IsPlanned a b s (formula (seen t)) → IsPlanned a b s (implied (formulas_of (drop k ts)))
+pub implied_last_one : (a b : List CubeNode) (s : NodePair) (ts : List Term) (k : ℕ) (t : Term) → k + 1 ≡ length ts → t ≡ get_or ts k t → IsPlanned a b s (formula (seen t)) → IsPlanned a b s (implied (formulas_of (drop k ts)))
 implied_last_one a b s ts k t l e p =
     let d : drop k ts ≡ t ∷ [] = drop-cons ts k t (omega arith) ∙ (λ i. sym e i ∷ drop_all (suc k) ts (omega arith) i) in
     subst (λ us. IsPlanned a b s (implied (formulas_of us))) (sym d) p
 
 -- one term more of xor, from the left
-pub exclusive_step : (a b c d : List Node) (x s r z : Sides) (ts : List Term) (k : ℕ) (t : Term) → 0 < k → k < length ts → t ≡ get_or ts k t → IsPlanned a b x (exclusive (formulas_of (take k ts))) → IsPlanned b c s (formula (seen t)) → ((f g : Formula) → Stands c x f → Stands c s g → IsPlanned c d r (agreement f g)) → z.holding ≡ r.failing → z.failing ≡ r.holding → IsPlanned a d z (exclusive (formulas_of (take (k + 1) ts)))
+pub exclusive_step : (a b c d : List CubeNode) (x s r z : NodePair) (ts : List Term) (k : ℕ) (t : Term) → 0 < k → k < length ts → t ≡ get_or ts k t → IsPlanned a b x (exclusive (formulas_of (take k ts))) → IsPlanned b c s (formula (seen t)) → ((f g : Formula) → HasBothTrees c x f → HasBothTrees c s g → IsPlanned c d r (agreement f g)) → z.holding ≡ r.failing → z.failing ≡ r.holding → IsPlanned a d z (exclusive (formulas_of (take (k + 1) ts)))
 exclusive_step a b c d x s r z ts k t o l e p q h m n =
     let odd = exclusive (formulas_of (take k ts)) in
     let f = formula (seen t) in
@@ -115,7 +115,7 @@ exclusive_step a b c d x s r z ts k t o l e p q h m n =
     formulas_length [] = refl
     formulas_length (t ∷ ts) = ap suc (formulas_length ts)
 
-pub exclusive_all : (a b : List Node) (s : Sides) (ts : List Term) (k : ℕ) → length ts ≤ k → IsPlanned a b s (exclusive (formulas_of (take k ts))) → IsPlanned a b s (exclusive (formulas_of ts))
+pub exclusive_all : (a b : List CubeNode) (s : NodePair) (ts : List Term) (k : ℕ) → length ts ≤ k → IsPlanned a b s (exclusive (formulas_of (take k ts))) → IsPlanned a b s (exclusive (formulas_of ts))
 exclusive_all a b s ts k l p = subst (λ us. IsPlanned a b s (exclusive (formulas_of us))) (take_whole ts k l) p
   where
     take_whole : (ts : List Term) (k : ℕ) → length ts ≤ k → take k ts ≡ ts
@@ -125,29 +125,29 @@ exclusive_all a b s ts k l p = subst (λ us. IsPlanned a b s (exclusive (formula
     take_whole (t ∷ ts) (suc k) l = ap (λ us. t ∷ us) (take_whole ts k (omega arith))
 
 -- sides of terms
-pub boolean_longer : (a b : List Node) (ts : List Term) (ss : List Sides) → IsLonger a b → AreBooleanSides a ts ss → AreBooleanSides b ts ss
+pub boolean_longer : (a b : List CubeNode) (ts : List Term) (ss : List NodePair) → IsLonger a b → AreBooleanSides a ts ss → AreBooleanSides b ts ss
 boolean_longer a b ts ss p h = record { all = λ k t l e i. sides_longer ts ss (h.all k t l e i) }
   where
-    sides_longer : (ts : List Term) (ss : List Sides) → AreSides a ts ss → AreSides b ts ss
+    sides_longer : (ts : List Term) (ss : List NodePair) → AreNodePairs a ts ss → AreNodePairs b ts ss
     sides_longer [] [] z = tt
     sides_longer [] (s ∷ ss) z = absurd z
     sides_longer (t ∷ ts) [] z = absurd z
     sides_longer (t ∷ ts) (s ∷ ss) z = (stands_longer a b s (formula (seen t)) p z.0, sides_longer ts ss z.1)
 
-pub sides_step : (a b : List Node) (ts : List Term) (ss : List Sides) (s : Sides) (k : ℕ) (t : Term) → IsLonger a b → k < length ts → t ≡ get_or ts k t → AreSides a (take k ts) ss → Stands b s (formula (seen t)) → AreSides b (take (k + 1) ts) (ss ++ s ∷ [])
-sides_step a b (u ∷ ts) [] s zero t p l e z h = (subst (λ x. Stands b s (formula (seen x))) e h, tt)
+pub sides_step : (a b : List CubeNode) (ts : List Term) (ss : List NodePair) (s : NodePair) (k : ℕ) (t : Term) → IsLonger a b → k < length ts → t ≡ get_or ts k t → AreNodePairs a (take k ts) ss → HasBothTrees b s (formula (seen t)) → AreNodePairs b (take (k + 1) ts) (ss ++ s ∷ [])
+sides_step a b (u ∷ ts) [] s zero t p l e z h = (subst (λ x. HasBothTrees b s (formula (seen x))) e h, tt)
 sides_step a b (u ∷ ts) (v ∷ ss) s zero t p l e z h = absurd z
 sides_step a b (u ∷ ts) [] s (suc k) t p l e z h = absurd z
 sides_step a b (u ∷ ts) (v ∷ ss) s (suc k) t p l e z h =
     let up : suc (k + 1) ≡ suc k + 1 = omega arith in
-    let r : AreSides b (take (suc (k + 1)) (u ∷ ts)) ((v ∷ ss) ++ s ∷ []) = (stands_longer a b v (formula (seen u)) p z.0, sides_step a b ts ss s k t p (omega arith) e z.1 h) in
-    subst (λ n. AreSides b (take n (u ∷ ts)) ((v ∷ ss) ++ s ∷ [])) up r
+    let r : AreNodePairs b (take (suc (k + 1)) (u ∷ ts)) ((v ∷ ss) ++ s ∷ []) = (stands_longer a b v (formula (seen u)) p z.0, sides_step a b ts ss s k t p (omega arith) e z.1 h) in
+    subst (λ n. AreNodePairs b (take n (u ∷ ts)) ((v ∷ ss) ++ s ∷ [])) up r
 sides_step a b [] ss s k t p l e z h = absurd (omega arith)
 
-pub sides_at : (a : List Node) (ts : List Term) (ss : List Sides) (k : ℕ) (t : Term) → AreSides a ts ss → k < length ts → t ≡ get_or ts k t → HasSide a ss k t
+pub sides_at : (a : List CubeNode) (ts : List Term) (ss : List NodePair) (k : ℕ) (t : Term) → AreNodePairs a ts ss → k < length ts → t ≡ get_or ts k t → HasSide a ss k t
 sides_at a [] ss k t z l e = absurd (omega arith)
 sides_at a (u ∷ ts) [] k t z l e = absurd z
-sides_at a (u ∷ ts) (s ∷ ss) zero t z l e = record { within = omega arith; stands = λ x. subst (λ y. Stands a s (formula (seen y))) (sym e) z.0 }
+sides_at a (u ∷ ts) (s ∷ ss) zero t z l e = record { within = omega arith; stands = λ x. subst (λ y. HasBothTrees a s (formula (seen y))) (sym e) z.0 }
 sides_at a (u ∷ ts) (s ∷ ss) (suc k) t z l e = let r = sides_at a ts ss k t z.1 (omega arith) e in record { within = let w = r.within in omega arith; stands = λ x. r.stands x }
 
 -- neighbouring terms, from one place on
@@ -157,8 +157,8 @@ two_at ts k t u o l e f =
     let first = front_at ts (k - 1) t (omega arith) (omega arith) e in
     (first ∙ ap (λ us. t ∷ us) second, second)
 
-module _ (F : Part → Part → Formula) (a b c d : List Node) (x s r : Sides) (ts : List Term) (k : ℕ) (t u : Term) (o : 1 < k) (l : k ≤ length ts) (e : t ≡ get_or ts (k - 1 - 1) t) (i : u ≡ get_or ts (k - 1) u) where
-  near_step : IsPlanned a b x (conjunction (neighbours F (parts_of (drop (k - 1) ts)))) → IsPlanned b c s (F (part_of t) (part_of u)) → ((f g : Formula) → Stands c s f → Stands c x g → IsPlanned c d r (conjoined f g)) → IsPlanned a d r (conjunction (neighbours F (parts_of (drop (k - 1 - 1) ts))))
+module _ (F : Part → Part → Formula) (a b c d : List CubeNode) (x s r : NodePair) (ts : List Term) (k : ℕ) (t u : Term) (o : 1 < k) (l : k ≤ length ts) (e : t ≡ get_or ts (k - 1 - 1) t) (i : u ≡ get_or ts (k - 1) u) where
+  near_step : IsPlanned a b x (conjunction (neighbours F (parts_of (drop (k - 1) ts)))) → IsPlanned b c s (F (part_of t) (part_of u)) → ((f g : Formula) → HasBothTrees c s f → HasBothTrees c x g → IsPlanned c d r (conjoined f g)) → IsPlanned a d r (conjunction (neighbours F (parts_of (drop (k - 1 - 1) ts))))
   near_step p q h =
       let two = two_at ts k t u o l e i in
       let g = conjunction (neighbours F (parts_of (u ∷ drop k ts))) in
@@ -166,11 +166,11 @@ module _ (F : Part → Part → Formula) (a b c d : List Node) (x s r : Sides) (
       subst (λ us. IsPlanned a d r (conjunction (neighbours F (parts_of us)))) (sym two.0)
       (relabelled a d r (conjoined (F (part_of t) (part_of u)) (conjunction (neighbours F (parts_of (u ∷ drop k ts))))) (conjunction (neighbours F (parts_of (t ∷ u ∷ drop k ts)))) (joined conjoined a b c d x s r (F (part_of t) (part_of u)) (conjunction (neighbours F (parts_of (u ∷ drop k ts)))) p' q h) refl refl)
 
-module _ (a b c d : List Node) (x s r : Sides) (ts : List Term) (k : ℕ) (t u : Term) (o : 1 < k) (l : k ≤ length ts) (e : t ≡ get_or ts (k - 1 - 1) t) (i : u ≡ get_or ts (k - 1) u) where
-  pub equal_step : IsPlanned a b x (conjunction (neighbours equal (parts_of (drop (k - 1) ts)))) → IsPlanned b c s (equal (part_of t) (part_of u)) → ((f g : Formula) → Stands c s f → Stands c x g → IsPlanned c d r (conjoined f g)) → IsPlanned a d r (conjunction (neighbours equal (parts_of (drop (k - 1 - 1) ts))))
+module _ (a b c d : List CubeNode) (x s r : NodePair) (ts : List Term) (k : ℕ) (t u : Term) (o : 1 < k) (l : k ≤ length ts) (e : t ≡ get_or ts (k - 1 - 1) t) (i : u ≡ get_or ts (k - 1) u) where
+  pub equal_step : IsPlanned a b x (conjunction (neighbours equal (parts_of (drop (k - 1) ts)))) → IsPlanned b c s (equal (part_of t) (part_of u)) → ((f g : Formula) → HasBothTrees c s f → HasBothTrees c x g → IsPlanned c d r (conjoined f g)) → IsPlanned a d r (conjunction (neighbours equal (parts_of (drop (k - 1 - 1) ts))))
   equal_step p q h = near_step equal a b c d x s r ts k t u o l e i p q h
 
-  pub chain_step : (q : Op) → IsPlanned a b x (chain q (parts_of (drop (k - 1) ts))) → IsPlanned b c s (comparison q t u) → ((f g : Formula) → Stands c s f → Stands c x g → IsPlanned c d r (conjoined f g)) → IsPlanned a d r (chain q (parts_of (drop (k - 1 - 1) ts)))
+  pub chain_step : (q : Op) → IsPlanned a b x (chain q (parts_of (drop (k - 1) ts))) → IsPlanned b c s (comparison q t u) → ((f g : Formula) → HasBothTrees c s f → HasBothTrees c x g → IsPlanned c d r (conjoined f g)) → IsPlanned a d r (chain q (parts_of (drop (k - 1 - 1) ts)))
   chain_step q p z h =
       let raws : comparison q t u ≡ comparison q (raw (seen t)) (raw (seen u)) = λ n. comparison q (sym (raw-seen t) n) (sym (raw-seen u) n) in
       near_step (λ (p : Part) (r : Part). comparison q p.raw r.raw) a b c d x s r ts k t u o l e i p (planned_as b c s (comparison q t u) (comparison q (raw (seen t)) (raw (seen u))) z raws) h
@@ -183,27 +183,27 @@ near_none F (u ∷ v ∷ us) l = absurd (omega arith)
 few_left : (ts : List Term) (k : ℕ) → length ts ≤ k → length (drop (k - 1) ts) ≤ 1
 few_left ts k l = omega (arith, length-drop (k - 1) ts)
 
-nothing_near : (F : Part → Part → Formula) (a b : List Node) (s : Sides) (ts : List Term) (k : ℕ) → length ts ≤ k → IsPlanned a b s (fixed true) → IsPlanned a b s (conjunction (neighbours F (parts_of (drop (k - 1) ts))))
+nothing_near : (F : Part → Part → Formula) (a b : List CubeNode) (s : NodePair) (ts : List Term) (k : ℕ) → length ts ≤ k → IsPlanned a b s (fixed true) → IsPlanned a b s (conjunction (neighbours F (parts_of (drop (k - 1) ts))))
 nothing_near F a b s ts k l p =
     subst (λ fs. IsPlanned a b s (conjunction fs)) (sym (near_none F (drop (k - 1) ts) (few_left ts k l))) (relabelled a b s (fixed true) (conjunction []) p refl refl)
 
-pub equal_none : (a b : List Node) (s : Sides) (ts : List Term) (k : ℕ) → length ts ≤ k → IsPlanned a b s (fixed true) → IsPlanned a b s (conjunction (neighbours equal (parts_of (drop (k - 1) ts))))
+pub equal_none : (a b : List CubeNode) (s : NodePair) (ts : List Term) (k : ℕ) → length ts ≤ k → IsPlanned a b s (fixed true) → IsPlanned a b s (conjunction (neighbours equal (parts_of (drop (k - 1) ts))))
 equal_none a b s ts k l p = nothing_near equal a b s ts k l p
 
-pub chain_none : (a b : List Node) (s : Sides) (q : Op) (ts : List Term) (k : ℕ) → length ts ≤ k → IsPlanned a b s (fixed true) → IsPlanned a b s (chain q (parts_of (drop (k - 1) ts)))
+pub chain_none : (a b : List CubeNode) (s : NodePair) (q : Op) (ts : List Term) (k : ℕ) → length ts ≤ k → IsPlanned a b s (fixed true) → IsPlanned a b s (chain q (parts_of (drop (k - 1) ts)))
 chain_none a b s q ts k l p = nothing_near (λ (p : Part) (r : Part). comparison q p.raw r.raw) a b s ts k l p
 
 -- all pairs: of one term with those behind it, and of those behind it
-pub pair_step : (a b c d : List Node) (x s z r : Sides) (ts : List Term) (k : ℕ) (t u : Term) (fs : List Formula) → 0 < k → k ≤ length ts → u ≡ get_or ts (k - 1) u → IsPlanned a b x (conjunction (first_pairs t (drop k ts) ++ fs)) → IsPlanned b c s (equal (part_of t) (part_of u)) → z.holding ≡ s.failing → z.failing ≡ s.holding → ((f g : Formula) → Stands c z f → Stands c x g → IsPlanned c d r (conjoined f g)) → IsPlanned a d r (conjunction (first_pairs t (drop (k - 1) ts) ++ fs))
+pub pair_step : (a b c d : List CubeNode) (x s z r : NodePair) (ts : List Term) (k : ℕ) (t u : Term) (fs : List Formula) → 0 < k → k ≤ length ts → u ≡ get_or ts (k - 1) u → IsPlanned a b x (conjunction (first_pairs t (drop k ts) ++ fs)) → IsPlanned b c s (equal (part_of t) (part_of u)) → z.holding ≡ s.failing → z.failing ≡ s.holding → ((f g : Formula) → HasBothTrees c z f → HasBothTrees c x g → IsPlanned c d r (conjoined f g)) → IsPlanned a d r (conjunction (first_pairs t (drop (k - 1) ts) ++ fs))
 pair_step a b c d x s z r ts k t u fs o l e p q m n h =
     let differs = negated (equal (part_of t) (part_of u)) in
     subst (λ us. IsPlanned a d r (conjunction (first_pairs t us ++ fs))) (sym (front_at ts k u o l e))
     (relabelled a d r (conjoined (negated (equal (part_of t) (part_of u))) (conjunction (first_pairs t (drop k ts) ++ fs))) (conjunction (first_pairs t (u ∷ drop k ts) ++ fs)) (joined conjoined a b c d x z r (negated (equal (part_of t) (part_of u))) (conjunction (first_pairs t (drop k ts) ++ fs)) p (turned b c s z (equal (part_of t) (part_of u)) q m n) h) refl refl)
 
-pub pairs_none : (a b : List Node) (s : Sides) (ts : List Term) (k : ℕ) → length ts ≤ k → IsPlanned a b s (fixed true) → IsPlanned a b s (conjunction (pairs (λ p q. negated (equal p q)) (parts_of (drop k ts))))
+pub pairs_none : (a b : List CubeNode) (s : NodePair) (ts : List Term) (k : ℕ) → length ts ≤ k → IsPlanned a b s (fixed true) → IsPlanned a b s (conjunction (pairs (λ p q. negated (equal p q)) (parts_of (drop k ts))))
 pairs_none a b s ts k l p = at_end a b s ts k (λ us. conjunction (pairs (λ p q. negated (equal p q)) (parts_of us))) l (relabelled a b s (fixed true) (conjunction []) p refl refl)
 
-pub pairs_step : (a b c : List Node) (x r : Sides) (ts : List Term) (k : ℕ) → 0 < k → k ≤ length ts → IsPlanned a b x (conjunction (pairs (λ p q. negated (equal p q)) (parts_of (drop k ts)))) → ((t : Term) (fs : List Formula) → t ≡ get_or ts (k - 1) t → Stands b x (conjunction fs) → IsPlanned b c r (conjunction (first_pairs t (drop (k - 1 + 1) ts) ++ fs))) → IsPlanned a c r (conjunction (pairs (λ p q. negated (equal p q)) (parts_of (drop (k - 1) ts))))
+pub pairs_step : (a b c : List CubeNode) (x r : NodePair) (ts : List Term) (k : ℕ) → 0 < k → k ≤ length ts → IsPlanned a b x (conjunction (pairs (λ p q. negated (equal p q)) (parts_of (drop k ts)))) → ((t : Term) (fs : List Formula) → t ≡ get_or ts (k - 1) t → HasBothTrees b x (conjunction fs) → IsPlanned b c r (conjunction (first_pairs t (drop (k - 1 + 1) ts) ++ fs))) → IsPlanned a c r (conjunction (pairs (λ p q. negated (equal p q)) (parts_of (drop (k - 1) ts))))
 pairs_step a b c x r [] k o l p h = absurd (omega arith)
 pairs_step a b c x r (v ∷ vs) k o l p h =
     let t = get_or (v ∷ vs) (k - 1) v in
@@ -218,36 +218,36 @@ pairs_step a b c x r (v ∷ vs) k o l p h =
     got_again (t ∷ ts) (suc k) d e l = got_again ts k d e (omega arith)
 
 -- the functions of formulas, at the arguments of a function
-pub and_applied : (a b : List Node) (s : Sides) (ts : List Term) (t : Term) → IsPlanned a b s (conjunction (formulas_of ts)) → IsPlanned a b s (applied op.And (parts_of ts) t)
+pub and_applied : (a b : List CubeNode) (s : NodePair) (ts : List Term) (t : Term) → IsPlanned a b s (conjunction (formulas_of ts)) → IsPlanned a b s (applied op.And (parts_of ts) t)
 and_applied a b s ts t p = planned_as a b s _ _ p (ap conjunction (sym (parts_formulas ts)))
 
-pub or_applied : (a b : List Node) (s : Sides) (ts : List Term) (t : Term) → IsPlanned a b s (disjunction (formulas_of ts)) → IsPlanned a b s (applied op.Or (parts_of ts) t)
+pub or_applied : (a b : List CubeNode) (s : NodePair) (ts : List Term) (t : Term) → IsPlanned a b s (disjunction (formulas_of ts)) → IsPlanned a b s (applied op.Or (parts_of ts) t)
 or_applied a b s ts t p = planned_as a b s _ _ p (ap disjunction (sym (parts_formulas ts)))
 
-pub xor_applied : (a b : List Node) (s : Sides) (ts : List Term) (t : Term) → IsPlanned a b s (exclusive (formulas_of ts)) → IsPlanned a b s (applied op.Xor (parts_of ts) t)
+pub xor_applied : (a b : List CubeNode) (s : NodePair) (ts : List Term) (t : Term) → IsPlanned a b s (exclusive (formulas_of ts)) → IsPlanned a b s (applied op.Xor (parts_of ts) t)
 xor_applied a b s ts t p = planned_as a b s _ _ p (ap exclusive (sym (parts_formulas ts)))
 
-pub implies_applied : (a b : List Node) (s : Sides) (ts : List Term) (t : Term) → IsPlanned a b s (implied (formulas_of ts)) → IsPlanned a b s (applied op.Implies (parts_of ts) t)
+pub implies_applied : (a b : List CubeNode) (s : NodePair) (ts : List Term) (t : Term) → IsPlanned a b s (implied (formulas_of ts)) → IsPlanned a b s (applied op.Implies (parts_of ts) t)
 implies_applied a b s ts t p = planned_as a b s _ _ p (ap implied (sym (parts_formulas ts)))
 
-pub not_one : (a b : List Node) (s r : Sides) (ts : List Term) (t u : Term) → length ts ≡ 1 → u ≡ get_or ts 0 u → IsPlanned a b s (formula (seen u)) → r.holding ≡ s.failing → r.failing ≡ s.holding → IsPlanned a b r (applied op.Not (parts_of ts) t)
+pub not_one : (a b : List CubeNode) (s r : NodePair) (ts : List Term) (t u : Term) → length ts ≡ 1 → u ≡ get_or ts 0 u → IsPlanned a b s (formula (seen u)) → r.holding ≡ s.failing → r.failing ≡ s.holding → IsPlanned a b r (applied op.Not (parts_of ts) t)
 not_one a b s r [] t u l e p m n = absurd (omega arith)
 not_one a b s r (v ∷ []) t u l e p m n = planned_as a b r _ _ (turned a b s r _ p m n) (ap (λ (x : Term). negated (formula (seen x))) e)
 not_one a b s r (v ∷ w ∷ ts) t u l e p m n = absurd (omega arith)
 
-pub not_other : (a b : List Node) (s : Sides) (ts : List Term) (t : Term) → (length ts ≡ 1 → ⊥) → IsPlanned a b s (atom t) → IsPlanned a b s (applied op.Not (parts_of ts) t)
+pub not_other : (a b : List CubeNode) (s : NodePair) (ts : List Term) (t : Term) → (length ts ≡ 1 → ⊥) → IsPlanned a b s (atom t) → IsPlanned a b s (applied op.Not (parts_of ts) t)
 not_other a b s [] t l p = p
 not_other a b s (v ∷ []) t l p = absurd (l refl)
 not_other a b s (v ∷ w ∷ ts) t l p = p
 
-pub choice_other : (a b : List Node) (s : Sides) (ts : List Term) (t : Term) → (length ts ≡ 3 → ⊥) → IsPlanned a b s (atom t) → IsPlanned a b s (applied op.IfThenElse (parts_of ts) t)
+pub choice_other : (a b : List CubeNode) (s : NodePair) (ts : List Term) (t : Term) → (length ts ≡ 3 → ⊥) → IsPlanned a b s (atom t) → IsPlanned a b s (applied op.IfThenElse (parts_of ts) t)
 choice_other a b s [] t l p = p
 choice_other a b s (u ∷ []) t l p = p
 choice_other a b s (u ∷ v ∷ []) t l p = p
 choice_other a b s (u ∷ v ∷ w ∷ []) t l p = absurd (l refl)
 choice_other a b s (u ∷ v ∷ w ∷ x ∷ ts) t l p = p
 
-pub choice_three : (a b c d e : List Node) (p q r s : Sides) (ts : List Term) (t x y z : Term) → length ts ≡ 3 → x ≡ get_or ts 0 x → y ≡ get_or ts 1 y → z ≡ get_or ts 2 z → IsPlanned a b p (formula (seen x)) → IsPlanned b c q (formula (seen y)) → IsPlanned c d r (formula (seen z)) → ((f g h : Formula) → Stands d p f → Stands d q g → Stands d r h → IsPlanned d e s (choice f g h)) → IsPlanned a e s (applied op.IfThenElse (parts_of ts) t)
+pub choice_three : (a b c d e : List CubeNode) (p q r s : NodePair) (ts : List Term) (t x y z : Term) → length ts ≡ 3 → x ≡ get_or ts 0 x → y ≡ get_or ts 1 y → z ≡ get_or ts 2 z → IsPlanned a b p (formula (seen x)) → IsPlanned b c q (formula (seen y)) → IsPlanned c d r (formula (seen z)) → ((f g h : Formula) → HasBothTrees d p f → HasBothTrees d q g → HasBothTrees d r h → IsPlanned d e s (choice f g h)) → IsPlanned a e s (applied op.IfThenElse (parts_of ts) t)
 choice_three a b c d e p q r s (u ∷ v ∷ w ∷ []) t x y z l i j k f g h m =
     let cd = longer_trans b c d g.longer h.longer in
     let chosen = m (formula (seen x)) (formula (seen y)) (formula (seen z)) (stands_longer b d p _ cd f.stands) (stands_longer c d q _ h.longer g.stands) h.stands in
@@ -258,26 +258,26 @@ choice_three a b c d e p q r s (u ∷ v ∷ []) t x y z l i j k f g h m = absurd
 choice_three a b c d e p q r s (u ∷ v ∷ w ∷ o ∷ ts) t x y z l i j k f g h m = absurd (omega arith)
 
 -- the sides of two terms at places
-pub side_left : (a : List Node) (ts : List Term) (ss : List Sides) (i : ℕ) (t : Term) → AreBooleanSides a ts ss → i < length ts → t ≡ get_or ts i t → head_sort (seen t) ≡ sort.Bool → HasSide a ss i t
+pub side_left : (a : List CubeNode) (ts : List Term) (ss : List NodePair) (i : ℕ) (t : Term) → AreBooleanSides a ts ss → i < length ts → t ≡ get_or ts i t → head_sort (seen t) ≡ sort.Bool → HasSide a ss i t
 side_left a ts ss i t h l e b = sides_at a ts ss i t (h.all i t l e b) l e
 
-pub side_right : (a : List Node) (ts : List Term) (ss : List Sides) (i j : ℕ) (t u : Term) → AreBooleanSides a ts ss → i < length ts → t ≡ get_or ts i t → j < length ts → u ≡ get_or ts j u → head_sort (seen t) ≡ sort.Bool → HasSide a ss j u
+pub side_right : (a : List CubeNode) (ts : List Term) (ss : List NodePair) (i j : ℕ) (t u : Term) → AreBooleanSides a ts ss → i < length ts → t ≡ get_or ts i t → j < length ts → u ≡ get_or ts j u → head_sort (seen t) ≡ sort.Bool → HasSide a ss j u
 side_right a ts ss i j t u h l e m f b = sides_at a ts ss j u (h.all i t l e b) m f
 
 -- the equality of two terms, by the sort of the first
-pub equal_boolean : (a b : List Node) (s : Sides) (t u : Term) → head_sort (seen t) ≡ sort.Bool → IsPlanned a b s (agreement (formula (seen t)) (formula (seen u))) → IsPlanned a b s (equal (part_of t) (part_of u))
+pub equal_boolean : (a b : List CubeNode) (s : NodePair) (t u : Term) → head_sort (seen t) ≡ sort.Bool → IsPlanned a b s (agreement (formula (seen t)) (formula (seen u))) → IsPlanned a b s (equal (part_of t) (part_of u))
 equal_boolean a b s t u k p = subst (λ z. IsPlanned a b s (equal_at z (part_of t) (part_of u))) (sym k) p
 
-pub equal_whole : (a b : List Node) (s : Sides) (t u : Term) → head_sort (seen t) ≡ sort.Int → IsPlanned a b s (equal_numbers t u) → IsPlanned a b s (equal (part_of t) (part_of u))
+pub equal_whole : (a b : List CubeNode) (s : NodePair) (t u : Term) → head_sort (seen t) ≡ sort.Int → IsPlanned a b s (equal_numbers t u) → IsPlanned a b s (equal (part_of t) (part_of u))
 equal_whole a b s t u k p = subst (λ z. IsPlanned a b s (equal_at z (part_of t) (part_of u))) (sym k) (planned_as a b s _ _ p (λ i. equal_numbers (sym (raw-seen t) i) (sym (raw-seen u) i)))
 
-pub equal_text : (a b : List Node) (s : Sides) (t u : Term) → head_sort (seen t) ≡ sort.String → IsPlanned a b s (comparison op.Equal t u) → IsPlanned a b s (equal (part_of t) (part_of u))
+pub equal_text : (a b : List CubeNode) (s : NodePair) (t u : Term) → head_sort (seen t) ≡ sort.String → IsPlanned a b s (comparison op.Equal t u) → IsPlanned a b s (equal (part_of t) (part_of u))
 equal_text a b s t u k p = subst (λ z. IsPlanned a b s (equal_at z (part_of t) (part_of u))) (sym k) (planned_as a b s _ _ p (λ i. comparison op.Equal (sym (raw-seen t) i) (sym (raw-seen u) i)))
 
-pub equal_language : (a b : List Node) (s : Sides) (t u : Term) → head_sort (seen t) ≡ sort.RegLan → IsPlanned a b s (comparison op.Equal t u) → IsPlanned a b s (equal (part_of t) (part_of u))
+pub equal_language : (a b : List CubeNode) (s : NodePair) (t u : Term) → head_sort (seen t) ≡ sort.RegLan → IsPlanned a b s (comparison op.Equal t u) → IsPlanned a b s (equal (part_of t) (part_of u))
 equal_language a b s t u k p = subst (λ z. IsPlanned a b s (equal_at z (part_of t) (part_of u))) (sym k) (planned_as a b s _ _ p (λ i. comparison op.Equal (sym (raw-seen t) i) (sym (raw-seen u) i)))
 
-pub as_op : (a b : List Node) (s : Sides) (ps : List Part) (t : Term) (o p : Op) → p ≡ o → IsPlanned a b s (applied o ps t) → IsPlanned a b s (applied p ps t)
+pub as_op : (a b : List CubeNode) (s : NodePair) (ps : List Part) (t : Term) (o p : Op) → p ≡ o → IsPlanned a b s (applied o ps t) → IsPlanned a b s (applied p ps t)
 as_op a b s ps t o p e h = subst (λ q. IsPlanned a b s (applied q ps t)) (sym e) h
 
 pub same_got : (ts : List Term) (i : ℕ) (t x : Term) → i < length ts → t ≡ get_or ts i t → x ≡ get_or ts i x → x ≡ t

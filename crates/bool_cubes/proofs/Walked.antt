@@ -7,7 +7,7 @@ use Rattle.bool_cubes.specs.Linear.{Step}
 use Rattle.bool_cubes.specs.Marked.{HasStep, IsLastMarked, IsMarked, IsWalked, marked, own_steps}
 use Rattle.bool_cubes.specs.Nodes.{IsMade, IsOfEarlier, IsPlan, made, tree_at, trees_of}
 use Rattle.bool_cubes.specs.Past.{ArePlain, IsPast, tree_steps}
-use Rattle.bool_cubes.specs.declared.node.Node.{Node}
+use Rattle.bool_cubes.specs.declared.node.CubeNode.{CubeNode}
 use Rattle.bool_cubes.specs.declared.node.NodeKind.{NodeKind}
 use Rattle.bool_cubes.specs.declared.node.NodeKind.TheVariants as kind
 use Rattle.bool_cubes.proofs.Choosing.{some_left, some_right, some_cases}
@@ -68,7 +68,7 @@ one_marked m n i root h r e = subst (λ x. IsLastMarked x root) (sym e) (record 
     at (b ∷ m) (suc k) zero g l q = absurd (omega arith)
     at (b ∷ m) (suc k) (suc root) g l q = ap suc (at m k root (λ j p. g (suc j) p) (omega arith) q)
 
-module _ (ns : List Node) (root : ℕ) where
+module _ (ns : List CubeNode) (root : ℕ) where
   pub walk_init : (m : List Bool) → IsLastMarked m root → IsWalked ns root m (root + 1)
   walk_init m h = record {
     size = h.size;
@@ -86,7 +86,7 @@ module _ (ns : List Node) (root : ℕ) where
   pub walk_end : (m : List Bool) (k : ℕ) → k ≡ 0 → IsWalked ns root m k → ArePlain (tree_steps (tree_at ns root))
   walk_end m k e h l r s = let q = h.left l r s in let a = q.1 in absurd (omega arith)
 
-  pub earlier : (m : List Bool) (k i : ℕ) (n : Node) → IsPlan ns → root < length ns → k ≤ root + 1 → 0 < k → i ≡ k - 1 → n ≡ get_or ns i n → IsWalked ns root m k → IsOfEarlier (length m) n.kind
+  pub earlier : (m : List Bool) (k i : ℕ) (n : CubeNode) → IsPlan ns → root < length ns → k ≤ root + 1 → 0 < k → i ≡ k - 1 → n ≡ get_or ns i n → IsWalked ns root m k → IsOfEarlier (length m) n.kind
   earlier m k i n p l b o e g h = later n.kind (p.each i n (omega arith) g).earlier
     where
       later : (d : NodeKind) → IsOfEarlier i d → IsOfEarlier (length m) d
@@ -96,7 +96,7 @@ module _ (ns : List Node) (root : ℕ) where
       later (kind.Both s t) x = (omega (arith, h.size), omega (arith, h.size))
       later (kind.Either s t) x = (omega (arith, h.size), omega (arith, h.size))
 
-  module _ (m : List Bool) (k i : ℕ) (n : Node) (p : IsPlan ns) (within : root < length ns) (b : k ≤ root + 1) (o : 0 < k) (e : i ≡ k - 1) (g : n ≡ get_or ns i n) (h : IsWalked ns root m k) (on : get_or m i false ≡ true) where
+  module _ (m : List Bool) (k i : ℕ) (n : CubeNode) (p : IsPlan ns) (within : root < length ns) (b : k ≤ root + 1) (o : 0 < k) (e : i ≡ k - 1) (g : n ≡ get_or ns i n) (h : IsWalked ns root m k) (on : get_or m i false ≡ true) where
     is_made : IsMade ns i n
     is_made = p.each i n (omega arith) g
 

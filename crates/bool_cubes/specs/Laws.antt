@@ -22,7 +22,7 @@ pub record IsAssertion (values : Named) (t : Term) : Type 0 where
   pub clear : is_opaque t ≡ false
 
 -- a term of sort Bool without opaque parts
-pub record IsSorted (t : Term) : Type 0 where
+pub record IsClearBool (t : Term) : Type 0 where
   pub sorted : sort_of t ≡ Some sort.Bool
   pub clear : is_opaque t ≡ false
 

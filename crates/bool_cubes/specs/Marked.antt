@@ -6,7 +6,7 @@ use Rattle.bool_cubes.specs.Nodes.{tree_at}
 use Rattle.bool_cubes.specs.Numbered.{AreNumbered, IsNumbered}
 use Rattle.bool_cubes.specs.Past.{IsPast, atom_steps, tree_steps}
 use Rattle.bool_cubes.specs.Shapes.{seen}
-use Rattle.bool_cubes.specs.declared.node.Node.{Node}
+use Rattle.bool_cubes.specs.declared.node.CubeNode.{CubeNode}
 use Rattle.bool_cubes.specs.declared.node.NodeKind.{NodeKind}
 use Rattle.bool_cubes.specs.declared.node.NodeKind.TheVariants as kind
 use Rattle.bool_cubes.specs.declared.past.Differences.{Differences}
@@ -36,11 +36,11 @@ own_steps (kind.One l) = atom_steps (seen l.atom)
 own_steps (kind.Both i j) = []
 own_steps (kind.Either i j) = []
 
-abbrev pub HasStep : List Node → ℕ → ℤ → ℤ → Type 0
+abbrev pub HasStep : List CubeNode → ℕ → ℤ → ℤ → Type 0
 HasStep ns k l r = SomeOf (IsPast l r) (tree_steps (tree_at ns k))
 
 -- what is marked stands in the root's tree, and what stands there and isn't plain stands below k in a marked node
-pub record IsWalked (ns : List Node) (root : ℕ) (marks : List Bool) (k : ℕ) : Type 0 where
+pub record IsWalked (ns : List CubeNode) (root : ℕ) (marks : List Bool) (k : ℕ) : Type 0 where
   pub size : length marks ≡ root + 1
   pub inside : (j : ℕ) → IsMarked marks j → (l r : ℤ) → HasStep ns j l r → HasStep ns root l r
   pub left : (l r : ℤ) → HasStep ns root l r → (j : ℕ) × (j < k) × IsMarked marks j × HasStep ns j l r

@@ -47,11 +47,11 @@ pub record HasNumber (old new : List (List ℤ)) (u : Unknown) (k : ℕ) : Type 
   pub place : place_in new u ≡ k
 
 -- Ok with the form where no step is past 128 bits, and Past only with the operands of one that is
-abbrev pub IsMadeBy : List (List ℤ) → Linear → List Step → Result TermForm CubeFault → Type 0
-IsMadeBy us a steps (Ok f) = ArePlain steps × IsNumbered us a f
-IsMadeBy us a steps (Err (Past l r)) = SomeOf (IsPast l r) steps
-IsMadeBy us a steps (Err (TooMany n)) = ⊥
-IsMadeBy us a steps (Err (Memory e)) = ⊤
+abbrev pub IsFormOrPast : List (List ℤ) → Linear → List Step → Result TermForm CubeFault → Type 0
+IsFormOrPast us a steps (Ok f) = ArePlain steps × IsNumbered us a f
+IsFormOrPast us a steps (Err (Past l r)) = SomeOf (IsPast l r) steps
+IsFormOrPast us a steps (Err (TooMany n)) = ⊥
+IsFormOrPast us a steps (Err (Memory e)) = ⊤
 
 -- what joins two forms, and its steps
 abbrev pub joint_of : Joint → Linear → Linear → Linear

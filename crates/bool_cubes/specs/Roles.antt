@@ -3,7 +3,7 @@ use Rattle.sv_terms.specs.declared.op.Op.{Op}
 use Rattle.sv_terms.specs.declared.op.Op.TheVariants as op
 use Rattle.bool_cubes.specs.declared.roles.Build.TheVariants as build
 use Rattle.bool_cubes.specs.declared.roles.Joint.TheVariants as joint
-use Rattle.bool_cubes.specs.declared.roles.Order.TheVariants as order
+use Rattle.bool_cubes.specs.declared.roles.IntOrder.TheVariants as order
 use Rattle.bool_cubes.specs.declared.roles.Role.{Role}
 use Rattle.bool_cubes.specs.declared.roles.Role.TheVariants as role
 use Rattle.bool_cubes.specs.declared.roles.Test.TheVariants as test

@@ -5,7 +5,7 @@ ghost use Rattle.sv_terms.specs.declared.op.Op.{Op as AnyOp};
 ghost use Rattle.sv_terms.specs.declared.op.Op.TheVariants as op;
 ghost use Rattle.sv_terms.specs.declared.term.Term.{Term as AnyTerm};
 ghost use Rattle.bool_cubes.specs.Counting.{and_counts, atom_counts, choice_counts, counts_of, equal_counts, first_pairs, formulas_of, not_counts, or_counts, ordered_pairs, parts_of, same_counts};
-ghost use Rattle.bool_cubes.specs.Laws.{IsSorted};
+ghost use Rattle.bool_cubes.specs.Laws.{IsClearBool};
 ghost use Rattle.bool_cubes.specs.Refusing.{count_of};
 ghost use Rattle.sv_terms.specs.CutOff.{cut_off};
 ghost use Rattle.bool_cubes.specs.Shapes.{head_sort, op_sort, seen};
@@ -331,7 +331,7 @@ fn ordered_counts(terms: usize) -> Counts
 
 /// The number of cubes of assertions, 2^64 - 1 where they are more. It takes no memory.
 pub fn count(terms: &[Term]) -> u64
-    requires { AllByRecursion IsSorted terms.now }
+    requires { AllByRecursion IsClearBool terms.now }
     ensures { result ≡ cut_off (count_of terms.now) }
 {
     count_terms(terms)

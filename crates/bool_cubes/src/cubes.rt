@@ -1,7 +1,7 @@
 ghost use Rattle.std.specs.Prelude.{◌≡◌, ◌∷◌, [], ◌++◌, ◌<◌, ◌≤◌, IfOk, OnOk, OnErr, MatchOption, drop, length};
 ghost use Rattle.std.specs.List.{AllByRecursion};
 ghost use Rattle.bool_cubes.specs.Cubes.{count, cubes_of};
-ghost use Rattle.bool_cubes.specs.Laws.{IsSorted};
+ghost use Rattle.bool_cubes.specs.Laws.{IsClearBool};
 ghost use Rattle.bool_cubes.specs.Nodes.{IsPlan, tree_at};
 ghost use Rattle.bool_cubes.specs.Picking.{cube_at};
 ghost use Rattle.bool_cubes.specs.Refusing.{IsRefusedExactly, most_cubes};
@@ -9,7 +9,7 @@ ghost use Rattle.bool_cubes.specs.Refusing.{IsRefusedExactly, most_cubes};
 use crate::counts::count_terms;
 use crate::fault::CubeFault;
 use crate::literal::{Cube, Literal};
-use crate::node::{Node, NodeKind};
+use crate::node::{CubeNode, NodeKind};
 use crate::past;
 use crate::plan::Plan;
 use crate::planning::all_sides;
@@ -24,7 +24,7 @@ use sv_terms::{MOST_CUBES, Term};
 /// many cubes were given, and never the cubes themselves.
 #[derive(Drop)]
 pub struct Cubes {
-    nodes: Items<Node>,
+    nodes: Items<CubeNode>,
     root: usize,
     count: u64,
     given: u64,
@@ -55,7 +55,7 @@ impl Cubes {
     /// The cubes of assertions without opaque parts, each of sort Bool. Takes time and memory linear in the
     /// terms, but for `distinct`, which has a part for each pair.
     pub fn new(alloc: Global, terms: &[Term]) -> Result<Cubes, CubeFault>
-        requires { AllByRecursion IsSorted terms.now }
+        requires { AllByRecursion IsClearBool terms.now }
         ensures cubes { IfOk result (λ c. c ≡ cubes_of terms.now) }
         ensures refused { IsRefusedExactly terms.now result }
     {
@@ -124,7 +124,7 @@ impl Cubes {
 /// The literals of the cube of this number of a node's tree, with room for so many.
 fn pick(
     alloc: Global,
-    nodes: &[Node],
+    nodes: &[CubeNode],
     root: usize,
     number: u64,
     room: usize,
@@ -145,7 +145,7 @@ fn pick(
 /// either it tells which.
 fn gather(
     alloc: Global,
-    nodes: &[Node],
+    nodes: &[CubeNode],
     root: usize,
     number: u64,
     literals: &mut Items<Literal>,

@@ -3,7 +3,7 @@ ghost use Rattle.std.specs.Prelude.{◌≡◌, [], ◌++◌, ◌≤◌, IfOk, le
 ghost use Rattle.bool_cubes.specs.Flats.{flat};
 ghost use Rattle.bool_cubes.specs.Formed.{IsUnknownForm, linears_of, steps_of};
 ghost use Rattle.bool_cubes.specs.Linear.{Unknown, integer, joined_of, joined_steps, length_form, linear, other, steps, unknown_code};
-ghost use Rattle.bool_cubes.specs.Numbered.{AreNumbered, IsMadeBy, IsMore};
+ghost use Rattle.bool_cubes.specs.Numbered.{AreNumbered, IsFormOrPast, IsMore};
 ghost use Rattle.bool_cubes.specs.Shapes.{end, seen, ◌⨾◌};
 
 use crate::code::Written;
@@ -22,7 +22,7 @@ use sv_terms::{Name, Term};
 pub fn term_form(unknowns: &mut Unknowns, alloc: Global, term: &Term) -> Result<TermForm, CubeFault>
     requires { AreNumbered unknowns.old.codes }
     ensures more { IfOk result (λ f. IsMore unknowns.old.codes unknowns.new.codes) }
-    ensures form { IsMadeBy unknowns.new.codes (linear (seen term.now)) (steps (seen term.now)) result }
+    ensures form { IsFormOrPast unknowns.new.codes (linear (seen term.now)) (steps (seen term.now)) result }
 {
     match term {
         Term::Number(n) => Ok(TermForm::number(alloc, *n)),
@@ -90,7 +90,7 @@ fn whole_form(unknowns: &mut Unknowns, alloc: Global, term: &Term) -> Result<Ter
 fn length_form(unknowns: &mut Unknowns, alloc: Global, term: &Term) -> Result<TermForm, CubeFault>
     requires { AreNumbered unknowns.old.codes }
     ensures more { IfOk result (λ f. IsMore unknowns.old.codes unknowns.new.codes) }
-    ensures form { IsMadeBy unknowns.new.codes (length_form (seen term.now ⨾ end)) [] result }
+    ensures form { IsFormOrPast unknowns.new.codes (length_form (seen term.now ⨾ end)) [] result }
 {
     if let Term::Text(word) = term {
         return Ok(TermForm::number(alloc, word.len() as i128));
@@ -114,7 +114,7 @@ fn joined_form(
 ) -> Result<TermForm, CubeFault>
     requires { AreNumbered unknowns.old.codes }
     ensures more { IfOk result (λ f. IsMore unknowns.old.codes unknowns.new.codes) }
-    ensures form { IsMadeBy unknowns.new.codes (joined_of joint (linears_of terms.now)) (steps_of terms.now ++ joined_steps joint (linears_of terms.now)) result }
+    ensures form { IsFormOrPast unknowns.new.codes (joined_of joint (linears_of terms.now)) (steps_of terms.now ++ joined_steps joint (linears_of terms.now)) result }
 {
     if terms.is_empty() {
         return Ok(TermForm::number(alloc, 0));
@@ -137,7 +137,7 @@ fn single_form(
     requires numbered { AreNumbered unknowns.old.codes }
     requires single { length terms.now ≡ 1 }
     ensures more { IfOk result (λ f. IsMore unknowns.old.codes unknowns.new.codes) }
-    ensures form { IsMadeBy unknowns.new.codes (joined_of joint (linears_of terms.now)) (steps_of terms.now ++ joined_steps joint (linears_of terms.now)) result }
+    ensures form { IsFormOrPast unknowns.new.codes (joined_of joint (linears_of terms.now)) (steps_of terms.now ++ joined_steps joint (linears_of terms.now)) result }
 {
     let form = term_form(unknowns, alloc, &terms[0])?;
     match joint {
@@ -158,7 +158,7 @@ fn several_form(
     requires numbered { AreNumbered unknowns.old.codes }
     requires several { 2 ≤ length terms.now }
     ensures more { IfOk result (λ f. IsMore unknowns.old.codes unknowns.new.codes) }
-    ensures form { IsMadeBy unknowns.new.codes (joined_of joint (linears_of terms.now)) (steps_of terms.now ++ joined_steps joint (linears_of terms.now)) result }
+    ensures form { IsFormOrPast unknowns.new.codes (joined_of joint (linears_of terms.now)) (steps_of terms.now ++ joined_steps joint (linears_of terms.now)) result }
 {
     let mut all = term_form(unknowns, alloc, &terms[0])?;
     for i in 1..terms.len() {

@@ -43,6 +43,6 @@ pub use laws::{
 };
 pub use literal::{Cube, Literal};
 pub use past::{Differences, subtract};
-pub use roles::{Build, Joint, Order, Role, Test, role_of};
+pub use roles::{Build, IntOrder, Joint, Role, Test, role_of};
 pub use term_form::TermForm;
 pub use unknowns::Unknowns;

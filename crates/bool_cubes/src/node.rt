@@ -12,27 +12,27 @@ pub enum NodeKind {
 
 /// A node, with the number of its tree's cubes, 2^64 - 1 where they are more.
 #[derive(Debug, Drop)]
-pub struct Node {
+pub struct CubeNode {
     pub kind: NodeKind,
     pub cubes: u64,
 }
 
 /// The nodes of a formula and of its negation.
 #[derive(Clone, Copy, Debug)]
-pub struct Sides {
+pub struct NodePair {
     pub holding: usize,
     pub failing: usize,
 }
 
-impl Sides {
+impl NodePair {
     ghost use Rattle.std.specs.Prelude.{◌≡◌};
 
     /// The sides of the negation.
-    pub fn negation(self) -> Sides
+    pub fn negation(self) -> NodePair
         ensures holding { result.holding ≡ self.failing }
         ensures failing { result.failing ≡ self.holding }
     {
-        Sides {
+        NodePair {
             holding: self.failing,
             failing: self.holding,
         }

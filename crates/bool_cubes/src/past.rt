@@ -10,7 +10,7 @@ ghost use Rattle.bool_cubes.specs.Shapes.{seen};
 use crate::counts::head_sort;
 use crate::fault::CubeFault;
 use crate::forms::term_form;
-use crate::node::{Node, NodeKind};
+use crate::node::{CubeNode, NodeKind};
 use crate::reading::{Relation, relate};
 use crate::roles::Joint;
 use crate::term_form::TermForm;
@@ -95,7 +95,7 @@ pub fn atom(alloc: Global, atom: &Term) -> Result<(), CubeFault>
 
 /// Whether no step of the atoms of a node's tree leaves 128 bits. Each node is looked at once.
 #[tactic(auto, using(crate::proofs::Walked::walk_init, crate::proofs::Walked::walk_skip, crate::proofs::Walked::walk_step, crate::proofs::Walked::walk_past, crate::proofs::Walked::walk_end, crate::proofs::Walked::earlier))]
-pub fn tree(alloc: Global, nodes: &[Node], root: usize) -> Result<(), CubeFault>
+pub fn tree(alloc: Global, nodes: &[CubeNode], root: usize) -> Result<(), CubeFault>
     requires plan { IsPlan nodes.now }
     requires root { root < length nodes.now }
     ensures { IsPlainExactly (tree_steps (tree_at nodes.now root)) result }

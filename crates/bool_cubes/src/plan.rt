@@ -1,14 +1,14 @@
 //! Trees by nodes, and the nodes of formulas made of formulas.
-ghost use Rattle.std.specs.Prelude.{◌≡◌, ◌∷◌, [], ◌<◌, IfOk, List, length, true};
+ghost use Rattle.std.specs.Prelude.{◌≡◌, ◌∷◌, [], ◌<◌, IfOk, length, true};
 ghost use Rattle.sv_terms.specs.declared.op.Op.TheVariants as op;
 ghost use Rattle.sv_terms.specs.declared.term.Term.TheVariants as any_term;
 ghost use Rattle.bool_cubes.specs.Cubes.{count};
-ghost use Rattle.bool_cubes.specs.Nodes.{AreOf, IsAdded, IsLonger, IsOfEarlier, IsPlan, IsPlanned, Stands, made, tree_at, trees_of};
+ghost use Rattle.bool_cubes.specs.Nodes.{AreOf, IsAddedNode, IsLonger, IsOfEarlier, IsPlan, IsPlanned, HasBothTrees, made, tree_at, trees_of};
 ghost use Rattle.sv_terms.specs.CutOff.{cut_off};
 ghost use Rattle.bool_cubes.specs.Trees.{Formula, agreement, always, atom, both, choice, comparison, conjoined, disjoined, either, equal_numbers, fixed, implication, never, one};
 
 use crate::literal::Literal;
-use crate::node::{Node, NodeKind, Sides};
+use crate::node::{CubeNode, NodeKind, NodePair};
 use std::alloc::{AllocError, Global};
 use sv_list::Items;
 use sv_terms::{Op, Term};
@@ -16,7 +16,7 @@ use sv_terms::{Op, Term};
 /// Trees by nodes: each node is made of earlier ones, so a tree that stands in several is kept once.
 #[derive(Drop)]
 pub struct Plan {
-    pub nodes: Items<Node>,
+    pub nodes: Items<CubeNode>,
 }
 
 impl Plan {
@@ -24,30 +24,30 @@ impl Plan {
         requires plan { IsPlan self.old.nodes }
         requires earlier { IsOfEarlier (length self.old.nodes) kind }
         requires cubes { cubes ≡ cut_off (count (made (trees_of self.old.nodes) kind)) }
-        ensures { IfOk result (λ k. IsAdded self.old.nodes self.new.nodes k (made (trees_of self.old.nodes) kind)) }
+        ensures { IfOk result (λ k. IsAddedNode self.old.nodes self.new.nodes k (made (trees_of self.old.nodes) kind)) }
     {
         let at = self.nodes.len();
-        self.nodes.push(Node { kind, cubes })?;
+        self.nodes.push(CubeNode { kind, cubes })?;
         Ok(at)
     }
 
     fn always(&mut self) -> Result<usize, AllocError>
         requires { IsPlan self.old.nodes }
-        ensures { IfOk result (λ k. IsAdded self.old.nodes self.new.nodes k always) }
+        ensures { IfOk result (λ k. IsAddedNode self.old.nodes self.new.nodes k always) }
     {
         Ok(self.push(NodeKind::Always, 1)?)
     }
 
     fn never(&mut self) -> Result<usize, AllocError>
         requires { IsPlan self.old.nodes }
-        ensures { IfOk result (λ k. IsAdded self.old.nodes self.new.nodes k never) }
+        ensures { IfOk result (λ k. IsAddedNode self.old.nodes self.new.nodes k never) }
     {
         Ok(self.push(NodeKind::Never, 0)?)
     }
 
     fn one(&mut self, literal: Literal) -> Result<usize, AllocError>
         requires { IsPlan self.old.nodes }
-        ensures { IfOk result (λ k. IsAdded self.old.nodes self.new.nodes k (one literal)) }
+        ensures { IfOk result (λ k. IsAddedNode self.old.nodes self.new.nodes k (one literal)) }
     {
         Ok(self.push(NodeKind::One(literal), 1)?)
     }
@@ -57,7 +57,7 @@ impl Plan {
         requires plan { IsPlan self.old.nodes }
         requires left { left < length self.old.nodes }
         requires right { right < length self.old.nodes }
-        ensures { IfOk result (λ k. IsAdded self.old.nodes self.new.nodes k (both (tree_at self.old.nodes left) (tree_at self.old.nodes right))) }
+        ensures { IfOk result (λ k. IsAddedNode self.old.nodes self.new.nodes k (both (tree_at self.old.nodes left) (tree_at self.old.nodes right))) }
     {
         let cubes = {
             let nodes = self.nodes.as_slice();
@@ -71,7 +71,7 @@ impl Plan {
         requires plan { IsPlan self.old.nodes }
         requires left { left < length self.old.nodes }
         requires right { right < length self.old.nodes }
-        ensures { IfOk result (λ k. IsAdded self.old.nodes self.new.nodes k (either (tree_at self.old.nodes left) (tree_at self.old.nodes right))) }
+        ensures { IfOk result (λ k. IsAddedNode self.old.nodes self.new.nodes k (either (tree_at self.old.nodes left) (tree_at self.old.nodes right))) }
     {
         let cubes = {
             let nodes = self.nodes.as_slice();
@@ -88,7 +88,7 @@ impl Plan {
         requires b { b < length self.old.nodes }
         requires c { c < length self.old.nodes }
         requires d { d < length self.old.nodes }
-        ensures { IfOk result (λ k. IsAdded self.old.nodes self.new.nodes k (either (both (tree_at self.old.nodes a) (tree_at self.old.nodes b)) (both (tree_at self.old.nodes c) (tree_at self.old.nodes d)))) }
+        ensures { IfOk result (λ k. IsAddedNode self.old.nodes self.new.nodes k (either (both (tree_at self.old.nodes a) (tree_at self.old.nodes b)) (both (tree_at self.old.nodes c) (tree_at self.old.nodes d)))) }
     {
         let first = self.both(a, b)?;
         let second = self.both(c, d)?;
@@ -97,19 +97,19 @@ impl Plan {
 
     /// The nodes of `true` or of `false`.
     #[tactic(auto, using(crate::proofs::Plans::two_added, crate::proofs::Plans::turned))]
-    pub fn settle(&mut self, value: bool) -> Result<Sides, AllocError>
+    pub fn settle(&mut self, value: bool) -> Result<NodePair, AllocError>
         requires { IsPlan self.old.nodes }
         ensures { IfOk result (λ s. IsPlanned self.old.nodes self.new.nodes s (fixed value)) }
     {
         let holding = self.always()?;
         let failing = self.never()?;
-        let sides = Sides { holding, failing };
+        let sides = NodePair { holding, failing };
         Ok(if value { sides } else { sides.negation() })
     }
 
     /// The nodes of a term that is a literal.
     #[tactic(auto, using(crate::proofs::Plans::two_added))]
-    pub fn atom(&mut self, alloc: Global, term: Term) -> Result<Sides, AllocError>
+    pub fn atom(&mut self, alloc: Global, term: Term) -> Result<NodePair, AllocError>
         requires { IsPlan self.old.nodes }
         ensures { IfOk result (λ s. IsPlanned self.old.nodes self.new.nodes s (atom term)) }
     {
@@ -122,7 +122,7 @@ impl Plan {
             atom: term,
             positive: false,
         })?;
-        Ok(Sides { holding, failing })
+        Ok(NodePair { holding, failing })
     }
 
     /// The nodes of a function of two terms as a literal.
@@ -132,7 +132,7 @@ impl Plan {
         op: Op,
         left: &Term,
         right: &Term,
-    ) -> Result<Sides, AllocError>
+    ) -> Result<NodePair, AllocError>
         requires { IsPlan self.old.nodes }
         ensures { IfOk result (λ s. IsPlanned self.old.nodes self.new.nodes s (comparison op left.now right.now)) }
     {
@@ -148,7 +148,7 @@ impl Plan {
         right: &Term,
     ) -> Result<usize, AllocError>
         requires { IsPlan self.old.nodes }
-        ensures { IfOk result (λ k. IsAdded self.old.nodes self.new.nodes k (comparison op left.now right.now true)) }
+        ensures { IfOk result (λ k. IsAddedNode self.old.nodes self.new.nodes k (comparison op left.now right.now true)) }
     {
         let atom = comparison_of(alloc, op, left, right)?;
         Ok(self.one(Literal {
@@ -164,7 +164,7 @@ impl Plan {
         alloc: Global,
         left: &Term,
         right: &Term,
-    ) -> Result<Sides, AllocError>
+    ) -> Result<NodePair, AllocError>
         requires { IsPlan self.old.nodes }
         ensures { IfOk result (λ s. IsPlanned self.old.nodes self.new.nodes s (equal_numbers left.now right.now)) }
     {
@@ -172,46 +172,46 @@ impl Plan {
         let less = self.plan_comparison(alloc, Op::Less, left, right)?;
         let greater = self.plan_comparison(alloc, Op::Greater, left, right)?;
         let failing = self.either(less, greater)?;
-        Ok(Sides { holding, failing })
+        Ok(NodePair { holding, failing })
     }
 
     /// The nodes of an and of two.
     #[tactic(auto, using(crate::proofs::Plans::and_added, crate::proofs::Plans::or_within, crate::proofs::Plans::longer_trans, crate::proofs::Plans::stands_longer))]
-    pub fn and(&mut self, left: Sides, right: Sides) -> Result<Sides, AllocError>
+    pub fn and(&mut self, left: NodePair, right: NodePair) -> Result<NodePair, AllocError>
         requires plan { IsPlan self.old.nodes }
         requires left { AreOf self.old.nodes left }
         requires right { AreOf self.old.nodes right }
         ensures longer { IfOk result (λ s. IsLonger self.old.nodes self.new.nodes) }
         ensures within { IfOk result (λ s. AreOf self.new.nodes s) }
-        ensures formula { (f g : Formula) → Stands self.old.nodes left f → Stands self.old.nodes right g → IfOk result (λ s. IsPlanned self.old.nodes self.new.nodes s (conjoined f g)) }
+        ensures formula { (f g : Formula) → HasBothTrees self.old.nodes left f → HasBothTrees self.old.nodes right g → IfOk result (λ s. IsPlanned self.old.nodes self.new.nodes s (conjoined f g)) }
     {
         let holding = self.both(left.holding, right.holding)?;
         let failing = self.either(left.failing, right.failing)?;
-        Ok(Sides { holding, failing })
+        Ok(NodePair { holding, failing })
     }
 
     /// The nodes of an or of two.
     #[tactic(auto, using(crate::proofs::Plans::or_added, crate::proofs::Plans::or_within, crate::proofs::Plans::longer_trans, crate::proofs::Plans::stands_longer))]
-    pub fn or(&mut self, left: Sides, right: Sides) -> Result<Sides, AllocError>
+    pub fn or(&mut self, left: NodePair, right: NodePair) -> Result<NodePair, AllocError>
         requires plan { IsPlan self.old.nodes }
         requires left { AreOf self.old.nodes left }
         requires right { AreOf self.old.nodes right }
         ensures longer { IfOk result (λ s. IsLonger self.old.nodes self.new.nodes) }
         ensures within { IfOk result (λ s. AreOf self.new.nodes s) }
-        ensures formula { (f g : Formula) → Stands self.old.nodes left f → Stands self.old.nodes right g → IfOk result (λ s. IsPlanned self.old.nodes self.new.nodes s (disjoined f g)) }
+        ensures formula { (f g : Formula) → HasBothTrees self.old.nodes left f → HasBothTrees self.old.nodes right g → IfOk result (λ s. IsPlanned self.old.nodes self.new.nodes s (disjoined f g)) }
     {
         let holding = self.either(left.holding, right.holding)?;
         let failing = self.both(left.failing, right.failing)?;
-        Ok(Sides { holding, failing })
+        Ok(NodePair { holding, failing })
     }
 
     /// The nodes of this: the first fails or the second holds.
     #[tactic(auto, using(crate::proofs::Plans::implication_added, crate::proofs::Plans::stands_of, crate::proofs::Plans::stands_longer, crate::proofs::Plans::longer_trans, crate::proofs::Plans::turned_within, crate::proofs::Plans::within_longer))]
-    pub fn implication(&mut self, left: Sides, right: Sides) -> Result<Sides, AllocError>
+    pub fn implication(&mut self, left: NodePair, right: NodePair) -> Result<NodePair, AllocError>
         requires plan { IsPlan self.old.nodes }
         requires left { AreOf self.old.nodes left }
         requires right { AreOf self.old.nodes right }
-        ensures { (f g : Formula) → Stands self.old.nodes left f → Stands self.old.nodes right g → IfOk result (λ s. IsPlanned self.old.nodes self.new.nodes s (implication f g)) }
+        ensures { (f g : Formula) → HasBothTrees self.old.nodes left f → HasBothTrees self.old.nodes right g → IfOk result (λ s. IsPlanned self.old.nodes self.new.nodes s (implication f g)) }
     {
         let never = self.settle(false)?;
         let last = self.or(right, never)?;
@@ -220,29 +220,34 @@ impl Plan {
 
     /// The nodes of an equality of two formulas.
     #[tactic(auto, using(crate::proofs::Plans::agreement_added, crate::proofs::Plans::stands_longer))]
-    pub fn agreement(&mut self, left: Sides, right: Sides) -> Result<Sides, AllocError>
+    pub fn agreement(&mut self, left: NodePair, right: NodePair) -> Result<NodePair, AllocError>
         requires plan { IsPlan self.old.nodes }
         requires left { AreOf self.old.nodes left }
         requires right { AreOf self.old.nodes right }
-        ensures { (f g : Formula) → Stands self.old.nodes left f → Stands self.old.nodes right g → IfOk result (λ s. IsPlanned self.old.nodes self.new.nodes s (agreement f g)) }
+        ensures { (f g : Formula) → HasBothTrees self.old.nodes left f → HasBothTrees self.old.nodes right g → IfOk result (λ s. IsPlanned self.old.nodes self.new.nodes s (agreement f g)) }
     {
         let holding = self.two_ways(left.holding, right.holding, left.failing, right.failing)?;
         let failing = self.two_ways(left.holding, right.failing, left.failing, right.holding)?;
-        Ok(Sides { holding, failing })
+        Ok(NodePair { holding, failing })
     }
 
     /// The nodes of the choice between two formulas by a third.
     #[tactic(auto, using(crate::proofs::Plans::choice_added, crate::proofs::Plans::stands_longer))]
-    pub fn choice(&mut self, test: Sides, first: Sides, second: Sides) -> Result<Sides, AllocError>
+    pub fn choice(
+        &mut self,
+        test: NodePair,
+        first: NodePair,
+        second: NodePair,
+    ) -> Result<NodePair, AllocError>
         requires plan { IsPlan self.old.nodes }
         requires test { AreOf self.old.nodes test }
         requires first { AreOf self.old.nodes first }
         requires second { AreOf self.old.nodes second }
-        ensures { (c f g : Formula) → Stands self.old.nodes test c → Stands self.old.nodes first f → Stands self.old.nodes second g → IfOk result (λ s. IsPlanned self.old.nodes self.new.nodes s (choice c f g)) }
+        ensures { (c f g : Formula) → HasBothTrees self.old.nodes test c → HasBothTrees self.old.nodes first f → HasBothTrees self.old.nodes second g → IfOk result (λ s. IsPlanned self.old.nodes self.new.nodes s (choice c f g)) }
     {
         let holding = self.two_ways(test.holding, first.holding, test.failing, second.holding)?;
         let failing = self.two_ways(test.holding, first.failing, test.failing, second.failing)?;
-        Ok(Sides { holding, failing })
+        Ok(NodePair { holding, failing })
     }
 }
 

@@ -1,16 +1,16 @@
 //! The nodes of terms.
-ghost use Rattle.std.specs.Prelude.{◌≡◌, ℕ, ◌<◌, IfOk, IsTrue, List, ◌+◌, ◌++◌, drop, false, length, slice_index_or};
+ghost use Rattle.std.specs.Prelude.{◌≡◌, ℕ, ◌<◌, IfOk, List, ◌+◌, ◌++◌, drop, false, length, slice_index_or};
 ghost use Rattle.sv_terms.specs.declared.op.Op.TheVariants as op;
 ghost use Rattle.sv_terms.specs.declared.sort.Sort.TheVariants as sort;
 ghost use Rattle.sv_terms.specs.declared.term.Term.{Term as AnyTerm};
 ghost use Rattle.bool_cubes.specs.Counting.{first_pairs, formulas_of, part_of, parts_of};
-ghost use Rattle.bool_cubes.specs.Nodes.{AreOf, IsLonger, IsPlan, IsPlanned, Stands};
+ghost use Rattle.bool_cubes.specs.Nodes.{AreOf, IsLonger, IsPlan, IsPlanned, HasBothTrees};
 ghost use Rattle.bool_cubes.specs.Planned.{AreBooleanSides, HasSide};
 ghost use Rattle.bool_cubes.specs.Shapes.{head_sort, seen};
 ghost use Rattle.bool_cubes.specs.Trees.{Formula, applied, chain, conjunction, disjunction, equal, exclusive, formula, implied, negated, neighbours, pairs};
 
 use crate::counts::head_sort;
-use crate::node::Sides;
+use crate::node::NodePair;
 use crate::plan::Plan;
 use std::alloc::{AllocError, Global};
 use sv_list::Items;
@@ -19,7 +19,7 @@ use sv_terms::{Op, Sort, Term};
 /// The nodes of a term and of its negation.
 #[cycle(planning)]
 #[tactic(auto, using(crate::proofs::Steps::formula_truth, crate::proofs::Steps::formula_apply, crate::proofs::Steps::formula_other, crate::proofs::Steps::planned_as))]
-pub fn term_sides(plan: &mut Plan, alloc: Global, term: &Term) -> Result<Sides, AllocError>
+pub fn term_sides(plan: &mut Plan, alloc: Global, term: &Term) -> Result<NodePair, AllocError>
     requires { IsPlan plan.old.nodes }
     ensures { IfOk result (λ s. IsPlanned plan.old.nodes plan.new.nodes s (formula (seen term.now))) }
 {
@@ -39,7 +39,7 @@ fn applied_sides(
     op: Op,
     terms: &[Term],
     term: &Term,
-) -> Result<Sides, AllocError>
+) -> Result<NodePair, AllocError>
     requires { IsPlan plan.old.nodes }
     ensures { IfOk result (λ s. IsPlanned plan.old.nodes plan.new.nodes s (applied op (parts_of terms.now) term.now)) }
 {
@@ -76,7 +76,7 @@ fn opposite_sides(
     alloc: Global,
     terms: &[Term],
     term: &Term,
-) -> Result<Sides, AllocError>
+) -> Result<NodePair, AllocError>
     requires { IsPlan plan.old.nodes }
     ensures { IfOk result (λ s. IsPlanned plan.old.nodes plan.new.nodes s (applied op.Not (parts_of terms.now) term.now)) }
 {
@@ -94,7 +94,7 @@ fn choice_sides(
     alloc: Global,
     terms: &[Term],
     term: &Term,
-) -> Result<Sides, AllocError>
+) -> Result<NodePair, AllocError>
     requires { IsPlan plan.old.nodes }
     ensures { IfOk result (λ s. IsPlanned plan.old.nodes plan.new.nodes s (applied op.IfThenElse (parts_of terms.now) term.now)) }
 {
@@ -111,7 +111,7 @@ fn choice_sides(
 /// The nodes of the and of terms.
 #[cycle(planning)]
 #[tactic(auto, using(crate::proofs::Steps::all_none, crate::proofs::Steps::all_step, crate::proofs::Plans::stands_of, crate::proofs::Plans::stands_longer, crate::proofs::Plans::plan_of))]
-pub fn all_sides(plan: &mut Plan, alloc: Global, terms: &[Term]) -> Result<Sides, AllocError>
+pub fn all_sides(plan: &mut Plan, alloc: Global, terms: &[Term]) -> Result<NodePair, AllocError>
     requires { IsPlan plan.old.nodes }
     ensures { IfOk result (λ s. IsPlanned plan.old.nodes plan.new.nodes s (conjunction (formulas_of terms.now))) }
 {
@@ -125,7 +125,7 @@ pub fn all_sides(plan: &mut Plan, alloc: Global, terms: &[Term]) -> Result<Sides
 
 #[cycle(planning)]
 #[tactic(auto, using(crate::proofs::Steps::any_none, crate::proofs::Steps::any_step, crate::proofs::Plans::stands_of, crate::proofs::Plans::stands_longer, crate::proofs::Plans::plan_of))]
-fn any_sides(plan: &mut Plan, alloc: Global, terms: &[Term]) -> Result<Sides, AllocError>
+fn any_sides(plan: &mut Plan, alloc: Global, terms: &[Term]) -> Result<NodePair, AllocError>
     requires { IsPlan plan.old.nodes }
     ensures { IfOk result (λ s. IsPlanned plan.old.nodes plan.new.nodes s (disjunction (formulas_of terms.now))) }
 {
@@ -140,7 +140,7 @@ fn any_sides(plan: &mut Plan, alloc: Global, terms: &[Term]) -> Result<Sides, Al
 // From the left: `xor` is the negation of an agreement.
 #[cycle(planning)]
 #[tactic(auto, using(crate::proofs::Steps::exclusive_none, crate::proofs::Steps::exclusive_first, crate::proofs::Steps::exclusive_step, crate::proofs::Steps::exclusive_all, crate::proofs::Plans::stands_of, crate::proofs::Plans::stands_longer, crate::proofs::Plans::plan_of))]
-fn exclusive_sides(plan: &mut Plan, alloc: Global, terms: &[Term]) -> Result<Sides, AllocError>
+fn exclusive_sides(plan: &mut Plan, alloc: Global, terms: &[Term]) -> Result<NodePair, AllocError>
     requires { IsPlan plan.old.nodes }
     ensures { IfOk result (λ s. IsPlanned plan.old.nodes plan.new.nodes s (exclusive (formulas_of terms.now))) }
 {
@@ -158,7 +158,7 @@ fn exclusive_sides(plan: &mut Plan, alloc: Global, terms: &[Term]) -> Result<Sid
 // From the right: the negation of one, or what the terms behind it give.
 #[cycle(planning)]
 #[tactic(auto, using(crate::proofs::Steps::implied_none, crate::proofs::Steps::implied_last_one, crate::proofs::Steps::implied_step, crate::proofs::Plans::stands_of, crate::proofs::Plans::stands_longer, crate::proofs::Plans::plan_of))]
-fn implied_sides(plan: &mut Plan, alloc: Global, terms: &[Term]) -> Result<Sides, AllocError>
+fn implied_sides(plan: &mut Plan, alloc: Global, terms: &[Term]) -> Result<NodePair, AllocError>
     requires { IsPlan plan.old.nodes }
     ensures { IfOk result (λ s. IsPlanned plan.old.nodes plan.new.nodes s (implied (formulas_of terms.now))) }
 {
@@ -189,7 +189,11 @@ fn have_boolean(terms: &[Term]) -> bool
 /// The nodes of all these terms where one has sort Bool, else none.
 #[cycle(planning)]
 #[tactic(auto, using(crate::proofs::Steps::sides_step, crate::proofs::Plans::longer_trans, crate::proofs::Plans::plan_of))]
-fn boolean_sides(plan: &mut Plan, alloc: Global, terms: &[Term]) -> Result<Items<Sides>, AllocError>
+fn boolean_sides(
+    plan: &mut Plan,
+    alloc: Global,
+    terms: &[Term],
+) -> Result<Items<NodePair>, AllocError>
     requires { IsPlan plan.old.nodes }
     ensures longer { IfOk result (λ all. IsLonger plan.old.nodes plan.new.nodes) }
     ensures sides { IfOk result (λ all. AreBooleanSides plan.new.nodes terms.now all) }
@@ -211,10 +215,10 @@ fn pair_sides(
     alloc: Global,
     left: &Term,
     right: &Term,
-    sides: &[Sides],
+    sides: &[NodePair],
     i: usize,
     j: usize,
-) -> Result<Sides, AllocError>
+) -> Result<NodePair, AllocError>
     requires plan { IsPlan plan.old.nodes }
     requires left { head_sort (seen left.now) ≡ sort.Bool → HasSide plan.old.nodes sides.now i left.now }
     requires right { head_sort (seen left.now) ≡ sort.Bool → HasSide plan.old.nodes sides.now j right.now }
@@ -229,7 +233,7 @@ fn pair_sides(
 
 #[cycle(planning)]
 #[tactic(auto, using(crate::proofs::Steps::equal_none, crate::proofs::Steps::equal_step, crate::proofs::Steps::boolean_longer, crate::proofs::Steps::side_left, crate::proofs::Steps::side_right, crate::proofs::Plans::stands_of, crate::proofs::Plans::stands_longer, crate::proofs::Plans::plan_of))]
-fn equal_sides(plan: &mut Plan, alloc: Global, terms: &[Term]) -> Result<Sides, AllocError>
+fn equal_sides(plan: &mut Plan, alloc: Global, terms: &[Term]) -> Result<NodePair, AllocError>
     requires { IsPlan plan.old.nodes }
     ensures { IfOk result (λ s. IsPlanned plan.old.nodes plan.new.nodes s (conjunction (neighbours equal (parts_of terms.now)))) }
 {
@@ -246,7 +250,7 @@ fn equal_sides(plan: &mut Plan, alloc: Global, terms: &[Term]) -> Result<Sides, 
 
 #[cycle(planning)]
 #[tactic(auto, using(crate::proofs::Steps::pairs_none, crate::proofs::Steps::pairs_step, crate::proofs::Steps::boolean_longer, crate::proofs::Plans::stands_of, crate::proofs::Plans::stands_longer, crate::proofs::Plans::plan_of))]
-fn distinct_sides(plan: &mut Plan, alloc: Global, terms: &[Term]) -> Result<Sides, AllocError>
+fn distinct_sides(plan: &mut Plan, alloc: Global, terms: &[Term]) -> Result<NodePair, AllocError>
     requires { IsPlan plan.old.nodes }
     ensures { IfOk result (λ s. IsPlanned plan.old.nodes plan.new.nodes s (conjunction (pairs (λ p q. negated (equal p q)) (parts_of terms.now)))) }
 {
@@ -265,16 +269,16 @@ fn first_sides(
     plan: &mut Plan,
     alloc: Global,
     terms: &[Term],
-    sides: &[Sides],
+    sides: &[NodePair],
     i: usize,
-    rest: Sides,
-) -> Result<Sides, AllocError>
+    rest: NodePair,
+) -> Result<NodePair, AllocError>
     requires plan { IsPlan plan.old.nodes }
     requires sides { AreBooleanSides plan.old.nodes terms.now sides.now }
     requires i { i < length terms.now }
     requires rest { AreOf plan.old.nodes rest }
     ensures longer { IfOk result (λ s. IsLonger plan.old.nodes plan.new.nodes) }
-    ensures formula { (t : AnyTerm) (fs : List Formula) → t ≡ slice_index_or terms.now i t → Stands plan.old.nodes rest (conjunction fs) → IfOk result (λ s. IsPlanned plan.old.nodes plan.new.nodes s (conjunction (first_pairs t (drop (i + 1) terms.now) ++ fs))) }
+    ensures formula { (t : AnyTerm) (fs : List Formula) → t ≡ slice_index_or terms.now i t → HasBothTrees plan.old.nodes rest (conjunction fs) → IfOk result (λ s. IsPlanned plan.old.nodes plan.new.nodes s (conjunction (first_pairs t (drop (i + 1) terms.now) ++ fs))) }
 {
     let first = &terms[i];
     let mut all = rest;
@@ -287,7 +291,12 @@ fn first_sides(
 
 /// The nodes of the comparisons of neighbouring terms.
 #[tactic(auto, using(crate::proofs::Steps::chain_none, crate::proofs::Steps::chain_step, crate::proofs::Plans::stands_of, crate::proofs::Plans::stands_longer, crate::proofs::Plans::plan_of))]
-fn chain_sides(plan: &mut Plan, alloc: Global, op: Op, terms: &[Term]) -> Result<Sides, AllocError>
+fn chain_sides(
+    plan: &mut Plan,
+    alloc: Global,
+    op: Op,
+    terms: &[Term],
+) -> Result<NodePair, AllocError>
     requires { IsPlan plan.old.nodes }
     ensures { IfOk result (λ s. IsPlanned plan.old.nodes plan.new.nodes s (chain op (parts_of terms.now))) }
 {

@@ -6,7 +6,7 @@ use sv_terms::Op;
 
 /// How two terms of sort Int are ordered.
 #[derive(Clone, Copy, Debug, PartialEq, Eq)]
-pub enum Order {
+pub enum IntOrder {
     AtMost,
     Below,
     AtLeast,
@@ -48,7 +48,7 @@ pub enum Role {
     Connective,
     Equality,
     Distinct,
-    Order(Order),
+    Order(IntOrder),
     Joined(Joint),
     Length,
     Built(Build),
@@ -63,10 +63,10 @@ pub fn role_of(op: Op) -> Role
         Op::Not | Op::And | Op::Or | Op::Xor | Op::Implies | Op::IfThenElse => Role::Connective,
         Op::Equal => Role::Equality,
         Op::Distinct => Role::Distinct,
-        Op::LessEqual => Role::Order(Order::AtMost),
-        Op::Less => Role::Order(Order::Below),
-        Op::GreaterEqual => Role::Order(Order::AtLeast),
-        Op::Greater => Role::Order(Order::Above),
+        Op::LessEqual => Role::Order(IntOrder::AtMost),
+        Op::Less => Role::Order(IntOrder::Below),
+        Op::GreaterEqual => Role::Order(IntOrder::AtLeast),
+        Op::Greater => Role::Order(IntOrder::Above),
         Op::Add => Role::Joined(Joint::Sum),
         Op::Subtract => Role::Joined(Joint::Difference),
         Op::Multiply => Role::Joined(Joint::Product),

@@ -1,7 +1,7 @@
 //! Linear forms of terms.
 ghost use Rattle.std.specs.Prelude.{◌≡◌, ◌&&◌, ℤ, List, ◌∷◌, [], ◌<◌, IfOk, length};
 ghost use Rattle.bool_cubes.specs.Linear.{Linear, Unknown, addition, added, less, less_steps, multiplied, of_number, of_unknown, product_steps, scaled, scaling};
-ghost use Rattle.bool_cubes.specs.Numbered.{AreNumbered, IsMadeBy, IsNumbered, fault_of, joint_of, joint_steps, place_in};
+ghost use Rattle.bool_cubes.specs.Numbered.{AreNumbered, IsFormOrPast, IsNumbered, fault_of, joint_of, joint_steps, place_in};
 
 use crate::fault::CubeFault;
 use crate::roles::Joint;
@@ -38,7 +38,7 @@ impl TermForm {
     }
 
     pub fn scale(&self, alloc: Global, by: i128) -> Result<TermForm, CubeFault>
-        ensures { (us : List (List ℤ)) (a : Linear) → AreNumbered us → IsNumbered us a self.now → IsMadeBy us (scaled a by) (scaling a by ∷ []) result }
+        ensures { (us : List (List ℤ)) (a : Linear) → AreNumbered us → IsNumbered us a self.now → IsFormOrPast us (scaled a by) (scaling a by ∷ []) result }
     {
         match self.form.scale(alloc, by) {
             Ok(form) => Ok(TermForm {
@@ -50,7 +50,7 @@ impl TermForm {
     }
 
     pub fn add(&self, alloc: Global, other: &TermForm) -> Result<TermForm, CubeFault>
-        ensures { (us : List (List ℤ)) (a b : Linear) → AreNumbered us → IsNumbered us a self.now → IsNumbered us b other.now → IsMadeBy us (added a b) (addition a b ∷ []) result }
+        ensures { (us : List (List ℤ)) (a b : Linear) → AreNumbered us → IsNumbered us a self.now → IsNumbered us b other.now → IsFormOrPast us (added a b) (addition a b ∷ []) result }
     {
         match self.form.add(alloc, &other.form) {
             Ok(form) => Ok(TermForm {
@@ -62,7 +62,7 @@ impl TermForm {
     }
 
     fn subtract(&self, alloc: Global, other: &TermForm) -> Result<TermForm, CubeFault>
-        ensures { (us : List (List ℤ)) (a b : Linear) → AreNumbered us → IsNumbered us a self.now → IsNumbered us b other.now → IsMadeBy us (less a b) (less_steps a b) result }
+        ensures { (us : List (List ℤ)) (a b : Linear) → AreNumbered us → IsNumbered us a self.now → IsNumbered us b other.now → IsFormOrPast us (less a b) (less_steps a b) result }
     {
         match other.scale(alloc, -1) {
             Ok(negative) => self.add(alloc, &negative),
@@ -71,7 +71,7 @@ impl TermForm {
     }
 
     fn multiply(&self, alloc: Global, other: &TermForm) -> Result<TermForm, CubeFault>
-        ensures { (us : List (List ℤ)) (a b : Linear) → AreNumbered us → IsNumbered us a self.now → IsNumbered us b other.now → IsMadeBy us (multiplied a b) (product_steps a b) result }
+        ensures { (us : List (List ℤ)) (a b : Linear) → AreNumbered us → IsNumbered us a self.now → IsNumbered us b other.now → IsFormOrPast us (multiplied a b) (product_steps a b) result }
     {
         if other.constant {
             self.scale(alloc, other.form.constant)
@@ -82,7 +82,7 @@ impl TermForm {
 
     /// The form joined of this one and another. Of a product one has no unknown.
     pub fn join(&self, alloc: Global, joint: Joint, other: &TermForm) -> Result<TermForm, CubeFault>
-        ensures { (us : List (List ℤ)) (a b : Linear) → AreNumbered us → IsNumbered us a self.now → IsNumbered us b other.now → IsMadeBy us (joint_of joint a b) (joint_steps joint a b) result }
+        ensures { (us : List (List ℤ)) (a b : Linear) → AreNumbered us → IsNumbered us a self.now → IsNumbered us b other.now → IsFormOrPast us (joint_of joint a b) (joint_steps joint a b) result }
     {
         match joint {
             Joint::Sum => self.add(alloc, other),

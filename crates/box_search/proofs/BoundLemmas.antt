@@ -8,7 +8,7 @@ use Rattle.sv_linear.specs.Integers.{mul_le, neg-mul}
 use Rattle.sv_linear.specs.Terms.{terms_value}
 use Rattle.sv_linear.specs.Rows.{terms_weight}
 use Rattle.box_search.specs.Regions.{IsWithin, greatest_amount, amounts}
-use Rattle.box_search.specs.Boxes.{IsSide, IsPoint, AreAt}
+use Rattle.box_search.specs.Boxes.{IsSide, HoldsOne, AreAt}
 
 -- the ends of a side are at most its greatest amount
 pub side-amounts : (s : ℤ × ℤ) → IsSide s → (unsigned_abs s.0 ≤ greatest_amount s) × (unsigned_abs s.1 ≤ greatest_amount s)
@@ -104,10 +104,10 @@ between-end terms i x least le = rw (drop-all terms i le) (omega (arith, ints))
     drop-all (x ∷ xs) zero h = absurd (omega arith)
     drop-all (x ∷ xs) (suc i) h = drop-all xs i (omega arith)
 
-pub point-at : (sides : List (ℤ × ℤ)) (u : ℕ) (s : ℤ × ℤ) → All IsPoint sides → slice_get sides u ≡ Some s → s.0 ≡ s.1
+pub point-at : (sides : List (ℤ × ℤ)) (u : ℕ) (s : ℤ × ℤ) → All HoldsOne sides → slice_get sides u ≡ Some s → s.0 ≡ s.1
 point-at [] u s h e = cc
-point-at (x ∷ ss) zero s h e = let same : x ≡ s = cc in subst IsPoint same (All-head IsPoint x ss h)
-point-at (x ∷ ss) (suc u) s h e = point-at ss u s (All-tail IsPoint x ss h) e
+point-at (x ∷ ss) zero s h e = let same : x ≡ s = cc in subst HoldsOne same (All-head HoldsOne x ss h)
+point-at (x ∷ ss) (suc u) s h e = point-at ss u s (All-tail HoldsOne x ss h) e
 
 pub point-step : (a b c d l g : ℤ) → a ≡ b → c ≡ d → l ≡ a +ℤ c → g ≡ b +ℤ d → l ≡ g
 point-step a b c d l g e f p q = p ∙ ap (λ x. x +ℤ c) e ∙ ap (λ x. b +ℤ x) f ∙ sym q

@@ -15,9 +15,9 @@ use Rattle.sv_linear.specs.declared.row.Row.{Row}
 use Rattle.box_search.specs.declared.layer.Layer.{Layer}
 use Rattle.box_search.specs.declared.region.Region.{Region}
 use Rattle.box_search.specs.Hits.{HaveRegisters, AreRunsOf, runs_total, characters}
-use Rattle.box_search.specs.Layers.{layer, uppers_of, IsGood, LayerStep, Turns}
+use Rattle.box_search.specs.Layers.{layer, uppers_of, AreGoodTotals, LayerStep, Turns}
 use Rattle.box_search.specs.LayerLaws.{layer-step_cost}
-use Rattle.box_search.specs.Cuts.{IsRunOfAll, IsCutInto, IsOpened, GoesOn, BeginsNext, CutsBy}
+use Rattle.box_search.specs.Cuts.{IsRunOfAll, IsCutInto, IsOpened, AddsStep, BeginsNext, CutsBy}
 
 -- the runs that have ended are those of the machines before the one at work, and the last one leads to its state
 pub record IsCutting (machines : List Graph) (registers : ℕ) (p : Layer) (place : ℕ) (runs : List (Run ℕ)) (current : Run ℕ) : Type 0 where
@@ -89,7 +89,7 @@ module _ (machines : List Graph) (uppers : List ℕ) (good : List ℕ → Type 0
     wide : length k ≡ registers
     wide = (layer-step_cost machines uppers good registers same p q c k step).entries
 
-    goes-on : (now : Run ℕ) → q.machine ≡ p.machine → StepsBy step.graph.edges p.state c k q.state → GoesOn q c k before now → IsCutting machines registers q (place + 1) runs now
+    goes-on : (now : Run ℕ) → q.machine ≡ p.machine → StepsBy step.graph.edges p.state c k q.state → AddsStep q c k before now → IsCutting machines registers q (place + 1) runs now
     goes-on now e s g = record {
       turn = e ∙ cut.turn;
       each = cut.each;
@@ -202,7 +202,7 @@ path-last steps s (v ∷ us) (x ∷ word) (y ∷ costs) t p h e = path-last step
 
 module _ (machines : List Graph) (rows : List Row) (region : Region) (same : HaveRegisters (length region.registers) machines) (run : Run Layer) (is : IsRunOfAll machines rows region run) where
   abbrev Steps : Layer → ℕ → List ℕ → Layer → Type 0
-  Steps = LayerStep machines (uppers_of region) (IsGood rows region)
+  Steps = LayerStep machines (uppers_of region) (AreGoodTotals rows region)
 
   abbrev first : Layer
   first = layer 0 0 (zeros (length region.registers))
@@ -221,7 +221,7 @@ module _ (machines : List Graph) (rows : List Row) (region : Region) (same : Hav
       let at' = subst (λ l. slice_get l 0 ≡ Some p) is.states at in
       let h : first ≡ p = cc in
       subst (λ q. IsCutting machines (length region.registers) q 0 runs current) h
-      (subst (λ l. IsCutting machines (length region.registers) first 0 l current) (sym e) (cut-start machines (uppers_of region) (IsGood rows region) (length region.registers) same current o))
+      (subst (λ l. IsCutting machines (length region.registers) first 0 l current) (sym e) (cut-start machines (uppers_of region) (AreGoodTotals rows region) (length region.registers) same current o))
 
   pub run-next : (place : ℕ) (p q r : Layer) (c : ℕ) (k : List ℕ) (runs more : List (Run ℕ)) (before now : Run ℕ) → slice_get run.states place ≡ Some p → slice_get run.states (place + 1) ≡ Some q
       → slice_get run.word place ≡ Some c → slice_get run.costs place ≡ Some k → IsCutting machines (length region.registers) p place runs before → CutsBy p q c k runs more before now
@@ -234,14 +234,14 @@ module _ (machines : List Graph) (rows : List Row) (region : Region) (same : Hav
       let h : q ≡ r = cc in
       let step = path-at Steps first is.after run.word run.costs is.stop place p q c k is.path a' b'' d e in
       subst (λ (x : Layer). IsCutting machines (length region.registers) x (place + 1) more now) h
-      (cut-next machines (uppers_of region) (IsGood rows region) (length region.registers) same p q c k place runs before step cut more now by)
+      (cut-next machines (uppers_of region) (AreGoodTotals rows region) (length region.registers) same p q c k place runs before step cut more now by)
 
   -- the layer behind the last machine
   pub stop-is : (p : Layer) → slice_get run.states (length run.word) ≡ Some p → is.stop ≡ p
   stop-is p at = path-last Steps first is.after run.word run.costs is.stop p is.path (subst (λ l. slice_get l (length run.word) ≡ Some p) is.states at)
 
-  pub stop-good : (p : Layer) → slice_get run.states (length run.word) ≡ Some p → IsGood rows region p.spent
-  stop-good p at = subst (λ (q : Layer). IsGood rows region q.spent) (stop-is p at) is.last.2
+  pub stop-good : (p : Layer) → slice_get run.states (length run.word) ≡ Some p → AreGoodTotals rows region p.spent
+  stop-good p at = subst (λ (q : Layer). AreGoodTotals rows region q.spent) (stop-is p at) is.last.2
 
   pub run-end : (place : ℕ) (runs : List (Run ℕ)) (current : Run ℕ) → place ≡ length run.word
       → ((p : Layer) → slice_get run.states place ≡ Some p → IsCutting machines (length region.registers) p place runs current) → IsCutInto machines (length region.registers) run runs
@@ -259,4 +259,4 @@ module _ (machines : List Graph) (rows : List Row) (region : Region) (same : Hav
           get-some (x ∷ xs) (suc n) h = get-some xs n (omega arith)
 
       done : AreRunsOf machines runs × (runs_total (length region.registers) runs ≡ is.stop.spent) × (characters runs + length machines ≡ place)
-      done = cut-end machines (uppers_of region) (IsGood rows region) (length region.registers) same is.stop place runs current is.last.1 (cut is.stop stop-at)
+      done = cut-end machines (uppers_of region) (AreGoodTotals rows region) (length region.registers) same is.stop place runs current is.last.1 (cut is.stop stop-at)

@@ -2,7 +2,7 @@
 use Rattle.std.proofs.Common.{◌≡◌, ℕ, zero, suc, ◌+◌, ◌*◌, ◌<◌, ◌≤◌, Bool, true, false, ◌||◌, eqb, List, [], ◌∷◌, length, refl, ap, ◌∙◌, arith}
 use Rattle.std.specs.List.{IsDistinct, AllByRecursion, list_any}
 use Rattle.std.proofs.lemmas.Map.Steps.{length-le_from_distinct_below}
-use Rattle.box_search.specs.Layers.{AreBelow}
+use Rattle.box_search.specs.Layers.{AreWithinGreatest}
 use Rattle.box_search.specs.Places.{number_of, numbers_below}
 use Rattle.std.proofs.Math.Nat.{mul-suc, mul-zero, mul-le-mul_left}
 
@@ -21,13 +21,13 @@ digit-same v w b (suc c) (suc d) lv lw e =
     let r = digit-same v w b c d lv lw (omega (arith, mul-suc b c, mul-suc b d)) in
     (r.0, ap suc r.1)
 
-pub number-below : (vs us : List ℕ) → AreBelow vs us → number_of vs us < numbers_below us
+pub number-below : (vs us : List ℕ) → AreWithinGreatest vs us → number_of vs us < numbers_below us
 number-below [] [] h = omega arith
 number-below [] (u ∷ us) h = absurd h
 number-below (v ∷ vs) [] h = absurd h
 number-below (v ∷ vs) (u ∷ us) h = let first = h.0 in digit-below v (u + 1) (number_of vs us) (numbers_below us) (omega arith) (number-below vs us h.1)
 
-pub number-same : (vs ws us : List ℕ) → AreBelow vs us → AreBelow ws us → number_of vs us ≡ number_of ws us → vs ≡ ws
+pub number-same : (vs ws us : List ℕ) → AreWithinGreatest vs us → AreWithinGreatest ws us → number_of vs us ≡ number_of ws us → vs ≡ ws
 number-same [] [] [] h g e = refl
 number-same [] [] (u ∷ us) h g e = absurd h
 number-same [] (w ∷ ws) [] h g e = absurd g

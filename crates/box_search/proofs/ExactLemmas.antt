@@ -11,17 +11,17 @@ use Rattle.machine_core.specs.EdgeLaws.{step_cost, end_cost}
 use Rattle.machine_core.specs.Lists.{Any-none, Any-here, Any-there, Any-cases, Any-contains, Any-append_left, Any-append_right, Any-append_cases}
 use Rattle.machine_core.specs.Moves.{Moves}
 use Rattle.box_search.specs.declared.layer.Layer.{Layer}
-use Rattle.box_search.specs.Layers.{layer, AreBelow, LayerStep, Turns}
+use Rattle.box_search.specs.Layers.{layer, AreWithinGreatest, LayerStep, Turns}
 use Rattle.box_search.specs.Moving.{is_below, step_move, end_move, step_moves, end_moves}
 use Rattle.box_search.proofs.MoveLemmas.{below-true}
 
-below-back : (vs us : List ℕ) → is_below vs us ≡ true → AreBelow vs us
+below-back : (vs us : List ℕ) → is_below vs us ≡ true → AreWithinGreatest vs us
 below-back [] [] h = tt
 below-back [] (u ∷ us) h = cc
 below-back (v ∷ vs) [] h = cc
 below-back (v ∷ vs) (u ∷ us) h = by_test (nat_lt u v) refl h (below-back vs us)
   where
-    by_test : (b : Bool) → nat_lt u v ≡ b → cond b false (is_below vs us) ≡ true → (is_below vs us ≡ true → AreBelow vs us) → (v ≤ u) × AreBelow vs us
+    by_test : (b : Bool) → nat_lt u v ≡ b → cond b false (is_below vs us) ≡ true → (is_below vs us ≡ true → AreWithinGreatest vs us) → (v ≤ u) × AreWithinGreatest vs us
     by_test true e r rest = cc
     by_test false e r rest = (grind (arith, nat_tests), rest r)
 
@@ -31,15 +31,15 @@ layer-same-parts a b n m v w e f g = ap (λ x. layer x n v) e ∙ ap (λ x. laye
 module _ (us : List ℕ) (at : Layer) (c : ℕ) (k : List ℕ) (q : Layer) where
   -- what all moves from the layer have in common
   abbrev Pays : Type 0
-  Pays = (q.spent ≡ add_costs at.spent k) × AreBelow q.spent us
+  Pays = (q.spent ≡ add_costs at.spent k) × AreWithinGreatest q.spent us
 
   pays : (cost : List ℕ) → cost ≡ k → add_costs at.spent cost ≡ q.spent → is_below (add_costs at.spent cost) us ≡ true → Pays
-  pays cost e f b = (sym f ∙ ap (add_costs at.spent) e, subst (λ l. AreBelow l us) f (below-back (add_costs at.spent cost) us b))
+  pays cost e f b = (sym f ∙ ap (add_costs at.spent) e, subst (λ l. AreWithinGreatest l us) f (below-back (add_costs at.spent cost) us b))
 
   paid : (cost : List ℕ) → cost ≡ k → Pays → (add_costs at.spent cost ≡ q.spent) × (is_below (add_costs at.spent cost) us ≡ true)
   paid cost e p =
       let f : add_costs at.spent cost ≡ q.spent = ap (add_costs at.spent) e ∙ sym p.0 in
-      (f, below-true (add_costs at.spent cost) us (subst (λ l. AreBelow l us) (sym f) p.1))
+      (f, below-true (add_costs at.spent cost) us (subst (λ l. AreWithinGreatest l us) (sym f) p.1))
 
   steps-from : (ms : List (Move ℕ)) → Any (Moves c k q) (step_moves us at ms) → Any (Moves c k q.state) ms × (q.machine ≡ at.machine) × Pays
   steps-from [] a = absurd (Any-none (Moves c k q) a)

@@ -6,7 +6,7 @@ use Rattle.std.proofs.lemmas.List.Elements.{All-head, All-tail, All-weaker, All-
 use Rattle.sv_linear.specs.Rows.{terms_weight}
 use Rattle.sv_linear.specs.declared.row.Row.{Row}
 use Rattle.box_search.specs.Regions.{IsWithin, AreWithin, greatest_amount, amounts}
-use Rattle.box_search.specs.Boxes.{IsSide, HaveSides, FitsSides, IsBox, IsFound}
+use Rattle.box_search.specs.Boxes.{IsSide, HaveSides, FitsSides, IsBox, IsPointFound}
 use Rattle.box_search.proofs.FindLemmas.{widths}
 
 -- a narrower side keeps what lies within
@@ -111,15 +111,15 @@ module _ (rows : List Row) (sides : List (ℤ × ℤ)) (box : IsBox rows sides) 
     pub above-widths : widths (slice_set sides i (half +ℤ pos 1, high)) < widths sides
     above-widths = widths-set sides i (low, high) (half +ℤ pos 1, high) at (omega (arith, ints))
 
-    pub below-found : (point : List ℤ) → IsFound rows (slice_set sides i (low, half)) (Some point) → IsFound rows sides (Some point)
+    pub below-found : (point : List ℤ) → IsPointFound rows (slice_set sides i (low, half)) (Some point) → IsPointFound rows sides (Some point)
     below-found point h = (within-wider sides i (low, high) (low, half) point at (λ v w. let a = w.0 in let b = w.1 in (a, omega (arith, ints))) h.0, h.1)
 
-    pub above-found : (point : List ℤ) → IsFound rows (slice_set sides i (half +ℤ pos 1, high)) (Some point) → IsFound rows sides (Some point)
+    pub above-found : (point : List ℤ) → IsPointFound rows (slice_set sides i (half +ℤ pos 1, high)) (Some point) → IsPointFound rows sides (Some point)
     above-found point h = (within-wider sides i (low, high) (half +ℤ pos 1, high) point at (λ v w. let a = w.0 in let b = w.1 in (omega (arith, ints), b)) h.0, h.1)
 
     split : (v : ℤ) → IsWithin (low, high) v → IsWithin (low, half) v ⊎ IsWithin (half +ℤ pos 1, high) v
     split v w = let a = w.0 in let b = w.1 in
         by_lt_z half v (λ lt. let c : (half +ℤ pos 1) ≤ℤ v = omega (arith, ints) in inr (c, b)) (λ le. inl (a, le))
 
-    pub none-found : IsFound rows (slice_set sides i (low, half)) None → IsFound rows (slice_set sides i (half +ℤ pos 1, high)) None → IsFound rows sides None
+    pub none-found : IsPointFound rows (slice_set sides i (low, half)) None → IsPointFound rows (slice_set sides i (half +ℤ pos 1, high)) None → IsPointFound rows sides None
     none-found f g = λ point w m. elim (within-half sides i (low, high) (low, half) (half +ℤ pos 1, high) point at split w) [ inl a ↦ f point a m | inr b ↦ g point b m ]

@@ -13,7 +13,7 @@ use Rattle.machine_core.specs.RunLaws.{run_accepted}
 use Rattle.box_search.specs.declared.layer.Layer.{Layer}
 use Rattle.box_search.specs.Hits.{HaveRegisters, AreRunsOf, runs_total, characters}
 use Rattle.box_search.specs.Layers as Layers
-use Rattle.box_search.specs.Layers.{layer, AreBelow}
+use Rattle.box_search.specs.Layers.{layer, AreWithinGreatest}
 use Rattle.box_search.proofs.ShortLemmas.{below-parts}
 
 module _ (machines : List Graph) (uppers : List ℕ) (good : List ℕ → Type 0) where
@@ -29,7 +29,7 @@ module _ (machines : List Graph) (uppers : List ℕ) (good : List ℕ → Type 0
 
   -- a run of the machine at work, and what is read from the start of the next one
   layer-path : (w : List ℕ) (m : Graph) (i s : ℕ) (v k : List ℕ) (more : ℕ) → slice_get machines i ≡ Some m → s < m.states → length v ≡ m.registers → RunsFrom (EndsAt m.ends) (StepsBy m.edges) s w k
-      → AreBelow (add_costs v k) uppers → HasWord (layer (suc i) 0 (add_costs v k)) more → HasWord (layer i s v) (length w + 1 + more)
+      → AreWithinGreatest (add_costs v k) uppers → HasWord (layer (suc i) 0 (add_costs v k)) more → HasWord (layer i s v) (length w + 1 + more)
   layer-path [] m i s v k more at inside wide r low rest =
       let n = rest.3 in
       (0 ∷ rest.0, add_costs k rest.1, (k, layer (suc i) 0 (add_costs v k), rest.1, record { graph = m; at_work = at; paid = refl; below = low; turn = inr (refl, refl, refl, r) }, rest.2, refl), omega arith)
@@ -38,7 +38,7 @@ module _ (machines : List Graph) (uppers : List ℕ) (good : List ℕ → Type 0
       let own = (step_cost m.states m.registers m.edges m.ends m.formed s r.1 c r.0 r.3).entries in
       let same : add_costs v k ≡ add_costs (add_costs v r.0) r.2 = ap (add_costs v) r.5 ∙ sym (add_costs-assoc v r.0 r.2) in
       let wide' = add_costs-length v r.0 m.registers wide own in
-      let low' = subst (λ l. AreBelow l uppers) same low in
+      let low' = subst (λ l. AreWithinGreatest l uppers) same low in
       let parts = below-parts (add_costs v r.0) r.2 uppers (wide' ∙ sym (run_width m.states m.registers m.edges m.ends m.formed w r.1 r.2 r.4)) low' in
       let found = layer-path w m i r.1 (add_costs v r.0) r.2 more at next wide' r.4 low' (subst (λ l. HasWord (layer (suc i) 0 l) more) same rest) in
       let n = found.3 in
@@ -53,7 +53,7 @@ module _ (machines : List Graph) (uppers : List ℕ) (good : List ℕ → Type 0
 
   -- runs of the machines from the one at work on are a word that is read from its start
   layer-word : (registers : ℕ) (ms : List Graph) (rs : List (Run ℕ)) (i : ℕ) (v : List ℕ) → HaveRegisters registers ms → drop i machines ≡ ms → i + length ms ≡ length machines → AreRunsOf ms rs
-      → length v ≡ registers → AreBelow (add_costs v (runs_total registers rs)) uppers → good (add_costs v (runs_total registers rs))
+      → length v ≡ registers → AreWithinGreatest (add_costs v (runs_total registers rs)) uppers → good (add_costs v (runs_total registers rs))
       → HasWord (layer i 0 v) (characters rs + length ms)
   layer-word registers [] [] i v same e n zips wide low ok =
       let z : i ≡ length machines = omega arith in
@@ -68,7 +68,7 @@ module _ (machines : List Graph) (uppers : List ℕ) (good : List ℕ → Type 0
       let own = run_width m.states m.registers m.edges m.ends m.formed p.word 0 (run_total p) read ∙ reg in
       let wide' = add_costs-length v (run_total p) registers wide own in
       let join = sym (add_costs-assoc v (run_total p) (runs_total registers ps)) in
-      let low' = subst (λ l. AreBelow l uppers) join low in
+      let low' = subst (λ l. AreWithinGreatest l uppers) join low in
       let others = runs-width registers ms ps rest zips.1 in
       let here = below-parts (add_costs v (run_total p)) (runs_total registers ps) uppers (wide' ∙ sym others) low' in
       let later = layer-word registers ms ps (suc i) (add_costs v (run_total p)) rest at.1 (omega arith) zips.1 wide' low' (subst good join ok) in
@@ -87,12 +87,12 @@ module _ (machines : List Graph) (uppers : List ℕ) (good : List ℕ → Type 0
 
   -- runs of all machines are a word from the first layer
   pub runs-word : (registers : ℕ) (rs : List (Run ℕ)) → HaveRegisters registers machines → AreRunsOf machines rs
-      → AreBelow (runs_total registers rs) uppers → length (runs_total registers rs) ≡ registers → good (runs_total registers rs)
+      → AreWithinGreatest (runs_total registers rs) uppers → length (runs_total registers rs) ≡ registers → good (runs_total registers rs)
       → HasWord (layer 0 0 (zeros registers)) (characters rs + length machines)
   runs-word registers rs same runs low wide ok =
       let e = sym (zeros-add_costs (runs_total registers rs) registers wide) in
       layer-word registers machines rs 0 (zeros registers) same (drop-none machines) (omega arith) runs (zeros-length registers)
-      (subst (λ l. AreBelow l uppers) e low) (subst good e ok)
+      (subst (λ l. AreWithinGreatest l uppers) e low) (subst good e ok)
     where
       drop-none : (ms : List Graph) → drop 0 ms ≡ ms
       drop-none [] = refl

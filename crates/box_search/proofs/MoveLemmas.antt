@@ -4,10 +4,10 @@ use Rattle.std.proofs.lemmas.Bool.Decides.{nat_tests}
 use Rattle.machine_core.specs.Costs.{add_costs}
 use Rattle.machine_core.specs.declared.machine.Move.{Move}
 use Rattle.box_search.specs.declared.layer.Layer.{Layer}
-use Rattle.box_search.specs.Layers.{layer, AreBelow}
+use Rattle.box_search.specs.Layers.{layer, AreWithinGreatest}
 use Rattle.box_search.specs.Moving.{is_below, step_move, end_move, step_moves, end_moves}
 
-pub below-true : (vs us : List ℕ) → AreBelow vs us → is_below vs us ≡ true
+pub below-true : (vs us : List ℕ) → AreWithinGreatest vs us → is_below vs us ≡ true
 below-true [] [] h = refl
 below-true [] (u ∷ us) h = absurd h
 below-true (v ∷ vs) [] h = absurd h
@@ -17,13 +17,13 @@ below-true (v ∷ vs) (u ∷ us) h = by_test (nat_lt u v) refl (below-true vs us
     by_test true e r = absurd (let le = h.0 in grind (arith, nat_tests))
     by_test false e r = r
 
-pub below-false : (vs us : List ℕ) → (AreBelow vs us → ⊥) → is_below vs us ≡ false
+pub below-false : (vs us : List ℕ) → (AreWithinGreatest vs us → ⊥) → is_below vs us ≡ false
 below-false [] [] h = absurd (h tt)
 below-false [] (u ∷ us) h = refl
 below-false (v ∷ vs) [] h = refl
 below-false (v ∷ vs) (u ∷ us) h = by_test (nat_lt u v) refl (below-false vs us)
   where
-    by_test : (b : Bool) → nat_lt u v ≡ b → ((AreBelow vs us → ⊥) → is_below vs us ≡ false) → cond b false (is_below vs us) ≡ false
+    by_test : (b : Bool) → nat_lt u v ≡ b → ((AreWithinGreatest vs us → ⊥) → is_below vs us ≡ false) → cond b false (is_below vs us) ≡ false
     by_test true e r = refl
     by_test false e r = r (λ low. h (grind (arith, nat_tests), low))
 
@@ -37,34 +37,34 @@ take-more {X = X} xs i d lt = ap (λ n. take n xs) (let e : i + 1 ≡ suc i = om
 
 -- one move more
 module _ (us : List ℕ) (at : Layer) where
-  pub one-step-paid : (m : Move ℕ) → AreBelow (add_costs at.spent m.cost) us → step_moves us at (m ∷ []) ≡ step_move at m ∷ []
+  pub one-step-paid : (m : Move ℕ) → AreWithinGreatest (add_costs at.spent m.cost) us → step_moves us at (m ∷ []) ≡ step_move at m ∷ []
   one-step-paid m h = rw (below-true (add_costs at.spent m.cost) us h) refl
 
-  pub one-step-unpaid : (m : Move ℕ) → (AreBelow (add_costs at.spent m.cost) us → ⊥) → step_moves us at (m ∷ []) ≡ []
+  pub one-step-unpaid : (m : Move ℕ) → (AreWithinGreatest (add_costs at.spent m.cost) us → ⊥) → step_moves us at (m ∷ []) ≡ []
   one-step-unpaid m h = rw (below-false (add_costs at.spent m.cost) us h) refl
 
-  pub one-end-paid : (single : List (ℕ × ℕ)) (k : List ℕ) → AreBelow (add_costs at.spent k) us → end_moves us single at (k ∷ []) ≡ end_move single at k ∷ []
+  pub one-end-paid : (single : List (ℕ × ℕ)) (k : List ℕ) → AreWithinGreatest (add_costs at.spent k) us → end_moves us single at (k ∷ []) ≡ end_move single at k ∷ []
   one-end-paid single k h = rw (below-true (add_costs at.spent k) us h) refl
 
-  pub one-end-unpaid : (single : List (ℕ × ℕ)) (k : List ℕ) → (AreBelow (add_costs at.spent k) us → ⊥) → end_moves us single at (k ∷ []) ≡ []
+  pub one-end-unpaid : (single : List (ℕ × ℕ)) (k : List ℕ) → (AreWithinGreatest (add_costs at.spent k) us → ⊥) → end_moves us single at (k ∷ []) ≡ []
   one-end-unpaid single k h = rw (below-false (add_costs at.spent k) us h) refl
 
-  pub step-pushed : (m : Move ℕ) (old new : List (Move Layer)) (on : List (ℕ × ℕ)) (cost spent : List ℕ) → (spent ≡ add_costs at.spent m.cost) × AreBelow spent us → on ≡ m.on → cost ≡ m.cost
+  pub step-pushed : (m : Move ℕ) (old new : List (Move Layer)) (on : List (ℕ × ℕ)) (cost spent : List ℕ) → (spent ≡ add_costs at.spent m.cost) × AreWithinGreatest spent us → on ≡ m.on → cost ≡ m.cost
       → new ≡ old ++ record { on = on; cost = cost; to = layer at.machine m.to spent } ∷ [] → new ≡ old ++ step_moves us at (m ∷ [])
   step-pushed m old new on cost spent paid a b e =
       e ∙ ap (λ (l : List (ℕ × ℕ)). old ++ record { on = l; cost = cost; to = layer at.machine m.to spent } ∷ []) a
       ∙ ap (λ (l : List ℕ). old ++ record { on = m.on; cost = l; to = layer at.machine m.to spent } ∷ []) b
       ∙ ap (λ (l : List ℕ). old ++ record { on = m.on; cost = m.cost; to = layer at.machine m.to l } ∷ []) paid.0
-      ∙ ap (λ l. old ++ l) (sym (one-step-paid m (subst (λ l. AreBelow l us) paid.0 paid.1)))
+      ∙ ap (λ l. old ++ l) (sym (one-step-paid m (subst (λ l. AreWithinGreatest l us) paid.0 paid.1)))
 
-  pub end-pushed : (single : List (ℕ × ℕ)) (k : List ℕ) (old new : List (Move Layer)) (on : List (ℕ × ℕ)) (cost spent : List ℕ) (next : ℕ) → (spent ≡ add_costs at.spent k) × AreBelow spent us → on ≡ single → cost ≡ k → next ≡ suc at.machine
+  pub end-pushed : (single : List (ℕ × ℕ)) (k : List ℕ) (old new : List (Move Layer)) (on : List (ℕ × ℕ)) (cost spent : List ℕ) (next : ℕ) → (spent ≡ add_costs at.spent k) × AreWithinGreatest spent us → on ≡ single → cost ≡ k → next ≡ suc at.machine
       → new ≡ old ++ record { on = on; cost = cost; to = layer next 0 spent } ∷ [] → new ≡ old ++ end_moves us single at (k ∷ [])
   end-pushed single k old new on cost spent next paid a b n e =
       e ∙ ap (λ (l : List (ℕ × ℕ)). old ++ record { on = l; cost = cost; to = layer next 0 spent } ∷ []) a
       ∙ ap (λ (l : List ℕ). old ++ record { on = single; cost = l; to = layer next 0 spent } ∷ []) b
       ∙ ap (λ (l : List ℕ). old ++ record { on = single; cost = k; to = layer next 0 l } ∷ []) paid.0
       ∙ ap (λ (l : ℕ). old ++ record { on = single; cost = k; to = layer l 0 (add_costs at.spent k) } ∷ []) n
-      ∙ ap (λ l. old ++ l) (sym (one-end-paid single k (subst (λ l. AreBelow l us) paid.0 paid.1)))
+      ∙ ap (λ l. old ++ l) (sym (one-end-paid single k (subst (λ l. AreWithinGreatest l us) paid.0 paid.1)))
 
   pub nothing-pushed : (old moves : List (Move Layer)) → moves ≡ [] → old ≡ old ++ moves
   nothing-pushed old moves e = rw e (sym (append-nil old))
@@ -103,11 +103,11 @@ module _ (us : List ℕ) (at : Layer) where
 
 -- what is paid up to a register
 pub pay-step : (vs ks : List ℕ) (ss : List (ℕ × ℕ)) (i : ℕ) (d e : ℕ) (f : ℕ × ℕ) (sum new : List ℕ) (n : ℕ) → length ks ≡ length vs → length ss ≡ length vs → i < length vs
-    → sum ≡ add_costs (take i vs) (take i ks) → AreBelow sum (map (λ (s : ℕ × ℕ). s.1) (take i ss)) → (n ≡ get_or vs i d + get_or ks i e) × (n ≤ (get_or ss i f).1) → new ≡ sum ++ n ∷ []
-    → (new ≡ add_costs (take (i + 1) vs) (take (i + 1) ks)) × AreBelow new (map (λ (s : ℕ × ℕ). s.1) (take (i + 1) ss))
+    → sum ≡ add_costs (take i vs) (take i ks) → AreWithinGreatest sum (map (λ (s : ℕ × ℕ). s.1) (take i ss)) → (n ≡ get_or vs i d + get_or ks i e) × (n ≤ (get_or ss i f).1) → new ≡ sum ++ n ∷ []
+    → (new ≡ add_costs (take (i + 1) vs) (take (i + 1) ks)) × AreWithinGreatest new (map (λ (s : ℕ × ℕ). s.1) (take (i + 1) ss))
 pay-step vs ks ss i d e f sum new n p q lt is low (a, b) push = (
   push ∙ ap (λ l. l ++ n ∷ []) is ∙ ap (λ m. add_costs (take i vs) (take i ks) ++ m ∷ []) a ∙ sym (sums vs ks i (omega arith) lt (omega arith)) ∙ ap (λ m. add_costs (take m vs) (take m ks)) (let z : suc i ≡ i + 1 = omega arith in z),
-  rw push (subst (λ m. AreBelow (sum ++ n ∷ []) (map (λ (s : ℕ × ℕ). s.1) (take m ss))) (let z : suc i ≡ i + 1 = omega arith in z) (lows ss i sum (omega arith) b low)),
+  rw push (subst (λ m. AreWithinGreatest (sum ++ n ∷ []) (map (λ (s : ℕ × ℕ). s.1) (take m ss))) (let z : suc i ≡ i + 1 = omega arith in z) (lows ss i sum (omega arith) b low)),
 )
   where
     sums : (vs ks : List ℕ) (i : ℕ) → length ks ≡ length vs → i < length vs → i < length ks → add_costs (take (suc i) vs) (take (suc i) ks) ≡ add_costs (take i vs) (take i ks) ++ (get_or vs i d + get_or ks i e) ∷ []
@@ -116,7 +116,7 @@ pay-step vs ks ss i d e f sum new n p q lt is low (a, b) push = (
     sums (v ∷ vs) (k ∷ ks) zero p l m = refl
     sums (v ∷ vs) (k ∷ ks) (suc i) p l m = ap (λ t. (v + k) ∷ t) (sums vs ks i (omega arith) (omega arith) (omega arith))
 
-    lows : (ss : List (ℕ × ℕ)) (i : ℕ) (sum : List ℕ) → i < length ss → n ≤ (get_or ss i f).1 → AreBelow sum (map (λ (s : ℕ × ℕ). s.1) (take i ss)) → AreBelow (sum ++ n ∷ []) (map (λ (s : ℕ × ℕ). s.1) (take (suc i) ss))
+    lows : (ss : List (ℕ × ℕ)) (i : ℕ) (sum : List ℕ) → i < length ss → n ≤ (get_or ss i f).1 → AreWithinGreatest sum (map (λ (s : ℕ × ℕ). s.1) (take i ss)) → AreWithinGreatest (sum ++ n ∷ []) (map (λ (s : ℕ × ℕ). s.1) (take (suc i) ss))
     lows [] i sum l b h = absurd (omega arith)
     lows (s ∷ ss) zero [] l b h = (b, tt)
     lows (s ∷ ss) zero (x ∷ sum) l b h = absurd h
@@ -125,7 +125,7 @@ pay-step vs ks ss i d e f sum new n p q lt is low (a, b) push = (
 
 -- a register that can't be paid
 pub pay-above : (vs ks : List ℕ) (ss : List (ℕ × ℕ)) (i : ℕ) (d e : ℕ) (f : ℕ × ℕ) → i < length vs → (get_or vs i d + get_or ks i e ≤ (get_or ss i f).1 → ⊥)
-    → length ks ≡ length vs → length ss ≡ length vs → AreBelow (add_costs vs ks) (map (λ (s : ℕ × ℕ). s.1) ss) → ⊥
+    → length ks ≡ length vs → length ss ≡ length vs → AreWithinGreatest (add_costs vs ks) (map (λ (s : ℕ × ℕ). s.1) ss) → ⊥
 pay-above [] ks ss i d e f lt never p q h = absurd (omega arith)
 pay-above (v ∷ vs) [] ss i d e f lt never p q h = absurd (omega arith)
 pay-above (v ∷ vs) (k ∷ ks) [] i d e f lt never p q h = absurd (omega arith)
@@ -139,8 +139,8 @@ take-full (x ∷ xs) zero h = absurd (omega arith)
 take-full (x ∷ xs) (suc i) h = ap (λ l. x ∷ l) (take-full xs i (omega arith))
 
 pub pay-end : (vs ks : List ℕ) (ss : List (ℕ × ℕ)) (i : ℕ) (sum : List ℕ) → length ks ≡ length vs → length ss ≡ length vs → length vs ≤ i
-    → sum ≡ add_costs (take i vs) (take i ks) → AreBelow sum (map (λ (s : ℕ × ℕ). s.1) (take i ss)) → (sum ≡ add_costs vs ks) × AreBelow sum (map (λ (s : ℕ × ℕ). s.1) ss)
+    → sum ≡ add_costs (take i vs) (take i ks) → AreWithinGreatest sum (map (λ (s : ℕ × ℕ). s.1) (take i ss)) → (sum ≡ add_costs vs ks) × AreWithinGreatest sum (map (λ (s : ℕ × ℕ). s.1) ss)
 pay-end vs ks ss i sum p q le is low = (
   is ∙ ap (λ l. add_costs l (take i ks)) (take-full vs i le) ∙ ap (add_costs vs) (take-full ks i (omega arith)),
-  subst (λ l. AreBelow sum (map (λ (s : ℕ × ℕ). s.1) l)) (take-full ss i (omega arith)) low,
+  subst (λ l. AreWithinGreatest sum (map (λ (s : ℕ × ℕ). s.1) l)) (take-full ss i (omega arith)) low,
 )

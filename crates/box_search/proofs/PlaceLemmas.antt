@@ -3,7 +3,7 @@ use Rattle.std.proofs.Common.{◌≡◌, ℕ, zero, suc, ◌+◌, ◌-◌, ◌*�
 use Rattle.std.proofs.lemmas.Option.{slice_get-get_or}
 use Rattle.std.proofs.lemmas.Nat.{mul-le}
 use Rattle.box_search.specs.declared.layer.Layer.{Layer}
-use Rattle.box_search.specs.Layers.{AreBelow}
+use Rattle.box_search.specs.Layers.{AreWithinGreatest}
 use Rattle.box_search.specs.Places.{number_of, numbers_below, HasPlace, place_of}
 use Rattle.box_search.proofs.DigitLemmas.{digit-below, digit-same, number-below, number-same}
 
@@ -18,7 +18,7 @@ numbers-drop [] (suc i) = omega arith
 numbers-drop (u ∷ us) zero = omega arith
 numbers-drop (u ∷ us) (suc i) = let m = mul-le 1 (numbers_below (drop i us)) (u + 1) (numbers_below us) (omega arith) (numbers-drop us i) in omega arith
 
-pub below-length : (vs us : List ℕ) → AreBelow vs us → length vs ≡ length us
+pub below-length : (vs us : List ℕ) → AreWithinGreatest vs us → length vs ≡ length us
 below-length [] [] h = refl
 below-length [] (u ∷ us) h = absurd h
 below-length (v ∷ vs) [] h = absurd h
@@ -31,20 +31,20 @@ numbers-step (y ∷ us) zero u f = let same : y ≡ u = cc in rw same refl
 numbers-step (y ∷ us) (suc i) u f = numbers-step us i u f
 
 -- digits from the end on
-pub digits-none : (vs us : List ℕ) → length vs ≡ length us → AreBelow (drop (length vs) vs) (drop (length vs) us) × (0 ≡ number_of (drop (length vs) vs) (drop (length vs) us))
+pub digits-none : (vs us : List ℕ) → length vs ≡ length us → AreWithinGreatest (drop (length vs) vs) (drop (length vs) us) × (0 ≡ number_of (drop (length vs) vs) (drop (length vs) us))
 digits-none [] [] e = (tt, refl)
 digits-none [] (u ∷ us) e = absurd (omega arith)
 digits-none (v ∷ vs) [] e = absurd (omega arith)
 digits-none (v ∷ vs) (u ∷ us) e = digits-none vs us (omega arith)
 
 module _ (v u : ℕ) where
-  pub digit-at : (vs us : List ℕ) (i : ℕ) → slice_get vs i ≡ Some v → slice_get us i ≡ Some u → AreBelow vs us → v ≤ u
+  pub digit-at : (vs us : List ℕ) (i : ℕ) → slice_get vs i ≡ Some v → slice_get us i ≡ Some u → AreWithinGreatest vs us → v ≤ u
   digit-at [] us i e f h = cc
   digit-at (x ∷ vs) [] i e f h = cc
   digit-at (x ∷ vs) (y ∷ us) zero e f h = let a : x ≡ v = cc in let b : y ≡ u = cc in let le = h.0 in omega arith
   digit-at (x ∷ vs) (y ∷ us) (suc i) e f h = digit-at vs us i e f h.1
 
-  pub digits-below : (vs us : List ℕ) (i : ℕ) → slice_get vs i ≡ Some v → slice_get us i ≡ Some u → v ≤ u → AreBelow (drop (suc i) vs) (drop (suc i) us) → AreBelow (drop i vs) (drop i us)
+  pub digits-below : (vs us : List ℕ) (i : ℕ) → slice_get vs i ≡ Some v → slice_get us i ≡ Some u → v ≤ u → AreWithinGreatest (drop (suc i) vs) (drop (suc i) us) → AreWithinGreatest (drop i vs) (drop i us)
   digits-below [] us i e f le h = cc
   digits-below (x ∷ vs) [] i e f le h = cc
   digits-below (x ∷ vs) (y ∷ us) zero e f le h = let a : x ≡ v = cc in let b : y ≡ u = cc in (omega arith, h)
@@ -57,7 +57,7 @@ module _ (v u : ℕ) where
   digits-number (x ∷ vs) (y ∷ us) (suc i) e f = digits-number vs us i e f
 
   -- no number so far is too great
-  pub digits-few : (vs us : List ℕ) (i most : ℕ) → slice_get us i ≡ Some u → v ≤ u → AreBelow (drop (suc i) vs) (drop (suc i) us) → numbers_below us < most
+  pub digits-few : (vs us : List ℕ) (i most : ℕ) → slice_get us i ≡ Some u → v ≤ u → AreWithinGreatest (drop (suc i) vs) (drop (suc i) us) → numbers_below us < most
       → (u + 1 < most) × (v + (u + 1) * number_of (drop (suc i) vs) (drop (suc i) us) < most)
   digits-few vs us i most f le h few =
       let rest = number-below (drop (suc i) vs) (drop (suc i) us) h in
@@ -81,7 +81,7 @@ module _ (us : List ℕ) (at : ℕ) (some : 0 < at) where
       subst (λ n. (greatest + 1) * numbers_below (drop n us) ≡ numbers_below (drop (at - 1) us)) one-more
       (numbers-step us (at - 1) greatest (slice_get-get_or us (at - 1) 0 (omega arith)))
 
-  module _ (vs : List ℕ) (same : length vs ≡ length us) (within : at ≤ length vs) (le : slice_index_or vs (at - 1) 0 ≤ greatest) (below : AreBelow (drop at vs) (drop at us)) where
+  module _ (vs : List ℕ) (same : length vs ≡ length us) (within : at ≤ length vs) (le : slice_index_or vs (at - 1) 0 ≤ greatest) (below : AreWithinGreatest (drop at vs) (drop at us)) where
     abbrev digit : ℕ
     digit = slice_index_or vs (at - 1) 0
 
@@ -91,15 +91,15 @@ module _ (us : List ℕ) (at : ℕ) (some : 0 < at) where
     has-greatest : slice_get us (at - 1) ≡ Some greatest
     has-greatest = slice_get-get_or us (at - 1) 0 (omega arith)
 
-    behind : AreBelow (drop (suc (at - 1)) vs) (drop (suc (at - 1)) us)
-    behind = subst (λ n. AreBelow (drop n vs) (drop n us)) (sym one-more) below
+    behind : AreWithinGreatest (drop (suc (at - 1)) vs) (drop (suc (at - 1)) us)
+    behind = subst (λ n. AreWithinGreatest (drop n vs) (drop n us)) (sym one-more) below
 
     pub few-before : (most : ℕ) → numbers_below us < most → (greatest + 1 < most) × (digit + (greatest + 1) * number_of (drop at vs) (drop at us) < most)
     few-before most few =
         subst (λ n. (greatest + 1 < most) × (digit + (greatest + 1) * number_of (drop n vs) (drop n us) < most)) one-more
         (digits-few digit greatest vs us (at - 1) most has-greatest le behind few)
 
-    pub below-before : AreBelow (drop (at - 1) vs) (drop (at - 1) us)
+    pub below-before : AreWithinGreatest (drop (at - 1) vs) (drop (at - 1) us)
     below-before = digits-below digit greatest vs us (at - 1) has-digit has-greatest le behind
 
     pub number-before : digit + (greatest + 1) * number_of (drop at vs) (drop at us) ≡ number_of (drop (at - 1) vs) (drop (at - 1) us)

@@ -14,7 +14,7 @@ use Rattle.box_search.specs.declared.layer.Layer.{Layer}
 use Rattle.box_search.specs.declared.region.Region.{Region}
 use Rattle.box_search.specs.Hits.{HaveRegisters, runs_total, characters}
 use Rattle.box_search.specs.Regions.{AreWithin, whole_side, IsHitWithin, IsShortHit}
-use Rattle.box_search.specs.Layers.{layer, uppers_of, AreGood, IsGood, LayerStep, LayerEnd}
+use Rattle.box_search.specs.Layers.{layer, uppers_of, AreGood, AreGoodTotals, LayerStep, LayerEnd}
 use Rattle.box_search.specs.Cuts.{IsCutInto}
 use Rattle.box_search.proofs.ShortLemmas.{hit-short, totals-below}
 use Rattle.box_search.proofs.LayerLemmas.{runs-word}
@@ -32,10 +32,10 @@ totals-length (s ∷ ss) [] h = absurd h
 totals-length (s ∷ ss) (n ∷ ns) h = let e = totals-length ss ns h.1 in omega arith
 
 module _ (rows : List Row) (region : Region) (totals : List ℕ) where
-  pub good-length : IsGood rows region totals → length totals ≡ length region.registers
+  pub good-length : AreGoodTotals rows region totals → length totals ≡ length region.registers
   good-length good = totals-length region.registers totals good.0
 
-  pub good-some : (o : Option (List ℤ)) → MatchOption o (IsGood rows region totals → ⊥) (λ numbers. AreWithin (map whole_side region.registers) (map pos totals) × AreGood rows region totals numbers) → IsGood rows region totals → IsSome o
+  pub good-some : (o : Option (List ℤ)) → MatchOption o (AreGoodTotals rows region totals → ⊥) (λ numbers. AreWithin (map whole_side region.registers) (map pos totals) × AreGood rows region totals numbers) → AreGoodTotals rows region totals → IsSome o
   good-some None h good = absurd (h good)
   good-some (Some numbers) h good = refl
 
@@ -43,7 +43,7 @@ module _ (machines : List Graph) (integers : ℕ) (rows : List Row) (region : Re
   abbrev IsHitOf : List (Run ℕ) → List ℤ → Type 0
   IsHitOf = IsHitWithin machines integers rows region
 
-  pub hit-good : (runs : List (Run ℕ)) (numbers : List ℤ) → IsHitOf runs numbers → IsGood rows region (runs_total (length region.registers) runs)
+  pub hit-good : (runs : List (Run ℕ)) (numbers : List ℤ) → IsHitOf runs numbers → AreGoodTotals rows region (runs_total (length region.registers) runs)
   hit-good runs numbers h = (h.within.registers, numbers, record { within = h.within.numbers; meets = h.hit.meets.each })
 
   -- runs that cost what is spent in all, and numbers that meet the rows with it
@@ -59,10 +59,10 @@ module _ (machines : List Graph) (integers : ℕ) (rows : List Row) (region : Re
 
   module _ (same : HaveRegisters (length region.registers) machines) where
     abbrev Ends : Layer → List ℕ → Type 0
-    Ends = LayerEnd machines (uppers_of region) (IsGood rows region)
+    Ends = LayerEnd machines (uppers_of region) (AreGoodTotals rows region)
 
     abbrev Steps : Layer → ℕ → List ℕ → Layer → Type 0
-    Steps = LayerStep machines (uppers_of region) (IsGood rows region)
+    Steps = LayerStep machines (uppers_of region) (AreGoodTotals rows region)
 
     abbrev first : Layer
     first = layer 0 0 (zeros (length region.registers))
@@ -70,7 +70,7 @@ module _ (machines : List Graph) (integers : ℕ) (rows : List Row) (region : Re
     pub hit-word : (runs : List (Run ℕ)) (numbers : List ℤ) → IsHitOf runs numbers → (word cost : List ℕ) × RunsFrom Ends Steps first word cost × (length word ≡ characters runs + length machines)
     hit-word runs numbers h =
         let good = hit-good runs numbers h in
-        runs-word machines (uppers_of region) (IsGood rows region) (length region.registers) runs same h.hit.each
+        runs-word machines (uppers_of region) (AreGoodTotals rows region) (length region.registers) runs same h.hit.each
         (totals-below region.registers (runs_total (length region.registers) runs) h.within.registers) (good-length rows region (runs_total (length region.registers) runs) good) good
 
     module _ (built : Graph) (runs_alike : SameRuns Ends Steps first (EndsAt built.ends) (StepsBy built.edges) 0) where

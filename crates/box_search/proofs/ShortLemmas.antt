@@ -21,13 +21,13 @@ use Rattle.box_search.specs.declared.region.Region.{Region}
 use Rattle.box_search.specs.Hits.{AreRunsOf, HaveRegisters, runs_total, characters}
 use Rattle.box_search.specs.Regions.{IsWithin, whole_side, register_points, side_points, integer_points, points, greatest_states, IsHitWithin, IsShortHit}
 use Rattle.std.specs.Prelude.{int_le}
-use Rattle.box_search.specs.Layers.{AreBelow}
+use Rattle.box_search.specs.Layers.{AreWithinGreatest}
 use Rattle.box_search.specs.LayerLaws.{length-uppers}
 use Rattle.box_search.specs.Places.{number_of, numbers_below}
 use Rattle.box_search.proofs.DigitLemmas.{number-below, number-same, digit-below, digit-same, AreDifferent, different-few}
 
 -- of costs that add up below some numbers each is below them
-pub below-parts : (step rest us : List ℕ) → length step ≡ length rest → AreBelow (add_costs step rest) us → AreBelow step us × AreBelow rest us
+pub below-parts : (step rest us : List ℕ) → length step ≡ length rest → AreWithinGreatest (add_costs step rest) us → AreWithinGreatest step us × AreWithinGreatest rest us
 below-parts [] [] us e h = (h, h)
 below-parts [] (y ∷ ys) us e h = absurd (omega arith)
 below-parts (x ∷ xs) [] us e h = absurd (omega arith)
@@ -43,13 +43,13 @@ module _ (m : Graph) (us : List ℕ) where
   code s cost = s + m.states * number_of cost us
 
   abbrev IsNode : ℕ → List ℕ → Type 0
-  IsNode s cost = (s < m.states) × AreBelow cost us
+  IsNode s cost = (s < m.states) × AreWithinGreatest cost us
 
   -- a run from a state, with the numbers of its states
   abbrev Coded : ℕ → List ℕ → List ℕ → List ℕ → Type 0
   Coded s word cost [] = ⊥
-  Coded s [] cost (n ∷ ns) = (n ≡ code s cost) × (s < m.states) × AreBelow cost us × (ns ≡ []) × EndsAt m.ends s cost
-  Coded s (c ∷ word) cost (n ∷ ns) = (step : List ℕ) × (to : ℕ) × (rest : List ℕ) × (n ≡ code s cost) × (s < m.states) × AreBelow cost us
+  Coded s [] cost (n ∷ ns) = (n ≡ code s cost) × (s < m.states) × AreWithinGreatest cost us × (ns ≡ []) × EndsAt m.ends s cost
+  Coded s (c ∷ word) cost (n ∷ ns) = (step : List ℕ) × (to : ℕ) × (rest : List ℕ) × (n ≡ code s cost) × (s < m.states) × AreWithinGreatest cost us
       × StepsBy m.edges s c step to × Coded to word rest ns × (cost ≡ add_costs step rest)
 
   code-same : (s t : ℕ) (a b : List ℕ) → IsNode s a → IsNode t b → code s a ≡ code t b → (s ≡ t) × (a ≡ b)
@@ -100,12 +100,12 @@ module _ (m : Graph) (us : List ℕ) where
       (λ s t c k h st. (step_cost m.states m.registers m.edges m.ends m.formed s t c k st).entries)
       (λ s k h st. (end_cost m.states m.registers m.edges m.ends m.formed s k st).entries) word s cost h r
 
-  pub run-different : (word : List ℕ) (s : ℕ) (cost : List ℕ) → s < m.states → AreBelow cost us → RunsFrom (EndsAt m.ends) (StepsBy m.edges) s word cost → HasDifferent s cost
+  pub run-different : (word : List ℕ) (s : ℕ) (cost : List ℕ) → s < m.states → AreWithinGreatest cost us → RunsFrom (EndsAt m.ends) (StepsBy m.edges) s word cost → HasDifferent s cost
   run-different [] s cost inside low r = ([], code s cost ∷ [], (refl, inside, low, refl, r), (refl, tt))
   run-different (c ∷ word) s cost inside low r =
       let next = step_target m.states m.registers m.edges m.ends m.formed s r.1 c r.0 r.3 in
       let wide = (step_cost m.states m.registers m.edges m.ends m.formed s r.1 c r.0 r.3).entries ∙ sym (width-of word r.1 r.2 next r.4) in
-      let parts = below-parts r.0 r.2 us wide (subst (λ k. AreBelow k us) r.5 low) in
+      let parts = below-parts r.0 r.2 us wide (subst (λ k. AreWithinGreatest k us) r.5 low) in
       let rest = run-different word r.1 r.2 next parts.1 r.4 in
       by_seen rest.0 rest.1 rest.2 rest.3 (list_any (eqb (code s cost)) rest.1) refl
     where
@@ -117,7 +117,7 @@ module _ (m : Graph) (us : List ℕ) where
       by_seen more ns coded d false e = (c ∷ more, code s cost ∷ ns, (r.0, r.1, r.2, refl, inside, low, r.3, coded, r.5), (e, d))
 
   -- each run whose cost is below some numbers has one with the same cost and few characters
-  pub run-short : (run : Run ℕ) → IsRunOf m run → AreBelow (run_total run) us
+  pub run-short : (run : Run ℕ) → IsRunOf m run → AreWithinGreatest (run_total run) us
       → (short : Run ℕ) × IsRunOf m short × (run_total short ≡ run_total run) × (length short.word < m.states * numbers_below us)
   run-short run is low =
       let accepted = run_accepted (StepsBy m.edges) (EndsAt m.ends) 0 run is in
@@ -130,7 +130,7 @@ module _ (m : Graph) (us : List ℕ) where
 
 -- all machines
 pub family-short : (top registers : ℕ) (us : List ℕ) (ms : List Graph) (rs : List (Run ℕ)) → length us ≡ registers → HaveRegisters registers ms → ((m : Graph) → Contains ms m → m.states ≤ top)
-    → AreRunsOf ms rs → AreBelow (runs_total registers rs) us
+    → AreRunsOf ms rs → AreWithinGreatest (runs_total registers rs) us
     → (short : List (Run ℕ)) × AreRunsOf ms short × (runs_total registers short ≡ runs_total registers rs) × (characters short ≤ length ms * (top * numbers_below us))
 family-short top registers us [] [] wide same tops runs low = ([], tt, refl, omega arith)
 family-short top registers us [] (r ∷ rs) wide same tops runs low = absurd runs
@@ -162,7 +162,7 @@ family-short top registers us (m ∷ ms) (r ∷ rs) wide same tops runs low =
         (runs-width registers ms rs (All-tail (λ g. g.registers ≡ registers) m ms same) runs.1)
 
 -- the totals of a region, below the upper ends of its sides
-pub totals-below : (sides : List (ℕ × ℕ)) (totals : List ℕ) → AllZip IsWithin (map whole_side sides) (map pos totals) → AreBelow totals (map (λ s. s.1) sides)
+pub totals-below : (sides : List (ℕ × ℕ)) (totals : List ℕ) → AllZip IsWithin (map whole_side sides) (map pos totals) → AreWithinGreatest totals (map (λ s. s.1) sides)
 totals-below [] [] h = tt
 totals-below [] (t ∷ ts) h = absurd h
 totals-below (s ∷ ss) [] h = absurd h

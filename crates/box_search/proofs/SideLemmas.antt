@@ -11,8 +11,8 @@ use Rattle.sv_linear.specs.declared.row.Row.{Row}
 use Rattle.box_search.specs.declared.layer.Layer.{Layer}
 use Rattle.box_search.specs.declared.region.Region.{Region}
 use Rattle.box_search.specs.Regions.{AreWithin, FitsRegion, whole_side, sides_of, amounts}
-use Rattle.box_search.specs.Boxes.{IsSide, HaveSides, FitsSides, MeetAll, IsBox, IsFound, point_side}
-use Rattle.box_search.specs.Layers.{AreBelow, uppers_of, AreGood, IsGood, LayerEnd, IsLayer}
+use Rattle.box_search.specs.Boxes.{IsSide, HaveSides, FitsSides, MeetAll, IsBox, IsPointFound, point_side}
+use Rattle.box_search.specs.Layers.{AreWithinGreatest, uppers_of, AreGood, AreGoodTotals, LayerEnd, IsLayerOf}
 use Rattle.box_search.specs.LayerLaws.{length-uppers}
 use Rattle.box_search.proofs.HalfLemmas.{fits-less, amount-narrower}
 
@@ -114,10 +114,10 @@ module _ (rows : List Row) (region : Region) (totals : List ℕ) where
     fits = fits-known region totals rows within fits;
   })
 
-  pub known-some : (n : ℕ) (sides : List (ℤ × ℤ)) (point : List ℤ) → sides ≡ region.integers ++ map point_side totals → length region.integers ≡ n → IsFound rows sides (Some point)
+  pub known-some : (n : ℕ) (sides : List (ℤ × ℤ)) (point : List ℤ) → sides ≡ region.integers ++ map point_side totals → length region.integers ≡ n → IsPointFound rows sides (Some point)
       → AreGood rows region totals (take n point) × (n ≤ length point)
   known-some n sides point e count found =
-      let h = subst (λ l. IsFound rows l (Some point)) e found in
+      let h = subst (λ l. IsPointFound rows l (Some point)) e found in
       let f = front-within region.integers totals point h.0 in
       let size = f.2 in (
         record {
@@ -127,19 +127,19 @@ module _ (rows : List Row) (region : Region) (totals : List ℕ) where
         omega arith,
       )
 
-  pub known-none : (sides : List (ℤ × ℤ)) → sides ≡ region.integers ++ map point_side totals → IsFound rows sides None → IsGood rows region totals → ⊥
+  pub known-none : (sides : List (ℤ × ℤ)) → sides ≡ region.integers ++ map point_side totals → IsPointFound rows sides None → AreGoodTotals rows region totals → ⊥
   known-none sides e found good =
-      subst (λ l. IsFound rows l None) e found (good.1 ++ map pos totals) (within-append region.integers (map point_side totals) good.1 (map pos totals) good.2.within (points-within totals)) good.2.meets
+      subst (λ l. IsPointFound rows l None) e found (good.1 ++ map pos totals) (within-append region.integers (map point_side totals) good.1 (map pos totals) good.2.within (points-within totals)) good.2.meets
 
-  pub some-none : (sides : List (ℤ × ℤ)) → sides ≡ sides_of region → IsFound rows sides None → IsGood rows region totals → ⊥
+  pub some-none : (sides : List (ℤ × ℤ)) → sides ≡ sides_of region → IsPointFound rows sides None → AreGoodTotals rows region totals → ⊥
   some-none sides e found good =
-      subst (λ l. IsFound rows l None) e found (good.1 ++ map pos totals) (within-append region.integers (map whole_side region.registers) good.1 (map pos totals) good.2.within good.0) good.2.meets
+      subst (λ l. IsPointFound rows l None) e found (good.1 ++ map pos totals) (within-append region.integers (map whole_side region.registers) good.1 (map pos totals) good.2.within good.0) good.2.meets
 
-  pub good-sides : (sides : List (ℤ × ℤ)) → sides ≡ sides_of region → IsGood rows region totals → All IsSide sides
+  pub good-sides : (sides : List (ℤ × ℤ)) → sides ≡ sides_of region → AreGoodTotals rows region totals → All IsSide sides
   good-sides sides e good =
       rw e (All-append IsSide region.integers (map whole_side region.registers) (within-some region.integers good.1 good.2.within) (within-some (map whole_side region.registers) (map pos totals) good.0))
 
-  pub good-integers : IsGood rows region totals → All IsSide region.integers
+  pub good-integers : AreGoodTotals rows region totals → All IsSide region.integers
   good-integers good = within-some region.integers good.1 good.2.within
 
 -- the box of all sides
@@ -154,15 +154,15 @@ whole-box rows region n sides e count some unknowns fits = record {
 -- where a word may end
 module _ (machines : List Graph) (region : Region) (rows : List Row) (at : Layer) where
   abbrev EndsSo : List (List ℕ) → Type 0
-  EndsSo costs = (cost : List ℕ) → LayerEnd machines (uppers_of region) (IsGood rows region) at cost ↔ Any (λ e. e ≡ cost) costs
+  EndsSo costs = (cost : List ℕ) → LayerEnd machines (uppers_of region) (AreGoodTotals rows region) at cost ↔ Any (λ e. e ≡ cost) costs
 
   pub ends-inside : (costs : List (List ℕ)) → costs ≡ [] → (at.machine ≡ length machines → ⊥) → EndsSo costs
   ends-inside costs e other cost = rw e ((λ h. absurd (other h.1)), (λ a. absurd (Any-none (λ e. e ≡ cost) a)))
 
-  pub ends-none : (costs : List (List ℕ)) → costs ≡ [] → (IsGood rows region at.spent → ⊥) → EndsSo costs
+  pub ends-none : (costs : List (List ℕ)) → costs ≡ [] → (AreGoodTotals rows region at.spent → ⊥) → EndsSo costs
   ends-none costs e none cost = rw e ((λ h. absurd (none h.2)), (λ a. absurd (Any-none (λ e. e ≡ cost) a)))
 
-  pub ends-some : (start costs : List (List ℕ)) (last : List ℕ) → start ≡ [] → costs ≡ start ++ last ∷ [] → last ≡ zeros (length region.registers) → at.machine ≡ length machines → IsGood rows region at.spent → EndsSo costs
+  pub ends-some : (start costs : List (List ℕ)) (last : List ℕ) → start ≡ [] → costs ≡ start ++ last ∷ [] → last ≡ zeros (length region.registers) → at.machine ≡ length machines → AreGoodTotals rows region at.spent → EndsSo costs
   ends-some start costs last s e z behind good cost =
       let width : zeros (length (uppers_of region)) ≡ last = ap zeros (length-uppers region.registers) ∙ sym z in
       let list : costs ≡ last ∷ [] = e ∙ ap (λ l. l ++ last ∷ []) s in
@@ -174,15 +174,15 @@ module _ (machines : List Graph) (region : Region) (rows : List Row) (at : Layer
         ]),
       )
 
-  pub spent-length : IsLayer machines (uppers_of region) (IsGood rows region) at → length at.spent ≡ length region.registers
+  pub spent-length : IsLayerOf machines (uppers_of region) (AreGoodTotals rows region) at → length at.spent ≡ length region.registers
   spent-length h = length_zip at.spent (uppers_of region) h.below ∙ length-uppers region.registers
     where
-      length_zip : (vs us : List ℕ) → AreBelow vs us → length vs ≡ length us
+      length_zip : (vs us : List ℕ) → AreWithinGreatest vs us → length vs ≡ length us
       length_zip [] [] h = refl
       length_zip [] (u ∷ us) h = absurd h
       length_zip (v ∷ vs) [] h = absurd h
       length_zip (v ∷ vs) (u ∷ us) h = ap suc (length_zip vs us h.1)
 
-pub not-some : (rows : List Row) (sides : List (ℤ × ℤ)) (o : Option (List ℤ)) → is_some o ≡ false → IsFound rows sides o → IsFound rows sides None
+pub not-some : (rows : List Row) (sides : List (ℤ × ℤ)) (o : Option (List ℤ)) → is_some o ≡ false → IsPointFound rows sides o → IsPointFound rows sides None
 not-some rows sides None e h = h
 not-some rows sides (Some point) e h = cc

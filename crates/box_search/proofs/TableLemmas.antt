@@ -11,7 +11,7 @@ use Rattle.trim_search.specs.Explored.{HasNoRepeat}
 use Rattle.trim_search.proofs.TableLemmas.{set-same, set-other}
 use Rattle.box_search.specs.declared.layer.Layer.{Layer}
 use Rattle.box_search.specs.LayerOrder.{layer-same}
-use Rattle.box_search.specs.Places.{layer_cmp, HasPlace, place_of, IsIndexed}
+use Rattle.box_search.specs.Places.{layer_cmp, HasPlace, place_of, IsLayerIndex}
 use Rattle.box_search.proofs.PlaceLemmas.{place-same}
 
 pub layer-itself : (s : Layer) → is_eq (layer_cmp s s) ≡ true
@@ -19,7 +19,7 @@ layer-itself s = rw (tied_itself nat_cmp_total s.machine, tied_itself nat_cmp_to
 
 module _ (uppers : List ℕ) (states machines : ℕ) where
   abbrev pub Index : List Layer → List (Option ℕ) → BTreeMap Layer ℕ → Type 0
-  Index = IsIndexed uppers states machines
+  Index = IsLayerIndex uppers states machines
 
   abbrev pub Placed : Layer → Type 0
   Placed = HasPlace uppers states machines

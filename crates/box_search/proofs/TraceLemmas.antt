@@ -10,7 +10,7 @@ use Rattle.box_search.specs.declared.layer.Layer.{Layer}
 use Rattle.box_search.specs.declared.region.Region.{Region}
 use Rattle.box_search.specs.Hits.{characters}
 use Rattle.box_search.specs.LayerLaws.{next-layer}
-use Rattle.box_search.specs.Layers.{IsLayer, LayerStep}
+use Rattle.box_search.specs.Layers.{IsLayerOf, LayerStep}
 use Rattle.box_search.specs.Regions.{IsHitWithin, IsShortHit, greatest_states}
 use Rattle.box_search.proofs.ShortLemmas.{few-characters}
 
@@ -20,7 +20,7 @@ module _ (machines : List Graph) (uppers : List ℕ) (good : List ℕ → Type 0
     pub after : List Layer
     pub begins : states ≡ first ∷ after
     pub path : IsPath (LayerStep machines uppers good) first after word costs at
-    pub is : IsLayer machines uppers good at
+    pub is : IsLayerOf machines uppers good at
 
   pub way-push : (states : List Layer) (word : List ℕ) (costs : List (List ℕ)) (at to : Layer) (c : ℕ) (k : List ℕ)
       → IsWay states word costs at → LayerStep machines uppers good at c k to → IsWay (states ++ to ∷ []) (word ++ c ∷ []) (costs ++ k ∷ []) to
@@ -31,12 +31,12 @@ module _ (machines : List Graph) (uppers : List ℕ) (good : List ℕ → Type 0
     is = next-layer machines uppers good at to c k way.is step;
   }
 
-  pub way-start : (states : List Layer) (word : List ℕ) (costs : List (List ℕ)) (at : Layer) → IsLayer machines uppers good first → at ≡ first → states ≡ [] ++ at ∷ [] → word ≡ [] → costs ≡ [] → IsWay states word costs at
+  pub way-start : (states : List Layer) (word : List ℕ) (costs : List (List ℕ)) (at : Layer) → IsLayerOf machines uppers good first → at ≡ first → states ≡ [] ++ at ∷ [] → word ≡ [] → costs ≡ [] → IsWay states word costs at
   way-start states word costs at is same begins none free = record {
     after = [];
     begins = begins ∙ ap (λ (l : Layer). l ∷ []) same;
     path = subst (λ ks. IsPath (LayerStep machines uppers good) first [] word ks at) (sym free) (subst (λ w. IsPath (LayerStep machines uppers good) first [] w [] at) (sym none) (sym same));
-    is = subst (IsLayer machines uppers good) (sym same) is;
+    is = subst (IsLayerOf machines uppers good) (sym same) is;
   }
 
   pub way-grown : (states grown : List Layer) (word more : List ℕ) (costs paid : List (List ℕ)) (at to : Layer) (c : ℕ) (k : List ℕ)

@@ -10,8 +10,8 @@ abbrev pub IsSide : ℤ × ℤ → Type 0
 IsSide s = s.0 ≤ℤ s.1
 
 -- the side holds one number alone
-abbrev pub IsPoint : ℤ × ℤ → Type 0
-IsPoint s = s.0 ≡ s.1
+abbrev pub HoldsOne : ℤ × ℤ → Type 0
+HoldsOne s = s.0 ≡ s.1
 
 -- each unknown has a value within its side
 abbrev pub AreAt : List (ℤ × ℤ) → (ℕ → ℤ) → Type 0
@@ -40,9 +40,9 @@ pub record IsBox (rows : List Row) (sides : List (ℤ × ℤ)) : Type 0 where
   pub fits : All (FitsSides sides) rows
 
 -- a point of the box that meets the rows, or none where no point of it does
-abbrev pub IsFound : List Row → List (ℤ × ℤ) → Option (List ℤ) → Type 0
-IsFound rows sides None = (point : List ℤ) → AreWithin sides point → MeetAll rows point → ⊥
-IsFound rows sides (Some point) = AreWithin sides point × MeetAll rows point
+abbrev pub IsPointFound : List Row → List (ℤ × ℤ) → Option (List ℤ) → Type 0
+IsPointFound rows sides None = (point : List ℤ) → AreWithin sides point → MeetAll rows point → ⊥
+IsPointFound rows sides (Some point) = AreWithin sides point × MeetAll rows point
 
 -- the side that holds this number alone
 abbrev pub point_side : ℕ → ℤ × ℤ

@@ -8,12 +8,12 @@ use Rattle.machine_core.specs.declared.run.Run.{Run}
 use Rattle.box_search.specs.declared.layer.Layer.{Layer}
 use Rattle.box_search.specs.declared.region.Region.{Region}
 use Rattle.box_search.specs.Hits.{AreRunsOf, runs_total, characters}
-use Rattle.box_search.specs.Layers.{layer, uppers_of, IsGood, LayerStep, LayerEnd}
+use Rattle.box_search.specs.Layers.{layer, uppers_of, AreGoodTotals, LayerStep, LayerEnd}
 
 -- a run of all machines in turn
 abbrev pub IsRunOfAll : List Graph → List Row → Region → Run Layer → Type 0
 IsRunOfAll machines rows region =
-    IsRun (LayerEnd machines (uppers_of region) (IsGood rows region)) (LayerStep machines (uppers_of region) (IsGood rows region)) (layer 0 0 (zeros (length region.registers)))
+    IsRun (LayerEnd machines (uppers_of region) (AreGoodTotals rows region)) (LayerStep machines (uppers_of region) (AreGoodTotals rows region)) (layer 0 0 (zeros (length region.registers)))
 
 -- a run of each machine: together they cost what is spent behind the last machine, and have all characters but the one that leads on from each machine
 pub record IsCutInto (machines : List Graph) (registers : ℕ) (run : Run Layer) (runs : List (Run ℕ)) : Type 0 where
@@ -28,7 +28,7 @@ pub record IsOpened (run : Run ℕ) : Type 0 where
   pub costs : run.costs ≡ []
 
 -- the open run has one step more
-pub record GoesOn (q : Layer) (c : ℕ) (k : List ℕ) (before now : Run ℕ) : Type 0 where
+pub record AddsStep (q : Layer) (c : ℕ) (k : List ℕ) (before now : Run ℕ) : Type 0 where
   pub word : now.word ≡ before.word ++ c ∷ []
   pub states : now.states ≡ before.states ++ q.state ∷ []
   pub costs : now.costs ≡ before.costs ++ k ∷ []
@@ -46,4 +46,4 @@ pub record BeginsNext (k : List ℕ) (runs more : List (Run ℕ)) (before now : 
 -- what a step from one layer to the next did to the runs that have ended and to the open one
 abbrev pub CutsBy : Layer → Layer → ℕ → List ℕ → List (Run ℕ) → List (Run ℕ) → Run ℕ → Run ℕ → Type 0
 CutsBy p q c k runs more before now =
-    ((q.machine ≡ p.machine) × (more ≡ runs) × GoesOn q c k before now) ⊎ ((q.machine ≡ p.machine → ⊥) × BeginsNext k runs more before now)
+    ((q.machine ≡ p.machine) × (more ≡ runs) × AddsStep q c k before now) ⊎ ((q.machine ≡ p.machine → ⊥) × BeginsNext k runs more before now)

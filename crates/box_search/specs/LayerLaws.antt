@@ -14,9 +14,9 @@ use Rattle.box_search.specs.declared.layer.Layer.{Layer}
 use Rattle.box_search.specs.declared.region.Region.{Region}
 use Rattle.box_search.specs.Hits.{HaveRegisters}
 use Rattle.box_search.specs.Regions.{register_points, greatest_states}
-use Rattle.box_search.specs.Layers.{layer, AreBelow, uppers_of, Turns, LayerStep, LayerEnd, IsLayer, layers_top, layers_size}
+use Rattle.box_search.specs.Layers.{layer, AreWithinGreatest, uppers_of, Turns, LayerStep, LayerEnd, IsLayerOf, layers_top, layers_size}
 
-zeros-below : (sides : List (ℕ × ℕ)) → AreBelow (zeros (length sides)) (map (λ (s : ℕ × ℕ). s.1) sides)
+zeros-below : (sides : List (ℕ × ℕ)) → AreWithinGreatest (zeros (length sides)) (map (λ (s : ℕ × ℕ). s.1) sides)
 zeros-below [] = tt
 zeros-below (s ∷ ss) = (omega arith, zeros-below ss)
 
@@ -32,7 +32,7 @@ length-uppers (s ∷ ss) = ap suc (length-uppers ss)
 not-first : (ms : List Graph) → (m : Graph) → slice_get ms 0 ≡ Some m → 0 ≡ length ms → ⊥
 not-first ms m e z = let lt = get-inside ms 0 m e in omega arith
 
-pub first-layer : (machines : List Graph) (region : Region) (good : List ℕ → Type 0) → IsLayer machines (uppers_of region) good (layer 0 0 (zeros (length region.registers)))
+pub first-layer : (machines : List Graph) (region : Region) (good : List ℕ → Type 0) → IsLayerOf machines (uppers_of region) good (layer 0 0 (zeros (length region.registers)))
 first-layer machines region good = record {
   inside = omega arith;
   state = λ m e. m.started;
@@ -41,13 +41,13 @@ first-layer machines region good = record {
 }
 
 module _ (machines : List Graph) (uppers : List ℕ) (good : List ℕ → Type 0) where
-  pub next-layer : (s t : Layer) (c : ℕ) (cost : List ℕ) → IsLayer machines uppers good s → LayerStep machines uppers good s c cost t → IsLayer machines uppers good t
+  pub next-layer : (s t : Layer) (c : ℕ) (cost : List ℕ) → IsLayerOf machines uppers good s → LayerStep machines uppers good s c cost t → IsLayerOf machines uppers good t
   next-layer s t c cost h step = by_turn step.turn
     where
       inside : s.machine < length machines
       inside = get-inside machines s.machine step.graph step.at_work
 
-      by_turn : Turns machines uppers good step.graph s c cost t → IsLayer machines uppers good t
+      by_turn : Turns machines uppers good step.graph s c cost t → IsLayerOf machines uppers good t
       by_turn (inl same) = record {
         inside = (let e = same.0 in let lt = inside in omega arith);
         state = λ m g.
@@ -66,7 +66,7 @@ module _ (machines : List Graph) (uppers : List ℕ) (good : List ℕ → Type 0
         below = step.below;
       }
 
-  pub layer-character : (s t : Layer) (c : ℕ) (cost : List ℕ) → IsLayer machines uppers good s → LayerStep machines uppers good s c cost t → c ≤ greatest_character
+  pub layer-character : (s t : Layer) (c : ℕ) (cost : List ℕ) → IsLayerOf machines uppers good s → LayerStep machines uppers good s c cost t → c ≤ greatest_character
   layer-character s t c cost h step = by_turn step.turn
     where
       by_turn : Turns machines uppers good step.graph s c cost t → c ≤ greatest_character
@@ -94,18 +94,18 @@ module _ (machines : List Graph) (uppers : List ℕ) (good : List ℕ → Type 0
   layer-end_cost registers e s cost end = rw (end.0, e) (IsCost-zeros registers (layers_top machines))
 
 -- how many layers there are
-few-spent : (sides : List (ℕ × ℕ)) → AreAtMost (λ v. AreBelow v (map (λ (s : ℕ × ℕ). s.1) sides)) (register_points sides)
-few-spent [] = at_most-weaker (λ v. [] ≡ v) (λ v. AreBelow v []) 1 1 none (omega arith) (at_most-one [])
+few-spent : (sides : List (ℕ × ℕ)) → AreAtMost (λ v. AreWithinGreatest v (map (λ (s : ℕ × ℕ). s.1) sides)) (register_points sides)
+few-spent [] = at_most-weaker (λ v. [] ≡ v) (λ v. AreWithinGreatest v []) 1 1 none (omega arith) (at_most-one [])
   where
-    none : (v : List ℕ) → AreBelow v [] → [] ≡ v
+    none : (v : List ℕ) → AreWithinGreatest v [] → [] ≡ v
     none [] h = refl
     none (x ∷ v) h = absurd h
 few-spent (s ∷ ss) =
-    at_most-made (λ (q : ℕ × List ℕ). q.0 ∷ q.1) (λ (q : ℕ × List ℕ). (q.0 < s.1 + 1) × AreBelow q.1 (map (λ (s : ℕ × ℕ). s.1) ss)) (λ v. AreBelow v (s.1 ∷ map (λ (s : ℕ × ℕ). s.1) ss))
+    at_most-made (λ (q : ℕ × List ℕ). q.0 ∷ q.1) (λ (q : ℕ × List ℕ). (q.0 < s.1 + 1) × AreWithinGreatest q.1 (map (λ (s : ℕ × ℕ). s.1) ss)) (λ v. AreWithinGreatest v (s.1 ∷ map (λ (s : ℕ × ℕ). s.1) ss))
     ((s.1 + 1) * register_points ss) parts
-    (at_most-pairs (λ n. n < s.1 + 1) (λ v. AreBelow v (map (λ (s : ℕ × ℕ). s.1) ss)) (s.1 + 1) (register_points ss) (at_most-below (s.1 + 1)) (few-spent ss))
+    (at_most-pairs (λ n. n < s.1 + 1) (λ v. AreWithinGreatest v (map (λ (s : ℕ × ℕ). s.1) ss)) (s.1 + 1) (register_points ss) (at_most-below (s.1 + 1)) (few-spent ss))
   where
-    parts : (v : List ℕ) → AreBelow v (s.1 ∷ map (λ (s : ℕ × ℕ). s.1) ss) → (q : ℕ × List ℕ) × ((q.0 < s.1 + 1) × AreBelow q.1 (map (λ (s : ℕ × ℕ). s.1) ss)) × (q.0 ∷ q.1 ≡ v)
+    parts : (v : List ℕ) → AreWithinGreatest v (s.1 ∷ map (λ (s : ℕ × ℕ). s.1) ss) → (q : ℕ × List ℕ) × ((q.0 < s.1 + 1) × AreWithinGreatest q.1 (map (λ (s : ℕ × ℕ). s.1) ss)) × (q.0 ∷ q.1 ≡ v)
     parts [] h = absurd h
     parts (x ∷ v) h = let le = h.0 in ((x, v), (omega arith, h.1), refl)
 
@@ -131,7 +131,7 @@ module _ (machines : List Graph) where
       (at_most-pairs (λ s. s < greatest_states machines) (λ i. i < length machines) (greatest_states machines) (length machines) (at_most-below (greatest_states machines)) (at_most-below (length machines)))
       (at_most-one (0, length machines))
 
-  turn-of : (region : Region) (good : List ℕ → Type 0) (t : Layer) → IsLayer machines (uppers_of region) good t → IsTurn (t.state, t.machine)
+  turn-of : (region : Region) (good : List ℕ → Type 0) (t : Layer) → IsLayerOf machines (uppers_of region) good t → IsTurn (t.state, t.machine)
   turn-of region good t h = elim (below-or-at t.machine (length machines) h.inside) [
     | inl lt ↦
         let m = get-some machines t.machine lt in
@@ -141,8 +141,8 @@ module _ (machines : List Graph) where
     | inr e ↦ inr (ap (λ n. (n, length machines)) (sym (h.last e)) ∙ ap (λ n. (t.state, n)) (sym e))
   ]
 
-  pub few-layers : (region : Region) (good : List ℕ → Type 0) → AreAtMost (IsLayer machines (uppers_of region) good) (layers_size machines region)
+  pub few-layers : (region : Region) (good : List ℕ → Type 0) → AreAtMost (IsLayerOf machines (uppers_of region) good) (layers_size machines region)
   few-layers region good =
-      at_most-made (λ (q : (ℕ × ℕ) × List ℕ). layer q.0.1 q.0.0 q.1) (λ (q : (ℕ × ℕ) × List ℕ). IsTurn q.0 × AreBelow q.1 (uppers_of region)) (IsLayer machines (uppers_of region) good)
+      at_most-made (λ (q : (ℕ × ℕ) × List ℕ). layer q.0.1 q.0.0 q.1) (λ (q : (ℕ × ℕ) × List ℕ). IsTurn q.0 × AreWithinGreatest q.1 (uppers_of region)) (IsLayerOf machines (uppers_of region) good)
       (layers_size machines region) (λ t h. (((t.state, t.machine), t.spent), (turn-of region good t h, h.below), refl))
-      (at_most-pairs IsTurn (λ v. AreBelow v (uppers_of region)) (greatest_states machines * length machines + 1) (register_points region.registers) few-turns (few-spent region.registers))
+      (at_most-pairs IsTurn (λ v. AreWithinGreatest v (uppers_of region)) (greatest_states machines * length machines + 1) (register_points region.registers) few-turns (few-spent region.registers))

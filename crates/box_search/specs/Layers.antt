@@ -15,8 +15,8 @@ abbrev pub layer : ℕ → ℕ → List ℕ → Layer
 layer machine state spent = record { machine = machine; state = state; spent = spent }
 
 -- each number is at most its greatest
-abbrev pub AreBelow : List ℕ → List ℕ → Type 0
-AreBelow = AllZip (λ v u. v ≤ u)
+abbrev pub AreWithinGreatest : List ℕ → List ℕ → Type 0
+AreWithinGreatest = AllZip (λ v u. v ≤ u)
 
 -- the greatest totals of a region
 abbrev pub uppers_of : Region → List ℕ
@@ -28,8 +28,8 @@ pub record AreGood (rows : List Row) (region : Region) (spent : List ℕ) (numbe
   pub meets : AllByRecursion (MeetsRow (unknowns_of numbers spent)) rows
 
 -- these totals lie in the region, and some whole numbers of it meet the rows with them
-abbrev pub IsGood : List Row → Region → List ℕ → Type 0
-IsGood rows region spent = AreWithin (map whole_side region.registers) (map pos spent) × (numbers : List ℤ) × AreGood rows region spent numbers
+abbrev pub AreGoodTotals : List Row → Region → List ℕ → Type 0
+AreGoodTotals rows region spent = AreWithin (map whole_side region.registers) (map pos spent) × (numbers : List ℤ) × AreGood rows region spent numbers
 
 module _ (machines : List Graph) (uppers : List ℕ) (good : List ℕ → Type 0) where
   -- a step of the machine at work, or from one of its ends to the start of the next machine
@@ -40,18 +40,18 @@ module _ (machines : List Graph) (uppers : List ℕ) (good : List ℕ → Type 0
     pub graph : Graph
     pub at_work : slice_get machines p.machine ≡ Some graph
     pub paid : q.spent ≡ add_costs p.spent cost
-    pub below : AreBelow q.spent uppers
+    pub below : AreWithinGreatest q.spent uppers
     pub turn : Turns graph p c cost q
 
   -- a word ends behind the last machine, where the totals are good
   abbrev pub LayerEnd : Layer → List ℕ → Type 0
   LayerEnd p cost = (cost ≡ zeros (length uppers)) × (p.machine ≡ length machines) × good p.spent
 
-  pub record IsLayer (p : Layer) : Type 0 where
+  pub record IsLayerOf (p : Layer) : Type 0 where
     pub inside : p.machine ≤ length machines
     pub state : (m : Graph) → slice_get machines p.machine ≡ Some m → p.state < m.states
     pub last : p.machine ≡ length machines → p.state ≡ 0
-    pub below : AreBelow p.spent uppers
+    pub below : AreWithinGreatest p.spent uppers
 
 -- no step costs more at a register
 abbrev pub layers_top : List Graph → ℕ

@@ -14,8 +14,8 @@ abbrev pub row_of : List ℕ → ℕ → ℕ → List ℕ
 row_of words width row = take width (drop (row * width) words)
 
 -- the total is marked at the row
-abbrev pub IsMarked : List ℕ → ℕ → ℕ → ℕ → Type 0
-IsMarked words width row total = HasBit (row_of words width row) total
+abbrev pub IsTotalMarked : List ℕ → ℕ → ℕ → ℕ → Type 0
+IsTotalMarked words width row total = HasBit (row_of words width row) total
 
 -- what is paid at the one register
 abbrev pub charge : List ℕ → ℕ
@@ -27,20 +27,20 @@ Covers from to cost = (total : ℕ) → HasBit from total → total + cost < 64 
 
 module _ (words : List ℕ) (width : ℕ) where
   -- each total that is marked at the first row is marked at the other one with the cost more, as far as a row has room
-  abbrev pub Passes : ℕ → ℕ → ℕ → Type 0
-  Passes from to cost = (total : ℕ) → IsMarked words width from total → total + cost < 64 * width → IsMarked words width to (total + cost)
+  abbrev pub StepPasses : ℕ → ℕ → ℕ → Type 0
+  StepPasses from to cost = (total : ℕ) → IsTotalMarked words width from total → total + cost < 64 * width → IsTotalMarked words width to (total + cost)
 
   -- each edge passes on what is marked, where the machine's states have the rows from this one on
   abbrev pub EdgesPass : ℕ → List Edge → Type 0
-  EdgesPass base = All (λ d. Passes (base + d.from) (base + d.to) (charge d.cost))
+  EdgesPass base = All (λ d. StepPasses (base + d.from) (base + d.to) (charge d.cost))
 
   -- so does each end, to this row
   abbrev pub EndsPass : ℕ → ℕ → List End → Type 0
-  EndsPass base next = All (λ e. Passes (base + e.at) next (charge e.cost))
+  EndsPass base next = All (λ e. StepPasses (base + e.at) next (charge e.cost))
 
   -- rows have room for totals up to the greatest one, the total 0 is marked at the start, and all edges and ends pass on what is marked, where each machine has so many rows
-  pub record AreClosed (machines : List Graph) (states most : ℕ) : Type 0 where
+  pub record MarksAreClosed (machines : List Graph) (states most : ℕ) : Type 0 where
     pub room : most < 64 * width
-    pub begun : IsMarked words width 0 0
+    pub begun : IsTotalMarked words width 0 0
     pub edges : (i : ℕ) (m : Graph) → slice_get machines i ≡ Some m → EdgesPass (i * states) m.edges
     pub ends : (i : ℕ) (m : Graph) → slice_get machines i ≡ Some m → EndsPass (i * states) (suc i * states) m.ends

@@ -6,7 +6,7 @@ use Rattle.std.specs.Cmp.Lexicographic.{slice_cmp}
 use Rattle.std.specs.declared.cmp.Ordering.{Ordering}
 use Rattle.trim_search.specs.Explored.{HasNoRepeat}
 use Rattle.box_search.specs.declared.layer.Layer.{Layer}
-use Rattle.box_search.specs.Layers.{AreBelow}
+use Rattle.box_search.specs.Layers.{AreWithinGreatest}
 
 -- the number whose digits these are, the first one the least; the base of a digit is one more than its greatest
 abbrev pub number_of : List ℕ → List ℕ → ℕ
@@ -29,12 +29,12 @@ place_of uppers states s = number_of s.spent uppers + numbers_below uppers * (s.
 module _ (uppers : List ℕ) (states machines : ℕ) where
   -- the table has a place for the layer
   pub record HasPlace (s : Layer) : Type 0 where
-    pub totals : AreBelow s.spent uppers
+    pub totals : AreWithinGreatest s.spent uppers
     pub state : s.state < states
     pub machine : s.machine < machines
 
   -- the table has the number of each layer that has a place in it, and the map those of the others
-  pub record IsIndexed (names : List Layer) (table : List (Option ℕ)) (others : BTreeMap Layer ℕ) : Type 0 where
+  pub record IsLayerIndex (names : List Layer) (table : List (Option ℕ)) (others : BTreeMap Layer ℕ) : Type 0 where
     pub distinct : HasNoRepeat names
     pub found : (p n : ℕ) → slice_get table p ≡ Some (Some n) → (s : Layer) × (slice_get names n ≡ Some s) × HasPlace s × (place_of uppers states s ≡ p)
     pub known : (s : Layer) (n : ℕ) → slice_get names n ≡ Some s → HasPlace s → slice_get table (place_of uppers states s) ≡ Some (Some n)

@@ -1,7 +1,7 @@
 //! The search where there is one register: by a bit for each pair of a state and a total.
 ghost use Rattle.std.specs.Prelude.{◌≡◌, ◌≤◌, ◌+◌, ◌*◌, ◌<◌, ◌^◌, ◌∷◌, ℕ, [], true, false, None, length, IfOk, IfSome};
-ghost use Rattle.box_search.specs.Layers.{IsGood};
-ghost use Rattle.box_search.specs.Marks.{HasBit, AreClosed};
+ghost use Rattle.box_search.specs.Layers.{AreGoodTotals};
+ghost use Rattle.box_search.specs.Marks.{HasBit, MarksAreClosed};
 ghost use Rattle.box_search.specs.Regions.{greatest_states, IsShortHit};
 ghost use Rattle.box_search.specs.Told.{IsTold};
 
@@ -68,7 +68,7 @@ fn reach_marks(
     most: u64,
 ) -> Result<Option<Marks>, AllocError>
     requires { length machines.now * size.states < 2 ^ 62 }
-    ensures { IfOk result (λ o. IfSome o (λ marks. AreClosed marks.words marks.width machines.now size.states most)) }
+    ensures { IfOk result (λ o. IfSome o (λ marks. MarksAreClosed marks.words marks.width machines.now size.states most)) }
 {
     let mut marks = Marks::new(alloc, size.rows, size.width)?;
     mark_reached(alloc, &mut marks, arcs, size.rows)?;
@@ -81,7 +81,7 @@ fn reach_marks(
 // Whether the total is marked, and some numbers meet the rows with it.
 fn is_good(alloc: Global, layers: &Layers, words: &[u64], total: u64) -> Result<bool, AllocError>
     requires { length layers.now.region.now.registers ≡ 1 }
-    ensures { IfOk result (λ good. good ≡ false → HasBit words.now total → IsGood layers.now.rows.now layers.now.region.now (total ∷ []) → ⊥) }
+    ensures { IfOk result (λ good. good ≡ false → HasBit words.now total → AreGoodTotals layers.now.rows.now layers.now.region.now (total ∷ []) → ⊥) }
 {
     if !has_bit(words, total) {
         return Ok(false);
@@ -100,7 +100,7 @@ fn first_good(
 ) -> Result<Option<u64>, AllocError>
     requires one { length layers.now.region.now.registers ≡ 1 }
     requires high { high < 2 ^ 62 }
-    ensures { IfOk result (λ o. o ≡ None → (total : ℕ) → low ≤ total → total ≤ high → HasBit words.now total → IsGood layers.now.rows.now layers.now.region.now (total ∷ []) → ⊥) }
+    ensures { IfOk result (λ o. o ≡ None → (total : ℕ) → low ≤ total → total ≤ high → HasBit words.now total → AreGoodTotals layers.now.rows.now layers.now.region.now (total ∷ []) → ⊥) }
 {
     for total in low..high + 1 {
         if is_good(alloc, layers, words, total)? {
@@ -169,7 +169,7 @@ fn tell_by(
     requires some { layers.now.region.now.empty ≡ false }
     requires most { side.1 < 2 ^ 31 }
     requires rows { size.rows ≡ length layers.now.machines.now * size.states + 1 }
-    requires closed { AreClosed marks.now.words marks.now.width layers.now.machines.now size.states side.1 }
+    requires closed { MarksAreClosed marks.now.words marks.now.width layers.now.machines.now size.states side.1 }
     ensures { IfOk result (IsTold layers.now.machines.now layers.now.integers layers.now.rows.now layers.now.region.now) }
 {
     let Some(words) = marks.row(size.rows - 1) else {

@@ -1,7 +1,7 @@
 //! Whether marks are all there that edges and ends ask for.
 ghost use Rattle.std.specs.Prelude.{◌≡◌, ℕ, ◌+◌, ◌*◌, ◌<◌, ◌^◌, suc, true, length};
 ghost use Rattle.std.specs.Int.{bit_at};
-ghost use Rattle.box_search.specs.Marks.{HasBit, IsMarked, Covers, Passes, EdgesPass, EndsPass, AreClosed, charge};
+ghost use Rattle.box_search.specs.Marks.{HasBit, IsTotalMarked, Covers, StepPasses, EdgesPass, EndsPass, MarksAreClosed, charge};
 
 use crate::marks::{Marks, has_bit};
 use machine_core::{Cost, Edge, End, Explicit};
@@ -50,7 +50,7 @@ fn covers(from: &[u64], to: &[u64], cost: u64) -> bool
 
 // Whether what is marked at the first row is marked at the other one with the cost more.
 fn passes(marks: &Marks, from: usize, to: usize, cost: u64) -> bool
-    ensures { result ≡ true → Passes marks.now.words marks.now.width from to cost }
+    ensures { result ≡ true → StepPasses marks.now.words marks.now.width from to cost }
 {
     let Some(before) = marks.row(from) else {
         return false;
@@ -111,7 +111,7 @@ fn machine_passes(marks: &Marks, machine: &Explicit, at: usize, states: usize) -
 
 // Whether the total 0 is marked at the start.
 fn begins(marks: &Marks) -> bool
-    ensures { result ≡ true → IsMarked marks.now.words marks.now.width 0 0 }
+    ensures { result ≡ true → IsTotalMarked marks.now.words marks.now.width 0 0 }
 {
     match marks.row(0) {
         Some(words) => has_bit(words, 0),
@@ -130,7 +130,7 @@ fn have_room(marks: &Marks, most: u64) -> bool
 /// ends pass on what is marked, where each machine has so many rows. It takes a word of each edge at a time.
 pub fn are_closed(marks: &Marks, machines: &[Explicit], states: usize, most: u64) -> bool
     requires { length machines.now * states < 2 ^ 62 }
-    ensures { result ≡ true → AreClosed marks.now.words marks.now.width machines.now states most }
+    ensures { result ≡ true → MarksAreClosed marks.now.words marks.now.width machines.now states most }
 {
     if !have_room(marks, most) || !begins(marks) {
         return false;

@@ -1,9 +1,9 @@
 //! Points of boxes that meet rows.
-ghost use Rattle.std.specs.Prelude.{◌≡◌, ◌≢◌, ℕ, ℤ, ◌+◌, ◌*◌, ◌*ℤ◌, ◌^◌, ◌<◌, ◌≤◌, ◌≤ℤ◌, ◌<ℤ◌, ◌+ℤ◌, pos, List, length, map, slice_get, slice_set, Some, All, IfOk, MatchOption, true, false, unsigned_abs};
+ghost use Rattle.std.specs.Prelude.{◌≡◌, ℕ, ℤ, ◌+◌, ◌*◌, ◌*ℤ◌, ◌^◌, ◌<◌, ◌≤◌, ◌≤ℤ◌, ◌<ℤ◌, ◌+ℤ◌, List, length, map, slice_get, slice_set, Some, All, IfOk, MatchOption, true, false, unsigned_abs};
 ghost use Rattle.sv_linear.specs.Terms.{terms_value};
 ghost use Rattle.sv_linear.specs.Rows.{MeetsRow, terms_weight};
 ghost use Rattle.box_search.specs.Regions.{IsWithin, AreWithin, greatest_amount, amounts};
-ghost use Rattle.box_search.specs.Boxes.{IsSide, IsPoint, AreAt, FitsSides, value_at, MeetAll, IsBox, IsFound};
+ghost use Rattle.box_search.specs.Boxes.{IsSide, HoldsOne, AreAt, FitsSides, value_at, MeetAll, IsBox, IsPointFound};
 
 use std::alloc::{AllocError, Global};
 use sv_linear::{Form, Row, RowKind};
@@ -56,7 +56,7 @@ fn bounds(form: &Form, sides: &[(i128, i128)]) -> (i128, i128)
     requires fits { unsigned_abs form.now.constant + terms_weight (amounts sides.now) form.now.coefficients < 2 ^ 127 }
     ensures between { (x : ℕ → ℤ) → AreAt sides.now x
         → (result.0 ≤ℤ (terms_value x form.now.coefficients +ℤ form.now.constant)) × ((terms_value x form.now.coefficients +ℤ form.now.constant) ≤ℤ result.1) }
-    ensures point { All IsPoint sides.now → result.0 ≡ result.1 }
+    ensures point { All HoldsOne sides.now → result.0 ≡ result.1 }
 {
     let mut least = form.constant;
     let mut greatest = form.constant;
@@ -75,7 +75,7 @@ fn may_be_met(row: &Row, sides: &[(i128, i128)]) -> bool
     requires unknowns { All (λ t. t.0 < length sides.now) row.now.form.coefficients }
     requires fits { FitsSides sides.now row.now }
     ensures fails { result ≡ false → (xs : List ℤ) → AreWithin sides.now xs → MeetsRow (value_at xs) row.now → ⊥ }
-    ensures point { result ≡ true → All IsPoint sides.now → (xs : List ℤ) → AreWithin sides.now xs → MeetsRow (value_at xs) row.now }
+    ensures point { result ≡ true → All HoldsOne sides.now → (xs : List ℤ) → AreWithin sides.now xs → MeetsRow (value_at xs) row.now }
 {
     let (least, greatest) = bounds(&row.form, sides);
     match row.kind {
@@ -88,7 +88,7 @@ fn may_be_met(row: &Row, sides: &[(i128, i128)]) -> bool
 fn may_meet(rows: &[Row], sides: &[(i128, i128)]) -> bool
     requires { IsBox rows.now sides.now }
     ensures fails { result ≡ false → (xs : List ℤ) → AreWithin sides.now xs → MeetAll rows.now xs → ⊥ }
-    ensures point { result ≡ true → All IsPoint sides.now → (xs : List ℤ) → AreWithin sides.now xs → MeetAll rows.now xs }
+    ensures point { result ≡ true → All HoldsOne sides.now → (xs : List ℤ) → AreWithin sides.now xs → MeetAll rows.now xs }
 {
     for row in rows {
         if !may_be_met(row, sides) {
@@ -101,7 +101,7 @@ fn may_meet(rows: &[Row], sides: &[(i128, i128)]) -> bool
 // The place of the first side that holds more than one number.
 fn first_wide(sides: &[(i128, i128)]) -> Option<usize>
     requires { All IsSide sides.now }
-    ensures { MatchOption result (All IsPoint sides.now) (λ i. (s : ℤ × ℤ) × (slice_get sides.now i ≡ Some s) × (s.0 <ℤ s.1)) }
+    ensures { MatchOption result (All HoldsOne sides.now) (λ i. (s : ℤ × ℤ) × (slice_get sides.now i ≡ Some s) × (s.0 <ℤ s.1)) }
 {
     let mut at = 0;
     while at < sides.len() {
@@ -163,7 +163,7 @@ pub fn find(
     sides: &[(i128, i128)],
 ) -> Result<Option<Items<i128>>, AllocError>
     requires { IsBox rows.now sides.now }
-    ensures { IfOk result (IsFound rows.now sides.now) }
+    ensures { IfOk result (IsPointFound rows.now sides.now) }
 {
     if !may_meet(rows, sides) {
         return Ok(None);

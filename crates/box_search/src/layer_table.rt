@@ -1,19 +1,19 @@
 //! Layers with their numbers, in the order in which they were found.
-ghost use Rattle.std.specs.Prelude.{◌≡◌, [], IfOk};
+ghost use Rattle.std.specs.Prelude.{◌≡◌, []};
 
 use crate::layer::Layer;
-use crate::places::Places;
+use crate::places::TotalPlaces;
 use std::alloc::{AllocError, Global};
 use std::collections::BTreeMap;
 use std::marker::Model;
 use sv_list::{Copied, Items};
-use trim_search::{Numbering, widen};
+use trim_search::{StateNumbering, widen};
 
 /// Layers found in constant time by their places in a table, which grows up to the greatest of them; those
 /// that have no place in it are found by their order.
 #[derive(Drop)]
 pub struct LayerTable {
-    places: Places,
+    places: TotalPlaces,
     names: Vec<Layer>,
     table: Items<Option<u32>>,
     others: BTreeMap<Layer, u32>,
@@ -22,18 +22,18 @@ pub struct LayerTable {
 impl Model for LayerTable {
     ghost use Rattle.std.specs.Prelude.{List};
     ghost use Rattle.box_search.specs.declared.layer.Layer.{Layer};
-    ghost use Rattle.box_search.specs.Places.{IsIndexed};
+    ghost use Rattle.box_search.specs.Places.{IsLayerIndex};
 
     ghost Value = { List Layer };
 
     ghost view = { λ a. a.names.items };
 
-    ghost invariant = { λ a. IsIndexed a.places.uppers a.places.states a.places.machines a.names.items a.table a.others };
+    ghost invariant = { λ a. IsLayerIndex a.places.uppers a.places.states a.places.machines a.names.items a.table a.others };
 }
 
 impl LayerTable {
     /// No layer.
-    pub fn new(alloc: Global, places: Places) -> Self
+    pub fn new(alloc: Global, places: TotalPlaces) -> Self
         ensures { result ≡ [] }
     {
         LayerTable {
@@ -45,7 +45,7 @@ impl LayerTable {
     }
 }
 
-impl Numbering<Layer> for LayerTable {
+impl StateNumbering<Layer> for LayerTable {
     ghost named = { λ a. a };
 
     fn names(&self) -> &[Layer] {

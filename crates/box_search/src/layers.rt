@@ -1,12 +1,10 @@
 //! All machines in turn, as one machine.
-ghost use Rattle.std.specs.Prelude.{◌≡◌, ℕ, ℤ, pos, ◌+◌, ◌<◌, ◌≤◌, ◌↔◌, slice_get, Some, List, [], ◌++◌, length, map, take, All, false, IsTrue, MatchOption, IfOk};
-ghost use Rattle.std.specs.List.{AllByRecursion};
-ghost use Rattle.sv_linear.specs.Rows.{MeetsRow, unknowns_of};
+ghost use Rattle.std.specs.Prelude.{◌≡◌, ℕ, pos, ◌+◌, ◌<◌, ◌≤◌, ◌↔◌, slice_get, Some, List, ◌++◌, length, map, take, All, false, IsTrue, MatchOption, IfOk};
 ghost use Rattle.machine_core.specs.Costs.{zeros};
 ghost use Rattle.box_search.specs.Boxes.{IsSide, HaveSides, point_side};
 ghost use Rattle.box_search.specs.Hits.{HaveRegisters};
 ghost use Rattle.box_search.specs.Regions.{AreWithin, FitsRegion, whole_side, sides_of};
-ghost use Rattle.box_search.specs.Layers.{layer, uppers_of, AreGood, IsGood, LayerStep, LayerEnd, IsLayer, layers_top, layers_size};
+ghost use Rattle.box_search.specs.Layers.{layer, uppers_of, AreGood, AreGoodTotals, LayerStep, LayerEnd, IsLayerOf, layers_top, layers_size};
 ghost use Rattle.box_search.specs.LayerLaws.{first-layer, next-layer, layer-character, layer-step_cost, layer-end_cost, length-uppers, few-layers};
 
 use crate::finding::find;
@@ -38,7 +36,7 @@ impl<'a> Layers<'a> {
     /// none, or a total isn't in the region.
     pub fn numbers(&self, alloc: Global, totals: &[u64]) -> Result<Option<Items<i128>>, AllocError>
         requires { length totals.now ≡ length self.now.region.now.registers }
-        ensures { IfOk result (λ o. MatchOption o (IsGood self.now.rows.now self.now.region.now totals.now → ⊥)
+        ensures { IfOk result (λ o. MatchOption o (AreGoodTotals self.now.rows.now self.now.region.now totals.now → ⊥)
             (λ numbers. AreWithin (map whole_side self.now.region.now.registers) (map pos totals.now)
             × AreGood self.now.rows.now self.now.region.now totals.now numbers)) }
     {
@@ -57,7 +55,7 @@ impl<'a> Layers<'a> {
 
     /// Whether some numbers and totals of the region meet the rows, whatever the machines.
     pub fn has_point(&self, alloc: Global) -> Result<bool, AllocError>
-        ensures { IfOk result (λ b. b ≡ false → (totals : List ℕ) → IsGood self.now.rows.now self.now.region.now totals → ⊥) }
+        ensures { IfOk result (λ b. b ≡ false → (totals : List ℕ) → AreGoodTotals self.now.rows.now self.now.region.now totals → ⊥) }
     {
         let sides = all_sides(alloc, self.region)?;
         if !have_numbers(sides.as_slice()) {
@@ -143,31 +141,31 @@ impl<'a> Machine for Layers<'a> {
 
     ghost width = { λ m. length m.region.now.registers };
 
-    ghost is_state = { λ m. IsLayer m.machines.now (uppers_of m.region.now) (IsGood m.rows.now m.region.now) };
+    ghost is_state = { λ m. IsLayerOf m.machines.now (uppers_of m.region.now) (AreGoodTotals m.rows.now m.region.now) };
 
     ghost first = { λ m. layer 0 0 (zeros (length m.region.now.registers)) };
 
-    ghost ends_with = { λ m. LayerEnd m.machines.now (uppers_of m.region.now) (IsGood m.rows.now m.region.now) };
+    ghost ends_with = { λ m. LayerEnd m.machines.now (uppers_of m.region.now) (AreGoodTotals m.rows.now m.region.now) };
 
-    ghost steps_to = { λ m. LayerStep m.machines.now (uppers_of m.region.now) (IsGood m.rows.now m.region.now) };
+    ghost steps_to = { λ m. LayerStep m.machines.now (uppers_of m.region.now) (AreGoodTotals m.rows.now m.region.now) };
 
     ghost top = { λ m. layers_top m.machines.now };
 
     ghost size = { λ m. layers_size m.machines.now m.region.now };
 
-    ghost first_is_state = { λ m. first-layer m.machines.now m.region.now (IsGood m.rows.now m.region.now) };
+    ghost first_is_state = { λ m. first-layer m.machines.now m.region.now (AreGoodTotals m.rows.now m.region.now) };
 
-    ghost step_is_state = { λ m s t c cost h step. next-layer m.machines.now (uppers_of m.region.now) (IsGood m.rows.now m.region.now) s t c cost h step };
+    ghost step_is_state = { λ m s t c cost h step. next-layer m.machines.now (uppers_of m.region.now) (AreGoodTotals m.rows.now m.region.now) s t c cost h step };
 
-    ghost step_character = { λ m s t c cost h step. layer-character m.machines.now (uppers_of m.region.now) (IsGood m.rows.now m.region.now) s t c cost h step };
+    ghost step_character = { λ m s t c cost h step. layer-character m.machines.now (uppers_of m.region.now) (AreGoodTotals m.rows.now m.region.now) s t c cost h step };
 
-    ghost step_cost = { λ m s t c cost h step. layer-step_cost m.machines.now (uppers_of m.region.now) (IsGood m.rows.now m.region.now)
+    ghost step_cost = { λ m s t c cost h step. layer-step_cost m.machines.now (uppers_of m.region.now) (AreGoodTotals m.rows.now m.region.now)
         (length m.region.now.registers) m.registers s t c cost step };
 
-    ghost end_cost = { λ m s cost h end. layer-end_cost m.machines.now (uppers_of m.region.now) (IsGood m.rows.now m.region.now)
+    ghost end_cost = { λ m s cost h end. layer-end_cost m.machines.now (uppers_of m.region.now) (AreGoodTotals m.rows.now m.region.now)
         (length m.region.now.registers) (length-uppers m.region.now.registers) s cost end };
 
-    ghost states_at_most = { λ m. few-layers m.machines.now m.region.now (IsGood m.rows.now m.region.now) };
+    ghost states_at_most = { λ m. few-layers m.machines.now m.region.now (AreGoodTotals m.rows.now m.region.now) };
 
     fn registers(&self) -> usize {
         self.region.registers.len()

@@ -1,6 +1,6 @@
 //! Places of layers in a table.
-ghost use Rattle.std.specs.Prelude.{◌≡◌, ◌+◌, ◌*◌, ◌<◌, ◌≤◌, ◌^◌, true, length, IfSome, MatchOption};
-ghost use Rattle.box_search.specs.Layers.{AreBelow};
+ghost use Rattle.std.specs.Prelude.{◌≡◌, ◌+◌, ◌*◌, ◌<◌, ◌≤◌, ◌^◌, true, IfSome, MatchOption};
+ghost use Rattle.box_search.specs.Layers.{AreWithinGreatest};
 ghost use Rattle.box_search.specs.Regions.{greatest_states};
 ghost use Rattle.box_search.specs.Places.{number_of, numbers_below, HasPlace, place_of};
 
@@ -15,7 +15,7 @@ const MOST_PLACES: u64 = 4_194_304;
 /// A block for each machine, in it a row for each state of the largest one, and in that a place for each
 /// totals up to the greatest ones.
 #[derive(Drop)]
-pub struct Places {
+pub struct TotalPlaces {
     /// The greatest total of each register.
     pub uppers: Items<u64>,
     /// How many totals there are.
@@ -26,13 +26,13 @@ pub struct Places {
     pub ghost few: { points * (states * machines) ≤ 4194304 },
 }
 
-impl Places {
+impl TotalPlaces {
     /// The places of all layers, if the table isn't too large; else none at all.
     pub fn of(
         alloc: Global,
         machines: &[Explicit],
         sides: &[(u64, u64)],
-    ) -> Result<Places, AllocError> {
+    ) -> Result<TotalPlaces, AllocError> {
         let mut uppers = Items::new(alloc);
         for (_low, high) in sides {
             uppers.push(*high)?;
@@ -63,11 +63,11 @@ impl Places {
 }
 
 // The places of so many machines, and of their last layer.
-fn places_of(alloc: Global, uppers: Items<u64>, states: u64, machines: u64) -> Places {
+fn places_of(alloc: Global, uppers: Items<u64>, states: u64, machines: u64) -> TotalPlaces {
     if let Some(points) = points_of(uppers.as_slice()) {
         if let Some(machines) = machines.checked_add(1) {
             if are_few(points, states, machines) {
-                return Places {
+                return TotalPlaces {
                     uppers,
                     points,
                     states,
@@ -76,7 +76,7 @@ fn places_of(alloc: Global, uppers: Items<u64>, states: u64, machines: u64) -> P
             }
         }
     }
-    Places {
+    TotalPlaces {
         uppers: Items::new(alloc),
         points: 1,
         states: 0,
@@ -132,7 +132,7 @@ fn digits(low: u64, base: u64, high: u64) -> u64
 // The number of the totals; `None` exactly where one is above its greatest.
 fn number(totals: &[u64], uppers: &[u64]) -> Option<u64>
     requires { numbers_below uppers.now < 2 ^ 64 }
-    ensures { MatchOption result (AreBelow totals.now uppers.now → ⊥) (λ n. AreBelow totals.now uppers.now × (n ≡ number_of totals.now uppers.now)) }
+    ensures { MatchOption result (AreWithinGreatest totals.now uppers.now → ⊥) (λ n. AreWithinGreatest totals.now uppers.now × (n ≡ number_of totals.now uppers.now)) }
 {
     if totals.len() != uppers.len() {
         return None;

@@ -2,7 +2,7 @@
 ghost use Rattle.std.specs.Prelude.{IfOk, IfSome};
 ghost use Rattle.machine_core.specs.Moves.{Moves};
 ghost use Rattle.box_search.specs.Cuts.{IsRunOfAll};
-ghost use Rattle.box_search.specs.Layers.{uppers_of, IsGood, LayerStep, IsLayer};
+ghost use Rattle.box_search.specs.Layers.{uppers_of, AreGoodTotals, LayerStep, IsLayerOf};
 
 use crate::layer::Layer;
 use crate::layers::Layers;
@@ -34,8 +34,8 @@ fn step_to(
     pair: Pair,
     states: usize,
 ) -> Result<Option<Step>, AllocError>
-    requires { IsLayer layers.now.machines.now (uppers_of layers.now.region.now) (IsGood layers.now.rows.now layers.now.region.now) at.now }
-    ensures { IfOk result (λ o. IfSome o (λ s. LayerStep layers.now.machines.now (uppers_of layers.now.region.now) (IsGood layers.now.rows.now layers.now.region.now) at.now s.character s.cost s.to)) }
+    requires { IsLayerOf layers.now.machines.now (uppers_of layers.now.region.now) (AreGoodTotals layers.now.rows.now layers.now.region.now) at.now }
+    ensures { IfOk result (λ o. IfSome o (λ s. LayerStep layers.now.machines.now (uppers_of layers.now.region.now) (AreGoodTotals layers.now.rows.now layers.now.region.now) at.now s.character s.cost s.to)) }
 {
     let moves = layers.moves(alloc, at)?;
     for next in moves.into_vec() {

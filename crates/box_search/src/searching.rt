@@ -6,7 +6,7 @@ ghost use Rattle.machine_core.specs.Language.{SameRuns};
 ghost use Rattle.machine_core.specs.declared.run.Run.{Run};
 ghost use Rattle.trim_search.specs.Lifted.{IsLift};
 ghost use Rattle.box_search.specs.Regions.{IsQuestion, IsHitWithin, IsShortHit};
-ghost use Rattle.box_search.specs.Layers.{layer, uppers_of, IsGood, LayerStep, LayerEnd};
+ghost use Rattle.box_search.specs.Layers.{layer, uppers_of, AreGoodTotals, LayerStep, LayerEnd};
 ghost use Rattle.box_search.specs.Cuts.{IsRunOfAll};
 ghost use Rattle.box_search.specs.declared.layer.Layer.{Layer};
 
@@ -16,7 +16,7 @@ use crate::hitting::hit_of;
 use crate::layer::Layer;
 use crate::layer_table::LayerTable;
 use crate::layers::Layers;
-use crate::places::Places;
+use crate::places::TotalPlaces;
 use crate::region::Region;
 use machine_core::Explicit;
 use std::alloc::{AllocError, Global};
@@ -88,15 +88,15 @@ fn by_layers(alloc: Global, layers: &Layers) -> Result<Option<Hit>, AllocError>
 // All layers that are reached.
 fn explore_layers(alloc: Global, layers: &Layers) -> Result<Built<Layer>, AllocError>
     ensures runs { IfOk result (λ b. SameRuns
-        (LayerEnd layers.now.machines.now (uppers_of layers.now.region.now) (IsGood layers.now.rows.now layers.now.region.now))
-        (LayerStep layers.now.machines.now (uppers_of layers.now.region.now) (IsGood layers.now.rows.now layers.now.region.now))
+        (LayerEnd layers.now.machines.now (uppers_of layers.now.region.now) (AreGoodTotals layers.now.rows.now layers.now.region.now))
+        (LayerStep layers.now.machines.now (uppers_of layers.now.region.now) (AreGoodTotals layers.now.rows.now layers.now.region.now))
         (layer 0 0 (zeros (length layers.now.region.now.registers)))
         (EndsAt b.machine.ends) (StepsBy b.machine.edges) 0) }
     ensures lifts { IfOk result (λ b. (run : Run ℕ) (lifted : Run Layer) → IsRunOf b.machine run → IsLift b.names run lifted
         → IsRunOfAll layers.now.machines.now layers.now.rows.now layers.now.region.now lifted) }
 {
     let sides = layers.region.registers.as_slice();
-    let places = Places::of(alloc, layers.machines, sides)?;
+    let places = TotalPlaces::of(alloc, layers.machines, sides)?;
     let table = LayerTable::new(alloc, places);
     match explore_with(alloc, layers, table, u64::MAX) {
         Ok(built) => {

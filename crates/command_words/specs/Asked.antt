@@ -22,7 +22,7 @@ name_in (Answer name) = Some (option_map (λ text. text.now) name)
 name_in (Generate seed size) = None
 
 -- the command line is what the words ask for
-pub record IsAsked (words : List Text) (line : CommandLine) : Type 0 where
+pub record IsAskedLine (words : List Text) (line : CommandLine) : Type 0 where
   pub form : is_in_form words ≡ true
   pub workers : line.workers ≡ unwrap_or (workers_given words) 1
   pub task : IsTaskOf (seed_given words) (size_given words) (file_given words) line.task

@@ -1,7 +1,7 @@
 //! What the words ask for.
 ghost use Rattle.std.specs.Prelude.{◌≡◌, ◌≤◌, false, true, IfOk, IfErr, IsErrOf, map, option_map, string_bytes};
-ghost use Rattle.command_words.specs.Words.{are_options, is_in_form, are_together};
-ghost use Rattle.command_words.specs.Asked.{IsAsked, IsTaskOf, named};
+ghost use Rattle.command_words.specs.Words.{is_in_form, are_together};
+ghost use Rattle.command_words.specs.Asked.{IsAskedLine, IsTaskOf, named};
 
 use crate::options::{Options, read_options};
 use crate::words_fault::WordsFault;
@@ -42,7 +42,7 @@ fn task_of<'a>(options: &Options<'a>) -> Result<Task<'a>, WordsFault>
 ///
 /// `Outside` exactly where the words aren't of the form.
 pub fn read<'a>(alloc: Global, words: &'a [String]) -> Result<CommandLine<'a>, WordsFault>
-    ensures ok { IfOk result (λ line. IsAsked (map string_bytes words.entry.now) line) }
+    ensures ok { IfOk result (λ line. IsAskedLine (map string_bytes words.entry.now) line) }
     ensures workers { IfOk result (λ line. (1 ≤ line.workers) × (line.workers ≤ 64)) }
     ensures outside { IsErrOf result WordsFault.Outside → is_in_form (map string_bytes words.entry.now) ≡ false }
     ensures unnamed { IsErrOf result WordsFault.Outside → named (map string_bytes words.entry.now) ≡ None }

@@ -9,10 +9,10 @@ use Rattle.sv_terms.specs.Meaning.{Named}
 use Rattle.sv_terms.specs.Truth.{AreWorded}
 use Rattle.box_search.specs.declared.region.Region.{Region}
 use Rattle.leaf_solve.specs.Longs.{letters}
-use Rattle.straight_line.specs.Bounds.{greatest, sources_of}
-use Rattle.straight_line.specs.Growth.{growth, growth_of, longest_word, reach}
-use Rattle.straight_line.specs.NumberLaws.{source_length}
-use Rattle.straight_line.specs.Satisfying.{word_at, lengths_of, IsOf, Satisfies}
+use Rattle.cube_bounds.specs.Bounds.{greatest, sources_of}
+use Rattle.cube_bounds.specs.Growth.{growth, growth_of, longest_word, reach}
+use Rattle.cube_bounds.specs.NumberLaws.{source_length}
+use Rattle.straight_line.specs.Satisfying.{word_at, lengths_of, AreModelValues, Satisfies}
 use Rattle.straight_line.specs.Straight.{IsStraight}
 use Rattle.straight_line.specs.declared.flat.Flat.{Flat}
 use Rattle.backward.specs.Chains.{IsLedFrom}
@@ -28,10 +28,10 @@ use Rattle.cube_search.specs.Regions.{IsRegionFor}
 use Rattle.cube_search.specs.Searches.{IsFound}
 use Rattle.cube_search.specs.Tallies.{IsTally, IsCovered, IsAccounted}
 use Rattle.cube_search.specs.declared.answer.Refutation.{Refutation}
-use Rattle.cube_search.specs.declared.found.Found.{Found}
+use Rattle.cube_search.specs.declared.found.FoundRuns.{FoundRuns}
 use Rattle.cube_search.specs.declared.tally.Given.{Given}
 use Rattle.cube_search.specs.declared.tally.TooLong.{TooLong}
-use Rattle.cube_search.specs.declared.tally.Tally.{Tally}
+use Rattle.cube_search.specs.declared.tally.LeafTally.{LeafTally}
 use Rattle.cube_search.proofs.FirstLemmas.{range-at, satisfies-conf, satisfies-obey}
 use Rattle.cube_search.proofs.FoundLemmas.{sources-all}
 
@@ -71,7 +71,7 @@ abbrev AllAccounted : Flat → Region → Option Given → Option TooLong → Re
 AllAccounted flat region g l r = EachSolution flat (λ ws ints. IsAccounted flat region (record { given = g; long = l; closed = r }) (word_at ws) (lengths_of flat.registers ws) ints)
 
 -- whatever satisfies the cube is accounted for
-accounted : (flat : Flat) (region : Region) (ms : Family) (tally : Tally) → IsStraight flat → IsLedFrom flat (length flat.definitions) ms → IsCovered flat region (length flat.definitions) ms tally
+accounted : (flat : Flat) (region : Region) (ms : Family) (tally : LeafTally) → IsStraight flat → IsLedFrom flat (length flat.definitions) ms → IsCovered flat region (length flat.definitions) ms tally
     → EachSolution flat (λ ws ints. IsAccounted flat region tally (word_at ws) (lengths_of flat.registers ws) ints)
 accounted flat region ms tally straight led covered ws ints s =
     covered (word_at ws) (lengths_of flat.registers ws) ints (satisfies-conf flat ms straight led ws s.strings) (satisfies-obey flat ws s.strings) (record { count = s.rows.count; each = s.rows.rows })
@@ -108,14 +108,14 @@ module _ (flat : Flat) (region : Region) (for : IsRegionFor flat region) where
     | inr e ↦ absurd (is.given.2 e.0)
   ]
 
-  pub left-answers : (ms : Family) (tally : Tally) → IsStraight flat → IsLedFrom flat (length flat.definitions) ms → IsTally flat tally → IsCovered flat region (length flat.definitions) ms tally → IsCubeAnswer flat (left_of tally)
+  pub left-answers : (ms : Family) (tally : LeafTally) → IsStraight flat → IsLedFrom flat (length flat.definitions) ms → IsTally flat tally → IsCovered flat region (length flat.definitions) ms tally → IsCubeAnswer flat (left_of tally)
   left-answers ms tally straight led is covered = left-right tally.given tally.long tally.closed is (accounted flat region ms tally straight led covered)
 
-  pub left-decides : (tally : Tally) → IsTally flat tally → MustDecideFlat flat → IsDecided (left_of tally)
+  pub left-decides : (tally : LeafTally) → IsTally flat tally → MustDecideFlat flat → IsDecided (left_of tally)
   left-decides tally is must = left-decided tally.given tally.long tally.closed is must
 
-pub model-of : (flat : Flat) (ms : Family) (found : Found) (values : Named) → IsFound flat (length flat.definitions) ms found → Satisfies flat (all_words (length flat.variables) found.runs) found.integers
-    → IsOf flat (all_words (length flat.variables) found.runs) found.integers values → AreWorded values → IsModelOf flat values
+pub model-of : (flat : Flat) (ms : Family) (found : FoundRuns) (values : Named) → IsFound flat (length flat.definitions) ms found → Satisfies flat (all_words (length flat.variables) found.runs) found.integers
+    → AreModelValues flat (all_words (length flat.variables) found.runs) found.integers values → AreWorded values → IsModelOf flat values
 model-of flat ms found values is s of worded =
     let n = length flat.variables in
     let f = run_words found.runs in

@@ -22,21 +22,22 @@ use Rattle.box_search.specs.declared.region.Region.{Region}
 use Rattle.farkas_check.specs.declared.system.System.{System}
 use Rattle.lia_branch.specs.declared.evidence.Evidence.{Evidence}
 use Rattle.parikh_flow.specs.Rows.{IsSystemOf}
-use Rattle.leaf_solve.specs.Answers.{HasNoHit, IsLeafAnswer, IsLongAnswer, IsOpenAnswer, IsSatAnswer, IsDecided, MustDecide, row_reach}
+use Rattle.leaf_solve.specs.Answers.{HasNoHit, IsLeafAnswer, IsLongAnswer, IsOpenAnswer, IsSatAnswer, IsDecided, MustDecideLeaf, row_reach}
 use Rattle.leaf_solve.specs.Longs.{HasRun, IsShortestWord, IsLongShown}
 use Rattle.leaf_solve.specs.Questions.{IsAsked, EachHit, LieIn, total_states}
 use Rattle.leaf_solve.specs.declared.leaf_answer.LeafAnswer.{LeafAnswer}
 use Rattle.leaf_solve.specs.declared.leaf_answer.LeafAnswer.TheVariants as leaf
 use Rattle.leaf_solve.specs.declared.long_shown.LongShown.{LongShown}
 use Rattle.leaf_solve.specs.declared.long_shown.LongShown.TheVariants.{Words, Rows}
-use Rattle.straight_line.specs.Bounds.{is_defined, states, sources}
-use Rattle.straight_line.specs.Growth.{growth, longest_word, reach}
-use Rattle.straight_line.specs.Sides.{IsSmall}
-use Rattle.straight_line.specs.Straight.{IsRowOf, IsStraight}
+use Rattle.straight_line.specs.Using.{is_defined}
+use Rattle.cube_bounds.specs.Bounds.{states, sources}
+use Rattle.cube_bounds.specs.Growth.{growth, longest_word, reach}
+use Rattle.cube_bounds.specs.Sides.{IsSmall}
+use Rattle.straight_line.specs.Straight.{IsRowBelow, IsStraight}
 use Rattle.straight_line.specs.declared.flat.Flat.{Flat}
 use Rattle.backward.specs.Chains.{width}
 use Rattle.cube_search.specs.Causes.{IsLongFor}
-use Rattle.cube_search.specs.Leaves.{AreOfLeaf, EachHitOf, IsAnswerFor, IsOutside, IsPastReach, IsUndecided, past_words, words_of}
+use Rattle.cube_search.specs.Leaves.{AreOfLeaf, EachHitOf, IsAnswerFor, IsLeafOutside, IsPastReach, IsUndecided, past_words, words_of}
 use Rattle.cube_search.specs.Limits.{MustDecideFlat}
 use Rattle.cube_search.specs.Regions.{IsRegionFor}
 use Rattle.cube_search.proofs.RowLemmas.{rows-within}
@@ -141,7 +142,7 @@ module _ (flat : Flat) (region : Region) (machines : List Graph) (r : ℕ) (for 
     registers = wide-region;
     few_registers = (let a = straight.few_registers in let b = for.registers in omega arith);
     few_integers = straight.few_integers;
-    rows_within = rows-within (length flat.integers + length region.registers) flat.rows (subst (λ n. AllByRecursion (IsRowOf (length flat.integers + n)) flat.rows) (sym for.registers) straight.rows);
+    rows_within = rows-within (length flat.integers + length region.registers) flat.rows (subst (λ n. AllByRecursion (IsRowBelow (length flat.integers + n)) flat.rows) (sym for.registers) straight.rows);
     few_characters = reach-most flat r is;
     holds = λ e runs numbers hit.
         for.box (is_small.0 e) numbers (runs_total (length region.registers) runs) (totals-length (length region.registers) machines runs wide-region hit.each ∙ for.registers) hit.meets;
@@ -158,7 +159,7 @@ module _ (flat : Flat) (region : Region) (machines : List Graph) (r : ℕ) (for 
   }
 
   -- where the text says that the cube must be decided, so must the leaf
-  pub must-decide-leaf : (small : Bool) → (IsTrue small ↔ IsSmall flat) → MustDecideFlat flat → MustDecide machines flat.rows small r
+  pub must-decide-leaf : (small : Bool) → (IsTrue small ↔ IsSmall flat) → MustDecideFlat flat → MustDecideLeaf machines flat.rows small r
   must-decide-leaf small is_small must = elim must.search [
     | inl s ↦ inl (is_small.1 s)
     | inr e ↦
@@ -171,7 +172,7 @@ module _ (flat : Flat) (region : Region) (machines : List Graph) (r : ℕ) (for 
   each-of : (fact : List (Run ℕ) → Type 0) → EachHit machines (length region.registers) (length flat.integers) flat.rows (λ runs numbers. fact runs) → EachHitOf flat region machines fact
   each-of fact h = subst (λ n. EachHit machines n (length flat.integers) flat.rows (λ runs numbers. fact runs)) for.registers h
 
-  outside-of : All HasRun machines → EachHit machines (length region.registers) (length flat.integers) flat.rows (λ runs numbers. LieIn region runs numbers → ⊥) → IsOutside flat region machines
+  outside-of : All HasRun machines → EachHit machines (length region.registers) (length flat.integers) flat.rows (λ runs numbers. LieIn region runs numbers → ⊥) → IsLeafOutside flat region machines
   outside-of runs h = record {
     inhabited = runs;
     none_in_region = subst (λ n. EachHit machines n (length flat.integers) flat.rows (λ runs numbers. LieIn region runs numbers → ⊥)) for.registers h;
@@ -285,5 +286,5 @@ module _ (flat : Flat) (region : Region) (machines : List Graph) (r : ℕ) (for 
   pub answered-past-at : ((flat.rows ≡ [] → ⊥) → pos 0 ≤ℤ reach flat) → (a : LeafAnswer) → reach flat <ℤ pos 0 → IsLeafAnswer machines len rows region small r a → IsAnswerFor flat region machines (past_words a)
   answered-past-at reachable a negative h = answered-past flat region machines r for of is reachable small is_small a negative (own a h)
 
-  pub decided-at : (a : LeafAnswer) → (MustDecide machines rows small r → IsDecided a) → MustDecideFlat flat → IsDecided a
-  decided-at a decided must = decided (subst (λ x. MustDecide machines x small r) (sym same-rows) (must-decide-leaf flat region machines r for of is small is_small must))
+  pub decided-at : (a : LeafAnswer) → (MustDecideLeaf machines rows small r → IsDecided a) → MustDecideFlat flat → IsDecided a
+  decided-at a decided must = decided (subst (λ x. MustDecideLeaf machines x small r) (sym same-rows) (must-decide-leaf flat region machines r for of is small is_small must))

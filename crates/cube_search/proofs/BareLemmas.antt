@@ -5,7 +5,7 @@ use Rattle.sv_linear.specs.declared.row.Row.{Row}
 use Rattle.bool_cubes.specs.Linear.{Unknown, length_of}
 use Rattle.bool_cubes.specs.Shapes.{Shape}
 use Rattle.straight_line.specs.Flattening.{Bounded, IsFlatOf, IsRowFor, all_bounded, has_column, registers_of, unknowns_of, variable_of}
-use Rattle.straight_line.specs.Met.{Draft}
+use Rattle.straight_line.specs.Met.{DraftView}
 use Rattle.straight_line.specs.declared.flat.Flat.{Flat}
 
 no-forms : (us : List Unknown) (bs : List Bounded) (rows : List Row) → rows ≡ [] → AllZip (IsRowFor us) bs rows → bs ≡ []
@@ -16,7 +16,7 @@ no-columns : (rs : List (Shape × ℕ)) → filter (λ (r : Shape × ℕ). has_c
 no-columns [] = refl
 no-columns (r ∷ rs) = no-columns rs
 
-pub bare : (d : Draft) (flat : Flat) → IsFlatOf d flat → flat.rows ≡ [] → flat.registers ≡ []
+pub bare : (d : DraftView) (flat : Flat) → IsFlatOf d flat → flat.rows ≡ [] → flat.registers ≡ []
 bare d flat of e =
     let none = no-forms (unknowns_of d) (all_bounded d) flat.rows e of.rows in
     let empty : registers_of d ≡ [] = ap (λ bs. filter (λ (r : Shape × ℕ). has_column bs (length_of r.0)) d.registers) none ∙ no-columns d.registers in

@@ -24,7 +24,7 @@ use Rattle.leaf_solve.specs.contracts.long_shown.Beyond as beyond
 use Rattle.leaf_solve.specs.contracts.long_shown.LongShown as shown
 use Rattle.bool_cubes.specs.contracts.literal.Literal as literal
 use Rattle.cube_search.specs.contracts.answer.CubeAnswer as answer
-use Rattle.cube_search.specs.contracts.reason.Reason as reason
+use Rattle.cube_search.specs.contracts.reason.OpenReason as reason
 use Rattle.cube_search.specs.contracts.reason.Shown as outside
 
 ruleset parts = (

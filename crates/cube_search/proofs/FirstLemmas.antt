@@ -10,18 +10,19 @@ use Rattle.machine_core.specs.RunLaws.{run_accepted}
 use Rattle.machine_core.specs.Runs.{run_total}
 use Rattle.machine_core.specs.declared.graph.Graph.{Graph}
 use Rattle.sv_linear.specs.Rows.{MeetsRows}
-use Rattle.straight_line.specs.Bounds.{used, states_at}
-use Rattle.straight_line.specs.Satisfying.{Meets, word_at, Defines, lengths_of, SatisfiesWords, Satisfies}
+use Rattle.straight_line.specs.Using.{used}
+use Rattle.cube_bounds.specs.Bounds.{states_at}
+use Rattle.straight_line.specs.Satisfying.{MeetsParts, word_at, Defines, lengths_of, SatisfiesWords, Satisfies}
 use Rattle.straight_line.specs.Straight.{IsStraight, InOrder, AreBelow}
 use Rattle.straight_line.specs.declared.definition.Definition.{Definition}
 use Rattle.straight_line.specs.declared.flat.Flat.{Flat}
 use Rattle.straight_line.specs.declared.variable.Variable.{Variable}
 use Rattle.backward.specs.Families.{Family, Words, after, HasMachine, Conf}
-use Rattle.backward.specs.Chains.{width, own_cost, ReadsOwn, IsOwn, IsLed, begun, same, cut, through, IsLedFrom, SameConf}
+use Rattle.backward.specs.Chains.{width, own_cost, ReadsOwn, IsOwnFamily, IsLed, begun, same, cut, through, IsLedFrom, SameConf}
 use Rattle.backward.specs.Runs.{Runs, AreRuns, run_words, run_totals}
 use Rattle.cube_search.specs.Models.{all_words}
 use Rattle.cube_search.specs.Searches.{IsFound, Obey}
-use Rattle.cube_search.specs.declared.found.Found.{Found}
+use Rattle.cube_search.specs.declared.found.FoundRuns.{FoundRuns}
 use Rattle.cube_search.proofs.FoundLemmas.{comes-agree}
 use Rattle.cube_search.proofs.OrderLemmas.{get-below, get-there}
 
@@ -64,7 +65,7 @@ map-below : (f : Words) (n : ℕ) (us : List ℕ) → AreBelow n us → map (own
 map-below f n [] h = refl
 map-below f n (u ∷ us) h = let here = entry-at f 0 n u (omega arith) (omega (arith, h.0)) in let rest = map-below f n us h.1 in cc
 
-own-full : (flat : Flat) (ms : Family) → IsOwn flat ms → (v : ℕ) → slice_get ms v ≡ Some None → ⊥
+own-full : (flat : Flat) (ms : Family) → IsOwnFamily flat ms → (v : ℕ) → slice_get ms v ≡ Some None → ⊥
 own-full flat ms own v e =
     let below = get-below ms v None e in
     let size = own.size in
@@ -73,7 +74,7 @@ own-full flat ms own v e =
     let at = m.1 in
     cc
 
-own-reads : (flat : Flat) (ms : Family) → IsOwn flat ms → (v : ℕ) (m : Graph) → HasMachine ms v m → (variable : Variable) × (slice_get flat.variables v ≡ Some variable) × ReadsOwn flat v variable m
+own-reads : (flat : Flat) (ms : Family) → IsOwnFamily flat ms → (v : ℕ) (m : Graph) → HasMachine ms v m → (variable : Variable) × (slice_get flat.variables v ≡ Some variable) × ReadsOwn flat v variable m
 own-reads flat ms own v m h =
     let below = get-below ms v (Some m) h in
     let size = own.size in
@@ -88,11 +89,11 @@ range-at f k zero v h = absurd (omega arith)
 range-at f k (suc n) zero h = ap f (omega arith)
 range-at f k (suc n) (suc v) h = range-at f (k + 1) n v (omega arith) ∙ ap f (omega arith)
 
-zip-range : (f : Words) (k : ℕ) (xs : List Variable) → ((v : ℕ) (x : Variable) → slice_get xs v ≡ Some x → Meets x (f (k + v))) → AllZip Meets xs (map f (range_with_len k (length xs)))
+zip-range : (f : Words) (k : ℕ) (xs : List Variable) → ((v : ℕ) (x : Variable) → slice_get xs v ≡ Some x → MeetsParts x (f (k + v))) → AllZip MeetsParts xs (map f (range_with_len k (length xs)))
 zip-range f k [] h = tt
 zip-range f k (x ∷ xs) h = (
-  subst (λ j. Meets x (f j)) (omega arith) (h 0 x refl),
-  zip-range f (k + 1) xs (λ v y e. let at : k + suc v ≡ k + 1 + v = omega arith in subst (λ j. Meets y (f j)) at (h (suc v) y e)),
+  subst (λ j. MeetsParts x (f j)) (omega arith) (h 0 x refl),
+  zip-range f (k + 1) xs (λ v y e. let at : k + suc v ≡ k + 1 + v = omega arith in subst (λ j. MeetsParts y (f j)) at (h (suc v) y e)),
 )
 
 below-agree : (f g : Words) (n : ℕ) → ((v : ℕ) → v < n → f v ≡ g v) → (vs : List ℕ) → AreBelow n vs → AllByRecursion (λ u. f u ≡ g u) vs
@@ -173,7 +174,7 @@ led-first n ds states First left ms (cut {left = k} {ms = ns} x pieces cuts m be
 led-first n ds states First left ms (through {left = k} {ms = ns} x v b m before at reads there few is) e = absurd (let below = get-below ds k _ at in omega (arith, below, e))
 
 -- what satisfies the cube is read by a first family, and obeys the definitions
-own-conf : (flat : Flat) (ms : Family) → IsStraight flat → IsOwn flat ms → (ws : List Word) → SatisfiesWords flat ws → Conf (width flat) ms (word_at ws) (lengths_of flat.registers ws)
+own-conf : (flat : Flat) (ms : Family) → IsStraight flat → IsOwnFamily flat ms → (ws : List Word) → SatisfiesWords flat ws → Conf (width flat) ms (word_at ws) (lengths_of flat.registers ws)
 own-conf flat ms straight own ws s =
     let f = word_at ws in
     let below = subst (λ n. AreBelow n flat.registers) (sym own.size) straight.registers in
@@ -181,13 +182,13 @@ own-conf flat ms straight own ws s =
     (conf-own flat.registers f ms 0 f (λ v. ap f (omega arith)) (own-full flat ms own)
     (λ v m h.
     let r = own-reads flat ms own v m h in
-    let meets = zip-at Meets flat.variables ws [] s.parts v r.0 r.1 in
+    let meets = zip-at MeetsParts flat.variables ws [] s.parts v r.0 r.1 in
     let at : v ≡ 0 + v = omega arith in
     subst (λ j. Accepts m (f j) (own_cost flat.registers j (f j))) at ((r.2 (f v) (own_cost flat.registers v (f v))).1 (meets, refl))))
 
 pub satisfies-conf : (flat : Flat) (ms : Family) → IsStraight flat → IsLedFrom flat (length flat.definitions) ms → (ws : List Word) → SatisfiesWords flat ws → Conf (width flat) ms (word_at ws) (lengths_of flat.registers ws)
 satisfies-conf flat ms straight led ws s =
-    let first = led-first (width flat) flat.definitions (states_at flat) (IsOwn flat) (length flat.definitions) ms led refl in
+    let first = led-first (width flat) flat.definitions (states_at flat) (IsOwnFamily flat) (length flat.definitions) ms led refl in
     (first.2 (word_at ws) (lengths_of flat.registers ws)).0 (own-conf flat first.0 straight first.1 ws s)
 
 pub satisfies-obey : (flat : Flat) (ws : List Word) → SatisfiesWords flat ws → Obey (take (length flat.definitions) flat.definitions) (word_at ws)
@@ -211,13 +212,13 @@ runs-conf n (Some m ∷ ms) (Some run ∷ rs) r f at = (
 )
 
 -- what was found satisfies the cube
-pub found-satisfies : (flat : Flat) (ms : Family) (found : Found) → IsStraight flat → IsLedFrom flat (length flat.definitions) ms → flat.broken ≡ false → IsFound flat (length flat.definitions) ms found
+pub found-satisfies : (flat : Flat) (ms : Family) (found : FoundRuns) → IsStraight flat → IsLedFrom flat (length flat.definitions) ms → flat.broken ≡ false → IsFound flat (length flat.definitions) ms found
     → Satisfies flat (all_words (length flat.variables) found.runs) found.integers
 found-satisfies flat ms found straight led whole is =
     let n = length flat.variables in
     let f = run_words found.runs in
     let ws = all_words n found.runs in
-    let first = led-first (width flat) flat.definitions (states_at flat) (IsOwn flat) (length flat.definitions) ms led refl in
+    let first = led-first (width flat) flat.definitions (states_at flat) (IsOwnFamily flat) (length flat.definitions) ms led refl in
     let own = first.1 in
     let conf : Conf (width flat) first.0 f (run_totals (width flat) found.runs) = (first.2 f (run_totals (width flat) found.runs)).1 (runs-conf (width flat) ms found.runs is.runs f (λ v. refl)) in
     let at : (v : ℕ) → v < n → f v ≡ word_at ws v = λ v h. sym (range-at f 0 n v h ∙ ap f (omega arith)) in
@@ -233,7 +234,7 @@ found-satisfies flat ms found straight led whole is =
             let m = own.each v x e in
             let a = conf-accepts (width flat) first.0 f (run_totals (width flat) found.runs) conf v m.0 m.1 in
             let here : v ≡ 0 + v = omega arith in
-            subst (λ j. Meets x (f j)) here ((m.2 (f v) a.0).0 a.1).0);
+            subst (λ j. MeetsParts x (f j)) here ((m.2 (f v) a.0).0 a.1).0);
         definitions = obeyed ws f n at flat.definitions straight.order (subst (λ ds. Obey ds f) (take-all flat.definitions) is.obey);
       };
       rows = record { count = met.count; rows = met.each };

@@ -1,5 +1,5 @@
 -- What was found, taken back over a step, and spread from the runs of a leaf.
-use Rattle.std.proofs.Common.{◌≡◌, ℕ, zero, suc, ◌<◌, ◌≤◌, ◌+◌, ℤ, pos, ◌≤ℤ◌, Bool, true, false, not, ◌||◌, List, [], ◌∷◌, length, map, filter, take, All, Some, None, nat_eq, eqb, cond, slice_get, refl, sym, ap, ◌∙◌, subst, arith, eq-eqb}
+use Rattle.std.proofs.Common.{◌≡◌, ℕ, zero, suc, ◌<◌, ◌≤◌, ◌+◌, ℤ, pos, ◌≤ℤ◌, Bool, true, false, not, ◌||◌, List, [], ◌∷◌, length, map, filter, take, All, Some, None, nat_eq, cond, slice_get, refl, sym, ap, ◌∙◌, subst, arith, eq-eqb}
 use Rattle.std.specs.List.{AllByRecursion, AllZip, range_with_len}
 use Rattle.std.proofs.lemmas.Bool.{false≢true}
 use Rattle.sv_terms.specs.Language.{Word}
@@ -16,8 +16,8 @@ use Rattle.box_search.specs.declared.hit.Hit.{Hit}
 use Rattle.box_search.specs.declared.region.Region.{Region}
 use Rattle.leaf_solve.specs.Longs.{letters}
 use Rattle.trim_search.specs.declared.built.Built.{Built}
-use Rattle.straight_line.specs.Bounds.{is_defined, used}
-use Rattle.straight_line.specs.Growth.{reach}
+use Rattle.straight_line.specs.Using.{is_defined, used}
+use Rattle.cube_bounds.specs.Growth.{reach}
 use Rattle.straight_line.specs.Satisfying.{ComesBy}
 use Rattle.straight_line.specs.Straight.{IsStraight, InOrder}
 use Rattle.straight_line.specs.declared.definition.By.{By}
@@ -34,7 +34,7 @@ use Rattle.backward.specs.declared.leaf_state.LeafState.{LeafState}
 use Rattle.cube_search.specs.Leaves.{AreLifted, IsHitOf, IsTrim, machine_of, words_of}
 use Rattle.cube_search.specs.Models.{IsSpread}
 use Rattle.cube_search.specs.Searches.{IsFound, Obey}
-use Rattle.cube_search.specs.declared.found.Found.{Found}
+use Rattle.cube_search.specs.declared.found.FoundRuns.{FoundRuns}
 use Rattle.cube_search.proofs.OrderLemmas.{obey-join}
 use Rattle.cube_search.proofs.Places.{places_from, sources-places}
 use Rattle.cube_search.proofs.TrimLemmas.{lifted-runs, lifted-words, lifted-totals}
@@ -112,7 +112,7 @@ pub sources-all : (flat : Flat) (f g : Words) → ((v : ℕ) → v < length flat
 sources-all flat f g at = sources-agreeing (λ v. not (is_defined flat.definitions v)) f g (length flat.variables) at 0 (length flat.variables) (omega arith)
 
 -- runs taken back over a step
-pub lift-found : (flat : Flat) (at : ℕ) (ms ns : Family) (found : Found) (runs : Runs) → IsStraight flat → (d : Definition) → slice_get flat.definitions at ≡ Some d
+pub lift-found : (flat : Flat) (at : ℕ) (ms ns : Family) (found : FoundRuns) (runs : Runs) → IsStraight flat → (d : Definition) → slice_get flat.definitions at ≡ Some d
     → IsFound flat at ns found → AreBack ms d.variable found.runs runs → ComesBy (run_words runs) (run_words runs d.variable) d.by
     → IsFound flat (suc at) ms (record { runs = runs; integers = found.integers })
 lift-found flat at ms ns found runs straight d e is back defined = record {
@@ -171,7 +171,7 @@ letters-characters [] = refl
 letters-characters (r ∷ rs) = ap (λ n. length r.word + n) (letters-characters rs)
 
 -- a hit of the machines that were cut down, taken back and put at the places of the variables
-pub hit-found : (flat : Flat) (region : Region) (s : LeafState) (ts : List (Built ℕ)) (hit : Hit) (others : List (Run ℕ)) (found : Found) → IsState flat 0 s
+pub hit-found : (flat : Flat) (region : Region) (s : LeafState) (ts : List (Built ℕ)) (hit : Hit) (others : List (Run ℕ)) (found : FoundRuns) → IsState flat 0 s
     → AllZip IsTrim (machines_of s.machines) ts → IsHitOf flat region (map machine_of ts) hit → AreLifted ts hit.runs others
     → found.integers ≡ hit.integers → IsSpread s.machines others found.runs → IsFound flat 0 s.machines found
 hit-found flat region s ts hit others found state z is lift ints_same spread =

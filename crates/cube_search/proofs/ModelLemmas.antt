@@ -13,14 +13,14 @@ use Rattle.sv_terms.specs.Truth.{AreWorded, IsWorded}
 use Rattle.sv_terms.specs.declared.value.Value.{Value}
 use Rattle.sv_terms.specs.declared.value.Value.TheVariants as value
 use Rattle.machine_core.specs.declared.run.Run.{Run}
-use Rattle.straight_line.specs.Satisfying.{HasValue, Meets, NamesHave, Satisfies}
+use Rattle.straight_line.specs.Satisfying.{HasValue, MeetsParts, NamesHave, Satisfies}
 use Rattle.straight_line.specs.Straight.{AreNamesApart, all_names, string_names}
 use Rattle.straight_line.specs.declared.flat.Flat.{Flat}
 use Rattle.straight_line.specs.declared.variable.Variable.{Variable}
 use Rattle.backward.specs.Runs.{Runs, run_words}
 use Rattle.cube_search.specs.Entries.{all_entries, number_entries, string_entries, text_entries, truth_entries, word_of}
 use Rattle.cube_search.specs.Models.{IsNamedBy, all_words}
-use Rattle.cube_search.specs.declared.found.Found.{Found}
+use Rattle.cube_search.specs.declared.found.FoundRuns.{FoundRuns}
 use Rattle.cube_search.proofs.Named.{all-found}
 
 abbrev same : List ℕ → List ℕ → Bool
@@ -69,7 +69,7 @@ truth-keys : (ts : List (List ℕ × Bool)) → keys_of (truth_entries ts) ≡ m
 truth-keys [] = refl
 truth-keys (t ∷ ts) = ap (λ ks. t.0 ∷ ks) (truth-keys ts)
 
-all-keys : (flat : Flat) (found : Found) → length found.integers ≡ length flat.integers → keys_of (all_entries flat found) ≡ all_names flat
+all-keys : (flat : Flat) (found : FoundRuns) → length found.integers ≡ length flat.integers → keys_of (all_entries flat found) ≡ all_names flat
 all-keys flat found e =
     keys-joined (string_entries found.runs 0 flat.variables ++ number_entries flat.integers found.integers) (truth_entries flat.truths)
     ∙ (λ i. keys-joined (string_entries found.runs 0 flat.variables) (number_entries flat.integers found.integers) i ++ truth-keys flat.truths i)
@@ -131,11 +131,11 @@ module _ where
   texts-worded w [] h = tt
   texts-worded w (n ∷ names) h = (h, texts-worded w names h)
 
-  strings-worded : (rs : Runs) (v : ℕ) (vs : List Variable) → AllZip Meets vs (map (run_words rs) (range_with_len v (length vs))) → AllByRecursion W (string_entries rs v vs)
+  strings-worded : (rs : Runs) (v : ℕ) (vs : List Variable) → AllZip MeetsParts vs (map (run_words rs) (range_with_len v (length vs))) → AllByRecursion W (string_entries rs v vs)
   strings-worded rs v [] h = tt
   strings-worded rs v (x ∷ vs) h =
       joined W (text_entries (run_words rs v) x.names) (string_entries rs (suc v) vs) (texts-worded (run_words rs v) x.names h.0.0)
-      (strings-worded rs (suc v) vs (subst (λ n. AllZip Meets vs (map (run_words rs) (range_with_len n (length vs)))) (let e : v + 1 ≡ suc v = omega arith in e) h.1))
+      (strings-worded rs (suc v) vs (subst (λ n. AllZip MeetsParts vs (map (run_words rs) (range_with_len n (length vs)))) (let e : v + 1 ≡ suc v = omega arith in e) h.1))
 
   numbers-worded : (ns : List (List ℕ)) (zs : List ℤ) → AllByRecursion W (number_entries ns zs)
   numbers-worded [] zs = tt
@@ -146,7 +146,7 @@ module _ where
   truths-worded [] = tt
   truths-worded (t ∷ ts) = (tt, truths-worded ts)
 
-module _ (flat : Flat) (found : Found) (values : Named) (is : values ≡ insert_all same [] (all_entries flat found)) where
+module _ (flat : Flat) (found : FoundRuns) (values : Named) (is : values ≡ insert_all same [] (all_entries flat found)) where
   pub named-by : AreNamesApart flat → length found.integers ≡ length flat.integers → IsNamedBy flat found values
   named-by apart e =
       let d = subst (IsDistinct same) (sym (all-keys flat found e)) apart in
@@ -167,7 +167,7 @@ module _ (flat : Flat) (found : Found) (values : Named) (is : values ≡ insert_
       (truths-worded flat.truths)))
 
 -- the entries, set one list after another
-pub set-in-turn : (flat : Flat) (found : Found) (a b d : Named) → a ≡ insert_all same [] (string_entries found.runs 0 flat.variables) → b ≡ insert_all same a (number_entries flat.integers found.integers)
+pub set-in-turn : (flat : Flat) (found : FoundRuns) (a b d : Named) → a ≡ insert_all same [] (string_entries found.runs 0 flat.variables) → b ≡ insert_all same a (number_entries flat.integers found.integers)
     → d ≡ insert_all same b (truth_entries flat.truths) → d ≡ insert_all same [] (all_entries flat found)
 set-in-turn flat found a b d e f g =
     g ∙ ap (λ vs. insert_all same vs (truth_entries flat.truths)) (f ∙ ap (λ vs. insert_all same vs (number_entries flat.integers found.integers)) e

@@ -13,10 +13,10 @@ use Rattle.sv_linear.specs.Rows.{RowFits, terms_weight}
 use Rattle.sv_linear.specs.declared.row.Row.{Row}
 use Rattle.box_search.specs.Regions.{IsInRegion, IsWithin, amounts, greatest_amount, integer_points, points, register_points, sides_of, whole_side}
 use Rattle.box_search.specs.declared.region.Region.{Region}
-use Rattle.straight_line.specs.Bounds.{sources, states}
-use Rattle.straight_line.specs.Growth.{reach}
-use Rattle.straight_line.specs.Sides.{IsSmall}
-use Rattle.straight_line.specs.Straight.{IsRowOf, IsStraight}
+use Rattle.cube_bounds.specs.Bounds.{sources, states}
+use Rattle.cube_bounds.specs.Growth.{reach}
+use Rattle.cube_bounds.specs.Sides.{IsSmall}
+use Rattle.straight_line.specs.Straight.{IsRowBelow, IsStraight}
 use Rattle.straight_line.specs.declared.flat.Flat.{Flat}
 use Rattle.cube_search.specs.Bounding.{IsNearRegion, near_bounds, near_region}
 use Rattle.cube_search.specs.Regions.{IsNearNumber, IsNearOwed, IsNearSide, IsRegionFor, Near, near_amount, quantities}
@@ -91,7 +91,7 @@ near-amounts s i r u = by_test (nat_le i u) refl
         subst (λ (b : ℤ × ℤ). greatest_amount b ≤ s / 2) (sym front) (near-amount s)
 
 -- rows without unknowns fit whatever the amounts are
-fits-any : (f g : ℕ → ℕ) (rs : List Row) → AllByRecursion (IsRowOf 0) rs → AllByRecursion (RowFits f) rs → AllByRecursion (RowFits g) rs
+fits-any : (f g : ℕ → ℕ) (rs : List Row) → AllByRecursion (IsRowBelow 0) rs → AllByRecursion (RowFits f) rs → AllByRecursion (RowFits g) rs
 fits-any f g [] a h = tt
 fits-any f g (r ∷ rs) a h = (by_terms r.form.coefficients a.0.unknowns h.0, fits-any f g rs a.1 h.1)
   where
@@ -108,7 +108,7 @@ module _ (flat : Flat) (straight : IsStraight flat) (s : ℕ) (some : 1 ≤ s) w
       record {
         few = subst (λ n. states flat * n * sources flat ≤ 1048576) p h.few;
         within = subst (λ n. pos (states flat * n * sources flat) ≤ℤ reach flat) p h.within;
-        fits = fits-any (near_amount flat t) (near_amount flat s) flat.rows (subst (λ n. AllByRecursion (IsRowOf n) flat.rows) none straight.rows) h.fits;
+        fits = fits-any (near_amount flat t) (near_amount flat s) flat.rows (subst (λ n. AllByRecursion (IsRowBelow n) flat.rows) none straight.rows) h.fits;
       }
 
   region-points : (b : Bool) → points (near_region flat s b) ≡ s ^ quantities flat

@@ -4,8 +4,8 @@ use Rattle.std.specs.Prelude.{◌↔◌}
 use Rattle.std.specs.List.{AllByRecursion}
 use Rattle.sv_linear.specs.Rows.{RowFits}
 use Rattle.sv_terms.specs.CutOff.{cut_off}
-use Rattle.straight_line.specs.Bounds.{sources, states}
-use Rattle.straight_line.specs.Growth.{reach}
+use Rattle.cube_bounds.specs.Bounds.{sources, states}
+use Rattle.cube_bounds.specs.Growth.{reach}
 use Rattle.straight_line.specs.declared.flat.Flat.{Flat}
 use Rattle.cube_search.specs.Regions.{IsNearOwed, near_amount, quantities}
 

@@ -1,5 +1,5 @@
 -- The source variables as the places of a family's machines, and what such a family reads.
-use Rattle.std.proofs.Common.{◌≡◌, ℕ, zero, suc, ◌≤◌, ◌+◌, ◌*◌, Bool, true, false, not, cond, List, [], ◌∷◌, length, map, filter, All, Some, None, slice_get, refl, sym, ap, ◌∙◌, subst, arith, add-one}
+use Rattle.std.proofs.Common.{◌≡◌, ℕ, suc, ◌≤◌, ◌+◌, ◌*◌, Bool, true, false, not, cond, List, [], ◌∷◌, length, map, filter, All, Some, None, slice_get, refl, sym, ap, ◌∙◌, subst, arith, add-one}
 use Rattle.std.specs.List.{AllZip, range_with_len}
 use Rattle.std.proofs.lemmas.List.Elements.{All-nil, All-cons}
 use Rattle.machine_core.specs.Costs.{add_costs}
@@ -8,8 +8,9 @@ use Rattle.machine_core.specs.RunLaws.{accepted_run}
 use Rattle.machine_core.specs.declared.graph.Graph.{Graph}
 use Rattle.machine_core.specs.Graphs.{Accepts}
 use Rattle.box_search.specs.Hits.{runs_total}
-use Rattle.straight_line.specs.Bounds.{is_defined, sources_of, sources, states, states_at, own_bound, product_by}
-use Rattle.straight_line.specs.NumberLaws.{factor, StatesAreBounded, StatesAreSolved}
+use Rattle.straight_line.specs.Using.{is_defined}
+use Rattle.cube_bounds.specs.Bounds.{sources_of, sources, states, states_at, own_bound, product_by}
+use Rattle.cube_bounds.specs.NumberLaws.{factor, StatesAreBounded, StatesAreSolved}
 use Rattle.straight_line.specs.Straight.{IsStraight}
 use Rattle.straight_line.specs.declared.flat.Flat.{Flat}
 use Rattle.backward.specs.Families.{Family, Words, after, HasMachine, Conf}
@@ -17,7 +18,7 @@ use Rattle.backward.specs.Chains.{width}
 use Rattle.backward.specs.Leaves.{machines_of, source_words}
 use Rattle.backward.specs.States.{IsState}
 use Rattle.backward.specs.declared.leaf_state.LeafState.{LeafState}
-use Rattle.cube_search.specs.Causes.{Reads}
+use Rattle.cube_search.specs.Causes.{HaveRunsOn}
 use Rattle.cube_search.specs.Leaves.{words_of}
 use Rattle.cube_search.proofs.OrderLemmas.{get-below, get-there}
 
@@ -33,7 +34,7 @@ ReadsSame m g = (word cost : List ℕ) → Accepts m word cost → Accepts g wor
 
 -- what a family reads is read by runs of machines that read the same
 pub conf-runs : (width : ℕ) (ms : Family) (gs : List Graph) → AllZip ReadsSame (machines_of ms) gs → (k : ℕ) (f words : Words) → ((v : ℕ) → f v ≡ words (k + v))
-    → (totals : List ℕ) → Conf width ms f totals → Reads width gs (map words (places_from k ms)) totals
+    → (totals : List ℕ) → Conf width ms f totals → HaveRunsOn width gs (map words (places_from k ms)) totals
 conf-runs width [] [] z k f words same totals h = record { runs = []; each = tt; on = refl; cost = sym h }
 conf-runs width [] (g ∷ gs) z k f words same totals h = absurd z
 conf-runs width (None ∷ ms) gs z k f words same totals h = conf-runs width ms gs z (suc k) (after f) words (λ v. same (suc v) ∙ ap words (omega arith)) totals h
@@ -77,9 +78,9 @@ sources-places flat s state =
 
 -- what a family of source variables reads, its machines read together
 pub reads-sources : (flat : Flat) (s : LeafState) → IsState flat 0 s → (gs : List Graph) → AllZip ReadsSame (machines_of s.machines) gs → (words : Words) (totals : List ℕ) → Conf (width flat) s.machines words totals
-    → Reads (width flat) gs (source_words flat words) totals
+    → HaveRunsOn (width flat) gs (source_words flat words) totals
 reads-sources flat s state gs z words totals h =
-    subst (λ ps. Reads (width flat) gs (map words ps) totals) (sym (sources-places flat s state))
+    subst (λ ps. HaveRunsOn (width flat) gs (map words ps) totals) (sym (sources-places flat s state))
     (conf-runs (width flat) s.machines gs z 0 words words (λ v. ap words (omega arith)) totals h)
 
 -- as many machines as places

@@ -9,7 +9,7 @@ use Rattle.sv_linear.specs.Rows.{Compares}
 use Rattle.sv_linear.specs.Terms.{AscendsWithin, terms_value}
 use Rattle.sv_linear.specs.declared.row.RowKind.{RowKind}
 use Rattle.sv_linear.specs.declared.row.RowKind.TheVariants.{Le, Eq}
-use Rattle.straight_line.specs.Sides.{lower_by, lower_of, of_both, rounded_down, rounded_up, upper_by, upper_of}
+use Rattle.cube_bounds.specs.Sides.{lower_by, lower_of, of_both, rounded_down, rounded_up, upper_by, upper_of}
 use Rattle.cube_search.proofs.Quotients.{quotient-greatest}
 
 -- a number that isn't 0 is above 0, or its negative is

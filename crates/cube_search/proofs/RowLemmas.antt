@@ -11,7 +11,7 @@ use Rattle.sv_linear.specs.declared.column.Column.{Column}
 use Rattle.sv_linear.specs.declared.column.Column.TheVariants.{Unknown, Constant}
 use Rattle.sv_linear.specs.declared.form.Form.{Form}
 use Rattle.sv_linear.specs.declared.row.Row.{Row}
-use Rattle.straight_line.specs.Straight.{IsRowOf}
+use Rattle.straight_line.specs.Straight.{IsRowBelow}
 
 ascends-below : (n low high : ℕ) (ts : List (ℕ × ℤ)) → AscendsWithin low high ts → AllByRecursion (λ (t : ℕ × ℤ). t.0 < n) ts → low ≤ n → AscendsWithin low n ts
 ascends-below n low high [] a b l = l
@@ -30,13 +30,13 @@ entries-symmetric : (f : Form) → AllByRecursion (λ (t : ℕ × ℤ). unsigned
 entries-symmetric f b c (Unknown u) = symmetric-at u 0 (2 ^ 32) f.coefficients f.ascending b
 entries-symmetric f b c Constant = c
 
-row-within : (n : ℕ) (r : Row) → IsRowOf n r → IsRowWithin n r
+row-within : (n : ℕ) (r : Row) → IsRowBelow n r → IsRowWithin n r
 row-within n r is = record {
   unknowns = ascends-below n 0 (2 ^ 32) r.form.coefficients r.form.ascending is.unknowns (omega arith);
   symmetric = entries-symmetric r.form is.coefficients is.constant;
 }
 
-pub rows-within : (n : ℕ) (rows : List Row) → AllByRecursion (IsRowOf n) rows → (i : ℕ) (r : Row) → slice_get rows i ≡ Some r → IsRowWithin n r
+pub rows-within : (n : ℕ) (rows : List Row) → AllByRecursion (IsRowBelow n) rows → (i : ℕ) (r : Row) → slice_get rows i ≡ Some r → IsRowWithin n r
 rows-within n [] all i r e = cc
 rows-within n (x ∷ rows) all zero r e = let same : x ≡ r = cc in subst (IsRowWithin n) same (row-within n x all.0)
 rows-within n (x ∷ rows) all (suc i) r e = rows-within n rows all.1 i r e

@@ -16,7 +16,7 @@ use Rattle.backward.specs.Steps.{CanPassAt, IsMadeAt, IsMadeBy}
 use Rattle.backward.specs.declared.leaf_state.LeafState.{LeafState}
 use Rattle.cube_search.specs.Steps.{AreExact, CanStep, IsCutting}
 use Rattle.cube_search.specs.Tallies.{Keeps, IsCovered, AreCoveredFrom, IsCoveredBelow}
-use Rattle.cube_search.specs.declared.tally.Tally.{Tally}
+use Rattle.cube_search.specs.declared.tally.LeafTally.{LeafTally}
 use Rattle.cube_search.proofs.CoverLemmas.{covered-all, covered-concat, covered-through, covered-whole, covered-from-kept}
 use Rattle.cube_search.proofs.Measures.{weight, pieces_of}
 use Rattle.cube_search.proofs.OrderLemmas.{get-below, stands-at}
@@ -28,7 +28,7 @@ step-below flat at ms cuts h = elim h [
 ]
 
 -- whole cuts: the family below them covers them
-pub whole-arm : (flat : Flat) (region : Region) (at : ℕ) (pieces cuts : List ℕ) (s : LeafState) (tally : Tally) → s.registers ≡ width flat → length cuts + 1 ≡ length pieces
+pub whole-arm : (flat : Flat) (region : Region) (at : ℕ) (pieces cuts : List ℕ) (s : LeafState) (tally : LeafTally) → s.registers ≡ width flat → length cuts + 1 ≡ length pieces
     → IsCoveredBelow flat region at cuts s tally → AreCoveredFrom flat region at pieces s.machines cuts tally
 whole-arm flat region at pieces cuts s tally wide full h x e =
     let new = h.0 in
@@ -37,13 +37,13 @@ whole-arm flat region at pieces cuts s tally wide full h x e =
     (subst (λ n. Conf new.registers new.machines words totals ↔ ConfCut n s.machines x pieces cuts words totals) wide (h.1.cut x pieces e words totals)) in
     covered-whole flat region at x pieces s.machines new.machines cuts tally full same h.2
 
-pub concat-arm : (flat : Flat) (region : Region) (left at : ℕ) (pieces : List ℕ) (s : LeafState) (tally : Tally) → left ≡ suc at → IsStraight flat → s.registers ≡ width flat → AreExact s.registers s.machines
+pub concat-arm : (flat : Flat) (region : Region) (left at : ℕ) (pieces : List ℕ) (s : LeafState) (tally : LeafTally) → left ≡ suc at → IsStraight flat → s.registers ≡ width flat → AreExact s.registers s.machines
     → IsCutting flat at pieces s.machines [] → AreCoveredFrom flat region at pieces s.machines [] tally → IsCovered flat region left s.machines tally
 concat-arm flat region left at pieces s tally e straight wide exact cutting h =
     subst (λ n. IsCovered flat region n s.machines tally) (sym e)
     (covered-concat flat region at cutting.variable pieces s.machines tally (subst (λ n. AreExact n s.machines) wide exact) cutting.machine cutting.has cutting.defined cutting.fewer (h cutting.variable cutting.defined))
 
-pub through-arm : (flat : Flat) (region : Region) (left at : ℕ) (s : LeafState) (tally : Tally) → left ≡ suc at → s.registers ≡ width flat → CanPassAt flat at s.machines
+pub through-arm : (flat : Flat) (region : Region) (left at : ℕ) (s : LeafState) (tally : LeafTally) → left ≡ suc at → s.registers ≡ width flat → CanPassAt flat at s.machines
     → IsCoveredBelow flat region at [] s tally → IsCovered flat region left s.machines tally
 through-arm flat region left at s tally e wide can h =
     let new = h.0 in
@@ -53,14 +53,14 @@ through-arm flat region left at s tally e wide can h =
     subst (λ n. IsCovered flat region n s.machines tally) (sym e) (covered-through flat region at can.variable can.how s.machines new.machines tally can.defined same h.2)
 
 -- all next cuts
-pub all-arm : (flat : Flat) (region : Region) (at : ℕ) (pieces cuts : List ℕ) (ms : Family) (tally : Tally) (bound : ℕ)
+pub all-arm : (flat : Flat) (region : Region) (at : ℕ) (pieces cuts : List ℕ) (ms : Family) (tally : LeafTally) (bound : ℕ)
     → ((d : Definition) (m : Graph) → slice_get flat.definitions at ≡ Some d → HasMachine ms d.variable m → bound ≡ m.states) → (length cuts + 1 ≡ length pieces → ⊥)
     → ((s : ℕ) → s < bound → AreCoveredFrom flat region at pieces ms (cuts ++ s ∷ []) tally) → AreCoveredFrom flat region at pieces ms cuts tally
 all-arm flat region at pieces cuts ms tally bound is ne h x e =
     covered-all flat region at x pieces ms cuts tally bound (λ m there. is (definition x (by.Concat pieces)) m e there) ne (λ s lt. h s lt x e)
 
 -- one more list of cuts is covered
-pub covered-next : (flat : Flat) (region : Region) (at : ℕ) (pieces : List ℕ) (ms : Family) (cuts : List ℕ) (old new : Tally) (s : ℕ) → Keeps old new
+pub covered-next : (flat : Flat) (region : Region) (at : ℕ) (pieces : List ℕ) (ms : Family) (cuts : List ℕ) (old new : LeafTally) (s : ℕ) → Keeps old new
     → ((i : ℕ) → i < s → AreCoveredFrom flat region at pieces ms (cuts ++ i ∷ []) old) → AreCoveredFrom flat region at pieces ms (cuts ++ s ∷ []) new
     → (i : ℕ) → i < s + 1 → AreCoveredFrom flat region at pieces ms (cuts ++ i ∷ []) new
 covered-next flat region at pieces ms cuts old new s k before here i lt = elim (eqb_tells i s) [

@@ -5,7 +5,7 @@ use Rattle.std.specs.Option.{option_map}
 use Rattle.std.proofs.lemmas.Int.{ints}
 use Rattle.sv_terms.specs.CutOff.{cut_off}
 use Rattle.box_search.specs.Regions.{IsWithin, greatest_amount, side_points, whole_side}
-use Rattle.straight_line.specs.Sides.{Side, amount, both_sides, side_amount, values_between}
+use Rattle.cube_bounds.specs.Sides.{Side, amount, both_sides, side_amount, values_between}
 use Rattle.cube_search.specs.Bounding.{integer_bounds, no_total, register_bounds}
 
 -- a side with few values

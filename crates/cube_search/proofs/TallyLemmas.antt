@@ -13,21 +13,21 @@ use Rattle.leaf_solve.specs.Answers.{IsDecided}
 use Rattle.leaf_solve.specs.Longs.{HasRun, letters}
 use Rattle.leaf_solve.specs.declared.leaf_answer.LeafAnswer.{LeafAnswer}
 use Rattle.leaf_solve.specs.declared.leaf_answer.LeafAnswer.TheVariants as leaf
-use Rattle.straight_line.specs.Growth.{reach}
-use Rattle.straight_line.specs.Sides.{IsSmall}
+use Rattle.cube_bounds.specs.Growth.{reach}
+use Rattle.cube_bounds.specs.Sides.{IsSmall}
 use Rattle.straight_line.specs.declared.flat.Flat.{Flat}
 use Rattle.backward.specs.Chains.{width}
 use Rattle.backward.specs.Families.{Family, Words, Conf}
 use Rattle.backward.specs.Leaves.{IsLeaf, IsLessened, machines_of, source_words}
 use Rattle.backward.specs.States.{IsState}
 use Rattle.backward.specs.declared.leaf_state.LeafState.{LeafState}
-use Rattle.cube_search.specs.Causes.{HasGivenUp, IsLongFor, Reads}
-use Rattle.cube_search.specs.Leaves.{IsAnswerFor, IsHitOf, IsOutside, IsTrim, machine_of}
+use Rattle.cube_search.specs.Causes.{HasGivenUp, IsLongFor, HaveRunsOn}
+use Rattle.cube_search.specs.Leaves.{IsAnswerFor, IsHitOf, IsLeafOutside, IsTrim, machine_of}
 use Rattle.cube_search.specs.Limits.{MustDecideFlat}
 use Rattle.cube_search.specs.Tallies.{IsTally, Keeps, IsCovered, IsReadBy, first_some, hit_of, settled}
 use Rattle.cube_search.specs.declared.tally.Given.{Given}
 use Rattle.cube_search.specs.declared.tally.TooLong.{TooLong}
-use Rattle.cube_search.specs.declared.tally.Tally.{Tally}
+use Rattle.cube_search.specs.declared.tally.LeafTally.{LeafTally}
 use Rattle.cube_search.proofs.CoverLemmas.{keeps-same}
 use Rattle.cube_search.proofs.FoundLemmas.{letters-characters}
 use Rattle.cube_search.proofs.Places.{ReadsSame, reads-sources}
@@ -62,7 +62,7 @@ leaf-of flat ms ts become z runs =
 
 module _ (flat : Flat) (region : Region) (machines : List Graph) (leafs : All HasRun machines → IsLeaf flat machines) where
   -- the tally with the answer
-  pub settled-tally : (a : LeafAnswer) → IsAnswerFor flat region machines a → (MustDecideFlat flat → IsDecided a) → (t : Tally) → IsTally flat t → IsTally flat (settled machines a t)
+  pub settled-tally : (a : LeafAnswer) → IsAnswerFor flat region machines a → (MustDecideFlat flat → IsDecided a) → (t : LeafTally) → IsTally flat t → IsTally flat (settled machines a t)
   settled-tally (leaf.Sat hit) h decided t is = is
   settled-tally (leaf.Closed c) h decided t is = record { given = is.given; long = is.long; undecided = is.undecided }
   settled-tally (leaf.Long shown) h decided t is = record {
@@ -79,23 +79,23 @@ module _ (flat : Flat) (region : Region) (machines : List Graph) (leafs : All Ha
 some-kept : {X : Type 0} (o : Option X) (x : X) → IsSome o → IsSome (first_some o x)
 some-kept o x h = some-first o x
 
-pub settled-keeps : (machines : List Graph) (a : LeafAnswer) (t : Tally) → Keeps t (settled machines a t)
+pub settled-keeps : (machines : List Graph) (a : LeafAnswer) (t : LeafTally) → Keeps t (settled machines a t)
 settled-keeps machines (leaf.Sat hit) t = keeps-same t
 settled-keeps machines (leaf.Closed c) t = record { given = λ h. h; long = λ h. h }
 settled-keeps machines (leaf.Long shown) t = record { given = λ h. h; long = some-kept t.long (record { machines = machines; shown = shown }) }
 settled-keeps machines (leaf.Open system evidence) t = record { given = some-kept t.given (record { machines = machines; system = system; evidence = evidence }); long = λ h. h }
 
 -- what is read meets the rows as a hit
-hit-read : (n : ℕ) (flat : Flat) (machines : List Graph) (words : List (List ℕ)) (totals : List ℕ) (ints : List ℤ) → (r : Reads n machines words totals)
+hit-read : (n : ℕ) (flat : Flat) (machines : List Graph) (words : List (List ℕ)) (totals : List ℕ) (ints : List ℤ) → (r : HaveRunsOn n machines words totals)
     → MeetsRows (length flat.integers) flat.rows ints totals → IsHit machines n (length flat.integers) flat.rows r.runs ints
 hit-read n flat machines words totals ints r meets = record { each = r.each; meets = subst (MeetsRows (length flat.integers) flat.rows ints) (sym r.cost) meets }
 
 module _ (flat : Flat) (region : Region) (wide : length region.registers ≡ width flat) (s : LeafState) (state : IsState flat 0 s) (machines : List Graph) (leafs : All HasRun machines → IsLeaf flat machines)
     (same : AllZip ReadsSame (machines_of s.machines) machines) where
-  read : (words : Words) (totals : List ℕ) → Conf (width flat) s.machines words totals → Reads (width flat) machines (source_words flat words) totals
+  read : (words : Words) (totals : List ℕ) → Conf (width flat) s.machines words totals → HaveRunsOn (width flat) machines (source_words flat words) totals
   read words totals conf = reads-sources flat s state machines same words totals conf
 
-  read-by : IsOutside flat region machines → (words : Words) (totals : List ℕ) (ints : List ℤ) → Conf (width flat) s.machines words totals → MeetsRows (length flat.integers) flat.rows ints totals
+  read-by : IsLeafOutside flat region machines → (words : Words) (totals : List ℕ) (ints : List ℤ) → Conf (width flat) s.machines words totals → MeetsRows (length flat.integers) flat.rows ints totals
       → IsReadBy flat region words totals ints machines
   read-by out words totals ints conf meets =
       let r = read words totals conf in
@@ -107,7 +107,7 @@ module _ (flat : Flat) (region : Region) (wide : length region.registers ≡ wid
       }
 
   -- an answer that is no hit accounts for whatever the machines read
-  pub settled-covers : (a : LeafAnswer) → IsAnswerFor flat region machines a → hit_of a ≡ None → (t : Tally) → IsCovered flat region 0 s.machines (settled machines a t)
+  pub settled-covers : (a : LeafAnswer) → IsAnswerFor flat region machines a → hit_of a ≡ None → (t : LeafTally) → IsCovered flat region 0 s.machines (settled machines a t)
   settled-covers (leaf.Sat hit) h none t words totals ints conf obey meets = cc
   settled-covers (leaf.Closed c) h none t words totals ints conf obey meets =
       let r = read words totals conf in
@@ -141,5 +141,5 @@ hit-answer flat region machines hit (leaf.Closed c) e h = cc
 hit-answer flat region machines hit (leaf.Long shown) e h = cc
 hit-answer flat region machines hit (leaf.Open system evidence) e h = cc
 
-pub tally-is : (t u : Tally) → t.given ≡ u.given → t.long ≡ u.long → t.closed ≡ u.closed → t ≡ u
+pub tally-is : (t u : LeafTally) → t.given ≡ u.given → t.long ≡ u.long → t.closed ≡ u.closed → t ≡ u
 tally-is t u a b c = ap (λ g. record t { given = g }) a ∙ ap (λ l. record { given = u.given; long = l; closed = t.closed }) b ∙ ap (λ r. record { given = u.given; long = u.long; closed = r }) c

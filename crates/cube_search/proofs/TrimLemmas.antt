@@ -11,14 +11,14 @@ use Rattle.trim_search.specs.Useful.{IsOnRun}
 use Rattle.trim_search.specs.declared.built.Built.{Built}
 use Rattle.box_search.specs.Hits.{runs_total}
 use Rattle.leaf_solve.specs.Longs.{HasRun}
-use Rattle.straight_line.specs.Bounds.{states}
+use Rattle.cube_bounds.specs.Bounds.{states}
 use Rattle.straight_line.specs.declared.flat.Flat.{Flat}
 use Rattle.backward.specs.Chains.{width}
 use Rattle.backward.specs.Families.{Family, HasMachine}
 use Rattle.backward.specs.Leaves.{machines_of, IsLess, IsLessened}
 use Rattle.backward.specs.States.{IsState}
 use Rattle.backward.specs.declared.leaf_state.LeafState.{LeafState}
-use Rattle.straight_line.specs.NumberLaws.{StatesAreBounded, StatesAreSolved}
+use Rattle.cube_bounds.specs.NumberLaws.{StatesAreBounded, StatesAreSolved}
 use Rattle.straight_line.specs.Straight.{IsStraight}
 use Rattle.cube_search.specs.Leaves.{AreLifted, AreOfLeaf, IsTrim, machine_of, words_of}
 use Rattle.cube_search.proofs.Places.{ReadsSame, machines-all, machines-length, few-states}

@@ -3,25 +3,25 @@ use Rattle.std.specs.Prelude.{ℤ, pos, ◌≤ℤ◌, List, Option, Some, None, 
 use Rattle.sv_terms.specs.Language.{Word}
 use Rattle.sv_terms.specs.Meaning.{Named}
 use Rattle.sv_terms.specs.Truth.{AreWorded}
-use Rattle.straight_line.specs.Growth.{reach}
-use Rattle.straight_line.specs.NumberLaws.{source_length}
-use Rattle.straight_line.specs.Satisfying.{Satisfies, IsOf}
+use Rattle.cube_bounds.specs.Growth.{reach}
+use Rattle.cube_bounds.specs.NumberLaws.{source_length}
+use Rattle.straight_line.specs.Satisfying.{Satisfies, AreModelValues}
 use Rattle.straight_line.specs.declared.flat.Flat.{Flat}
 use Rattle.cube_search.specs.Causes.{EachSolution, IsCauseOf}
 use Rattle.cube_search.specs.declared.answer.CubeAnswer.{CubeAnswer}
 use Rattle.cube_search.specs.declared.answer.CubeAnswer.TheVariants as answer
 use Rattle.cube_search.specs.declared.answer.Refutation.{Refutation}
-use Rattle.cube_search.specs.declared.reason.Reason.TheVariants.{Length, Arithmetic}
+use Rattle.cube_search.specs.declared.reason.OpenReason.TheVariants.{Length, Arithmetic}
 use Rattle.cube_search.specs.declared.tally.Given.{Given}
 use Rattle.cube_search.specs.declared.tally.TooLong.{TooLong}
-use Rattle.cube_search.specs.declared.tally.Tally.{Tally}
+use Rattle.cube_search.specs.declared.tally.LeafTally.{LeafTally}
 
 -- values that extend to words and numbers that satisfy the cube; its source words have together at most so many characters as are within reach
 pub record IsModelOf (flat : Flat) (values : Named) : Type 0 where
   pub words : List Word
   pub numbers : List ℤ
   pub worded : AreWorded values
-  pub of : IsOf flat words numbers values
+  pub of : AreModelValues flat words numbers values
   pub satisfies : Satisfies flat words numbers
   pub within : pos (source_length flat words) ≤ℤ reach flat
 
@@ -40,7 +40,7 @@ abbrev pub left_given : Option Given → CubeAnswer → CubeAnswer
 left_given None a = a
 left_given (Some g) a = answer.Open (Arithmetic g.machines g.system g.evidence)
 
-abbrev pub left_of : Tally → CubeAnswer
+abbrev pub left_of : LeafTally → CubeAnswer
 left_of tally = left_given tally.given (left_long tally.long tally.closed)
 
 abbrev pub IsDecided : CubeAnswer → Type 0

@@ -2,7 +2,7 @@
 use Rattle.std.specs.Prelude.{◌≡◌, ◌↔◌, IsTrue, ℕ, ℤ, pos, neg_ℤ, ◌-◌, ◌/◌, ◌<◌, ◌≤◌, int_lt, unsigned_abs, if◌then◌else◌, Bool, false, not, map, length, Some, None, replicate}
 use Rattle.sv_terms.specs.CutOff.{cut_off}
 use Rattle.box_search.specs.declared.region.Region.{Region}
-use Rattle.straight_line.specs.Sides.{Side, integer_sides, register_sides}
+use Rattle.cube_bounds.specs.Sides.{Side, integer_sides, register_sides}
 use Rattle.straight_line.specs.declared.flat.Flat.{Flat}
 use Rattle.cube_search.specs.Regions.{IsNearOwed, IsNearSide, quantities}
 

@@ -12,25 +12,25 @@ use Rattle.parikh_flow.specs.Rows.{IsSystemOf}
 use Rattle.leaf_solve.specs.Answers.{row_reach}
 use Rattle.leaf_solve.specs.Longs.{IsLongShown}
 use Rattle.leaf_solve.specs.declared.long_shown.LongShown.{LongShown}
-use Rattle.straight_line.specs.Bounds.{states, splits}
-use Rattle.straight_line.specs.Growth.{growth, longest_word, reach}
-use Rattle.straight_line.specs.NumberLaws.{source_length}
-use Rattle.straight_line.specs.Sides.{IsSmall}
+use Rattle.cube_bounds.specs.Bounds.{states, splits}
+use Rattle.cube_bounds.specs.Growth.{growth, longest_word, reach}
+use Rattle.cube_bounds.specs.NumberLaws.{source_length}
+use Rattle.cube_bounds.specs.Sides.{IsSmall}
 use Rattle.straight_line.specs.Satisfying.{Satisfies, lengths_of, word_at}
 use Rattle.straight_line.specs.declared.flat.Flat.{Flat}
 use Rattle.backward.specs.Chains.{width}
 use Rattle.backward.specs.Leaves.{IsLeaf, source_words}
 use Rattle.cube_search.specs.Limits.{most_states, most_splits}
 use Rattle.cube_search.specs.Regions.{Near}
-use Rattle.cube_search.specs.declared.reason.Reason.{Reason}
-use Rattle.cube_search.specs.declared.reason.Reason.TheVariants as reason
+use Rattle.cube_search.specs.declared.reason.OpenReason.{OpenReason}
+use Rattle.cube_search.specs.declared.reason.OpenReason.TheVariants as reason
 
 -- the fact holds of all words and numbers that satisfy the cube
 abbrev pub EachSolution : Flat → (List Word → List ℤ → Type 0) → Type 0
 EachSolution flat P = (ws : List Word) (ints : List ℤ) → Satisfies flat ws ints → P ws ints
 
 -- runs of the machines, one of each in their order, are on these words and cost these totals together
-pub record Reads (registers : ℕ) (machines : List Graph) (words : List Word) (totals : List ℕ) : Type 0 where
+pub record HaveRunsOn (registers : ℕ) (machines : List Graph) (words : List Word) (totals : List ℕ) : Type 0 where
   pub runs : List (Run ℕ)
   pub each : AreRunsOf machines runs
   pub on : map (λ (run : Run ℕ). run.word) runs ≡ words
@@ -54,7 +54,7 @@ IsLeftOpen flat machines = ((system : System) × (evidence : Evidence) × HasGiv
 pub record IsLeftTo (flat : Flat) (ws : List Word) : Type 0 where
   pub machines : List Graph
   pub leaf : IsLeaf flat machines
-  pub reads : Reads (width flat) machines (source_words flat (word_at ws)) (lengths_of flat.registers ws)
+  pub reads : HaveRunsOn (width flat) machines (source_words flat (word_at ws)) (lengths_of flat.registers ws)
   pub open_leaf : IsLeftOpen flat machines
 
 -- no words that satisfy the cube have source words with so few characters together as are within reach
@@ -73,7 +73,7 @@ pub record IsGivenUp (flat : Flat) (machines : List Graph) (system : System) (ev
   pub every : EachSolution flat (λ ws ints. IsLeftTo flat ws)
 
 -- a limit that a number of the text is past, words that are too long, or a solver that gave up; what makes a cube no straight one is no cause of a flat cube
-abbrev pub IsCauseOf : Flat → Reason → Type 0
+abbrev pub IsCauseOf : Flat → OpenReason → Type 0
 IsCauseOf flat (reason.Fragment shown) = ⊥
 IsCauseOf flat (reason.Wide n) = ⊥
 IsCauseOf flat (reason.States n) = (n ≡ cut_off (states flat)) × (most_states < n)

@@ -7,7 +7,7 @@ use Rattle.machine_core.specs.declared.run.Run.{Run}
 use Rattle.straight_line.specs.declared.flat.Flat.{Flat}
 use Rattle.straight_line.specs.declared.variable.Variable.{Variable}
 use Rattle.backward.specs.Runs.{Runs, run_words}
-use Rattle.cube_search.specs.declared.found.Found.{Found}
+use Rattle.cube_search.specs.declared.found.FoundRuns.{FoundRuns}
 
 -- the word of a run, empty where there is none
 abbrev pub word_of : Option (Run ℕ) → Word
@@ -31,5 +31,5 @@ number_entries (n ∷ ns) (z ∷ zs) = (n, value.Number z) ∷ number_entries ns
 abbrev pub truth_entries : List (List ℕ × Bool) → Named
 truth_entries ts = map (λ (t : List ℕ × Bool). (t.0, value.Truth t.1)) ts
 
-abbrev pub all_entries : Flat → Found → Named
+abbrev pub all_entries : Flat → FoundRuns → Named
 all_entries flat found = string_entries found.runs 0 flat.variables ++ number_entries flat.integers found.integers ++ truth_entries flat.truths

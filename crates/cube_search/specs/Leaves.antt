@@ -1,5 +1,5 @@
 -- The machines of a leaf, cut down to what lies on runs, and what is answered for them.
-use Rattle.std.specs.Prelude.{◌≡◌, ◌≢◌, ◌↔◌, ℕ, pos, ◌<◌, ◌≤◌, ◌≤ℤ◌, ◌<ℤ◌, List, [], ◌∷◌, length, map, All, Option, Some, None, ⊤}
+use Rattle.std.specs.Prelude.{◌≡◌, ◌≢◌, ◌↔◌, ℕ, pos, ◌<◌, ◌≤◌, ◌≤ℤ◌, ◌<ℤ◌, List, [], ◌∷◌, length, map, All, ⊤}
 use Rattle.machine_core.specs.declared.graph.Graph.{Graph}
 use Rattle.machine_core.specs.declared.run.Run.{Run}
 use Rattle.machine_core.specs.Graphs.{Accepts, IsRunOf}
@@ -18,9 +18,9 @@ use Rattle.leaf_solve.specs.declared.leaf_answer.LeafAnswer.TheVariants as leaf
 use Rattle.leaf_solve.specs.declared.long_shown.LongShown.{LongShown}
 use Rattle.leaf_solve.specs.declared.long_shown.LongShown.TheVariants.{Words}
 use Rattle.sv_terms.specs.Language.{Word}
-use Rattle.straight_line.specs.Bounds.{sources, states}
-use Rattle.straight_line.specs.Growth.{reach}
-use Rattle.straight_line.specs.Sides.{IsSmall}
+use Rattle.cube_bounds.specs.Bounds.{sources, states}
+use Rattle.cube_bounds.specs.Growth.{reach}
+use Rattle.cube_bounds.specs.Sides.{IsSmall}
 use Rattle.straight_line.specs.declared.flat.Flat.{Flat}
 use Rattle.backward.specs.Chains.{width}
 use Rattle.cube_search.specs.Causes.{HasGivenUp, IsLongFor}
@@ -66,17 +66,17 @@ module _ (flat : Flat) (region : Region) (machines : List Graph) where
     pub within : pos (characters hit.runs) ≤ℤ reach flat
 
   -- each machine has a run, and whatever meets the rows lies outside the region
-  pub record IsOutside : Type 0 where
+  pub record IsLeafOutside : Type 0 where
     pub inhabited : All HasRun machines
     pub none_in_region : EachHit machines (width flat) (length flat.integers) flat.rows (λ runs numbers. LieIn region runs numbers → ⊥)
 
   pub record IsPastReach (shown : LongShown) : Type 0 where
-    pub outside : IsOutside
+    pub outside : IsLeafOutside
     pub past : EachHitOf (λ runs. reach flat <ℤ pos (characters runs))
     pub is_shown : IsLongFor flat machines shown
 
   pub record IsUndecided (system : System) (evidence : Evidence) : Type 0 where
-    pub outside : IsOutside
+    pub outside : IsLeafOutside
     pub has_rows : flat.rows ≢ []
     pub not_small : IsSmall flat → ⊥
     pub given_up : HasGivenUp flat machines system evidence

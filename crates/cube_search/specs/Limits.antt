@@ -1,8 +1,8 @@
 -- The limits on the numbers of a flat cube's text, and where it must be decided.
 use Rattle.std.specs.Prelude.{◌≡◌, ℕ, pos, ◌*◌, ◌≤◌, ◌≤ℤ◌, ◌⊎◌, []}
-use Rattle.straight_line.specs.Bounds.{states, splits, sources}
-use Rattle.straight_line.specs.Growth.{growth, reach, longest_word}
-use Rattle.straight_line.specs.Sides.{IsSmall}
+use Rattle.cube_bounds.specs.Bounds.{states, splits, sources}
+use Rattle.cube_bounds.specs.Growth.{growth, reach, longest_word}
+use Rattle.cube_bounds.specs.Sides.{IsSmall}
 use Rattle.straight_line.specs.declared.flat.Flat.{Flat}
 
 -- no machine of a variable has more states

@@ -4,11 +4,11 @@ use Rattle.std.specs.List.{range_with_len}
 use Rattle.sv_terms.specs.Language.{Word}
 use Rattle.sv_terms.specs.Meaning.{Named}
 use Rattle.machine_core.specs.declared.run.Run.{Run}
-use Rattle.straight_line.specs.Satisfying.{IsOf}
+use Rattle.straight_line.specs.Satisfying.{AreModelValues}
 use Rattle.straight_line.specs.declared.flat.Flat.{Flat}
 use Rattle.backward.specs.Families.{Family}
 use Rattle.backward.specs.Runs.{Runs, run_words}
-use Rattle.cube_search.specs.declared.found.Found.{Found}
+use Rattle.cube_search.specs.declared.found.FoundRuns.{FoundRuns}
 
 -- the runs, in their order, stand at the places of the machines
 abbrev pub IsSpread : Family → List (Run ℕ) → Runs → Type 0
@@ -22,5 +22,5 @@ abbrev pub all_words : ℕ → Runs → List Word
 all_words n rs = map (run_words rs) (range_with_len 0 n)
 
 -- the values are those of the words of the runs and of the numbers
-abbrev pub IsNamedBy : Flat → Found → Named → Type 0
-IsNamedBy flat found values = IsOf flat (all_words (length flat.variables) found.runs) found.integers values
+abbrev pub IsNamedBy : Flat → FoundRuns → Named → Type 0
+IsNamedBy flat found values = AreModelValues flat (all_words (length flat.variables) found.runs) found.integers values

@@ -4,9 +4,9 @@ use Rattle.std.specs.List.{AllByRecursion}
 use Rattle.sv_linear.specs.Rows.{MeetsRows, RowFits}
 use Rattle.box_search.specs.Regions.{IsInRegion, FitsRegion, points}
 use Rattle.box_search.specs.declared.region.Region.{Region}
-use Rattle.straight_line.specs.Bounds.{states, sources}
-use Rattle.straight_line.specs.Growth.{reach}
-use Rattle.straight_line.specs.Sides.{IsSmall}
+use Rattle.cube_bounds.specs.Bounds.{states, sources}
+use Rattle.cube_bounds.specs.Growth.{reach}
+use Rattle.cube_bounds.specs.Sides.{IsSmall}
 use Rattle.straight_line.specs.declared.flat.Flat.{Flat}
 
 -- how many registers and integer constants there are

@@ -2,9 +2,9 @@
 use Rattle.std.specs.Prelude.{◌≡◌, ◌↔◌, ℕ, ◌<◌, ◌^◌, ◌≤ℤ◌, pos, IsTrue, false, List, [], length, take}
 use Rattle.std.specs.List.{AllByRecursion}
 use Rattle.sv_linear.specs.Rows.{MeetsRows}
-use Rattle.straight_line.specs.Growth.{reach}
+use Rattle.cube_bounds.specs.Growth.{reach}
 use Rattle.straight_line.specs.Satisfying.{ComesBy}
-use Rattle.straight_line.specs.Sides.{IsSmall}
+use Rattle.cube_bounds.specs.Sides.{IsSmall}
 use Rattle.straight_line.specs.Straight.{HasFormed, IsStraight}
 use Rattle.straight_line.specs.declared.definition.Definition.{Definition}
 use Rattle.straight_line.specs.declared.flat.Flat.{Flat}
@@ -15,7 +15,7 @@ use Rattle.backward.specs.Leaves.{source_words}
 use Rattle.backward.specs.Runs.{AreRuns, run_words, run_totals}
 use Rattle.backward.specs.States.{IsLittle}
 use Rattle.cube_search.specs.Regions.{IsRegionFor}
-use Rattle.cube_search.specs.declared.found.Found.{Found}
+use Rattle.cube_search.specs.declared.found.FoundRuns.{FoundRuns}
 use Rattle.cube_search.specs.declared.searching.Search.{Search}
 
 -- a straight cube that isn't broken, with its region and numbers; words grow little, and with rows some characters are within reach
@@ -35,7 +35,7 @@ abbrev pub Obey : List Definition → Words → Type 0
 Obey ds words = AllByRecursion (λ (d : Definition). ComesBy words (words d.variable) d.by) ds
 
 -- runs of the machines of a family, of which so many definitions are still to be carried: they obey these definitions, and with the numbers meet the rows of the cube; the source words are within reach
-pub record IsFound (flat : Flat) (left : ℕ) (ms : Family) (found : Found) : Type 0 where
+pub record IsFound (flat : Flat) (left : ℕ) (ms : Family) (found : FoundRuns) : Type 0 where
   pub runs : AreRuns ms found.runs
   pub obey : Obey (take left flat.definitions) (run_words found.runs)
   pub rows : MeetsRows (length flat.integers) flat.rows found.integers (run_totals (width flat) found.runs)

@@ -17,7 +17,7 @@ abbrev pub CanStep : Flat → ℕ → Family → List ℕ → Type 0
 CanStep flat place ms cuts = CanCutAt flat place ms cuts ⊎ CanPassAt flat place ms
 
 -- a family with the definition at this place carried, at these cuts where it is a concatenation
-pub record IsNext (flat : Flat) (place : ℕ) (cuts : List ℕ) (old new : LeafState) : Type 0 where
+pub record IsNextFamily (flat : Flat) (place : ℕ) (cuts : List ℕ) (old new : LeafState) : Type 0 where
   pub registers : new.registers ≡ old.registers
   pub cut : IsCutAt flat place cuts old new
   pub passed : (x v : ℕ) (b : By) → slice_get flat.definitions place ≡ Some (definition x b) → reads b ≡ Some v

@@ -13,8 +13,8 @@ use Rattle.sv_linear.specs.Rows.{MeetsRows}
 use Rattle.box_search.specs.Regions.{IsInRegion}
 use Rattle.box_search.specs.declared.hit.Hit.{Hit}
 use Rattle.box_search.specs.declared.region.Region.{Region}
-use Rattle.straight_line.specs.Growth.{reach}
-use Rattle.straight_line.specs.Sides.{IsSmall}
+use Rattle.cube_bounds.specs.Growth.{reach}
+use Rattle.cube_bounds.specs.Sides.{IsSmall}
 use Rattle.straight_line.specs.declared.definition.By.TheVariants.{Concat}
 use Rattle.straight_line.specs.declared.flat.Flat.{Flat}
 use Rattle.backward.specs.Chains.{width}
@@ -24,16 +24,14 @@ use Rattle.backward.specs.Leaves.{IsLeaf, source_words}
 use Rattle.backward.specs.Pieces.{ConfCut, AreCuts}
 use Rattle.backward.specs.declared.leaf_state.LeafState.{LeafState}
 use Rattle.cube_search.specs.Limits.{MustDecideFlat}
-use Rattle.cube_search.specs.Causes.{HasGivenUp, IsLongFor, Reads}
+use Rattle.cube_search.specs.Causes.{HasGivenUp, IsLongFor, HaveRunsOn}
 use Rattle.cube_search.specs.Searches.{Obey}
-use Rattle.cube_search.specs.Steps.{IsNext}
+use Rattle.cube_search.specs.Steps.{IsNextFamily}
 use Rattle.cube_search.specs.declared.answer.Refutation.{Refutation}
-use Rattle.cube_search.specs.declared.tally.Given.{Given}
-use Rattle.cube_search.specs.declared.tally.TooLong.{TooLong}
-use Rattle.cube_search.specs.declared.tally.Tally.{Tally}
+use Rattle.cube_search.specs.declared.tally.LeafTally.{LeafTally}
 
 -- the leaves that are kept are leaves, with what shows that they are open
-pub record IsTally (flat : Flat) (tally : Tally) : Type 0 where
+pub record IsTally (flat : Flat) (tally : LeafTally) : Type 0 where
   pub given : MatchOption tally.given ⊤ (λ g. IsLeaf flat g.machines × HasGivenUp flat g.machines g.system g.evidence × (flat.rows ≢ []) × (IsSmall flat → ⊥))
   pub long : MatchOption tally.long ⊤ (λ l. IsLeaf flat l.machines × IsLongFor flat l.machines l.shown)
   pub undecided : IsSome tally.long → MustDecideFlat flat → ⊥
@@ -53,7 +51,7 @@ one_more (closing.Tree s t) r = record r { trees = more r.trees }
 one_more closing.Box r = record r { boxes = more r.boxes }
 
 -- the tally once a leaf of these machines was answered; a hit leaves it
-abbrev pub settled : List Graph → LeafAnswer → Tally → Tally
+abbrev pub settled : List Graph → LeafAnswer → LeafTally → LeafTally
 settled machines (leaf.Sat hit) t = t
 settled machines (leaf.Closed c) t = record t { closed = one_more c t.closed }
 settled machines (leaf.Long shown) t = record t { long = first_some t.long (record { machines = machines; shown = shown }) }
@@ -67,18 +65,18 @@ hit_of (leaf.Long shown) = None
 hit_of (leaf.Open system evidence) = None
 
 -- what was kept of each kind is still there
-pub record Keeps (old new : Tally) : Type 0 where
+pub record Keeps (old new : LeafTally) : Type 0 where
   pub given : IsSome old.given → IsSome new.given
   pub long : IsSome old.long → IsSome new.long
 
 -- a leaf reads the source words with these totals, and nothing of it is in the region
 pub record IsReadBy (flat : Flat) (region : Region) (words : Words) (totals : List ℕ) (ints : List ℤ) (machines : List Graph) : Type 0 where
   pub leaf : IsLeaf flat machines
-  pub reads : Reads (width flat) machines (source_words flat words) totals
+  pub reads : HaveRunsOn (width flat) machines (source_words flat words) totals
   pub outside : IsInRegion region ints totals → ⊥
 
 -- the solver gave up on a leaf that reads the words, and the tally knows of such a leaf; or that leaf is too long, and the tally knows of such a one
-abbrev pub IsAccounted : Flat → Region → Tally → Words → List ℕ → List ℤ → Type 0
+abbrev pub IsAccounted : Flat → Region → LeafTally → Words → List ℕ → List ℤ → Type 0
 IsAccounted flat region tally words totals ints =
     ((machines : List Graph) × IsReadBy flat region words totals ints machines × IsSome tally.given
     × ((system : System) × (evidence : Evidence) × HasGivenUp flat machines system evidence))
@@ -86,21 +84,21 @@ IsAccounted flat region tally words totals ints =
     × (reach flat <ℤ pos (letters (source_words flat words))) × ((shown : LongShown) × IsLongFor flat machines shown))
 
 -- whatever the family reads, where it obeys the definitions that are left and meets the rows with some numbers, is accounted for
-abbrev pub IsCovered : Flat → Region → ℕ → Family → Tally → Type 0
+abbrev pub IsCovered : Flat → Region → ℕ → Family → LeafTally → Type 0
 IsCovered flat region left ms tally = (words : Words) (totals : List ℕ) (ints : List ℤ)
     → Conf (width flat) ms words totals → Obey (take left flat.definitions) words
     → MeetsRows (length flat.integers) flat.rows ints totals → IsAccounted flat region tally words totals ints
 
 -- so is whatever it reads with the machine of x, the concatenation of these pieces, cut at states of which the first are these
-abbrev pub IsCoveredFrom : Flat → Region → ℕ → ℕ → List ℕ → Family → List ℕ → Tally → Type 0
+abbrev pub IsCoveredFrom : Flat → Region → ℕ → ℕ → List ℕ → Family → List ℕ → LeafTally → Type 0
 IsCoveredFrom flat region at x pieces ms cuts tally = (words : Words) (totals : List ℕ) (ints : List ℤ) (rest : List ℕ) (m : Graph)
     → HasMachine ms x m → AreCuts m pieces (cuts ++ rest) → ConfCut (width flat) ms x pieces (cuts ++ rest) words totals → Obey (take at flat.definitions) words
     → MeetsRows (length flat.integers) flat.rows ints totals → IsAccounted flat region tally words totals ints
 
 -- so where the definition at this place is that concatenation
-abbrev pub AreCoveredFrom : Flat → Region → ℕ → List ℕ → Family → List ℕ → Tally → Type 0
+abbrev pub AreCoveredFrom : Flat → Region → ℕ → List ℕ → Family → List ℕ → LeafTally → Type 0
 AreCoveredFrom flat region at pieces ms cuts tally = (x : ℕ) → slice_get flat.definitions at ≡ Some (definition x (Concat pieces)) → IsCoveredFrom flat region at x pieces ms cuts tally
 
 -- so is whatever the family with the definition at this place carried reads
-abbrev pub IsCoveredBelow : Flat → Region → ℕ → List ℕ → LeafState → Tally → Type 0
-IsCoveredBelow flat region at cuts state tally = (next : LeafState) × IsNext flat at cuts state next × IsCovered flat region at next.machines tally
+abbrev pub IsCoveredBelow : Flat → Region → ℕ → List ℕ → LeafState → LeafTally → Type 0
+IsCoveredBelow flat region at cuts state tally = (next : LeafState) × IsNextFamily flat at cuts state next × IsCovered flat region at next.machines tally

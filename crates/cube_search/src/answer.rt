@@ -1,7 +1,7 @@
 ghost use denote.Param.Send.{IsSend, IsSync};
 ghost use Rattle.cube_search.specs.contracts.answer.CubeAnswer.{the_row as answer_row};
 
-use crate::reason::Reason;
+use crate::reason::OpenReason;
 use sv_terms::Model;
 
 /// How many leaves were closed, by what closed them. The counts end at 2^64 - 1.
@@ -23,7 +23,7 @@ pub enum CubeAnswer {
     /// No values make it hold.
     Unsat(Refutation),
     /// Why it is left open.
-    Open(Reason),
+    Open(OpenReason),
 }
 
 /// An answer may go to another thread, and threads may share it.

@@ -1,7 +1,7 @@
 ghost use Rattle.std.specs.Prelude.{◌≡◌, ◌<◌, ◌^◌, ◌⊎◌, ℕ, [], false, length, Err, IfOk};
 ghost use Rattle.trim_search.specs.declared.build_fault.BuildFault.TheVariants.{States};
-ghost use Rattle.straight_line.specs.Bounds.{states};
-ghost use Rattle.straight_line.specs.Measuring.{AreNumbersOf};
+ghost use Rattle.cube_bounds.specs.Bounds.{states};
+ghost use Rattle.cube_bounds.specs.Measuring.{AreNumbersOf};
 ghost use Rattle.straight_line.specs.Straight.{AreNamesApart, HasFormed, IsStraight};
 ghost use Rattle.cube_search.specs.Answers.{IsCubeAnswer, IsDecided, left_of};
 ghost use Rattle.cube_search.specs.Causes.{IsCauseOf};
@@ -12,14 +12,15 @@ use crate::allowance::Allowance;
 use crate::answer::{CubeAnswer, Refutation};
 use crate::limits::past_limit;
 use crate::modelling::model_of;
-use crate::reason::Reason;
+use crate::reason::OpenReason;
 use crate::regions::region_of;
 use crate::searching::{Search, descend};
-use crate::tally::Tally;
+use crate::tally::LeafTally;
 use backward::first_state;
+use cube_bounds::Numbers;
 use part_machines::{MOST_STATES, Machines};
 use std::alloc::{AllocError, Global};
-use straight_line::{Flat, Numbers};
+use straight_line::Flat;
 use sv_terms::MOST_CHARACTERS;
 use trim_search::BuildFault;
 
@@ -93,7 +94,7 @@ fn answer_beyond(
     flat: &Flat,
     numbers: &Numbers,
     kept: &Machines,
-    reason: Reason,
+    reason: OpenReason,
 ) -> Result<CubeAnswer, AllocError>
     requires straight { IsStraight flat.now }
     requires formed { HasFormed flat.now }
@@ -143,7 +144,7 @@ fn answer_by_search(
         reach: numbers.reach,
         allowance,
     };
-    let mut tally = Tally {
+    let mut tally = LeafTally {
         given: None,
         long: None,
         closed: empty_refutation(),
@@ -158,19 +159,23 @@ fn answer_by_search(
 }
 
 // What is answered where no leaf has a hit.
-fn open_answer(tally: Tally) -> CubeAnswer
+fn open_answer(tally: LeafTally) -> CubeAnswer
     ensures { result ≡ left_of tally }
 {
-    let Tally {
+    let LeafTally {
         given,
         long,
         closed,
     } = tally;
     if let Some(given) = given {
-        return CubeAnswer::Open(Reason::Arithmetic(given.machines, given.system, given.evidence));
+        return CubeAnswer::Open(OpenReason::Arithmetic(
+            given.machines,
+            given.system,
+            given.evidence,
+        ));
     }
     if let Some(long) = long {
-        return CubeAnswer::Open(Reason::Length(long.machines, long.shown));
+        return CubeAnswer::Open(OpenReason::Length(long.machines, long.shown));
     }
     CubeAnswer::Unsat(closed)
 }

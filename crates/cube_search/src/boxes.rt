@@ -1,6 +1,6 @@
 //! The box of a flat cube, as a region.
 ghost use Rattle.std.specs.Prelude.{◌≡◌, map, IfOk};
-ghost use Rattle.straight_line.specs.Sides.{sides};
+ghost use Rattle.cube_bounds.specs.Sides.{sides};
 ghost use Rattle.cube_search.specs.Bounding.{box_of, integer_bounds, register_bounds};
 
 use box_search::Region;

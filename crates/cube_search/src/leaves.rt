@@ -9,18 +9,18 @@ ghost use Rattle.cube_search.specs.Leaves.{AreOfLeaf, IsAnswerFor, past_words, w
 ghost use Rattle.cube_search.specs.Searches.{IsFound, IsSearch};
 ghost use Rattle.cube_search.specs.Tallies.{IsTally, Keeps, IsCovered};
 
-use crate::found::Found;
+use crate::found::FoundRuns;
 use crate::searching::Search;
 use crate::settling::settle;
 use crate::spreading::spread;
-use crate::tally::Tally;
+use crate::tally::LeafTally;
 use crate::trimming::{lift_runs, machines_of, trim_family};
 use backward::{LeafState, families_become_leaves};
 use box_search::Hit;
+use cube_bounds::states_are_solved;
 use leaf_solve::{LeafAnswer, LongShown, leaf};
 use machine_core::Explicit;
 use std::alloc::{AllocError, Global};
-use straight_line::states_are_solved;
 use sv_list::{Copied, Items};
 use trim_search::BuildFault;
 
@@ -29,8 +29,8 @@ pub fn answer_leaf(
     search: &Search,
     alloc: Global,
     state: &LeafState,
-    tally: &mut Tally,
-) -> Result<Option<Found>, BuildFault>
+    tally: &mut LeafTally,
+) -> Result<Option<FoundRuns>, BuildFault>
     requires search { IsSearch search.now }
     requires state { IsState search.now.flat.now 0 state.now }
     requires tally { IsTally search.now.flat.now tally.old }

@@ -45,4 +45,4 @@ mod trimming;
 pub use answer::{CubeAnswer, Refutation, answer_crosses};
 pub use answering::cube_answer;
 pub use laws::rows_count;
-pub use reason::{Reason, Shown, reason_crosses};
+pub use reason::{OpenReason, Shown, reason_crosses};

@@ -1,5 +1,5 @@
 //! The values of a cube's constants.
-ghost use Rattle.std.specs.Prelude.{◌≡◌, [], nat_eq, length, IfOk, OnOk};
+ghost use Rattle.std.specs.Prelude.{◌≡◌, nat_eq, length, IfOk, OnOk};
 ghost use Rattle.std.specs.Cmp.Lexicographic.{pointwise};
 ghost use Rattle.indexmap.specs.IndexMap.{insert_all};
 ghost use Rattle.sv_terms.specs.Truth.{AreWorded};
@@ -9,7 +9,7 @@ ghost use Rattle.backward.specs.Runs.{run_words};
 ghost use Rattle.cube_search.specs.Entries.{number_entries, string_entries, text_entries, truth_entries, word_of};
 ghost use Rattle.cube_search.specs.Models.{IsNamedBy, all_words};
 
-use crate::found::Found;
+use crate::found::FoundRuns;
 use machine_core::Run;
 use std::alloc::{AllocError, Global};
 use straight_line::{Flat, Variable};
@@ -94,7 +94,7 @@ fn set_truths(alloc: Global, model: &mut Model, truths: &[(Name, bool)]) -> Resu
 /// of the truths as the cube has them.
 ///
 /// Linear in the text of the names and of the words, a word once for each of its variable's names.
-pub fn model_of(alloc: Global, flat: &Flat, found: &Found) -> Result<Model, AllocError>
+pub fn model_of(alloc: Global, flat: &Flat, found: &FoundRuns) -> Result<Model, AllocError>
     requires apart { AreNamesApart flat.now }
     requires satisfies { Satisfies flat.now (all_words (length flat.now.variables) found.now.runs) found.now.integers }
     ensures named { IfOk result (IsNamedBy flat.now found.now) }

@@ -1,18 +1,19 @@
 //! The values near 0, as a region.
-ghost use Rattle.std.specs.Prelude.{◌≡◌, ◌↔◌, ◌<◌, ◌≤◌, ◌+◌, ◌-◌, ◌*◌, ◌^◌, ◌≤ℤ◌, pos, ℕ, IsTrue, IfOk, length, min, replicate};
+ghost use Rattle.std.specs.Prelude.{◌≡◌, ◌↔◌, ◌<◌, ◌≤◌, ◌+◌, ◌-◌, ◌*◌, ◌^◌, ◌≤ℤ◌, pos, IsTrue, IfOk, min, replicate};
 ghost use Rattle.std.specs.List.{AllByRecursion};
 ghost use Rattle.sv_linear.specs.Rows.{RowFits, terms_weight};
 ghost use Rattle.sv_terms.specs.CutOff.{cut_off};
-ghost use Rattle.straight_line.specs.Bounds.{sources, states};
-ghost use Rattle.straight_line.specs.Measuring.{AreNumbersOf};
+ghost use Rattle.cube_bounds.specs.Bounds.{sources, states};
+ghost use Rattle.cube_bounds.specs.Measuring.{AreNumbersOf};
 ghost use Rattle.straight_line.specs.Straight.{IsStraight};
 ghost use Rattle.straight_line.specs.declared.flat.Flat.{Flat as AnyFlat};
 ghost use Rattle.cube_search.specs.Bounding.{IsNearRegion, near_bounds};
 ghost use Rattle.cube_search.specs.Regions.{IsNearOwed, IsNearSide, near_amount, quantities};
 
 use box_search::Region;
+use cube_bounds::Numbers;
 use std::alloc::{AllocError, Global};
-use straight_line::{Flat, Numbers};
+use straight_line::Flat;
 use sv_linear::Row;
 use sv_list::Items;
 use sv_terms::MOST_POINTS;

@@ -21,7 +21,7 @@ pub enum Shown {
 
 /// Why a cube is left open.
 #[derive(Drop)]
-pub enum Reason {
+pub enum OpenReason {
     /// It isn't straight. No answer for a flat cube has this reason.
     Fragment(Shown),
     /// So many registers, or integer constants. No answer for a flat cube has this reason.
@@ -42,5 +42,5 @@ fn crosses<T: Send + Sync>() {}
 
 /// A reason may go to another thread, and threads may share it.
 pub fn reason_crosses() {
-    crosses::<Reason>()
+    crosses::<OpenReason>()
 }

@@ -1,14 +1,15 @@
 //! The region in which leaves are searched.
 ghost use Rattle.std.specs.Prelude.{IfOk};
-ghost use Rattle.straight_line.specs.Measuring.{AreNumbersOf};
+ghost use Rattle.cube_bounds.specs.Measuring.{AreNumbersOf};
 ghost use Rattle.straight_line.specs.Straight.{IsStraight};
 ghost use Rattle.cube_search.specs.Regions.{IsRegionFor};
 
 use crate::boxes::box_of;
 use crate::near::near_region;
 use box_search::Region;
+use cube_bounds::Numbers;
 use std::alloc::{AllocError, Global};
-use straight_line::{Flat, Numbers};
+use straight_line::Flat;
 
 /// The region in which leaves of a flat cube are searched: its box where that is small, and else the values
 /// near 0, or none where their search is too much work or a row doesn't fit them.

@@ -3,17 +3,17 @@ ghost use Rattle.trim_search.specs.declared.build_fault.BuildFault.TheVariants.{
 ghost use Rattle.backward.specs.States.{IsState};
 ghost use Rattle.cube_search.specs.Searches.{IsFound, IsSearch};
 ghost use Rattle.cube_search.specs.declared.allowance.Allowance.TheVariants.{Part};
-ghost use Rattle.cube_search.specs.Steps.{CanStep, IsCutting, IsNext};
+ghost use Rattle.cube_search.specs.Steps.{CanStep, IsCutting, IsNextFamily};
 ghost use Rattle.straight_line.specs.Straight.{IsStraight};
 ghost use Rattle.cube_search.specs.Tallies.{IsTally, Keeps, IsCovered, AreCoveredFrom, IsCoveredBelow};
 
 use crate::allowance::Allowance;
 use crate::dead_ends::reads_nothing;
-use crate::found::Found;
+use crate::found::FoundRuns;
 use crate::leaves::answer_leaf;
 use crate::spending::spend;
 use crate::stepping::{leave, pieces_at, states_at, step};
-use crate::tally::Tally;
+use crate::tally::LeafTally;
 use backward::LeafState;
 use box_search::Region;
 use std::alloc::{AllocError, Global};
@@ -40,9 +40,9 @@ pub fn descend(
     alloc: Global,
     state: &LeafState,
     left: u32,
-    tally: &mut Tally,
+    tally: &mut LeafTally,
     spent: &mut u64,
-) -> Result<Option<Found>, BuildFault>
+) -> Result<Option<FoundRuns>, BuildFault>
     requires search { IsSearch search.now }
     requires state { IsState search.now.flat.now left state.now }
     requires left { left ≤ length search.now.flat.now.definitions }
@@ -76,9 +76,9 @@ fn try_cuts(
     at: u32,
     pieces: &[u32],
     cuts: &[u32],
-    tally: &mut Tally,
+    tally: &mut LeafTally,
     spent: &mut u64,
-) -> Result<Option<Found>, BuildFault>
+) -> Result<Option<FoundRuns>, BuildFault>
     requires search { IsSearch search.now }
     requires state { IsState search.now.flat.now (at + 1) state.now }
     requires cuts { IsCutting search.now.flat.now at pieces.now state.now.machines cuts.now }
@@ -110,9 +110,9 @@ fn below(
     state: &LeafState,
     at: u32,
     cuts: &[u32],
-    tally: &mut Tally,
+    tally: &mut LeafTally,
     spent: &mut u64,
-) -> Result<Option<Found>, BuildFault>
+) -> Result<Option<FoundRuns>, BuildFault>
     requires search { IsSearch search.now }
     requires state { IsState search.now.flat.now (at + 1) state.now }
     requires step { CanStep search.now.flat.now at state.now.machines cuts.now }
@@ -139,7 +139,7 @@ fn next_family(
     spent: &mut u64,
 ) -> Result<LeafState, BuildFault>
     requires { CanStep search.now.flat.now at state.now.machines cuts.now }
-    ensures next { IfOk result (IsNext search.now.flat.now at cuts.now state.now) }
+    ensures next { IfOk result (IsNextFamily search.now.flat.now at cuts.now state.now) }
     ensures state { IfOk result (λ s. IsStraight search.now.flat.now → IsState search.now.flat.now (at + 1) state.now → IsState search.now.flat.now at s) }
     ensures refused { (n : ℕ) → result ≡ Err (States n) → search.now.allowance ≡ Part }
 {

@@ -2,7 +2,7 @@
 ghost use Rattle.std.specs.Prelude.{◌≡◌};
 ghost use Rattle.cube_search.specs.Tallies.{first_some, hit_of, one_more, settled};
 
-use crate::tally::{Given, Tally, TooLong};
+use crate::tally::{Given, LeafTally, TooLong};
 use box_search::Hit;
 use leaf_solve::{Closing, LeafAnswer, LongShown};
 use machine_core::Explicit;
@@ -10,7 +10,7 @@ use sv_list::Items;
 
 /// The tally with the answer for a leaf of these machines, unless that is a hit. The first leaf that is
 /// too long is kept, the first on which the solver gave up, and how many are closed.
-pub fn settle(tally: &mut Tally, machines: Items<Explicit>, answer: LeafAnswer) -> Option<Hit>
+pub fn settle(tally: &mut LeafTally, machines: Items<Explicit>, answer: LeafAnswer) -> Option<Hit>
     ensures hit { result ≡ hit_of answer }
     ensures given { tally.new.given ≡ (settled machines answer tally.old).given }
     ensures long { tally.new.long ≡ (settled machines answer tally.old).long }
@@ -39,7 +39,7 @@ pub fn settle(tally: &mut Tally, machines: Items<Explicit>, answer: LeafAnswer) 
 }
 
 // Keeps a leaf that is too long, if it is the first.
-fn keep_long(tally: &mut Tally, machines: Items<Explicit>, shown: LongShown)
+fn keep_long(tally: &mut LeafTally, machines: Items<Explicit>, shown: LongShown)
     ensures given { tally.new.given ≡ tally.old.given }
     ensures long { tally.new.long ≡ first_some tally.old.long (record { machines = machines; shown = shown }) }
     ensures closed { tally.new.closed ≡ tally.old.closed }
@@ -50,7 +50,7 @@ fn keep_long(tally: &mut Tally, machines: Items<Explicit>, shown: LongShown)
 }
 
 // Keeps a leaf on which the solver gave up, if it is the first.
-fn keep_given(tally: &mut Tally, given: Given)
+fn keep_given(tally: &mut LeafTally, given: Given)
     ensures given { tally.new.given ≡ first_some tally.old.given given }
     ensures long { tally.new.long ≡ tally.old.long }
     ensures closed { tally.new.closed ≡ tally.old.closed }
@@ -61,7 +61,7 @@ fn keep_given(tally: &mut Tally, given: Given)
 }
 
 // Counts a closed leaf.
-fn close(tally: &mut Tally, closing: &Closing)
+fn close(tally: &mut LeafTally, closing: &Closing)
     ensures given { tally.new.given ≡ tally.old.given }
     ensures long { tally.new.long ≡ tally.old.long }
     ensures closed { tally.new.closed ≡ one_more closing.now tally.old.closed }

@@ -4,7 +4,7 @@ ghost use Rattle.trim_search.specs.declared.build_fault.BuildFault.TheVariants.{
 ghost use Rattle.cube_search.specs.declared.allowance.Allowance.TheVariants.{Part};
 
 use crate::allowance::Allowance;
-use backward::{LeafState, Made, Meeting};
+use backward::{FamilyOrigin, LeafState, MetPart};
 use machine_core::Explicit;
 use trim_search::BuildFault;
 
@@ -26,7 +26,7 @@ fn states_of_all(machines: &[Option<Explicit>]) -> u64 {
     sum
 }
 
-fn explored_states(meetings: &[Meeting]) -> u64 {
+fn explored_states(meetings: &[MetPart]) -> u64 {
     let mut sum = 0u64;
     for meeting in meetings {
         sum = sum.saturating_add(u64::from(meeting.both.machine.states()));
@@ -35,11 +35,11 @@ fn explored_states(meetings: &[Meeting]) -> u64 {
 }
 
 // The states that were explored for a family.
-fn effort_of(made: &Made) -> u64 {
+fn effort_of(made: &FamilyOrigin) -> u64 {
     match made {
-        Made::First => 0,
-        Made::Cut(meetings) => explored_states(meetings.as_slice()),
-        Made::Through(_, before, meeting) => u64::from(
+        FamilyOrigin::First => 0,
+        FamilyOrigin::Cut(meetings) => explored_states(meetings.as_slice()),
+        FamilyOrigin::Through(_, before, meeting) => u64::from(
             before.built.machine.states(),
         ).saturating_add(u64::from(meeting.both.machine.states())),
     }

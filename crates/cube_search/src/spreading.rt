@@ -6,7 +6,7 @@ ghost use Rattle.box_search.specs.Hits.{AreRunsOf};
 ghost use Rattle.backward.specs.Leaves.{machines_of};
 ghost use Rattle.cube_search.specs.Models.{IsSpread};
 
-use crate::found::Found;
+use crate::found::FoundRuns;
 use backward::LeafState;
 use box_search::Hit;
 use machine_core::{Explicit, Run};
@@ -27,7 +27,7 @@ fn next_run(machine: &Option<Explicit>, left: &mut IntoIter<Run<u32>>) -> Option
 
 /// The runs of a family's machines, in their order, put to the numbers of the variables, and the numbers with
 /// them. The runs are moved: linear in the number of variables.
-pub fn spread(alloc: Global, state: &LeafState, hit: Hit) -> Result<Found, AllocError>
+pub fn spread(alloc: Global, state: &LeafState, hit: Hit) -> Result<FoundRuns, AllocError>
     requires { AreRunsOf (machines_of state.now.machines) hit.runs }
     ensures integers { IfOk result (λ found. found.integers ≡ hit.integers) }
     ensures runs { IfOk result (λ found. IsSpread state.now.machines hit.runs found.runs) }
@@ -39,7 +39,7 @@ pub fn spread(alloc: Global, state: &LeafState, hit: Hit) -> Result<Found, Alloc
         let run = next_run(machine, &mut left);
         spread.push(run)?;
     }
-    Ok(Found {
+    Ok(FoundRuns {
         runs: spread,
         integers,
     })

@@ -1,5 +1,5 @@
 //! The definitions of a flat cube, one at a time, on the way to its leaves.
-ghost use Rattle.std.specs.Prelude.{◌≡◌, ℕ, ◌+◌, ◌<◌, ◌^◌, List, [], Ok, Err, None, Some, IfOk, IfSome, MatchOption, Option, length, slice_get};
+ghost use Rattle.std.specs.Prelude.{◌≡◌, ℕ, ◌+◌, ◌<◌, ◌^◌, [], Ok, Err, None, Some, IfOk, IfSome, MatchOption, Option, length, slice_get};
 ghost use Rattle.machine_core.specs.declared.graph.Graph.{Graph};
 ghost use Rattle.trim_search.specs.declared.build_fault.BuildFault.TheVariants.{States};
 ghost use Rattle.straight_line.specs.Straight.{IsStraight};
@@ -8,10 +8,10 @@ ghost use Rattle.backward.specs.Families.{HasMachine};
 ghost use Rattle.backward.specs.States.{IsState};
 ghost use Rattle.backward.specs.Steps.{CanPassAt, IsMadeAt};
 ghost use Rattle.cube_search.specs.Searches.{IsFound, IsSearch};
-ghost use Rattle.cube_search.specs.declared.found.Found.{Found as AnyFound};
-ghost use Rattle.cube_search.specs.Steps.{AreExact, CanStep, IsCutting, IsNext};
+ghost use Rattle.cube_search.specs.declared.found.FoundRuns.{FoundRuns as AnyFound};
+ghost use Rattle.cube_search.specs.Steps.{AreExact, CanStep, IsCutting, IsNextFamily};
 
-use crate::found::Found;
+use crate::found::FoundRuns;
 use crate::searching::Search;
 use backward::{
     LeafState, cuts_are_exact, lift_step, next_can_be_carried, step_concat, step_through,
@@ -70,7 +70,7 @@ pub fn step(
     limit: u64,
 ) -> Result<LeafState, BuildFault>
     requires { CanStep flat.now at state.now.machines cuts.now }
-    ensures next { IfOk result (IsNext flat.now at cuts.now state.now) }
+    ensures next { IfOk result (IsNextFamily flat.now at cuts.now state.now) }
     ensures state { IfOk result (λ s. IsStraight flat.now → IsState flat.now (at + 1) state.now → IsState flat.now at s) }
     ensures refused { (n : ℕ) → result ≡ Err (States n) → limit < 2 ^ 32 }
 {
@@ -95,8 +95,8 @@ pub fn leave(
     at: u32,
     cuts: &[u32],
     after: LeafState,
-    found: Result<Option<Found>, BuildFault>,
-) -> Result<Option<Found>, BuildFault>
+    found: Result<Option<FoundRuns>, BuildFault>,
+) -> Result<Option<FoundRuns>, BuildFault>
     requires straight { IsStraight flat.now }
     requires at { at < length flat.now.definitions }
     requires made { IsMadeAt flat.now at cuts.now before.now.machines after }
@@ -117,8 +117,8 @@ fn take_back(
     at: u32,
     cuts: &[u32],
     after: &LeafState,
-    found: Result<Option<Found>, BuildFault>,
-) -> Result<Option<Found>, BuildFault>
+    found: Result<Option<FoundRuns>, BuildFault>,
+) -> Result<Option<FoundRuns>, BuildFault>
     requires straight { IsStraight flat.now }
     requires at { at < length flat.now.definitions }
     requires made { IsMadeAt flat.now at cuts.now before.now.machines after.now }
@@ -131,9 +131,9 @@ fn take_back(
     match found? {
         None => Ok(None),
         Some(found) => {
-            let Found { runs, integers } = found;
+            let FoundRuns { runs, integers } = found;
             let runs = lift_step(alloc, flat, before, at, cuts, after, runs)?;
-            Ok(Some(Found { runs, integers }))
+            Ok(Some(FoundRuns { runs, integers }))
         }
     }
 }

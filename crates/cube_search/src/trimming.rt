@@ -3,7 +3,6 @@ ghost use Rattle.std.specs.Prelude.{◌≡◌, map, IfOk};
 ghost use Rattle.std.specs.List.{AllZip};
 ghost use Rattle.machine_core.specs.Graphs.{IsRunOf};
 ghost use Rattle.backward.specs.Leaves.{machines_of};
-ghost use Rattle.trim_search.specs.declared.built.Built.{Built as AnyBuilt};
 ghost use Rattle.cube_search.specs.Leaves.{AreLifted, IsTrim, machine_of};
 
 use backward::LeafState;

@@ -1,10 +1,10 @@
 -- Terms without opaque parts.
 use Rattle.std.proofs.Common.{◌≡◌, refl, sym, ap, ◌∙◌, ℕ, ◌<◌, ◌+◌, Bool, true, false, List, [], ◌∷◌, ◌++◌, length, take, get_or, Some, append-nil}
-use Rattle.std.specs.Prelude.{not, filter}
+use Rattle.std.specs.Prelude.{not}
 use Rattle.std.specs.List.{AllByRecursion}
 use Rattle.std.proofs.lemmas.List.{take_more}
 use Rattle.std.proofs.lemmas.List.Elements.{filter-append}
-use Rattle.bool_cubes.specs.Laws.{IsSorted}
+use Rattle.bool_cubes.specs.Laws.{IsClearBool}
 use Rattle.sv_terms.specs.Parts.{is_opaque}
 use Rattle.sv_terms.specs.Sorting.{sort_of}
 use Rattle.sv_terms.specs.Truth.{clear_of}
@@ -15,11 +15,11 @@ use mathlib.Core.Bool.{cond}
 is_clear : Term → Bool
 is_clear t = not (is_opaque t)
 
-one_kept : (t : Term) (b : Bool) → is_opaque t ≡ b → sort_of t ≡ Some sort.Bool → (ts : List Term) → AllByRecursion IsSorted ts → AllByRecursion IsSorted (cond (not b) (t ∷ ts) ts)
+one_kept : (t : Term) (b : Bool) → is_opaque t ≡ b → sort_of t ≡ Some sort.Bool → (ts : List Term) → AllByRecursion IsClearBool ts → AllByRecursion IsClearBool (cond (not b) (t ∷ ts) ts)
 one_kept t true e s ts h = h
 one_kept t false e s ts h = (record { sorted = s; clear = e }, h)
 
-pub clear_sorted : (ts : List Term) → AllByRecursion (λ (t : Term). sort_of t ≡ Some sort.Bool) ts → AllByRecursion IsSorted (clear_of ts)
+pub clear_sorted : (ts : List Term) → AllByRecursion (λ (t : Term). sort_of t ≡ Some sort.Bool) ts → AllByRecursion IsClearBool (clear_of ts)
 clear_sorted [] h = tt
 clear_sorted (t ∷ ts) h = one_kept t (is_opaque t) refl h.0 (clear_of ts) (clear_sorted ts h.1)
 

@@ -1,6 +1,5 @@
 -- The levels of a script stay sound, whatever command is done.
-use Rattle.std.proofs.Common.{◌≡◌, refl, sym, subst, ap, ℕ, zero, suc, List, [], ◌∷◌, ◌++◌, drop, Some, IsTrue, append_assoc, append-nil}
-use Rattle.std.specs.Prelude.{replicate}
+use Rattle.std.proofs.Common.{◌≡◌, refl, sym, subst, ℕ, zero, suc, List, [], ◌∷◌, ◌++◌, drop, Some, IsTrue, append_assoc, append-nil}
 use Rattle.std.specs.List.{AllByRecursion}
 use Rattle.assert_stack.specs.Levels.{Level, Symbol, empty, symbols_of, live, pushed, declared, asserted}
 use Rattle.sort_check.specs.WellFormed.{is_well_formed, IsAdded}

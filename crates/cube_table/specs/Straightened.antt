@@ -2,11 +2,11 @@
 use Rattle.std.specs.Prelude.{List, Result, Ok, Err}
 use Rattle.bool_cubes.specs.declared.literal.Literal.{Literal}
 use Rattle.straight_line.specs.Flattening.{IsFlattened, IsFlattening}
-use Rattle.straight_line.specs.Measuring.{AreNumbersOf}
+use Rattle.cube_bounds.specs.Measuring.{AreNumbersOf}
 use Rattle.straight_line.specs.declared.fault.FlatFault.{FlatFault}
 use Rattle.cube_table.specs.declared.straight.Straight.{Straight}
 
 -- the flattening of the literals and its numbers, or the first thing for which they aren't straight
-abbrev pub IsStraightened : List Literal → Result Straight FlatFault → Type 0
-IsStraightened ls (Ok s) = IsFlattening ls s.flat × AreNumbersOf s.flat s.numbers
-IsStraightened ls (Err f) = IsFlattened ls (Err f)
+abbrev pub IsStraightenedCube : List Literal → Result Straight FlatFault → Type 0
+IsStraightenedCube ls (Ok s) = IsFlattening ls s.flat × AreNumbersOf s.flat s.numbers
+IsStraightenedCube ls (Err f) = IsFlattened ls (Err f)

@@ -1,7 +1,8 @@
 //! Flat cubes and their numbers as text, a line for each thing that is said.
 use crate::text::Text;
+use cube_bounds::Numbers;
 use std::alloc::{AllocError, Global};
-use straight_line::{By, Definition, Flat, FlatFault, Numbers, Own, Variable};
+use straight_line::{By, Definition, Flat, FlatFault, Own, Variable};
 use sv_linear::{Row, RowKind};
 use sv_terms::Name;
 use sv_word::Word;

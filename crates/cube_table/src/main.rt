@@ -31,14 +31,14 @@ mod terms;
 mod text;
 
 use crate::running::run;
-use crate::stop::Stop;
+use crate::stop::TableStop;
 use std::process::ExitCode;
 
 fn main(rt: HostRuntime) -> ExitCode {
     match run(rt) {
         Ok(()) => ExitCode::SUCCESS,
-        Err(Stop::Unread) => ExitCode::from(3),
-        Err(Stop::Unwritten) => ExitCode::from(4),
-        Err(Stop::Memory(_)) => ExitCode::from(5),
+        Err(TableStop::Unread) => ExitCode::from(3),
+        Err(TableStop::Unwritten) => ExitCode::from(4),
+        Err(TableStop::Memory(_)) => ExitCode::from(5),
     }
 }

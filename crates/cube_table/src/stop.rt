@@ -2,19 +2,19 @@ use std::alloc::AllocError;
 
 /// Why a run stops before its script has ended.
 #[derive(Clone, Copy, Debug, PartialEq, Eq)]
-pub enum Stop {
+pub enum TableStop {
     Unread,
     Unwritten,
     Memory(AllocError),
 }
 
-impl From<AllocError> for Stop {
+impl From<AllocError> for TableStop {
     ghost use Rattle.std.specs.Prelude.{◌≡◌};
-    ghost use Rattle.cube_table.specs.declared.stop.Stop.TheVariants.{Memory};
+    ghost use Rattle.cube_table.specs.declared.stop.TableStop.TheVariants.{Memory};
 
     ghost from_gives = { λ error stop. stop ≡ Memory error };
 
-    fn from(error: AllocError) -> Stop {
-        Stop::Memory(error)
+    fn from(error: AllocError) -> TableStop {
+        TableStop::Memory(error)
     }
 }

@@ -1,10 +1,11 @@
 ghost use Rattle.std.specs.List.{AllByRecursion};
 ghost use Rattle.bool_cubes.specs.Past.{IsFitting};
-ghost use Rattle.cube_table.specs.Straightened.{IsStraightened};
+ghost use Rattle.cube_table.specs.Straightened.{IsStraightenedCube};
 
 use bool_cubes::Cube;
+use cube_bounds::{Numbers, numbers};
 use std::alloc::Global;
-use straight_line::{Flat, FlatFault, Numbers, flatten, numbers};
+use straight_line::{Flat, FlatFault, flatten};
 
 /// A straight cube: its flat form, and the numbers of that.
 #[derive(Drop)]
@@ -16,7 +17,7 @@ pub struct Straight {
 /// The flat form of a cube and its numbers, or why it isn't straight.
 pub fn straighten(alloc: Global, cube: &Cube) -> Result<Straight, FlatFault>
     requires { AllByRecursion IsFitting cube.now.literals }
-    ensures { IsStraightened cube.now.literals result }
+    ensures { IsStraightenedCube cube.now.literals result }
 {
     let flat = flatten(alloc, cube)?;
     match numbers(alloc, &flat) {

@@ -1,13 +1,13 @@
 //! The table of the cubes of assertions.
 ghost use Rattle.std.specs.Prelude.{◌≡◌, Some};
 ghost use Rattle.std.specs.List.{AllByRecursion};
-ghost use Rattle.bool_cubes.specs.Laws.{IsFittingCube, IsSorted};
+ghost use Rattle.bool_cubes.specs.Laws.{IsFittingCube, IsClearBool};
 ghost use Rattle.bool_cubes.specs.Past.{IsFitting};
 ghost use Rattle.sv_terms.specs.Sorting.{sort_of};
 ghost use Rattle.sv_terms.specs.declared.sort.Sort.TheVariants as sort;
 
 use crate::clear::clear;
-use crate::stop::Stop;
+use crate::stop::TableStop;
 use crate::straight::straighten;
 use crate::text::Text;
 use bool_cubes::{Cube, CubeFault, Cubes, count, literals_fit};
@@ -17,7 +17,7 @@ use sv_terms::Term;
 /// Prints the cubes of those assertions that have no opaque part, each with its literals, its flat form and the
 /// numbers of that, or with why it isn't straight.
 #[tactic(auto, using(crate::proofs::Cleared::clear_sorted))]
-pub fn print_table(rt: HostRuntime, live: &[Term]) -> Result<(), Stop>
+pub fn print_table(rt: HostRuntime, live: &[Term]) -> Result<(), TableStop>
     requires { AllByRecursion (λ t. sort_of t ≡ Some sort.Bool) live.now }
 {
     let alloc = rt.alloc();
@@ -35,8 +35,8 @@ pub fn print_table(rt: HostRuntime, live: &[Term]) -> Result<(), Stop>
     print_cubes(rt, terms.as_slice())
 }
 
-fn print_cubes(rt: HostRuntime, terms: &[Term]) -> Result<(), Stop>
-    requires { AllByRecursion IsSorted terms.now }
+fn print_cubes(rt: HostRuntime, terms: &[Term]) -> Result<(), TableStop>
+    requires { AllByRecursion IsClearBool terms.now }
 {
     literals_fit();
     let alloc = rt.alloc();
@@ -65,7 +65,7 @@ fn refuse(text: &mut Text, fault: CubeFault) -> Result<(), AllocError> {
     }
 }
 
-fn print_all(rt: HostRuntime, cubes: Cubes) -> Result<(), Stop>
+fn print_all(rt: HostRuntime, cubes: Cubes) -> Result<(), TableStop>
     requires { AllByRecursion IsFittingCube cubes }
 {
     let alloc = rt.alloc();

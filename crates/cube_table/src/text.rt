@@ -1,5 +1,5 @@
 //! Text, and how words, numbers and names are written in it.
-use crate::stop::Stop;
+use crate::stop::TableStop;
 use itoa::{Buffer, Integer};
 use std::alloc::{AllocError, Global};
 use std::io::Write;
@@ -23,10 +23,10 @@ impl Text {
     }
 
     /// Writes the text to standard output.
-    pub fn print(&self, rt: HostRuntime) -> Result<(), Stop> {
+    pub fn print(&self, rt: HostRuntime) -> Result<(), TableStop> {
         match rt.stdout().write_all(self.as_bytes()) {
             Ok(()) => Ok(()),
-            Err(_) => Err(Stop::Unwritten),
+            Err(_) => Err(TableStop::Unwritten),
         }
     }
 

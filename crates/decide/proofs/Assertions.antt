@@ -1,5 +1,5 @@
 -- The assertions without opaque parts, and what is known of their cubes.
-use Rattle.std.proofs.Common.{◌≡◌, refl, sym, ◌∙◌, subst, ℕ, zero, suc, ◌<◌, cond, not, Bool, true, false, ◌&&◌, IsTrue, List, [], ◌∷◌, Some, Result, Err, IfOk, arith}
+use Rattle.std.proofs.Common.{◌≡◌, refl, sym, ◌∙◌, subst, ℕ, ◌<◌, cond, not, Bool, true, false, ◌&&◌, IsTrue, List, [], ◌∷◌, Some, Result, Err, IfOk, arith}
 use Rattle.std.specs.List.{AllByRecursion, list_all}
 use Rattle.sv_terms.specs.CutOff.{cut_off}
 use Rattle.sv_terms.specs.Meaning.{Named}
@@ -12,7 +12,7 @@ use Rattle.sv_terms.specs.declared.sort.Sort.TheVariants as sort
 use Rattle.sv_terms.specs.declared.term.Term.{Term}
 use Rattle.sv_terms.specs.declared.term.Term.TheVariants as v
 use Rattle.bool_cubes.specs.Cubes.{cubes_of}
-use Rattle.bool_cubes.specs.Laws.{CubesAreExact, IsAssertion, IsFittingCube, IsPassedCube, IsPassedOn, IsSorted, IsValuedCube, LiteralsAreValued, LiteralsFit, LiteralsPass}
+use Rattle.bool_cubes.specs.Laws.{CubesAreExact, IsAssertion, IsFittingCube, IsPassedCube, IsPassedOn, IsClearBool, IsValuedCube, LiteralsAreValued, LiteralsFit, LiteralsPass}
 use Rattle.bool_cubes.specs.Past.{HasNoPast}
 use Rattle.bool_cubes.specs.Refusing.{IsRefusedExactly, count_of, most_cubes}
 use Rattle.bool_cubes.specs.declared.fault.CubeFault.{CubeFault}
@@ -23,7 +23,7 @@ use Rattle.bool_cubes.specs.declared.literal.Cube.{Cube}
 use Rattle.straight_line.specs.Laws.{IsSpelled}
 use Rattle.decide.specs.Constants.{HaveOneSort, has_formed, has_words}
 use Rattle.decide.specs.Completeness.{IsComplete, MustDecide}
-use Rattle.decide.specs.Jobs.{IsAsked, IsFolded}
+use Rattle.decide.specs.Jobs.{IsAskedCube, IsFolded}
 use Rattle.decide.specs.Verdicts.{HasOnly, RightVerdict, refused_as}
 use Rattle.decide.proofs.Fillings.{by-places, at-places}
 use Rattle.decide.proofs.Rightness.{AreLaws}
@@ -46,8 +46,8 @@ mapped P Q f (x ∷ xs) h = (f x h.0, mapped P Q f xs h.1)
 abbrev pub IsBool : Term → Type 0
 IsBool t = sort_of t ≡ Some sort.Bool
 
-pub clear-sorted : (ts : List Term) → AllByRecursion IsBool ts → AllByRecursion IsSorted (clear_of ts)
-clear-sorted ts h = mapped (λ t. IsBool t × (is_opaque t ≡ false)) IsSorted (λ t p. record { sorted = p.0; clear = p.1 }) (clear_of ts) (kept IsBool ts h)
+pub clear-sorted : (ts : List Term) → AllByRecursion IsBool ts → AllByRecursion IsClearBool (clear_of ts)
+clear-sorted ts h = mapped (λ t. IsBool t × (is_opaque t ≡ false)) IsClearBool (λ t p. record { sorted = p.0; clear = p.1 }) (clear_of ts) (kept IsBool ts h)
 
 clear-formed : (ts : List Term) → AllByRecursion (λ t. IsTrue (has_formed t)) ts → AllByRecursion (λ t. IsTrue (has_formed t)) (clear_of ts)
 clear-formed ts h = mapped (λ t. IsTrue (has_formed t) × (is_opaque t ≡ false)) (λ t. IsTrue (has_formed t)) (λ t p. p.0) (clear_of ts) (kept (λ t. IsTrue (has_formed t)) ts h)
@@ -57,7 +57,7 @@ clear-one-sort ts one =
     let P = λ (t : Term). IsTrue (is_valued one.0 t) in
     (one.0, at-places P (clear_of ts) (mapped (λ t. P t × (is_opaque t ≡ false)) P (λ t p. p.0) (clear_of ts) (kept P ts (by-places P ts one.1))))
 
-assertions : (values : Named) (ts : List Term) → AllByRecursion IsSorted ts → AllByRecursion (λ t. IsTrue (is_valued values t)) ts → AllByRecursion (IsAssertion values) ts
+assertions : (values : Named) (ts : List Term) → AllByRecursion IsClearBool ts → AllByRecursion (λ t. IsTrue (is_valued values t)) ts → AllByRecursion (IsAssertion values) ts
 assertions values [] s h = tt
 assertions values (t ∷ ts) s h = (record { sorted = s.0.sorted; valued = h.0; clear = s.0.clear }, assertions values ts s.1 h.1)
 
@@ -100,13 +100,13 @@ turned A P [] h = tt
 turned A P (c ∷ cs) h = (λ values a. (h values a).0, turned A P cs (λ values a. (h values a).1))
 
 asked-each : (terms : List Term) (cs : List Cube) → HaveOneSort (clear_of terms) → AllByRecursion IsFittingCube cs → AllByRecursion (λ (c : Cube). AllByRecursion (λ (l : Literal). IsSpelled (seen l.atom)) c.literals) cs
-    → AllByRecursion (λ c. (values : Named) → AreValued values (clear_of terms) → IsValuedCube values c) cs → AllByRecursion (IsAsked terms) cs
+    → AllByRecursion (λ c. (values : Named) → AreValued values (clear_of terms) → IsValuedCube values c) cs → AllByRecursion (IsAskedCube terms) cs
 asked-each terms [] one f s w = tt
 asked-each terms (c ∷ cs) one f s w = (record { fits = f.0; spelled = s.0; valued = w.0; one_sort = one }, asked-each terms cs one f.1 s.1 w.1)
 
 -- a cube of assertions may be asked
 pub all-asked : LiteralsFit → LiteralsPass → LiteralsAreValued → FormedIsTold → (terms : List Term) → AllByRecursion IsBool terms → AllByRecursion (λ t. IsTrue (has_formed t)) terms → HaveOneSort terms
-    → IsTrue (list_all has_words (clear_of terms)) → HasNoPast (clear_of terms) → AllByRecursion (IsAsked terms) (cubes_of (clear_of terms))
+    → IsTrue (list_all has_words (clear_of terms)) → HasNoPast (clear_of terms) → AllByRecursion (IsAskedCube terms) (cubes_of (clear_of terms))
 all-asked fit pass valued told terms sorted formed one words plain =
     let cs = cubes_of (clear_of terms) in
     let good = spelled-all (clear_of terms) words (clear-formed terms formed) in

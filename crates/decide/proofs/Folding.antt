@@ -7,8 +7,8 @@ use Rattle.sv_terms.specs.declared.term.Term.{Term}
 use Rattle.bool_cubes.specs.declared.literal.Cube.{Cube}
 use Rattle.cube_search.specs.declared.answer.CubeAnswer.{CubeAnswer}
 use Rattle.cube_search.specs.declared.answer.CubeAnswer.TheVariants as answer
-use Rattle.cube_search.specs.declared.reason.Reason.{Reason}
-use Rattle.cube_search.specs.declared.reason.Reason.TheVariants.{Fragment}
+use Rattle.cube_search.specs.declared.reason.OpenReason.{OpenReason}
+use Rattle.cube_search.specs.declared.reason.OpenReason.TheVariants.{Fragment}
 use Rattle.cube_search.specs.declared.reason.Shown.TheVariants.{Opaque}
 use Rattle.sv_terms.specs.Truth.{AreValued, clear_of, opaque_of}
 use Rattle.decide.specs.Constants.{AreValuesOf}
@@ -65,21 +65,21 @@ module _ (terms : List Term) where
   others-opaque t ts n (d ∷ ds) (answer.Open r ∷ bs) z (suc k) c g h =
       others-opaque t ts (suc n) ds bs z.1 k c g (λ i. h (subst (Contains (n ∷ map (λ e. e.0) (opens_from (suc n) (t ∷ ts) bs))) (omega arith) (contains-there _ n _ i)))
 
-  abbrev HasCause : List Cube → ℕ → ℕ → Reason → Type 0
+  abbrev HasCause : List Cube → ℕ → ℕ → OpenReason → Type 0
   HasCause done n k reason = (j : ℕ) × (c : Cube) × (k ≡ n + j) × (slice_get done j ≡ Some c) × IsCause terms c reason
 
-  cause-later : (d : Cube) (done : List Cube) (n k : ℕ) (reason : Reason) → HasCause done (suc n) k reason → HasCause (d ∷ done) n k reason
+  cause-later : (d : Cube) (done : List Cube) (n k : ℕ) (reason : OpenReason) → HasCause done (suc n) k reason → HasCause (d ∷ done) n k reason
   cause-later d done n k reason h = (suc h.0, h.1, omega (arith, h.2), h.3, h.4)
 
-  cause-first : (d : Cube) (done : List Cube) (n : ℕ) (own : Reason) → IsCause terms d own → (k : ℕ) (reason : Reason) → ◌≡◌ {A = ℕ × Reason} (n, own) (k, reason) → HasCause (d ∷ done) n k reason
+  cause-first : (d : Cube) (done : List Cube) (n : ℕ) (own : OpenReason) → IsCause terms d own → (k : ℕ) (reason : OpenReason) → ◌≡◌ {A = ℕ × OpenReason} (n, own) (k, reason) → HasCause (d ∷ done) n k reason
   cause-first d done n own h k reason e =
-      let same : own ≡ reason = ap (λ (p : ℕ × Reason). p.1) e in
-      let at : n ≡ k = ap (λ (p : ℕ × Reason). p.0) e in
+      let same : own ≡ reason = ap (λ (p : ℕ × OpenReason). p.1) e in
+      let at : n ≡ k = ap (λ (p : ℕ × OpenReason). p.0) e in
       (zero, d, omega arith, refl, subst (IsCause terms d) same h)
 
   -- each listed cube has its reason
   pub causes : (opaque : List Term) → ((t : Term) (ts : List Term) → opaque ≡ t ∷ ts → Contains (opaque_of terms) t) → (n : ℕ) (done : List Cube) (answers : List CubeAnswer)
-      → AllZip (IsOutcome terms) done answers → (k : ℕ) (reason : Reason) → Contains (opens_from n opaque answers) (k, reason) → HasCause done n k reason
+      → AllZip (IsOutcome terms) done answers → (k : ℕ) (reason : OpenReason) → Contains (opens_from n opaque answers) (k, reason) → HasCause done n k reason
   causes opaque own n [] [] z k reason h = contains-none _ (k, reason) h
   causes opaque own n [] (a ∷ bs) z k reason h = absurd z
   causes opaque own n (d ∷ ds) [] z k reason h = absurd z

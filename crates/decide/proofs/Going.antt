@@ -13,11 +13,11 @@ use Rattle.bool_cubes.specs.declared.literal.Cube.{Cube}
 use Rattle.cube_search.specs.declared.answer.CubeAnswer.{CubeAnswer}
 use Rattle.sv_terms.specs.Truth.{opaque_of}
 use Rattle.decide.specs.Folds.{found, with_first, without_sat}
-use Rattle.decide.specs.Jobs.{IsAsked, IsOutcome, IsTallyOf, IsFoldOf, IsUnderWay, batch, verdict_of}
+use Rattle.decide.specs.Jobs.{IsAskedCube, IsOutcome, IsTallyOf, IsFoldOf, IsUnderWay, batch, verdict_of}
 use Rattle.decide.specs.Batches.{AreJobsOf, Yields}
 use Rattle.decide.specs.Causes.{CubeHasNoValues}
-use Rattle.decide.specs.Passing.{Passes, passed}
-use Rattle.decide.specs.declared.tally.Tally.{Tally}
+use Rattle.decide.specs.Passing.{PassesCubes, passed}
+use Rattle.decide.specs.declared.tally.CubeTally.{CubeTally}
 use Rattle.decide.proofs.Tallying.{found-over, passed-length}
 
 -- a job, as contracts see it
@@ -78,12 +78,12 @@ jobs-length terms (j ∷ jobs) [] new a = absurd a
 jobs-length terms (j ∷ jobs) (c ∷ old) new a = omega (arith, jobs-length terms jobs old new a.2)
 
 -- what is left may be asked, as all may
-pub asked-left : (terms : List Term) (jobs : List Job) (old new : List Cube) → AreJobsOf terms jobs old new → AllByRecursion (IsAsked terms) old → AllByRecursion (IsAsked terms) new
-asked-left terms [] old new a h = subst (AllByRecursion (IsAsked terms)) a h
+pub asked-left : (terms : List Term) (jobs : List Job) (old new : List Cube) → AreJobsOf terms jobs old new → AllByRecursion (IsAskedCube terms) old → AllByRecursion (IsAskedCube terms) new
+asked-left terms [] old new a h = subst (AllByRecursion (IsAskedCube terms)) a h
 asked-left terms (j ∷ jobs) [] new a h = absurd a
 asked-left terms (j ∷ jobs) (c ∷ old) new a h = asked-left terms jobs old new a.2 h.1
 
-pub start : (terms : List Term) (cubes : List Cube) (tally : Tally) → IsTallyOf (opaque_of terms) [] tally → IsUnderWay terms cubes cubes tally
+pub start : (terms : List Term) (cubes : List Cube) (tally : CubeTally) → IsTallyOf (opaque_of terms) [] tally → IsUnderWay terms cubes cubes tally
 start terms cubes tally t = record {
   done = [];
   answers = [];
@@ -98,13 +98,13 @@ start terms cubes tally t = record {
     nothing (t ∷ ts) = refl
 
 -- the numbers that bound the tally
-pub counted : (terms : List Term) (cubes left : List Cube) (tally : Tally) → IsUnderWay terms cubes left tally → tally.count + length left ≡ length cubes
+pub counted : (terms : List Term) (cubes left : List Cube) (tally : CubeTally) → IsUnderWay terms cubes left tally → tally.count + length left ≡ length cubes
 counted terms cubes left tally u =
     let a = zip-length (IsOutcome terms) u.done u.answers u.outcomes in
     let b = ap length u.parts ∙ length-append u.done left in
     omega (arith, a, b, u.tallied.count)
 
-module _ (terms : List Term) (cubes old new : List Cube) (jobs : List Job) (outcomes : List (Result CubeAnswer AllocError)) (before after : Tally) (u : IsUnderWay terms cubes old before)
+module _ (terms : List Term) (cubes old new : List Cube) (jobs : List Job) (outcomes : List (Result CubeAnswer AllocError)) (before after : CubeTally) (u : IsUnderWay terms cubes old before)
     (taken : AreJobsOf terms jobs old new) (yielded : AllZip Yields jobs outcomes) (last : List CubeAnswer) (is : outcomes ≡ map Ok last)
     (more : (opaque : List Term) (xs : List CubeAnswer) → IsTallyOf opaque xs before → IsTallyOf opaque (xs ++ last) after) where
   pub as-many : length last ≡ length jobs
@@ -151,7 +151,7 @@ module _ (terms : List Term) (cubes old new : List Cube) (jobs : List Job) (outc
       }
 
 -- a batch's answers leave the tally's number below 2^64
-pub room : (terms : List Term) (cubes old new : List Cube) (jobs : List Job) (outcomes : List (Result CubeAnswer AllocError)) (tally : Tally) → IsUnderWay terms cubes old tally → AreJobsOf terms jobs old new → AllZip Yields jobs outcomes → length cubes ≤ 1048576 → tally.count + length outcomes < 2 ^ 64
+pub room : (terms : List Term) (cubes old new : List Cube) (jobs : List Job) (outcomes : List (Result CubeAnswer AllocError)) (tally : CubeTally) → IsUnderWay terms cubes old tally → AreJobsOf terms jobs old new → AllZip Yields jobs outcomes → length cubes ≤ 1048576 → tally.count + length outcomes < 2 ^ 64
 room terms cubes old new jobs outcomes tally u taken yielded few =
     let a = counted terms cubes old tally u in
     let b = jobs-length terms jobs old new taken in
@@ -170,7 +170,7 @@ module _ (all done rest more : List (Result CubeAnswer AllocError)) (x : Result 
 pub more-answers : (done : List (Result CubeAnswer AllocError)) (answers : List CubeAnswer) (x : Result CubeAnswer AllocError) (a : CubeAnswer) → done ≡ map Ok answers → x ≡ Ok a → done ++ x ∷ [] ≡ map Ok (answers ++ a ∷ [])
 more-answers done answers x a e is = (λ i. e i ++ is i ∷ []) ∙ sym (map-append Ok answers (a ∷ []))
 
-pub tallied-on : (opaque : List Term) (before answers : List CubeAnswer) (a : CubeAnswer) (tally : Tally) → IsTallyOf opaque ((before ++ answers) ++ a ∷ []) tally → IsTallyOf opaque (before ++ (answers ++ a ∷ [])) tally
+pub tallied-on : (opaque : List Term) (before answers : List CubeAnswer) (a : CubeAnswer) (tally : CubeTally) → IsTallyOf opaque ((before ++ answers) ++ a ∷ []) tally → IsTallyOf opaque (before ++ (answers ++ a ∷ [])) tally
 tallied-on opaque before answers a tally h = subst (λ l. IsTallyOf opaque l tally) (append_assoc before answers (a ∷ [])) h
 
 module _ (new : List Cube) (jobs : List Job) (size : (length jobs ≡ batch) ⊎ ((new ≡ []) × (length jobs ≤ batch))) where
@@ -211,7 +211,7 @@ outcomes-over terms zero (c ∷ cubes) h none = tt
 outcomes-over terms (suc n) [] h none = absurd (omega (arith, h))
 outcomes-over terms (suc n) (c ∷ cubes) h none = (record { right = none.0; decided = λ must. tt }, outcomes-over terms n cubes (omega (arith, h)) none.1)
 
-module _ (terms clear : List Term) (cubes old : List Cube) (before : Tally) (u : IsUnderWay terms cubes old before) (is : cubes ≡ cubes_of clear) where
+module _ (terms clear : List Term) (cubes old : List Cube) (before : CubeTally) (u : IsUnderWay terms cubes old before) (is : cubes ≡ cubes_of clear) where
   -- those that are left stand behind those that were answered
   pub left-behind : drop before.count (cubes_of clear) ≡ old
   left-behind =
@@ -222,7 +222,7 @@ module _ (terms clear : List Term) (cubes old : List Cube) (before : Tally) (u :
   pass-room few = let a = counted terms cubes old before u in let b = ap length left-behind in omega (arith, a, b, few)
 
   -- the search goes on behind those that are passed over
-  pub go-over : (new : List Cube) (after : Tally) → Passes clear old new before after → IsUnderWay terms cubes new after
+  pub go-over : (new : List Cube) (after : CubeTally) → PassesCubes clear old new before after → IsUnderWay terms cubes new after
   go-over new after p =
       let n = p.cubes in
       let enough : n ≤ length old = subst (λ l. n ≤ length l) left-behind p.known.enough in
@@ -239,9 +239,9 @@ module _ (terms clear : List Term) (cubes old : List Cube) (before : Tally) (u :
         };
       }
 
-module _ (clear : List Term) (old : List Cube) (before : Tally) (new : List Cube) (after : Tally) (p : Passes clear old new before after) where
-  pub asked-over : (terms : List Term) → AllByRecursion (IsAsked terms) old → AllByRecursion (IsAsked terms) new
-  asked-over terms h = subst (AllByRecursion (IsAsked terms)) (sym p.left) (all-dropped (IsAsked terms) p.cubes old h)
+module _ (clear : List Term) (old : List Cube) (before : CubeTally) (new : List Cube) (after : CubeTally) (p : PassesCubes clear old new before after) where
+  pub asked-over : (terms : List Term) → AllByRecursion (IsAskedCube terms) old → AllByRecursion (IsAskedCube terms) new
+  asked-over terms h = subst (AllByRecursion (IsAskedCube terms)) (sym p.left) (all-dropped (IsAskedCube terms) p.cubes old h)
 
   pub no-more-over : length new ≤ length old
   no-more-over = let e = ap length p.left in let l = length-drop p.cubes old in omega (arith, e, l)

@@ -19,7 +19,7 @@ use Rattle.straight_line.specs.Flattening.{Bounded, HaveOneSort as LiteralsHaveO
 use Rattle.straight_line.specs.Met.{met}
 use Rattle.straight_line.specs.FormLaws.{AreNamesSorted, NamesAreSorted}
 use Rattle.straight_line.specs.Laws.{FlatIsExact, FlatIsOne, IsGood, IsRefusal, IsSpelled, RefusedHasNone}
-use Rattle.straight_line.specs.Satisfying.{Extends, HasValue, IsOf, NamesHave}
+use Rattle.straight_line.specs.Satisfying.{Extends, HasValue, AreModelValues, NamesHave}
 use Rattle.straight_line.specs.Straight.{string_names}
 use Rattle.straight_line.specs.declared.fault.FlatFault.{FlatFault}
 use Rattle.straight_line.specs.declared.flat.Flat.{Flat}
@@ -27,12 +27,12 @@ use Rattle.straight_line.specs.declared.variable.Variable.{Variable}
 use Rattle.cube_search.specs.Answers.{IsModelOf}
 use Rattle.cube_search.specs.Causes.{EachSolution, IsCauseOf}
 use Rattle.cube_search.specs.Limits.{MustDecideFlat}
-use Rattle.cube_search.specs.declared.reason.Reason.{Reason}
-use Rattle.cube_search.specs.declared.reason.Reason.TheVariants as reason
+use Rattle.cube_search.specs.declared.reason.OpenReason.{OpenReason}
+use Rattle.cube_search.specs.declared.reason.OpenReason.TheVariants as reason
 use Rattle.decide.specs.Causes.{CubeHasNoValues, IsCause}
 use Rattle.decide.specs.Completeness.{MustDecideCube}
 use Rattle.decide.specs.Filling.{AreChosen, IsFilledFrom, default, or_default, value_of}
-use Rattle.decide.specs.Jobs.{IsAsked, IsSatOf}
+use Rattle.decide.specs.Jobs.{IsAskedCube, IsSatOf}
 use Rattle.decide.proofs.Listed.{first-part}
 use Rattle.decide.proofs.Sorts.{same-self, sort_at, sorted-by, sorts_by}
 
@@ -49,7 +49,7 @@ each-good values [] h k = tt
 each-good values (l ∷ ls) h k = (record { valued = h.0; spelled = k.0 }, each-good values ls h.1 k.1)
 
 -- each name of the literals has one sort
-pub literals-sorted : (terms : List Term) (cube : Cube) → IsAsked terms cube → LiteralsHaveOneSort cube.literals
+pub literals-sorted : (terms : List Term) (cube : Cube) → IsAskedCube terms cube → LiteralsHaveOneSort cube.literals
 literals-sorted terms cube a = (sorts_by a.one_sort.0, each-sorted a.one_sort.0 cube.literals (a.valued a.one_sort.0 a.one_sort.1))
 
 -- a value of the flat cube's sort is the one that is chosen
@@ -85,14 +85,14 @@ module _ (given full : Named) (chosen : AreChosen given full) where
   truths-stay [] h s = tt
   truths-stay (t ∷ ts) h s = (stays sort.Bool t.0 (value.Truth t.1) refl (λ e. cc) h.0 s.0, truths-stay ts h.1 s.1)
 
-  of-stays : (flat : Flat) (ws : List Word) (zs : List ℤ) → IsOf flat ws zs given → AreNamesSorted (sorts_by full) flat → IsOf flat ws zs full
+  of-stays : (flat : Flat) (ws : List Word) (zs : List ℤ) → AreModelValues flat ws zs given → AreNamesSorted (sorts_by full) flat → AreModelValues flat ws zs full
   of-stays flat ws zs o s = record {
     names = texts-stay flat.variables ws o.names s.strings;
     integers = numbers-stay flat.integers zs o.integers s.integers;
     truths = truths-stay flat.truths o.truths s.truths;
   }
 
-module _ (terms : List Term) (cube : Cube) (flat : Flat) (asked : IsAsked terms cube) (flattening : IsFlattening cube.literals flat) (exact : FlatIsExact) where
+module _ (terms : List Term) (cube : Cube) (flat : Flat) (asked : IsAskedCube terms cube) (flattening : IsFlattening cube.literals flat) (exact : FlatIsExact) where
   good : (values : Named) → IsValuedCube values cube → AllByRecursion (IsGood values) cube.literals
   good values v = each-good values cube.literals v asked.spelled
 
@@ -117,7 +117,7 @@ module _ (terms : List Term) (cube : Cube) (flat : Flat) (asked : IsAsked terms 
       h e.words e.numbers e.satisfied
 
   -- a reason of the flat cube is one of the cube
-  pub cause-of : (r : Reason) → IsCauseOf flat r → IsCause terms cube r
+  pub cause-of : (r : OpenReason) → IsCauseOf flat r → IsCause terms cube r
   cause-of (reason.Fragment s) h = absurd h
   cause-of (reason.Wide n) h = absurd h
   cause-of (reason.States n) h = (flat, flattening, h)

@@ -12,7 +12,7 @@ use Rattle.bool_cubes.specs.Laws.{IsValuedCube}
 use Rattle.bool_cubes.specs.declared.literal.Cube.{Cube}
 use Rattle.cube_search.specs.declared.answer.CubeAnswer.{CubeAnswer}
 use Rattle.cube_search.specs.declared.answer.Refutation.{Refutation}
-use Rattle.cube_search.specs.declared.reason.Reason.{Reason}
+use Rattle.cube_search.specs.declared.reason.OpenReason.{OpenReason}
 use Rattle.decide.specs.Constants.{AreOnly}
 use Rattle.decide.specs.Causes.{CubeHasNoValues, AreTrueAtCube}
 use Rattle.decide.specs.Completeness.{MustDecideCube, MustDecide, IsComplete, IsUnsat, IsUnknown}
@@ -92,7 +92,7 @@ module _ (terms : List Term) (laws : AreLaws terms) where
       → RightVerdict terms (without_sat (opens_from 0 opaque answers) (refuted_from (refutation 0 0 0) answers))
   right-rest opaque answers is z others = by (opens_from 0 opaque answers) refl
     where
-      by : (list : List (ℕ × Reason)) → opens_from 0 opaque answers ≡ list → RightVerdict terms (without_sat list (refuted_from (refutation 0 0 0) answers))
+      by : (list : List (ℕ × OpenReason)) → opens_from 0 opaque answers ≡ list → RightVerdict terms (without_sat list (refuted_from (refutation 0 0 0) answers))
       by [] e = none-of-all (λ k c g. others k c g (λ i. absurd (let n : Contains [] k = subst (λ l. Contains (map (λ e. e.0) l) k) e i in omega (arith, n.1))))
       by (o ∷ os) e = record {
         some = λ n. cc;
@@ -162,16 +162,16 @@ has-model (Sat values) = true
 has-model (Unsat r) = false
 has-model (Unknown why) = false
 
-without-model : (list : List (ℕ × Reason)) (r : Refutation) → has-model (without_sat list r) ≡ false
+without-model : (list : List (ℕ × OpenReason)) (r : Refutation) → has-model (without_sat list r) ≡ false
 unfolding has-model
 without-model [] r = refl
 without-model (o ∷ os) r = refl
 
-no-model : (m : Named) (list : List (ℕ × Reason)) (r : Refutation) → Sat m ≡ without_sat list r → ⊥
+no-model : (m : Named) (list : List (ℕ × OpenReason)) (r : Refutation) → Sat m ≡ without_sat list r → ⊥
 unfolding has-model
 no-model m list r e = true≢false (ap has-model e ∙ without-model list r)
 
-model-is : (m : Named) (o : Option Named) (list : List (ℕ × Reason)) (r : Refutation) → Sat m ≡ with_first o (without_sat list r) → o ≡ Some m
+model-is : (m : Named) (o : Option Named) (list : List (ℕ × OpenReason)) (r : Refutation) → Sat m ≡ with_first o (without_sat list r) → o ≡ Some m
 model-is m None list r e = absurd (no-model m list r e)
 model-is m (Some n) list r e = cc
 

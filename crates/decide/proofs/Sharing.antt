@@ -21,9 +21,9 @@ use Rattle.bool_cubes.specs.declared.literal.Cube.{Cube}
 use Rattle.bool_cubes.specs.declared.literal.Literal.{Literal}
 use Rattle.straight_line.specs.Laws.{IsSpelled}
 use Rattle.decide.specs.Causes.{CubeHasNoValues}
-use Rattle.decide.specs.Jobs.{IsAsked, IsTallyOf, batch}
-use Rattle.decide.specs.Passing.{AreKnown, Passes, is_single, shared_of}
-use Rattle.decide.specs.declared.tally.Tally.{Tally}
+use Rattle.decide.specs.Jobs.{IsAskedCube, IsTallyOf, batch}
+use Rattle.decide.specs.Passing.{AreKnown, PassesCubes, is_single, shared_of}
+use Rattle.decide.specs.declared.tally.CubeTally.{CubeTally}
 use Rattle.decide.proofs.Going.{LeftBy}
 use Rattle.decide.proofs.Listed.{first-part}
 
@@ -193,7 +193,7 @@ module _ (counted : CubesAreCounted) (picked : CubesArePicked) where
         let here : m * (q + 1) ≡ q * m + m = mul_comm m (q + 1) ∙ omega arith in
         omega (arith, more, all, here)
 
-    pub asked-shared : (terms : List Term) → 0 < m → AllByRecursion (IsAsked terms) (cubes_of ts) → IsAsked terms f
+    pub asked-shared : (terms : List Term) → 0 < m → AllByRecursion (IsAskedCube terms) (cubes_of ts) → IsAskedCube terms f
     asked-shared terms pos asked =
         let low : given % m < m = omega arith in
         let sum : m * q + given % m ≡ given = div-add-mod given m in
@@ -201,7 +201,7 @@ module _ (counted : CubesAreCounted) (picked : CubesArePicked) where
         let end = block-end pos in
         let inside : given < length (cubes_of ts) = subst (λ k. given < k) (sym (counted ts)) (omega (arith, low, sum, turn, end)) in
         let c = there (cubes_of ts) given inside in
-        let own = all-at (IsAsked terms) (cubes_of ts) asked given c.0 c.1 in record {
+        let own = all-at (IsAskedCube terms) (cubes_of ts) asked given c.0 c.1 in record {
           fits = of-block IsFitting given c.0 c.1 refl own.fits;
           spelled = of-block (λ (l : Literal). IsSpelled (seen l.atom)) given c.0 c.1 refl own.spelled;
           valued = λ values v. of-block (λ (l : Literal). IsTrue (is_valued values l.atom)) given c.0 c.1 refl (own.valued values v);
@@ -230,7 +230,7 @@ module _ (counted : CubesAreCounted) (picked : CubesArePicked) where
     shared-at : slice_get (cubes_of (shared_of first ts)) (given / count_of (drop first ts)) ≡ Some f
     shared-at = subst (λ k. slice_get (cubes_of (shared_of first ts)) (given / k) ≡ Some f) size (subst (λ p. IfSome p (λ (c : Cube). slice_get (cubes_of (shared_of first ts)) (given / block) ≡ Some c)) is at)
 
-    pub asked-block : (terms : List Term) → AllByRecursion (IsAsked terms) (cubes_of ts) → IsAsked terms f
+    pub asked-block : (terms : List Term) → AllByRecursion (IsAskedCube terms) (cubes_of ts) → IsAskedCube terms f
     asked-block terms asked = asked-shared ts first given f shared-at terms (subst (λ k. 0 < k) size pos) asked
 
     pub known-block : (n : ℕ) → (batches : ℕ) × (n ≡ batches * batch) → given % block + n ≤ block → CubeHasNoValues f → AreKnown ts given n
@@ -313,7 +313,7 @@ next-one ts choice None new h = tt
 next-one ts choice (Some c) new h = first-behind choice (cubes_of ts) new c h
 
 -- none are passed over
-pub passes-none : (clear : List Term) (cubes : List Cube) (tally : Tally) → Passes clear cubes cubes tally tally
+pub passes-none : (clear : List Term) (cubes : List Cube) (tally : CubeTally) → PassesCubes clear cubes cubes tally tally
 passes-none clear cubes tally = record {
   cubes = 0;
   known = known-none clear tally.count;

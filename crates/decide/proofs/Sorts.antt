@@ -1,5 +1,5 @@
 -- What holds of the literals of cubes, by tests of the terms that stand in them.
-use Rattle.std.proofs.Common.{◌≡◌, refl, sym, ◌∙◌, subst, ℕ, zero, suc, ◌↔◌, map, Bool, true, false, ◌&&◌, IsTrue, List, [], ◌∷◌, Option, Some, None}
+use Rattle.std.proofs.Common.{◌≡◌, refl, sym, ◌∙◌, subst, ℕ, ◌↔◌, map, Bool, true, false, ◌&&◌, IsTrue, List, [], ◌∷◌, Option, Some, None}
 use Rattle.std.specs.Prelude.{nat_le}
 use Rattle.std.specs.List.{list_all}
 use Rattle.std.proofs.lemmas.Bool.{le-leb, leb-true}

@@ -6,13 +6,13 @@ use Rattle.sv_terms.specs.declared.term.Term.{Term}
 use Rattle.cube_search.specs.declared.answer.CubeAnswer.{CubeAnswer}
 use Rattle.cube_search.specs.declared.answer.CubeAnswer.TheVariants as answer
 use Rattle.cube_search.specs.declared.answer.Refutation.{Refutation}
-use Rattle.cube_search.specs.declared.reason.Reason.{Reason}
-use Rattle.cube_search.specs.declared.reason.Reason.TheVariants.{Fragment}
+use Rattle.cube_search.specs.declared.reason.OpenReason.{OpenReason}
+use Rattle.cube_search.specs.declared.reason.OpenReason.TheVariants.{Fragment}
 use Rattle.cube_search.specs.declared.reason.Shown.TheVariants.{Opaque}
 use Rattle.decide.specs.Folds.{first_sat, opens_from, refuted_from, refutation, add, found, or_else}
 use Rattle.decide.specs.Jobs.{IsTallyOf, first_of}
 use Rattle.decide.specs.Passing.{passed}
-use Rattle.decide.specs.declared.tally.Tally.{Tally}
+use Rattle.decide.specs.declared.tally.CubeTally.{CubeTally}
 
 opens-behind : (k : ℕ) (opaque : List Term) (xs : List CubeAnswer) (a : CubeAnswer) → opens_from k opaque (xs ++ a ∷ []) ≡ opens_from k opaque xs ++ opens_from (k + length xs) opaque (a ∷ [])
 opens-behind k opaque [] a = ap (λ n. opens_from n opaque (a ∷ [])) (omega arith)
@@ -44,17 +44,17 @@ found-behind [] xs a = sat-behind xs a
 found-behind (t ∷ ts) xs a = refl
 
 -- the tally with what one answer adds
-abbrev pub grown : Tally → Option Named → List (ℕ × Reason) → Refutation → Tally
+abbrev pub grown : CubeTally → Option Named → List (ℕ × OpenReason) → Refutation → CubeTally
 grown tally model list r = record tally { count = tally.count + 1; model = or_else tally.model model; open_cubes = tally.open_cubes ++ list; refuted = r }
 
-pub record Adds (opaque : List Term) (next : CubeAnswer) (old new : Tally) : Type 0 where
+pub record Adds (opaque : List Term) (next : CubeAnswer) (old new : CubeTally) : Type 0 where
   pub first : new.opaque ≡ old.opaque
   pub count : new.count ≡ old.count + 1
   pub model : new.model ≡ or_else old.model (found opaque (next ∷ []))
   pub list : new.open_cubes ≡ old.open_cubes ++ opens_from old.count opaque (next ∷ [])
   pub closed : new.refuted ≡ refuted_from old.refuted (next ∷ [])
 
-pub one-more : (opaque : List Term) (before : List CubeAnswer) (next : CubeAnswer) (old new : Tally) → Adds opaque next old new → IsTallyOf opaque before old → IsTallyOf opaque (before ++ next ∷ []) new
+pub one-more : (opaque : List Term) (before : List CubeAnswer) (next : CubeAnswer) (old new : CubeTally) → Adds opaque next old new → IsTallyOf opaque before old → IsTallyOf opaque (before ++ next ∷ []) new
 one-more opaque before next old new a h = record {
   first = a.first ∙ h.first;
   count = a.count ∙ ap (λ n. n + 1) h.count ∙ sym (length-append before (next ∷ []));
@@ -84,43 +84,43 @@ pub when-ok : {T E A B : Type 0} (r : Result T E) → OnOk r A → (A → B) →
 when-ok (Ok t) a f = f a
 when-ok (Err e) a f = a
 
-module _ (opaque : List Term) (before : List CubeAnswer) (old new : Tally) (h : IsTallyOf opaque before old) where
+module _ (opaque : List Term) (before : List CubeAnswer) (old new : CubeTally) (h : IsTallyOf opaque before old) where
   pub with-unsat : (a : CubeAnswer) (r : Refutation) → a ≡ answer.Unsat r → new.opaque ≡ old.opaque → new.count ≡ old.count + 1 → new.model ≡ old.model → new.open_cubes ≡ old.open_cubes → new.refuted ≡ add old.refuted r → IsTallyOf opaque (before ++ a ∷ []) new
   with-unsat a r e first count model list closed =
       subst (λ x. IsTallyOf opaque (before ++ x ∷ []) new) (sym e)
       (one-more opaque before (answer.Unsat r) old new record { first = first; count = count; model = model ∙ no-sat opaque old.model (answer.Unsat r) refl; list = list ∙ sym (append-nil old.open_cubes); closed = closed } h)
 
-  pub with-open : (a : CubeAnswer) (reason : Reason) → a ≡ answer.Open reason → new ≡ record old { count = old.count + 1; open_cubes = old.open_cubes ++ (old.count, reason) ∷ [] } → IsTallyOf opaque (before ++ a ∷ []) new
+  pub with-open : (a : CubeAnswer) (reason : OpenReason) → a ≡ answer.Open reason → new ≡ record old { count = old.count + 1; open_cubes = old.open_cubes ++ (old.count, reason) ∷ [] } → IsTallyOf opaque (before ++ a ∷ []) new
   with-open a reason e n =
       subst (λ x. IsTallyOf opaque (before ++ x ∷ []) new) (sym e)
       (one-more opaque before (answer.Open reason) old new record {
-        first = ap (λ (t : Tally). t.opaque) n;
-        count = ap (λ (t : Tally). t.count) n;
-        model = ap (λ (t : Tally). t.model) n ∙ no-sat opaque old.model (answer.Open reason) refl;
-        list = ap (λ (t : Tally). t.open_cubes) n;
-        closed = ap (λ (t : Tally). t.refuted) n;
+        first = ap (λ (t : CubeTally). t.opaque) n;
+        count = ap (λ (t : CubeTally). t.count) n;
+        model = ap (λ (t : CubeTally). t.model) n ∙ no-sat opaque old.model (answer.Open reason) refl;
+        list = ap (λ (t : CubeTally). t.open_cubes) n;
+        closed = ap (λ (t : CubeTally). t.refuted) n;
       } h)
 
   pub with-opaque : (m : Named) (t : Term) → old.opaque ≡ Some t → new ≡ record old { count = old.count + 1; open_cubes = old.open_cubes ++ (old.count, Fragment (Opaque t)) ∷ [] } → IsTallyOf opaque (before ++ answer.Sat m ∷ []) new
   with-opaque m t e n =
       let s = some-opaque opaque t (sym h.first ∙ e) in
       one-more opaque before (answer.Sat m) old new record {
-        first = ap (λ (t : Tally). t.opaque) n;
-        count = ap (λ (t : Tally). t.count) n;
-        model = ap (λ (t : Tally). t.model) n ∙ sym (ap (λ l. or_else old.model (found l (answer.Sat m ∷ []))) s.1 ∙ none-behind old.model);
-        list = ap (λ (t : Tally). t.open_cubes) n ∙ sym (ap (λ l. old.open_cubes ++ opens_from old.count l (answer.Sat m ∷ [])) s.1);
-        closed = ap (λ (t : Tally). t.refuted) n;
+        first = ap (λ (t : CubeTally). t.opaque) n;
+        count = ap (λ (t : CubeTally). t.count) n;
+        model = ap (λ (t : CubeTally). t.model) n ∙ sym (ap (λ l. or_else old.model (found l (answer.Sat m ∷ []))) s.1 ∙ none-behind old.model);
+        list = ap (λ (t : CubeTally). t.open_cubes) n ∙ sym (ap (λ l. old.open_cubes ++ opens_from old.count l (answer.Sat m ∷ [])) s.1);
+        closed = ap (λ (t : CubeTally). t.refuted) n;
       } h
 
   pub with-model : (m : Named) → old.opaque ≡ None → new ≡ record old { count = old.count + 1; model = or_else old.model (Some m) } → IsTallyOf opaque (before ++ answer.Sat m ∷ []) new
   with-model m e n =
       let s = no-opaque opaque (sym h.first ∙ e) in
       one-more opaque before (answer.Sat m) old new record {
-        first = ap (λ (t : Tally). t.opaque) n;
-        count = ap (λ (t : Tally). t.count) n;
-        model = ap (λ (t : Tally). t.model) n ∙ sym (ap (λ l. or_else old.model (found l (answer.Sat m ∷ []))) s);
-        list = ap (λ (t : Tally). t.open_cubes) n ∙ sym (append-nil old.open_cubes) ∙ sym (ap (λ l. old.open_cubes ++ opens_from old.count l (answer.Sat m ∷ [])) s);
-        closed = ap (λ (t : Tally). t.refuted) n;
+        first = ap (λ (t : CubeTally). t.opaque) n;
+        count = ap (λ (t : CubeTally). t.count) n;
+        model = ap (λ (t : CubeTally). t.model) n ∙ sym (ap (λ l. or_else old.model (found l (answer.Sat m ∷ []))) s);
+        list = ap (λ (t : CubeTally). t.open_cubes) n ∙ sym (append-nil old.open_cubes) ∙ sym (ap (λ l. old.open_cubes ++ opens_from old.count l (answer.Sat m ∷ [])) s);
+        closed = ap (λ (t : CubeTally). t.refuted) n;
       } h
 
 -- cubes that are passed over add nothing but their number
@@ -176,7 +176,7 @@ refuted-over r (answer.Sat m ∷ xs) n h = refuted-over r xs n h
 refuted-over r (answer.Unsat s ∷ xs) n h = refuted-over (add r s) xs n (added-cut r s)
 refuted-over r (answer.Open s ∷ xs) n h = refuted-over r xs n h
 
-pub tally-over : (opaque : List Term) (before : List CubeAnswer) (n : ℕ) (old new : Tally) → new.opaque ≡ old.opaque → new.count ≡ old.count + n → new.model ≡ old.model → new.open_cubes ≡ old.open_cubes → new.refuted ≡ old.refuted
+pub tally-over : (opaque : List Term) (before : List CubeAnswer) (n : ℕ) (old new : CubeTally) → new.opaque ≡ old.opaque → new.count ≡ old.count + n → new.model ≡ old.model → new.open_cubes ≡ old.open_cubes → new.refuted ≡ old.refuted
     → IsTallyOf opaque before old → IsTallyOf opaque (before ++ passed n) new
 tally-over opaque before n old new first count model list closed h = record {
   first = first ∙ h.first;

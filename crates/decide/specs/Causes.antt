@@ -11,8 +11,8 @@ use Rattle.straight_line.specs.declared.fault.FlatFault.{FlatFault}
 use Rattle.straight_line.specs.declared.fault.FlatFault.TheVariants as fault
 use Rattle.straight_line.specs.declared.flat.Flat.{Flat}
 use Rattle.cube_search.specs.Causes.{IsCauseOf}
-use Rattle.cube_search.specs.declared.reason.Reason.{Reason}
-use Rattle.cube_search.specs.declared.reason.Reason.TheVariants.{Fragment, Wide, States, Splits, Growth, Length, Arithmetic}
+use Rattle.cube_search.specs.declared.reason.OpenReason.{OpenReason}
+use Rattle.cube_search.specs.declared.reason.OpenReason.TheVariants.{Fragment, Wide, States, Splits, Growth, Length, Arithmetic}
 use Rattle.cube_search.specs.declared.reason.Shown.{Shown}
 use Rattle.cube_search.specs.declared.reason.Shown.TheVariants.{Outside, Twice, Cycle, Opaque}
 
@@ -42,11 +42,11 @@ IsShown terms cube (Cycle vs) = IsRefusedBy cube (fault.Cycle vs)
 IsShown terms cube (Opaque t) = Contains (opaque_of terms) t × CubeHasValues cube
 
 -- the cube is straight, and the reason is that of its flat cube
-abbrev pub IsFlatCause : Cube → Reason → Type 0
+abbrev pub IsFlatCause : Cube → OpenReason → Type 0
 IsFlatCause cube reason = (flat : Flat) × IsFlattening cube.literals flat × IsCauseOf flat reason
 
 -- the reason holds of the cube of these assertions
-abbrev pub IsCause : List Term → Cube → Reason → Type 0
+abbrev pub IsCause : List Term → Cube → OpenReason → Type 0
 IsCause terms cube (Fragment shown) = IsShown terms cube shown
 IsCause terms cube (Wide n) = IsRefusedBy cube (fault.Wide n)
 IsCause terms cube (States n) = IsFlatCause cube (States n)

@@ -1,5 +1,5 @@
 -- A value for each constant of some assertions, by a model of some of them.
-use Rattle.std.specs.Prelude.{◌≡◌, ◌||◌, Bool, true, false, ℕ, List, IsTrue, Option, Some, None, nat_eq, if◌then◌else◌, pos, []}
+use Rattle.std.specs.Prelude.{◌≡◌, Bool, true, false, ℕ, List, IsTrue, Option, Some, None, nat_eq, if◌then◌else◌, pos, []}
 use Rattle.std.specs.List.{list_all}
 use Rattle.std.specs.Map.{lookup}
 use Rattle.std.specs.Cmp.Lexicographic.{pointwise}

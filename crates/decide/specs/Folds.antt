@@ -1,12 +1,12 @@
 -- The verdict that the answers for all cubes make.
-use Rattle.std.specs.Prelude.{◌≡◌, ℕ, suc, ◌+◌, List, [], ◌∷◌, Option, Some, None}
+use Rattle.std.specs.Prelude.{ℕ, suc, ◌+◌, List, [], ◌∷◌, Option, Some, None}
 use Rattle.sv_terms.specs.Meaning.{Named}
 use Rattle.sv_terms.specs.declared.term.Term.{Term}
 use Rattle.cube_search.specs.declared.answer.CubeAnswer.{CubeAnswer}
 use Rattle.cube_search.specs.declared.answer.CubeAnswer.TheVariants as answer
 use Rattle.cube_search.specs.declared.answer.Refutation.{Refutation}
-use Rattle.cube_search.specs.declared.reason.Reason.{Reason}
-use Rattle.cube_search.specs.declared.reason.Reason.TheVariants.{Fragment}
+use Rattle.cube_search.specs.declared.reason.OpenReason.{OpenReason}
+use Rattle.cube_search.specs.declared.reason.OpenReason.TheVariants.{Fragment}
 use Rattle.cube_search.specs.declared.reason.Shown.TheVariants.{Opaque}
 use Rattle.sv_terms.specs.CutOff.{cut_off}
 use Rattle.decide.specs.declared.verdict.Open.TheVariants.{Cubes}
@@ -21,12 +21,12 @@ first_sat (answer.Unsat refutation ∷ answers) = first_sat answers
 first_sat (answer.Open reason ∷ answers) = first_sat answers
 
 -- a cube with values is open where an assertion is opaque
-abbrev pub sat_open : ℕ → List Term → List (ℕ × Reason) → List (ℕ × Reason)
+abbrev pub sat_open : ℕ → List Term → List (ℕ × OpenReason) → List (ℕ × OpenReason)
 sat_open k [] rest = rest
 sat_open k (t ∷ ts) rest = (k, Fragment (Opaque t)) ∷ rest
 
 -- the open cubes, counted from k
-abbrev pub opens_from : ℕ → List Term → List CubeAnswer → List (ℕ × Reason)
+abbrev pub opens_from : ℕ → List Term → List CubeAnswer → List (ℕ × OpenReason)
 opens_from k opaque [] = []
 opens_from k opaque (answer.Sat model ∷ answers) = sat_open k opaque (opens_from (suc k) opaque answers)
 opens_from k opaque (answer.Unsat refutation ∷ answers) = opens_from (suc k) opaque answers
@@ -45,7 +45,7 @@ refuted_from r (answer.Sat model ∷ answers) = refuted_from r answers
 refuted_from r (answer.Unsat s ∷ answers) = refuted_from (add r s) answers
 refuted_from r (answer.Open reason ∷ answers) = refuted_from r answers
 
-abbrev pub without_sat : List (ℕ × Reason) → Refutation → Verdict
+abbrev pub without_sat : List (ℕ × OpenReason) → Refutation → Verdict
 without_sat [] r = Unsat r
 without_sat (o ∷ os) r = Unknown (Cubes (o ∷ os))
 

@@ -19,13 +19,13 @@ use Rattle.decide.specs.Causes.{AreTrueAtCube, CubeHasNoValues, IsCause}
 use Rattle.decide.specs.Completeness.{MustDecideCube}
 use Rattle.decide.specs.Constants.{AreValuesOf, HaveOneSort}
 use Rattle.decide.specs.Folds.{found, opens_from, refuted_from, refutation, with_first, without_sat, fold}
-use Rattle.decide.specs.declared.tally.Tally.{Tally}
+use Rattle.decide.specs.declared.tally.CubeTally.{CubeTally}
 use Rattle.decide.specs.declared.verdict.Open.TheVariants.{TooManyCubes, PastForm, Cubes}
 use Rattle.decide.specs.declared.verdict.Verdict.{Verdict}
 use Rattle.decide.specs.declared.verdict.Verdict.TheVariants.{Sat, Unsat, Unknown}
 
 -- a cube of assertions that may be asked: no step of its literals leaves 128 bits, their words are words and their transducers formed, and values of the assertions' constants, of which some are, are values of its own
-pub record IsAsked (terms : List Term) (cube : Cube) : Type 0 where
+pub record IsAskedCube (terms : List Term) (cube : Cube) : Type 0 where
   pub fits : IsFittingCube cube
   pub spelled : AllByRecursion (λ (l : Literal). IsSpelled (seen l.atom)) cube.literals
   pub valued : (values : Named) → AreValued values (clear_of terms) → IsValuedCube values cube
@@ -58,7 +58,7 @@ first_of [] = None
 first_of (x ∷ xs) = Some x
 
 -- the tally of these answers: their number, the model that ends the search, the open cubes among them, and the counts of those refuted
-pub record IsTallyOf (opaque : List Term) (answers : List CubeAnswer) (tally : Tally) : Type 0 where
+pub record IsTallyOf (opaque : List Term) (answers : List CubeAnswer) (tally : CubeTally) : Type 0 where
   pub first : tally.opaque ≡ first_of opaque
   pub count : tally.count ≡ length answers
   pub model : tally.model ≡ found opaque answers
@@ -66,7 +66,7 @@ pub record IsTallyOf (opaque : List Term) (answers : List CubeAnswer) (tally : T
   pub refuted : tally.refuted ≡ refuted_from (refutation 0 0 0) answers
 
 -- the verdict that a tally comes to
-abbrev pub verdict_of : Tally → Verdict
+abbrev pub verdict_of : CubeTally → Verdict
 verdict_of tally = with_first tally.model (without_sat tally.open_cubes tally.refuted)
 
 -- so many cubes are done at once
@@ -99,7 +99,7 @@ pub record IsFoldOf (terms : List Term) (cubes : List Cube) (verdict : Verdict) 
   pub ended : EndsWithBatch (opaque_of terms) left answers
 
 -- the state between two batches
-pub record IsUnderWay (terms : List Term) (cubes left : List Cube) (tally : Tally) : Type 0 where
+pub record IsUnderWay (terms : List Term) (cubes left : List Cube) (tally : CubeTally) : Type 0 where
   pub done : List Cube
   pub answers : List CubeAnswer
   pub parts : cubes ≡ done ++ left

@@ -1,5 +1,5 @@
 -- Cubes that need no work, by what they share.
-use Rattle.std.specs.Prelude.{◌≡◌, ℕ, zero, suc, ◌*◌, ◌≤◌, ◌||◌, Bool, true, List, [], ◌∷◌, ◌++◌, length, drop, take, nat_eq, if◌then◌else◌}
+use Rattle.std.specs.Prelude.{◌≡◌, ℕ, zero, suc, ◌*◌, ◌≤◌, Bool, List, [], ◌∷◌, ◌++◌, length, drop, take, nat_eq, if◌then◌else◌}
 use Rattle.std.specs.List.{AllByRecursion}
 use Rattle.sv_terms.specs.CutOff.{cut_off}
 use Rattle.sv_terms.specs.declared.term.Term.{Term}
@@ -11,7 +11,7 @@ use Rattle.cube_search.specs.declared.answer.CubeAnswer.TheVariants as answer
 use Rattle.decide.specs.Causes.{CubeHasNoValues}
 use Rattle.decide.specs.Folds.{refutation}
 use Rattle.decide.specs.Jobs.{IsTallyOf, batch}
-use Rattle.decide.specs.declared.tally.Tally.{Tally}
+use Rattle.decide.specs.declared.tally.CubeTally.{CubeTally}
 
 -- whether a term leaves no choice
 abbrev pub is_single : Term → Bool
@@ -36,7 +36,7 @@ passed zero = []
 passed (suc n) = answer.Unsat (refutation 0 0 0) ∷ passed n
 
 -- the next cubes, so many, are passed over
-pub record Passes (terms : List Term) (old new : List Cube) (before after : Tally) : Type 0 where
+pub record PassesCubes (terms : List Term) (old new : List Cube) (before after : CubeTally) : Type 0 where
   pub cubes : ℕ
   pub known : AreKnown terms before.count cubes
   pub left : new ≡ drop cubes old

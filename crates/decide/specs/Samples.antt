@@ -1,5 +1,5 @@
 -- Terms of the tests: about one word.
-use Rattle.std.specs.Prelude.{◌≡◌, ℕ, List, [], ◌∷◌, IsTrue, Some}
+use Rattle.std.specs.Prelude.{◌≡◌, [], ◌∷◌, IsTrue, Some}
 use Rattle.sv_terms.specs.Meaning.{Named}
 use Rattle.sv_terms.specs.Sorting.{is_valued, sort_of}
 use Rattle.sv_terms.specs.declared.sort.Sort.{Sort}

@@ -11,7 +11,7 @@ use Rattle.bool_cubes.specs.Refusing.{count_of, most_cubes}
 use Rattle.bool_cubes.specs.declared.fault.CubeFault.{CubeFault}
 use Rattle.bool_cubes.specs.declared.fault.CubeFault.TheVariants as fault
 use Rattle.bool_cubes.specs.declared.literal.Cube.{Cube}
-use Rattle.cube_search.specs.declared.reason.Reason.{Reason}
+use Rattle.cube_search.specs.declared.reason.OpenReason.{OpenReason}
 use Rattle.decide.specs.Causes.{CubeHasNoValues, IsCause}
 use Rattle.decide.specs.Constants.{AreOnly}
 use Rattle.decide.specs.declared.verdict.Open.{Open}
@@ -20,15 +20,15 @@ use Rattle.decide.specs.declared.verdict.Verdict.{Verdict}
 use Rattle.decide.specs.declared.verdict.Verdict.TheVariants.{Sat, Unsat, Unknown}
 
 -- each listed cube has its reason
-abbrev pub EachIsCause : List Term → List (ℕ × Reason) → Type 0
-EachIsCause terms list = (k : ℕ) (reason : Reason) → Contains list (k, reason) → (cube : Cube) × (slice_get (cubes_of (clear_of terms)) k ≡ Some cube) × IsCause terms cube reason
+abbrev pub EachIsCause : List Term → List (ℕ × OpenReason) → Type 0
+EachIsCause terms list = (k : ℕ) (reason : OpenReason) → Contains list (k, reason) → (cube : Cube) × (slice_get (cubes_of (clear_of terms)) k ≡ Some cube) × IsCause terms cube reason
 
 -- each cube that isn't listed has no values
-abbrev pub EachOtherHasNone : List Term → List (ℕ × Reason) → Type 0
+abbrev pub EachOtherHasNone : List Term → List (ℕ × OpenReason) → Type 0
 EachOtherHasNone terms list = (k : ℕ) (cube : Cube) → slice_get (cubes_of (clear_of terms)) k ≡ Some cube → (Contains (map (λ e. e.0) list) k → ⊥) → CubeHasNoValues cube
 
 -- the open cubes of the assertions without opaque parts
-pub record AreOpenCubes (terms : List Term) (list : List (ℕ × Reason)) : Type 0 where
+pub record AreOpenCubes (terms : List Term) (list : List (ℕ × OpenReason)) : Type 0 where
   pub some : list ≢ []
   pub rise : IsStrictlyIncreasing (map (λ e. e.0) list)
   pub causes : EachIsCause terms list

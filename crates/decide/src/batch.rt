@@ -2,7 +2,7 @@
 ghost use Rattle.std.specs.Prelude.{◌≡◌, ◌≤◌, [], ◌⊎◌, length, IfOk};
 ghost use Rattle.std.specs.List.{AllByRecursion};
 ghost use Rattle.decide.specs.Batches.{AreAnswersOf, AreJobsOf};
-ghost use Rattle.decide.specs.Jobs.{IsAsked, batch};
+ghost use Rattle.decide.specs.Jobs.{IsAskedCube, batch};
 
 use crate::cube_job::{CubeJob, Shared};
 use bool_cubes::Cubes;
@@ -22,7 +22,7 @@ pub fn next_batch<'a>(
     shared: &'a Shared<'a>,
     cubes: &mut Cubes,
 ) -> Result<Items<CubeJob<'a>>, AllocError>
-    requires asked { AllByRecursion (IsAsked shared.now.terms.now) cubes.old }
+    requires asked { AllByRecursion (IsAskedCube shared.now.terms.now) cubes.old }
     ensures taken { IfOk result (λ jobs. AreJobsOf shared.now.terms.now jobs cubes.old cubes.new) }
     ensures size { IfOk result (λ jobs. (length jobs ≡ batch) ⊎ ((cubes.new ≡ []) × (length jobs ≤ batch))) }
 {

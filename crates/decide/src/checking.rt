@@ -5,13 +5,13 @@ ghost use Rattle.sv_terms.specs.Sorting.{sort_of};
 ghost use Rattle.sv_terms.specs.declared.sort.Sort.TheVariants as sort;
 ghost use Rattle.sv_terms.specs.declared.term.Term.{Term as AnyTerm};
 ghost use Rattle.bool_cubes.specs.Cubes.{cubes_of};
-ghost use Rattle.bool_cubes.specs.Laws.{IsSorted};
+ghost use Rattle.bool_cubes.specs.Laws.{IsClearBool};
 ghost use Rattle.bool_cubes.specs.Refusing.{most_cubes};
 ghost use Rattle.cube_search.specs.declared.answer.CubeAnswer.{CubeAnswer as AnyAnswer};
 ghost use Rattle.decide.specs.Completeness.{MustDecide, IsComplete};
 ghost use Rattle.decide.specs.Constants.{HaveOneSort, has_formed};
-ghost use Rattle.decide.specs.Jobs.{IsAsked, IsFolded, IsFoldOf, IsTallyOf};
-ghost use Rattle.decide.specs.Passing.{Passes};
+ghost use Rattle.decide.specs.Jobs.{IsAskedCube, IsFolded, IsFoldOf, IsTallyOf};
+ghost use Rattle.decide.specs.Passing.{PassesCubes};
 ghost use Rattle.decide.specs.Verdicts.{HasOnly, RightVerdict, refused_as};
 
 use crate::batch::{answers, next_batch};
@@ -20,7 +20,7 @@ use crate::machines::machines_for;
 use crate::passing::{Pace, count_refuted_ahead};
 use crate::spelling::all_words;
 use crate::splitting::{clear_terms, first_opaque};
-use crate::tally::Tally;
+use crate::tally::CubeTally;
 use crate::verdict::{Open, Verdict};
 use bool_cubes::{
     CubeFault, Cubes, cubes_are_counted, cubes_are_exact, literals_fit, literals_have_values,
@@ -28,7 +28,6 @@ use bool_cubes::{
 };
 use cube_search::CubeAnswer;
 use par_phase::Gate;
-use part_machines::Machines;
 use std::alloc::{AllocError, Global};
 use std::thread::Threads;
 use sv_terms::{Term, transducers_are_bounded};
@@ -104,13 +103,13 @@ fn answer_all<R: Threads + Sync, G: Gate + Sync>(
 ) -> Result<Verdict, AllocError>
     requires workers { 1 ≤ workers }
     requires few { length cubes ≤ most_cubes }
-    requires sorted { AllByRecursion IsSorted clear.now }
+    requires sorted { AllByRecursion IsClearBool clear.now }
     requires cubes { cubes ≡ cubes_of clear.now }
-    requires asked { AllByRecursion (IsAsked shared.now.terms.now) cubes }
+    requires asked { AllByRecursion (IsAskedCube shared.now.terms.now) cubes }
     ensures { IfOk result (IsFoldOf shared.now.terms.now cubes) }
 {
     let alloc = shared.alloc;
-    let mut tally = Tally::new(alloc, first_opaque(alloc, shared.terms)?);
+    let mut tally = CubeTally::new(alloc, first_opaque(alloc, shared.terms)?);
     let mut pace = Pace::new();
     loop {
         let jobs = next_batch(alloc, shared, &mut cubes)?;
@@ -129,12 +128,12 @@ fn pass_over(
     clear: &[Term],
     pace: &mut Pace,
     cubes: &mut Cubes,
-    tally: &mut Tally,
+    tally: &mut CubeTally,
 ) -> Result<(), AllocError>
-    requires sorted { AllByRecursion IsSorted clear.now }
-    requires asked { AllByRecursion (IsAsked shared.now.terms.now) (cubes_of clear.now) }
+    requires sorted { AllByRecursion IsClearBool clear.now }
+    requires asked { AllByRecursion (IsAskedCube shared.now.terms.now) (cubes_of clear.now) }
     requires room { tally.old.count + length (drop tally.old.count (cubes_of clear.now)) < 2 ^ 64 }
-    ensures { OnOk result (Passes clear.now cubes.old cubes.new tally.old tally.new) }
+    ensures { OnOk result (PassesCubes clear.now cubes.old cubes.new tally.old tally.new) }
 {
     if !pace.is_due() {
         return Ok(());
@@ -149,7 +148,7 @@ fn pass_over(
 /// Puts the answers to the tally, in their order.
 fn tally_all(
     alloc: Global,
-    tally: &mut Tally,
+    tally: &mut CubeTally,
     outcomes: Vec<Result<CubeAnswer, AllocError>>,
 ) -> Result<(), AllocError>
     requires { tally.old.count + length outcomes.items < 2 ^ 64 }

@@ -3,21 +3,22 @@ ghost use Rattle.std.specs.Prelude.{◌≡◌, ◌<◌, ◌^◌, length, IfOk};
 ghost use Rattle.straight_line.specs.Flattening.{IsFlattening};
 ghost use Rattle.straight_line.specs.Straight.{AreNamesApart};
 ghost use Rattle.cube_search.specs.declared.answer.CubeAnswer.TheVariants.{Open};
-ghost use Rattle.cube_search.specs.declared.reason.Reason.TheVariants.{Fragment};
-ghost use Rattle.decide.specs.Jobs.{IsAsked, IsOutcome};
+ghost use Rattle.cube_search.specs.declared.reason.OpenReason.TheVariants.{Fragment};
+ghost use Rattle.decide.specs.Jobs.{IsAskedCube, IsOutcome};
 
 use crate::completing::complete;
 use bool_cubes::Cube;
-use cube_search::{CubeAnswer, Reason, Shown, cube_answer};
+use cube_bounds::numbers;
+use cube_search::{CubeAnswer, OpenReason, Shown, cube_answer};
 use par_phase::Job;
 use part_machines::Machines;
 use std::alloc::{AllocError, Global};
 use std::marker::Model;
 use straight_line::{
     Flat, FlatFault, flat_cubes_are_exact, flat_cubes_are_unique, flatten, names_are_sorted,
-    numbers, refusals_have_no_flat_cube, transducers_are_formed,
+    refusals_have_no_flat_cube, transducers_are_formed,
 };
-use sv_terms::{Regex, Term};
+use sv_terms::Term;
 
 /// What all jobs of some assertions have.
 #[derive(Drop)]
@@ -44,7 +45,7 @@ impl<'a> Model for CubeJob<'a> {
     ghost use Rattle.sv_terms.specs.contracts.term.Term as term;
     ghost use Rattle.sv_terms.specs.declared.term.Term.{Term as AnyTerm};
     ghost use Rattle.bool_cubes.specs.declared.literal.Cube.{Cube as AnyCube};
-    ghost use Rattle.decide.specs.Jobs.{IsAsked};
+    ghost use Rattle.decide.specs.Jobs.{IsAskedCube};
 
     ghost Value = { List AnyTerm × AnyCube };
 
@@ -52,7 +53,7 @@ impl<'a> Model for CubeJob<'a> {
 
     ghost view = { λ job. (job.shared.now.terms.now, job.cube) };
 
-    ghost invariant = { λ job. IsAsked job.shared.now.terms.now job.cube };
+    ghost invariant = { λ job. IsAskedCube job.shared.now.terms.now job.cube };
 }
 
 impl Job for CubeJob<'_> {
@@ -70,7 +71,7 @@ impl Job for CubeJob<'_> {
 
 /// The answer for a cube of the terms: of its flat cube, or why it has none.
 pub fn answer_for(shared: &Shared<'_>, cube: &Cube) -> Result<CubeAnswer, AllocError>
-    requires asked { IsAsked shared.now.terms.now cube.now }
+    requires asked { IsAskedCube shared.now.terms.now cube.now }
     ensures { IfOk result (IsOutcome shared.now.terms.now cube.now) }
 {
     refusals_have_no_flat_cube();
@@ -79,7 +80,7 @@ pub fn answer_for(shared: &Shared<'_>, cube: &Cube) -> Result<CubeAnswer, AllocE
         Err(FlatFault::Outside(literal)) => Ok(fragment(Shown::Outside(literal))),
         Err(FlatFault::Twice(variable)) => Ok(fragment(Shown::Twice(variable))),
         Err(FlatFault::Cycle(variables)) => Ok(fragment(Shown::Cycle(variables))),
-        Err(FlatFault::Wide(number)) => Ok(CubeAnswer::Open(Reason::Wide(number))),
+        Err(FlatFault::Wide(number)) => Ok(CubeAnswer::Open(OpenReason::Wide(number))),
         Err(FlatFault::Memory(error)) => Err(error),
     }
 }
@@ -87,12 +88,12 @@ pub fn answer_for(shared: &Shared<'_>, cube: &Cube) -> Result<CubeAnswer, AllocE
 fn fragment(shown: Shown) -> CubeAnswer
     ensures { result ≡ Open (Fragment shown) }
 {
-    CubeAnswer::Open(Reason::Fragment(shown))
+    CubeAnswer::Open(OpenReason::Fragment(shown))
 }
 
 /// The answer for a cube by its flat cube.
 fn flat_answer(shared: &Shared<'_>, cube: &Cube, flat: &Flat) -> Result<CubeAnswer, AllocError>
-    requires asked { IsAsked shared.now.terms.now cube.now }
+    requires asked { IsAskedCube shared.now.terms.now cube.now }
     requires flattening { IsFlattening cube.now.literals flat.now }
     requires apart { AreNamesApart flat.now }
     requires few { length flat.now.variables < 2 ^ 32 }

@@ -2,10 +2,10 @@
 ghost use Rattle.std.specs.Prelude.{◌≡◌, ◌<◌, ◌≤◌, ◌*◌, ◌+◌, ◌%◌, ◌||◌, ◌++◌, ◌∷◌, [], ℕ, IfOk, IfSome, IsTrue, OnOk, Some, drop, if◌then◌else◌, length, nat_lt, slice_get};
 ghost use Rattle.std.specs.List.{AllByRecursion};
 ghost use Rattle.bool_cubes.specs.Cubes.{cubes_of};
-ghost use Rattle.bool_cubes.specs.Laws.{IsSorted};
+ghost use Rattle.bool_cubes.specs.Laws.{IsClearBool};
 ghost use Rattle.bool_cubes.specs.Refusing.{count_of};
 ghost use Rattle.decide.specs.Causes.{CubeHasNoValues};
-ghost use Rattle.decide.specs.Jobs.{IsAsked, batch};
+ghost use Rattle.decide.specs.Jobs.{IsAskedCube, batch};
 ghost use Rattle.decide.specs.Passing.{AreKnown, is_single, shared_of};
 
 use crate::batch::BATCH;
@@ -51,7 +51,7 @@ impl Pace {
 
 /// Whether the term leaves no choice.
 fn is_single(term: &Term) -> bool
-    requires { IsSorted term.now }
+    requires { IsClearBool term.now }
     ensures { result ≡ is_single term.now }
 {
     count(std::slice::from_ref(term)) == 1
@@ -59,7 +59,7 @@ fn is_single(term: &Term) -> bool
 
 /// Whether all cubes of one choice for the first terms share what the term at this place says.
 fn is_shared(term: &Term, at: usize, first: usize) -> bool
-    requires { IsSorted term.now }
+    requires { IsClearBool term.now }
     ensures { result ≡ (nat_lt at first || is_single term.now) }
 {
     at < first || is_single(term)
@@ -72,7 +72,7 @@ fn push_if_shared(
     at: usize,
     first: usize,
 ) -> Result<(), AllocError>
-    requires { IsSorted term.now }
+    requires { IsClearBool term.now }
     ensures { OnOk result (all.new ≡ all.old ++ (if nat_lt at first || is_single term.now then term.now ∷ [] else [])) }
 {
     if !is_shared(term, at, first) {
@@ -84,7 +84,7 @@ fn push_if_shared(
 
 /// The first terms, and those of the others that leave no choice.
 fn shared_terms(alloc: Global, terms: &[Term], first: usize) -> Result<Items<Term>, AllocError>
-    requires { AllByRecursion IsSorted terms.now }
+    requires { AllByRecursion IsClearBool terms.now }
     ensures { IfOk result (λ all. all ≡ shared_of first terms.now) }
 {
     let mut all = Items::new(alloc);
@@ -101,7 +101,7 @@ fn shared_literals(
     first: usize,
     choice: u64,
 ) -> Result<Option<Cube>, AllocError>
-    requires { AllByRecursion IsSorted terms.now }
+    requires { AllByRecursion IsClearBool terms.now }
     ensures { IfOk result (λ o. IfSome o (λ cube. slice_get (cubes_of (shared_of first terms.now)) choice ≡ Some cube)) }
 {
     let shared = shared_terms(alloc, terms, first)?;
@@ -118,7 +118,7 @@ fn shared_literals(
 
 /// How many cubes make one choice for the first terms, one after another: 0 where they are too many.
 fn block_of(terms: &[Term], first: usize) -> u64
-    requires sorted { AllByRecursion IsSorted terms.now }
+    requires sorted { AllByRecursion IsClearBool terms.now }
     requires first { first ≤ length terms.now }
     ensures { 0 < result → result ≡ count_of (drop first terms.now) }
 {
@@ -143,7 +143,7 @@ fn count_ahead(block: u64, given: u64) -> u64
 
 /// The greatest number of first terms of which a block goes on for a whole batch.
 fn longest(terms: &[Term], given: u64) -> usize
-    requires { AllByRecursion IsSorted terms.now }
+    requires { AllByRecursion IsClearBool terms.now }
     ensures { result ≤ length terms.now }
 {
     let mut least = 0;
@@ -161,7 +161,7 @@ fn longest(terms: &[Term], given: u64) -> usize
 
 /// Whether no values make the literals true, as far as is found.
 fn has_no_values(shared: &Shared<'_>, cube: &Cube) -> Result<bool, AllocError>
-    requires { IsAsked shared.now.terms.now cube.now }
+    requires { IsAskedCube shared.now.terms.now cube.now }
     ensures { IfOk result (λ refuted. IsTrue refuted → CubeHasNoValues cube.now) }
 {
     match answer_for(shared, cube)? {
@@ -179,8 +179,8 @@ fn count_refuted_by(
     given: u64,
     first: usize,
 ) -> Result<u64, AllocError>
-    requires sorted { AllByRecursion IsSorted terms.now }
-    requires asked { AllByRecursion (IsAsked shared.now.terms.now) (cubes_of terms.now) }
+    requires sorted { AllByRecursion IsClearBool terms.now }
+    requires asked { AllByRecursion (IsAskedCube shared.now.terms.now) (cubes_of terms.now) }
     requires first { first ≤ length terms.now }
     ensures { IfOk result (AreKnown terms.now given) }
 {
@@ -212,8 +212,8 @@ pub fn count_refuted_ahead(
     terms: &[Term],
     given: u64,
 ) -> Result<u64, AllocError>
-    requires sorted { AllByRecursion IsSorted terms.now }
-    requires asked { AllByRecursion (IsAsked shared.now.terms.now) (cubes_of terms.now) }
+    requires sorted { AllByRecursion IsClearBool terms.now }
+    requires asked { AllByRecursion (IsAskedCube shared.now.terms.now) (cubes_of terms.now) }
     ensures { IfOk result (AreKnown terms.now given) }
 {
     let mut least = 0;

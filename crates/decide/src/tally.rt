@@ -10,21 +10,21 @@ ghost use Rattle.std.specs.Option.{is_some};
 
 use crate::batch::BATCH;
 use crate::verdict::{Open, Verdict};
-use cube_search::{CubeAnswer, Reason, Refutation, Shown};
+use cube_search::{CubeAnswer, OpenReason, Refutation, Shown};
 use std::alloc::{AllocError, Global};
 use sv_list::Items;
 use sv_terms::{Model, Term};
 
 /// What the answers for the cubes so far come to.
 #[derive(Drop)]
-pub struct Tally {
+pub struct CubeTally {
     /// The first assertion with an opaque part.
     pub opaque: Option<Term>,
     /// The number of cubes that were answered.
     pub count: u64,
     /// The first model, where no assertion has an opaque part. It ends the search.
     pub model: Option<Model>,
-    pub open_cubes: Items<(u64, Reason)>,
+    pub open_cubes: Items<(u64, OpenReason)>,
     pub refuted: Refutation,
 }
 
@@ -39,12 +39,12 @@ fn add(a: &Refutation, b: &Refutation) -> Refutation
     }
 }
 
-impl Tally {
+impl CubeTally {
     /// The tally of no answer.
-    pub fn new(alloc: Global, opaque: Option<Term>) -> Tally
+    pub fn new(alloc: Global, opaque: Option<Term>) -> CubeTally
         ensures { (terms : List AnyTerm) → opaque ≡ first_of terms → IsTallyOf terms [] result }
     {
-        Tally {
+        CubeTally {
             opaque,
             count: 0,
             model: None,
@@ -82,7 +82,7 @@ impl Tally {
     {
         match &self.opaque {
             Some(term) => {
-                let reason = Reason::Fragment(Shown::Opaque(term.copy(alloc)?));
+                let reason = OpenReason::Fragment(Shown::Opaque(term.copy(alloc)?));
                 self.push(reason)
             }
             None => {
@@ -111,7 +111,7 @@ impl Tally {
         self.count += 1;
     }
 
-    fn push(&mut self, reason: Reason) -> Result<(), AllocError>
+    fn push(&mut self, reason: OpenReason) -> Result<(), AllocError>
         requires { self.old.count + 1 < 2 ^ 64 }
         ensures { OnOk result (self.new ≡ record self.old { count = self.old.count + 1; open_cubes = self.old.open_cubes ++ (self.old.count, reason) ∷ [] }) }
     {
@@ -131,7 +131,7 @@ impl Tally {
     pub fn into_verdict(self) -> Verdict
         ensures { result ≡ verdict_of self }
     {
-        let Tally {
+        let CubeTally {
             model,
             open_cubes,
             refuted,

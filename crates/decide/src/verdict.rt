@@ -1,4 +1,4 @@
-use cube_search::{Reason, Refutation};
+use cube_search::{OpenReason, Refutation};
 use sv_list::Items;
 use sv_terms::Model;
 
@@ -11,7 +11,7 @@ pub enum Open {
     PastForm { left: i128, right: i128 },
     /// The open cubes by their numbers, counted from 0 and rising, each with its reason. All others have no
     /// values.
-    Cubes(Items<(u64, Reason)>),
+    Cubes(Items<(u64, OpenReason)>),
 }
 
 /// The answer for a list of assertions.

@@ -7,7 +7,7 @@ use Rattle.std.proofs.lemmas.List.{take_more}
 use Rattle.std.proofs.lemmas.Option.{slice_get-get_or}
 use Rattle.sv_linear.specs.TermLaws.{above_high, term_here}
 use Rattle.sv_linear.specs.Terms.{coefficient, AscendsWithin}
-use Rattle.farkas_check.specs.Sums.{IsAddedAt, IsNotAddedAt, AreAdded, AreNotAdded, NumbersFit}
+use Rattle.farkas_check.specs.Sums.{IsColumnAdded, IsNotAddedAt, AreColumnsAdded, AreNotAdded, NumbersFit}
 
 set_here : (xs : List ℤ) (i : ℕ) (y : ℤ) → i < length xs → get_or (slice_set xs i y) i (pos 0) ≡ y
 set_here [] i y h = absurd (omega arith)
@@ -44,7 +44,7 @@ front_ascends low high [] k a h = absurd (omega arith)
 front_ascends low high (t ∷ ts) zero a h = a.0
 front_ascends low high (t ∷ ts) (suc k) a h = (a.0, (a.1.0, front_ascends (t.0 + 1) high ts k a.1.1 (omega arith)))
 
-pub added_none : (ns : List ℤ) (by : ℤ) → NumbersFit ns → AreAdded ns [] by ns
+pub added_none : (ns : List ℤ) (by : ℤ) → NumbersFit ns → AreColumnsAdded ns [] by ns
 added_none ns by f = λ u.
     let z : by *ℤ pos 0 ≡ pos 0 = omega (arith, ints) in
     let g = f u in
@@ -55,7 +55,7 @@ added_none ns by f = λ u.
       is = sym s;
     }
 
-module _ (ns : List ℤ) (ts : List (ℕ × ℤ)) (n k : ℕ) (by : ℤ) (ms : List ℤ) (a : AscendsWithin 0 n ts) (h : k < length ts) (s : AreAdded ns (take k ts) by ms) where
+module _ (ns : List ℤ) (ts : List (ℕ × ℤ)) (n k : ℕ) (by : ℤ) (ms : List ℤ) (a : AscendsWithin 0 n ts) (h : k < length ts) (s : AreColumnsAdded ns (take k ts) by ms) where
   abbrev term : ℕ × ℤ
   term = get_or ts k (0, pos 0)
 
@@ -85,18 +85,18 @@ module _ (ns : List ℤ) (ts : List (ℕ × ℤ)) (n k : ℕ) (by : ℤ) (ms : L
       by_test true (inr t) e = absurd (m (cc))
       by_test false t e = omega (arith, ints, e)
 
-  pub added_more : (next : ℤ) → term.0 < length ms → IsAddedAt (get_or ms term.0 (pos 0)) term.1 by next → AreAdded ns (take (k + 1) ts) by (slice_set ms term.0 next)
+  pub added_more : (next : ℤ) → term.0 < length ms → IsColumnAdded (get_or ms term.0 (pos 0)) term.1 by next → AreColumnsAdded ns (take (k + 1) ts) by (slice_set ms term.0 next)
   added_more next low i u = ⊎_elim here there (eqb_tells term.0 u)
     where
-      here : (eqb term.0 u ≡ true) × (term.0 ≡ u) → IsAddedAt (get_or ns u (pos 0)) (coefficient u (take (k + 1) ts)) by (get_or (slice_set ms term.0 next) u (pos 0))
-      here t = subst (λ v. IsAddedAt (get_or ns v (pos 0)) (coefficient v (take (k + 1) ts)) by (get_or (slice_set ms term.0 next) v (pos 0))) t.1
-          (subst (λ z. IsAddedAt (get_or ns term.0 (pos 0)) z by (get_or (slice_set ms term.0 next) term.0 (pos 0))) (sym here_whole)
-          (subst (λ z. IsAddedAt (get_or ns term.0 (pos 0)) term.1 by z) (sym (set_here ms term.0 next low))
-          (subst (λ z. IsAddedAt z term.1 by next) untouched i)))
+      here : (eqb term.0 u ≡ true) × (term.0 ≡ u) → IsColumnAdded (get_or ns u (pos 0)) (coefficient u (take (k + 1) ts)) by (get_or (slice_set ms term.0 next) u (pos 0))
+      here t = subst (λ v. IsColumnAdded (get_or ns v (pos 0)) (coefficient v (take (k + 1) ts)) by (get_or (slice_set ms term.0 next) v (pos 0))) t.1
+          (subst (λ z. IsColumnAdded (get_or ns term.0 (pos 0)) z by (get_or (slice_set ms term.0 next) term.0 (pos 0))) (sym here_whole)
+          (subst (λ z. IsColumnAdded (get_or ns term.0 (pos 0)) term.1 by z) (sym (set_here ms term.0 next low))
+          (subst (λ z. IsColumnAdded z term.1 by next) untouched i)))
 
-      there : (eqb term.0 u ≡ false) × (term.0 ≡ u → ⊥) → IsAddedAt (get_or ns u (pos 0)) (coefficient u (take (k + 1) ts)) by (get_or (slice_set ms term.0 next) u (pos 0))
-      there t = subst (λ z. IsAddedAt (get_or ns u (pos 0)) z by (get_or (slice_set ms term.0 next) u (pos 0))) (sym (there_whole u t.1))
-          (subst (λ z. IsAddedAt (get_or ns u (pos 0)) (coefficient u (take k ts)) by z) (sym (set_there ms term.0 u next (λ e. t.1 (sym e)))) (s u))
+      there : (eqb term.0 u ≡ false) × (term.0 ≡ u → ⊥) → IsColumnAdded (get_or ns u (pos 0)) (coefficient u (take (k + 1) ts)) by (get_or (slice_set ms term.0 next) u (pos 0))
+      there t = subst (λ z. IsColumnAdded (get_or ns u (pos 0)) z by (get_or (slice_set ms term.0 next) u (pos 0))) (sym (there_whole u t.1))
+          (subst (λ z. IsColumnAdded (get_or ns u (pos 0)) (coefficient u (take k ts)) by z) (sym (set_there ms term.0 u next (λ e. t.1 (sym e)))) (s u))
 
   pub not_added : IsNotAddedAt (get_or ms term.0 (pos 0)) term.1 by → AreNotAdded ns ts by
   not_added i = (

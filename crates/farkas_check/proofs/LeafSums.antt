@@ -1,19 +1,14 @@
 -- Sums of multiplied rows, column by column.
-use Rattle.std.proofs.Common.{◌≡◌, ℕ, zero, suc, ◌+◌, ◌<◌, ◌≤◌, ℤ, pos, ◌+ℤ◌, ◌*ℤ◌, ◌≤ℤ◌, ◌<ℤ◌, ◌^◌, Bool, true, false, cond, eqb, List, [], ◌∷◌, ◌++◌, length, map, get_or, drop, FitsSigned, unsigned_abs, ⊎_elim, refl, ap, sym, ◌∙◌, subst, arith}
+use Rattle.std.proofs.Common.{◌≡◌, ℕ, zero, suc, ◌+◌, ◌<◌, ◌≤◌, ℤ, pos, ◌+ℤ◌, ◌*ℤ◌, ◌≤ℤ◌, ◌<ℤ◌, List, [], ◌∷◌, ◌++◌, length, map, get_or, drop, FitsSigned, ⊎_elim, refl, ap, sym, ◌∙◌, subst, arith}
 use Rattle.std.specs.Int.{w128}
-use Rattle.std.specs.Prelude.{All}
 use Rattle.std.proofs.lemmas.Int.{ints}
 use Rattle.std.proofs.lemmas.Bool.{cases_lt}
-use Rattle.std.proofs.lemmas.Option.{slice_get-get_or}
-use Rattle.std.proofs.lemmas.List.Elements.{All-head, All-tail, All-from_get_or}
 use Rattle.sv_linear.specs.Combining.{IsFirstOutside}
 use Rattle.sv_linear.specs.Columns.{IsBefore}
 use Rattle.sv_linear.specs.Divisors.{Divides}
-use Rattle.sv_linear.specs.Forms.{form_value, entry}
-use Rattle.sv_linear.specs.Integers.{mul_comm, mul-add}
+use Rattle.sv_linear.specs.Forms.{entry}
 use Rattle.sv_linear.specs.Rows.{NameUnknowns}
-use Rattle.sv_linear.specs.TermLaws.{above_high, term_here}
-use Rattle.sv_linear.specs.Terms.{coefficient, AscendsWithin}
+use Rattle.sv_linear.specs.TermLaws.{above_high}
 use Rattle.sv_linear.specs.declared.column.Column.{Column}
 use Rattle.sv_linear.specs.declared.column.Column.TheVariants.{Unknown, Constant}
 use Rattle.sv_linear.specs.declared.form.Form.{Form}
@@ -22,8 +17,8 @@ use Rattle.farkas_check.specs.Systems.{Constraint, no_constraint, constraint_of}
 use Rattle.farkas_check.specs.Closings.{combined, Allowed, OfEquations, FarkasRule, DivisorRule}
 use Rattle.farkas_check.specs.Columns.{part_at}
 use Rattle.farkas_check.specs.Fitting.{SumFits, LeafFits}
-use Rattle.farkas_check.specs.Sums.{total_at, IsSumOf, IsAdded, IsNotAdded, IsAddedAt, AreAdded}
-use Rattle.farkas_check.specs.declared.leaf_sum.Sum.{Sum}
+use Rattle.farkas_check.specs.Sums.{total_at, IsSumOf, IsFormAdded, IsNotAdded, IsColumnAdded, AreColumnsAdded}
+use Rattle.farkas_check.specs.declared.leaf_sum.LeafSum.{LeafSum}
 use Rattle.farkas_check.proofs.Summing.{IsSumming, summing-none, summing-row, summing-fits, summing-more}
 
 pub rows_size : (rows : List Row) → length (map constraint_of rows) ≡ length rows
@@ -40,7 +35,7 @@ row_here (r ∷ rs) zero d h = refl
 row_here (r ∷ rs) (suc k) d h = row_here rs k d (omega arith)
 
 -- added at each unknown, and at the constant
-pub columns_added : (sum : Sum) (other : Form) (by : ℤ) (numbers : List ℤ) (constant : ℤ) → AreAdded sum.numbers other.coefficients by numbers → IsAddedAt sum.constant other.constant by constant → IsAdded sum other by (record { numbers = numbers; constant = constant })
+pub columns_added : (sum : LeafSum) (other : Form) (by : ℤ) (numbers : List ℤ) (constant : ℤ) → AreColumnsAdded sum.numbers other.coefficients by numbers → IsColumnAdded sum.constant other.constant by constant → IsFormAdded sum other by (record { numbers = numbers; constant = constant })
 columns_added sum other by numbers constant a i = record { product_fits = product; sum_fits = fits; entry_is = is }
   where
     product : (c : Column) → FitsSigned w128 (by *ℤ entry c other)
@@ -56,21 +51,21 @@ columns_added sum other by numbers constant a i = record { product_fits = produc
     is Constant = i.is
 
 -- the sum so far, at each column
-pub record IsSummingAll (rows : List Constraint) (ms : List (ℕ × ℤ)) (sum : Sum) (i : ℕ) : Type 0 where
+pub record IsSummingAll (rows : List Constraint) (ms : List (ℕ × ℤ)) (sum : LeafSum) (i : ℕ) : Type 0 where
   pub at : (c : Column) → IsSumming (part_at c) rows ms (total_at sum c) i
   pub fits : (c : Column) → FitsSigned w128 (total_at sum c)
 
-pub all-none : (rows : List Constraint) (ms : List (ℕ × ℤ)) (sum : Sum) → ((c : Column) → total_at sum c ≡ pos 0) → Allowed 0 rows ms → IsSummingAll rows ms sum 0
+pub all-none : (rows : List Constraint) (ms : List (ℕ × ℤ)) (sum : LeafSum) → ((c : Column) → total_at sum c ≡ pos 0) → Allowed 0 rows ms → IsSummingAll rows ms sum 0
 all-none rows ms sum e a = record {
   at = λ c. subst (λ z. IsSumming (part_at c) rows ms z 0) (sym (e c)) (summing-none (part_at c) rows ms a);
   fits = λ c. let z = e c in omega (arith, ints, z);
 }
 
-pub all-row : (rows : List Constraint) (ms : List (ℕ × ℤ)) (sum : Sum) (i : ℕ) → IsSummingAll rows ms sum i → i < length ms → (get_or ms i (0, pos 0)).0 < length rows
+pub all-row : (rows : List Constraint) (ms : List (ℕ × ℤ)) (sum : LeafSum) (i : ℕ) → IsSummingAll rows ms sum i → i < length ms → (get_or ms i (0, pos 0)).0 < length rows
 all-row rows ms sum i s h = summing-row (part_at Constant) rows ms (total_at sum Constant) i (0, pos 0) (s.at Constant) h
 
-pub all-more : (rows : List Constraint) (ms : List (ℕ × ℤ)) (sum next : Sum) (other : Form) (i : ℕ) → IsSummingAll rows ms sum i → i < length ms →
-    ((c : Column) → entry c other ≡ part_at c (get_or rows (get_or ms i (0, pos 0)).0 no_constraint)) → IsAdded sum other (get_or ms i (0, pos 0)).1 next → IsSummingAll rows ms next (i + 1)
+pub all-more : (rows : List Constraint) (ms : List (ℕ × ℤ)) (sum next : LeafSum) (other : Form) (i : ℕ) → IsSummingAll rows ms sum i → i < length ms →
+    ((c : Column) → entry c other ≡ part_at c (get_or rows (get_or ms i (0, pos 0)).0 no_constraint)) → IsFormAdded sum other (get_or ms i (0, pos 0)).1 next → IsSummingAll rows ms next (i + 1)
 all-more rows ms sum next other i s h e a = record {
   at = λ c.
       let by = (get_or ms i (0, pos 0)).1 in
@@ -81,7 +76,7 @@ all-more rows ms sum next other i s h e a = record {
   fits = λ c. subst (FitsSigned w128) (sym (a.entry_is c)) (a.sum_fits c);
 }
 
-pub all-not : (rows : List Constraint) (ms : List (ℕ × ℤ)) (sum : Sum) (other : Form) (i : ℕ) → IsSummingAll rows ms sum i → i < length ms →
+pub all-not : (rows : List Constraint) (ms : List (ℕ × ℤ)) (sum : LeafSum) (other : Form) (i : ℕ) → IsSummingAll rows ms sum i → i < length ms →
     ((c : Column) → entry c other ≡ part_at c (get_or rows (get_or ms i (0, pos 0)).0 no_constraint)) → IsNotAdded sum other (get_or ms i (0, pos 0)).1 → LeafFits rows ms → ⊥
 all-not rows ms sum other i s h e n f =
     let c = n.column in
@@ -95,7 +90,7 @@ drop_whole [] (suc i) h = refl
 drop_whole (x ∷ xs) zero h = absurd (omega arith)
 drop_whole (x ∷ xs) (suc i) h = drop_whole xs i (omega arith)
 
-pub all-done : (rows : List Constraint) (ms : List (ℕ × ℤ)) (sum : Sum) (i : ℕ) → IsSummingAll rows ms sum i → length ms ≤ i → IsSumOf rows ms sum
+pub all-done : (rows : List Constraint) (ms : List (ℕ × ℤ)) (sum : LeafSum) (i : ℕ) → IsSummingAll rows ms sum i → length ms ≤ i → IsSumOf rows ms sum
 all-done rows ms sum i s h = record {
   fits = λ c. (s.at c).back (subst (SumFits (part_at c) rows (total_at sum c)) (sym (drop_whole ms i h)) tt);
   entry_is = λ c. let e = ap (combined (part_at c) rows) (drop_whole ms i h) in omega (arith, ints, (s.at c).value, e);
@@ -141,20 +136,20 @@ past_constant n rows ms w h past = record { outside = λ s. past (all s); first 
     first Constant b = absurd b
 
 -- what the sum tells of the rules
-pub farkas_of : (rows : List Constraint) (ms : List (ℕ × ℤ)) (f : Sum) → Allowed 0 rows ms → IsSumOf rows ms f → ((u : ℕ) → get_or f.numbers u (pos 0) ≡ pos 0) → pos 0 <ℤ f.constant → FarkasRule rows ms
+pub farkas_of : (rows : List Constraint) (ms : List (ℕ × ℤ)) (f : LeafSum) → Allowed 0 rows ms → IsSumOf rows ms f → ((u : ℕ) → get_or f.numbers u (pos 0) ≡ pos 0) → pos 0 <ℤ f.constant → FarkasRule rows ms
 farkas_of rows ms f a s e p = record {
   allowed = a;
   vanishes = λ u. sym (s.entry_is (Unknown u)) ∙ e u;
   above_zero = subst (λ z. pos 0 <ℤ z) (s.entry_is Constant) p;
 }
 
-pub farkas_back : (rows : List Constraint) (ms : List (ℕ × ℤ)) (f : Sum) → IsSumOf rows ms f → FarkasRule rows ms → ((u : ℕ) → get_or f.numbers u (pos 0) ≡ pos 0) × (pos 0 <ℤ f.constant)
+pub farkas_back : (rows : List Constraint) (ms : List (ℕ × ℤ)) (f : LeafSum) → IsSumOf rows ms f → FarkasRule rows ms → ((u : ℕ) → get_or f.numbers u (pos 0) ≡ pos 0) × (pos 0 <ℤ f.constant)
 farkas_back rows ms f s r = (
   (λ u. s.entry_is (Unknown u) ∙ r.vanishes u),
   subst (λ z. pos 0 <ℤ z) (sym (s.entry_is Constant)) r.above_zero,
 )
 
-pub divisor_of : (rows : List Constraint) (ms : List (ℕ × ℤ)) (d : ℤ) (f : Sum) → OfEquations 0 rows ms → pos 2 ≤ℤ d → IsSumOf rows ms f → ((u : ℕ) → Divides d (get_or f.numbers u (pos 0))) → (Divides d f.constant → ⊥) → DivisorRule rows ms d
+pub divisor_of : (rows : List Constraint) (ms : List (ℕ × ℤ)) (d : ℤ) (f : LeafSum) → OfEquations 0 rows ms → pos 2 ≤ℤ d → IsSumOf rows ms f → ((u : ℕ) → Divides d (get_or f.numbers u (pos 0))) → (Divides d f.constant → ⊥) → DivisorRule rows ms d
 divisor_of rows ms d f e two s h n = record {
   allowed = e;
   at_least_two = two;
@@ -162,7 +157,7 @@ divisor_of rows ms d f e two s h n = record {
   apart = λ k. n (subst (Divides d) (sym (s.entry_is Constant)) k);
 }
 
-pub divisor_back : (rows : List Constraint) (ms : List (ℕ × ℤ)) (d : ℤ) (f : Sum) → IsSumOf rows ms f → DivisorRule rows ms d → ((u : ℕ) → Divides d (get_or f.numbers u (pos 0))) × (Divides d f.constant → ⊥)
+pub divisor_back : (rows : List Constraint) (ms : List (ℕ × ℤ)) (d : ℤ) (f : LeafSum) → IsSumOf rows ms f → DivisorRule rows ms d → ((u : ℕ) → Divides d (get_or f.numbers u (pos 0))) × (Divides d f.constant → ⊥)
 divisor_back rows ms d f s r = (
   (λ u. subst (Divides d) (sym (s.entry_is (Unknown u))) (r.divides u)),
   (λ k. r.apart (subst (Divides d) (s.entry_is Constant) k)),

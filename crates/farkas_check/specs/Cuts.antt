@@ -16,7 +16,7 @@ abbrev pub values_of : List ℤ → ℕ → ℤ
 values_of point u = slice_index_or point u (pos 0)
 
 -- some used edge leads out of a state of the set
-pub record IsLeft (x : ℕ → ℤ) (net : Net) (set : List ℕ) : Type 0 where
+pub record LeadsOutOf (x : ℕ → ℤ) (net : Net) (set : List ℕ) : Type 0 where
   pub edge : NetEdge
   pub is_edge : Contains net.edges edge
   pub used : pos 0 <ℤ x edge.unknown
@@ -26,10 +26,10 @@ pub record IsLeft (x : ℕ → ℤ) (net : Net) (set : List ℕ) : Type 0 where
 pub record IsUnreached (x : ℕ → ℤ) (net : Net) (set : List ℕ) : Type 0 where
   pub ascending : IsStrictlyIncreasing set
   pub members : (s : ℕ) → Contains set s ↔ ((s < net.states) × (Reached x net s → ⊥))
-  pub left : IsLeft x net set
+  pub left : LeadsOutOf x net set
 
 -- of the least net that isn't joined
-pub record IsCut (x : ℕ → ℤ) (nets : List Net) (at : ℕ) (set : List ℕ) : Type 0 where
+pub record IsNetCut (x : ℕ → ℤ) (nets : List Net) (at : ℕ) (set : List ℕ) : Type 0 where
   pub net : Net
   pub is_net : slice_get nets at ≡ Some net
   pub joined_before : (k : ℕ) (other : Net) → k < at → slice_get nets k ≡ Some other → Joined x other
@@ -38,4 +38,4 @@ pub record IsCut (x : ℕ → ℤ) (nets : List Net) (at : ℕ) (set : List ℕ)
 -- what a cutter answers: a cut, or nothing where each net is joined
 abbrev pub IsCutAnswer : (ℕ → ℤ) → List Net → Option (ℕ × List ℕ) → Type 0
 IsCutAnswer x nets None = All (Joined x) nets
-IsCutAnswer x nets (Some cut) = IsCut x nets cut.0 cut.1
+IsCutAnswer x nets (Some cut) = IsNetCut x nets cut.0 cut.1

@@ -1,4 +1,4 @@
-ghost use Rattle.std.specs.Prelude.{◌≡◌, ℤ, pos, negsuc, neg_ℤ, nat_eq, ◌&&◌, not};
+ghost use Rattle.std.specs.Prelude.{◌≡◌, pos, negsuc, neg_ℤ, nat_eq, ◌&&◌, not};
 ghost use Rattle.farkas_check.specs.Closings.{contains_number, edges_out, edges_in};
 ghost use Rattle.sv_linear.specs.Terms.{coefficient};
 

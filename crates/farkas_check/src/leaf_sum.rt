@@ -9,7 +9,7 @@ ghost use Rattle.farkas_check.specs.Systems.{no_constraint, constraint_of};
 ghost use Rattle.farkas_check.specs.Closings.{combined, Allowed};
 ghost use Rattle.farkas_check.specs.Columns.{part_at};
 ghost use Rattle.farkas_check.specs.Fitting.{SumFits, LeafFits};
-ghost use Rattle.farkas_check.specs.Sums.{total_at, IsSumOf, IsAdded, IsNotAdded, IsAddedAt, IsNotAddedAt, AreAdded, AreNotAdded, NumbersFit};
+ghost use Rattle.farkas_check.specs.Sums.{total_at, IsSumOf, IsFormAdded, IsNotAdded, IsColumnAdded, IsNotAddedAt, AreColumnsAdded, AreNotAdded, NumbersFit};
 
 use std::alloc::{AllocError, Global};
 use sv_linear::{Column, Form, Row};
@@ -17,7 +17,7 @@ use sv_list::Items;
 
 /// A number for each unknown, and one for the constant.
 #[derive(Drop)]
-pub(crate) struct Sum {
+pub(crate) struct LeafSum {
     pub numbers: Items<i128>,
     pub constant: i128,
 }
@@ -27,7 +27,7 @@ fn add_terms(numbers: &mut Items<i128>, terms: &[(u32, i128)], by: i128) -> bool
     requires ascends { AscendsWithin 0 (length numbers.old) terms.now }
     requires fits { NumbersFit numbers.old }
     ensures size { length numbers.new ≡ length numbers.old }
-    ensures added { IsTrue result → AreAdded numbers.old terms.now by numbers.new }
+    ensures added { IsTrue result → AreColumnsAdded numbers.old terms.now by numbers.new }
     ensures past { result ≡ false → AreNotAdded numbers.old terms.now by }
 {
     for (unknown, coefficient) in terms {
@@ -43,17 +43,17 @@ fn add_terms(numbers: &mut Items<i128>, terms: &[(u32, i128)], by: i128) -> bool
 
 /// The sum of a number and a product, where both fit.
 fn plus_times(number: i128, by: i128, coefficient: i128) -> Option<i128>
-    ensures { MatchOption result (IsNotAddedAt number coefficient by) (IsAddedAt number coefficient by) }
+    ensures { MatchOption result (IsNotAddedAt number coefficient by) (IsColumnAdded number coefficient by) }
 {
     number.checked_add(by.checked_mul(coefficient)?)
 }
 
 /// Adds so many times the form; false where at some column the product or the new sum leaves 128 bits.
-fn add_multiple(sum: &mut Sum, form: &Form, by: i128) -> bool
+fn add_multiple(sum: &mut LeafSum, form: &Form, by: i128) -> bool
     requires ascends { AscendsWithin 0 (length sum.old.numbers) form.now.coefficients }
     requires fits { (c : Column) → FitsSigned w128 (total_at sum.old c) }
     ensures size { length sum.new.numbers ≡ length sum.old.numbers }
-    ensures added { IsTrue result → IsAdded sum.old form.now by sum.new }
+    ensures added { IsTrue result → IsFormAdded sum.old form.now by sum.new }
     ensures past { result ≡ false → IsNotAdded sum.old form.now by }
 {
     match plus_times(sum.constant, by, form.constant) {
@@ -66,7 +66,7 @@ fn add_multiple(sum: &mut Sum, form: &Form, by: i128) -> bool
 }
 
 /// 0 at each column.
-fn no_sum(alloc: Global, unknowns: u32) -> Result<Sum, AllocError>
+fn no_sum(alloc: Global, unknowns: u32) -> Result<LeafSum, AllocError>
     ensures numbers { IfOk result (λ s. s.numbers ≡ replicate unknowns (pos 0)) }
     ensures constant { IfOk result (λ s. s.constant ≡ pos 0) }
 {
@@ -74,7 +74,7 @@ fn no_sum(alloc: Global, unknowns: u32) -> Result<Sum, AllocError>
     for _ in 0..unknowns {
         numbers.push(0)?;
     }
-    Ok(Sum {
+    Ok(LeafSum {
         numbers,
         constant: 0,
     })
@@ -95,7 +95,7 @@ pub(crate) fn sum_of(
     unknowns: u32,
     rows: &[Row],
     multipliers: &[(u32, i128)],
-) -> Result<Option<Sum>, AllocError>
+) -> Result<Option<LeafSum>, AllocError>
     requires allowed { Allowed 0 (map constraint_of rows.now) multipliers.now }
     requires names { NameUnknowns unknowns rows.now }
     ensures { IfOk result (λ o. MatchOption o (LeafFits (map constraint_of rows.now) multipliers.now → ⊥) (IsSumOf (map constraint_of rows.now) multipliers.now)) }

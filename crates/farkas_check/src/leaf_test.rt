@@ -7,7 +7,7 @@ ghost use Rattle.farkas_check.specs.LeafTests.{LeafTold};
 
 use crate::above::Above;
 use crate::leaf::{Leaf, is_multiple};
-use crate::leaf_sum::{Sum, past_column, sum_of};
+use crate::leaf_sum::{LeafSum, past_column, sum_of};
 use crate::rules::LEAST_DIVISOR;
 use std::alloc::{AllocError, Global};
 use sv_linear::{Column, Row};
@@ -100,7 +100,7 @@ fn has_equations(rows: &[Row], multipliers: &[(u32, i128)]) -> bool
 }
 
 /// Whether the sum is 0 at each unknown, and its constant above 0.
-fn is_above_zero(sum: &Sum) -> bool
+fn is_above_zero(sum: &LeafSum) -> bool
     ensures { IsTrue result ↔ (((u : ℕ) → get_or sum.now.numbers u (pos 0) ≡ pos 0) × (pos 0 <ℤ sum.now.constant)) }
 {
     0 < sum.constant && are_zero(sum.numbers.as_slice())
@@ -118,7 +118,7 @@ fn are_zero(numbers: &[i128]) -> bool
 }
 
 /// Whether the divisor divides the sum at each unknown, and not its constant.
-fn is_indivisible(sum: &Sum, divisor: i128) -> bool
+fn is_indivisible(sum: &LeafSum, divisor: i128) -> bool
     requires { pos 0 ≤ℤ divisor }
     ensures { IsTrue result ↔ (((u : ℕ) → Divides divisor (get_or sum.now.numbers u (pos 0))) × (Divides divisor sum.now.constant → ⊥)) }
 {

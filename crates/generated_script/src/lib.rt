@@ -21,4 +21,4 @@ mod tests;
 
 pub use blocks::Blocks;
 pub use shape::Shape;
-pub use tally::{Tally, summary};
+pub use tally::{VerdictCounts, summary};

@@ -7,7 +7,7 @@ use std::alloc::{AllocError, Global};
 
 /// How many verdicts there were of each kind.
 #[derive(Clone, Copy, Debug, PartialEq, Eq)]
-pub struct Tally {
+pub struct VerdictCounts {
     pub sat: u64,
     pub unsat: u64,
     pub unknown: u64,
@@ -21,7 +21,7 @@ fn push_decimal(text: &mut Vec<u8>, number: u64) -> Result<(), AllocError>
 }
 
 /// The line that sums up the verdicts on a script of so many blocks.
-pub fn summary(alloc: Global, size: u64, tally: &Tally) -> Result<Vec<u8>, AllocError>
+pub fn summary(alloc: Global, size: u64, tally: &VerdictCounts) -> Result<Vec<u8>, AllocError>
     ensures { IfOk result (λ text. text.items ≡ summary_text size tally.now) }
 {
     let mut text = Vec::from_slice(alloc, b"generated ")?;

@@ -1,4 +1,4 @@
-use crate::{Blocks, Tally, summary};
+use crate::{Blocks, VerdictCounts, summary};
 use std::alloc::Global;
 use std::test::Fail;
 
@@ -72,7 +72,7 @@ fn first_blocks_of_seeds(rt: HostRuntime) -> Result<(), Fail> {
 
 #[test]
 fn verdicts_are_summed_up(rt: HostRuntime) -> Result<(), Fail> {
-    let tally = Tally {
+    let tally = VerdictCounts {
         sat: 2,
         unsat: 6,
         unknown: 0,

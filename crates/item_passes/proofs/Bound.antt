@@ -1,6 +1,6 @@
 -- The terms that `let` and quantifiers are written with.
 use Rattle.std.proofs.Common.{◌≡◌, refl, sym, ap, ◌∙◌, ℕ, ◌<◌, ◌≤◌, true, false, List, [], ◌∷◌, length, map, get_or, Result, Ok, Err, arith}
-use Rattle.sexpr_reader.specs.declared.kind.Kind.{Kind}
+use Rattle.sexpr_reader.specs.declared.kind.TokenKind.{TokenKind}
 use Rattle.sexpr_reader.specs.declared.sexpr.Sexpr.{Sexpr}
 use Rattle.sexpr_reader.specs.declared.sexpr.Sexpr.TheVariants as v
 use Rattle.smt_names.specs.declared.check_fault.CheckFault.{CheckFault}
@@ -53,7 +53,7 @@ module _ (pass : Pass) where
       pub quantifier-body : (r : Result Unit CheckFault) (u : Unit {0}) → are_some is_variable (forms (map seen bs)) ≡ true → at_variables pass (forms (map seen bs)) ≡ Ok u → Answers (looked pass (seen y)) r → Answers (looked_quantifier pass (forms (map seen xs))) r
       quantifier-body r u s o a = answers-same (looked pass (seen y)) (looked_quantifier pass (forms (map seen xs))) r (quantifier-looks s ∙ ap (λ m. m >> looked pass (seen y)) o) a
 
-    module _ (k : Kind) (text : List ℕ) (is_ : x ≡ v.Atom k text) where
+    module _ (k : TokenKind) (text : List ℕ) (is_ : x ≡ v.Atom k text) where
       beside : forms (map seen xs) ≡ token k text ⨾ seen y ⨾ end
       beside = two-seen xs x y h g e f ∙ ap (λ z. z ⨾ seen y ⨾ end) (ap seen is_ ∙ seen-Atom k text)
 

@@ -4,7 +4,6 @@ ghost use Rattle.smt_names.specs.Signature.{stands_in};
 ghost use Rattle.std.specs.Option.{option_map, option_to_list};
 ghost use Rattle.sv_terms.specs.Names.{symbol_name};
 ghost use Rattle.smt_names.specs.Form.{seen, forms, are_all};
-ghost use Rattle.smt_names.specs.Faults.{Answers};
 ghost use Rattle.item_passes.specs.Binders as binders;
 
 use indexmap::IndexSet;

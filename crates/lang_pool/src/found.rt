@@ -1,11 +1,11 @@
 /// What `Pool::get` answers: the pool's value, or one that was made for the caller alone.
 #[derive(Drop)]
-pub enum Found<'a, V> {
+pub enum PoolValue<'a, V> {
     Shared(&'a V),
     Owned(Box<V>),
 }
 
-impl<V> Found<'_, V> {
+impl<V> PoolValue<'_, V> {
     ghost use Rattle.std.specs.Prelude.{◌≡◌};
     ghost use Rattle.lang_pool.specs.Found.{found_value};
 
@@ -14,8 +14,8 @@ impl<V> Found<'_, V> {
         ensures { result.now ≡ found_value self.now }
     {
         match self {
-            Found::Shared(value) => value,
-            Found::Owned(value) => value,
+            PoolValue::Shared(value) => value,
+            PoolValue::Owned(value) => value,
         }
     }
 }

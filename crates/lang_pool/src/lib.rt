@@ -22,7 +22,7 @@ mod keyed;
 mod pool;
 mod pool_note;
 
-pub use found::Found;
+pub use found::PoolValue;
 pub use keyed::Keyed;
 pub use pool::Pool;
 pub use pool_note::PoolNote;

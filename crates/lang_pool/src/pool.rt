@@ -1,9 +1,9 @@
 ghost use Rattle.std.specs.Prelude.{◌≡◌, ◌≢◌, ◌<◌, ◌↔◌, length, slice_get, IsTrue, IfOk, IfErr, IfSome, IsOkAnd, IsSomeAnd, OnErr};
 ghost use Rattle.lang_pool.specs.Found.{found_value, IsShared, IfShared, IfOwned};
-ghost use Rattle.lang_pool.specs.PoolNote.{cell_of, known, IsNoteOf};
+ghost use Rattle.lang_pool.specs.PoolNote.{known, IsNoteOf};
 ghost use Rattle.once_cell.specs.Once.{cell_name};
 
-use crate::found::Found;
+use crate::found::PoolValue;
 use crate::keyed::Keyed;
 use crate::pool_note::PoolNote;
 use once_cell::race::OnceBox;
@@ -76,7 +76,7 @@ impl<K: Eq, V: Keyed<K> + Drop> Pool<K, V> {
         key: &K,
         note: &mut PoolNote<V>,
         build: B,
-    ) -> Result<Found<'a, V>, E>
+    ) -> Result<PoolValue<'a, V>, E>
         requires cell { cell < length self.now }
         requires note { IsNoteOf self.now cell note.old }
         requires callable { B.IsAlwaysCallable build }
@@ -100,11 +100,11 @@ impl<K: Eq, V: Keyed<K> + Drop> Pool<K, V> {
             .cell(cell)
             .get_or_try_init_as(|| build(), &mut note.note)?;
         if has_key(seen, key) {
-            return Ok(Found::Shared(seen));
+            return Ok(PoolValue::Shared(seen));
         }
         let made = build()?;
         made.key(); // which the value fits, as every value does
-        Ok(Found::Owned(made))
+        Ok(PoolValue::Owned(made))
     }
 }
 

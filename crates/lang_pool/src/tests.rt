@@ -1,7 +1,7 @@
 ghost use Rattle.std.specs.Prelude.{◌≡◌, ◌+◌, ◌<◌, length, IfOk, IfSome, IsSome};
-ghost use Rattle.lang_pool.specs.PoolNote.{cell_of, known, IsNoteOf};
+ghost use Rattle.lang_pool.specs.PoolNote.{known, IsNoteOf};
 
-use crate::{Found, Keyed, Pool, PoolNote};
+use crate::{Keyed, Pool, PoolNote, PoolValue};
 use std::alloc::{AllocError, Global};
 use std::marker::Model;
 use std::sync::atomic::{AtomicU64, Ordering};
@@ -78,7 +78,11 @@ fn a_builder_runs_only_where_the_cell_has_no_value_of_the_key(rt: HostRuntime) -
             &mut note,
             || count_and_build(&built, alloc, letter),
         )?;
-        assert_eq!(rt; matches!(found, Found::Shared(_)), is_shared, "{letter}");
+        assert_eq!(rt;
+            matches!(found, PoolValue::Shared(_)),
+            is_shared,
+            "{letter}"
+        );
         assert_eq!(rt; found.value().letter, letter);
         assert_eq!(rt; built.load(Ordering::SeqCst), builds, "{letter}");
     }
@@ -88,7 +92,7 @@ fn a_builder_runs_only_where_the_cell_has_no_value_of_the_key(rt: HostRuntime) -
         &mut pool.note(1),
         || count_and_build(&built, alloc, 7),
     )?;
-    assert!(rt; matches!(other, Found::Shared(_)) && built.load(Ordering::SeqCst) == 2);
+    assert!(rt; matches!(other, PoolValue::Shared(_)) && built.load(Ordering::SeqCst) == 2);
     Ok(())
 }
 
@@ -102,7 +106,7 @@ fn an_error_is_the_builders_and_leaves_the_cell_as_it_was(rt: HostRuntime) -> Re
             .is_err_and(|error| error == 1)
     );
     let filled = pool.get(0, &8, &mut note, || Row::new(alloc, 8, 1))?;
-    assert!(rt; matches!(filled, Found::Shared(_)));
+    assert!(rt; matches!(filled, PoolValue::Shared(_)));
     assert!(rt; pool.get(0, &8, &mut note, || Err(2)).is_ok());
     assert!(rt;
         pool.get(0, &7, &mut note, || Err(3))
@@ -124,8 +128,8 @@ fn shared_len(
 {
     let mut note = pool.note(0);
     match pool.get(0, &7, &mut note, || Row::new(alloc, 7, bytes))? {
-        Found::Shared(row) => Ok((Some(row.len()), note)),
-        Found::Owned(_) => Ok((None, note)),
+        PoolValue::Shared(row) => Ok((Some(row.len()), note)),
+        PoolValue::Owned(_) => Ok((None, note)),
     }
 }
 
@@ -166,6 +170,6 @@ fn moves<T: Send>() {}
 #[test]
 fn threads_share_pools_and_hand_on_notes() {
     crosses::<Pool<u8, Row>>();
-    crosses::<Found<'static, Row>>();
+    crosses::<PoolValue<'static, Row>>();
     moves::<PoolNote<Row>>();
 }

@@ -16,7 +16,7 @@ use Rattle.parikh_flow.specs.Solutions.{HaveFlowsAt}
 use Rattle.parikh_flow.proofs.FormLemmas.{after-most}
 use Rattle.leaf_solve.specs.Questions.{IsAsked}
 use Rattle.leaf_solve.specs.Longs.{HasRun, IsBeyond}
-use Rattle.leaf_solve.specs.Answers.{IsPast, IsSatAnswer, IsClosedAnswer, IsLongAnswer, row_reach}
+use Rattle.leaf_solve.specs.Answers.{HasHitsPast, IsSatAnswer, IsClosedAnswer, IsLongAnswer, row_reach}
 use Rattle.leaf_solve.specs.Steps.{HaveShortFlowsAt}
 use Rattle.leaf_solve.specs.declared.long_shown.Beyond.{Beyond}
 use Rattle.leaf_solve.specs.declared.long_shown.LongShown.TheVariants.{Rows}
@@ -44,7 +44,7 @@ module _ (machines : List Graph) (integers : ℕ) (rows : List Row) (region : Re
     bounded-is : IsSystemOf machines integers (length region.registers) rows (Some reach) bounded
     bounded-is = subst (λ r. IsSystemOf machines integers (length region.registers) rows r bounded) (row-reach machines reach some) is
 
-    past : IsPast machines (length region.registers) integers rows reach
+    past : HasHitsPast machines (length region.registers) integers rows reach
     past = closed-past machines (length region.registers) integers rows (names machines integers rows region small reach asked) asked.registers bounded law tree accepted.0 reach bounded-is
 
     -- the region would hold each hit

@@ -12,7 +12,7 @@ use Rattle.box_search.specs.Regions.{points, greatest_states, IsHitWithin, IsSho
 use Rattle.box_search.specs.declared.region.Region.{Region}
 use Rattle.leaf_solve.specs.Questions.{IsAsked, EachHit, LieIn}
 use Rattle.leaf_solve.specs.Longs.{IsShortestWord, letters}
-use Rattle.leaf_solve.specs.Answers.{HasNoHit, IsPast, IsLongAnswer}
+use Rattle.leaf_solve.specs.Answers.{HasNoHit, HasHitsPast, IsLongAnswer}
 use Rattle.leaf_solve.specs.declared.long_shown.LongShown.TheVariants.{Words}
 use Rattle.leaf_solve.proofs.RunLemmas.{least-characters, runs-each, inhabited, shortest-words, letters-are}
 
@@ -29,14 +29,14 @@ within-reach a b c h g = omega arith
 
 module _ (machines : List Graph) (integers : ℕ) (rows : List Row) (region : Region) (small : Bool) (reach : ℕ) (asked : IsAsked machines integers rows region small reach) where
   -- where each hit is past the reach, none lies in the region
-  pub past-outside : AreShort machines region → IsPast machines (length region.registers) integers rows reach
+  pub past-outside : AreShort machines region → HasHitsPast machines (length region.registers) integers rows reach
       → EachHit machines (length region.registers) integers rows (λ runs numbers. LieIn region runs numbers → ⊥)
   past-outside short past = λ runs numbers hit lies.
       let s = short integers rows runs numbers (record { hit = hit; within = lies }) in
       too-many (characters s.0) (greatest_states machines * points region * length machines) reach s.1.short (asked.short lies.not_empty) (past s.0 numbers s.1.hit.hit)
 
   -- and there is none at all where the region holds each hit
-  pub past-none : AreShort machines region → small ≡ true → IsPast machines (length region.registers) integers rows reach → HasNoHit machines (length region.registers) integers rows
+  pub past-none : AreShort machines region → small ≡ true → HasHitsPast machines (length region.registers) integers rows reach → HasNoHit machines (length region.registers) integers rows
   past-none short is past = λ runs numbers hit. past-outside short past runs numbers hit (asked.holds is runs numbers hit)
 
   -- what the search finds is a hit within the reach
@@ -63,7 +63,7 @@ shortest-hit machines registers integers rows runs numbers none size shortest = 
 }
 
 pub shortest-past : (machines : List Graph) (registers integers : ℕ) (rows : List Row) (runs : List (Run ℕ)) (reach : ℕ) → AllZip IsShortestRun machines runs → reach < characters runs
-    → IsPast machines registers integers rows reach
+    → HasHitsPast machines registers integers rows reach
 shortest-past machines registers integers rows runs reach shortest long = λ others numbers hit.
     let least = least-characters machines runs others shortest hit.each in
     omega arith

@@ -15,9 +15,9 @@ use Rattle.box_search.specs.Hits.{IsHit, HaveRegisters, characters}
 use Rattle.box_search.specs.declared.region.Region.{Region}
 use Rattle.lia_branch.specs.Outcomes.{IsSolution}
 use Rattle.parikh_flow.specs.Rows.{IsSystemOf}
-use Rattle.parikh_flow.specs.Solutions.{HaveFlowsAt, AreValuesOf}
+use Rattle.parikh_flow.specs.Solutions.{HaveFlowsAt, AreRunValues}
 use Rattle.leaf_solve.specs.Questions.{IsAsked}
-use Rattle.leaf_solve.specs.Answers.{HasNoHit, IsPast, row_reach}
+use Rattle.leaf_solve.specs.Answers.{HasNoHit, HasHitsPast, row_reach}
 
 pub names : (machines : List Graph) (integers : ℕ) (rows : List Row) (region : Region) (small : Bool) (reach : ℕ) → IsAsked machines integers rows region small reach → NameUnknowns (integers + length region.registers) rows
 names machines integers rows region small reach asked = λ i r e. (asked.rows_within i r e).unknowns
@@ -28,7 +28,7 @@ HitsSolve machines system = (registers : ℕ) (rows : List Row) (reach : Option 
     → IsSystemOf machines (length numbers) registers rows reach system → NameUnknowns (length numbers + registers) rows
     → HaveRegisters registers machines
     → IsHit machines registers (length numbers) rows runs numbers → IfSome reach (λ most. characters runs ≤ most)
-    → (x : ℕ → ℤ) × AreValuesOf x machines registers runs numbers × Solves x (rows_of system) system.nets
+    → (x : ℕ → ℤ) × AreRunValues x machines registers runs numbers × Solves x (rows_of system) system.nets
 
 module _ (machines : List Graph) (registers integers : ℕ) (rows : List Row) (named : NameUnknowns (integers + registers) rows) (same : HaveRegisters registers machines) (system : System) (law : HitsSolve machines system) (tree : Tree) (closes : Closes system tree) where
   no-hit : (reach : Option ℕ) → IsSystemOf machines integers registers rows reach system → (runs : List (Run ℕ)) (numbers : List ℤ) → IsHit machines registers integers rows runs numbers
@@ -42,7 +42,7 @@ module _ (machines : List Graph) (registers integers : ℕ) (rows : List Row) (n
   pub closed-none : IsSystemOf machines integers registers rows None system → HasNoHit machines registers integers rows
   closed-none is = λ runs numbers hit. no-hit None is runs numbers hit tt
 
-  pub closed-past : (reach : ℕ) → IsSystemOf machines integers registers rows (Some reach) system → IsPast machines registers integers rows reach
+  pub closed-past : (reach : ℕ) → IsSystemOf machines integers registers rows (Some reach) system → HasHitsPast machines registers integers rows reach
   closed-past reach is = λ runs numbers hit. by_less reach (characters runs) (λ lt. lt) (λ le. absurd (no-hit (Some reach) is runs numbers hit le))
     where
       by_less : {P : Type 0} (m n : ℕ) → (m < n → P) → (n ≤ m → P) → P

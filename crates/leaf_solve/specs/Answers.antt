@@ -29,14 +29,14 @@ module _ (machines : List Graph) (registers integers : ℕ) (rows : List Row) wh
   HasNoHit = EachHit machines registers integers rows (λ runs numbers. ⊥)
 
   -- whatever meets the rows has more characters
-  abbrev pub IsPast : ℕ → Type 0
-  IsPast reach = EachHit machines registers integers rows (λ runs numbers. reach < characters runs)
+  abbrev pub HasHitsPast : ℕ → Type 0
+  HasHitsPast reach = EachHit machines registers integers rows (λ runs numbers. reach < characters runs)
 
   -- a machine without a run; a tree that the checker takes; or a region that would hold whatever meets the rows
-  abbrev pub IsClosing : Bool → Closing → Type 0
-  IsClosing small (closing.Empty i) = (m : Graph) × (slice_get machines i ≡ Some m) × (HasRun m → ⊥)
-  IsClosing small (closing.Tree system tree) = IsSystemOf machines integers registers rows None system × IsAccepted system tree
-  IsClosing small closing.Box = small ≡ true
+  abbrev pub IsLeafClosing : Bool → Closing → Type 0
+  IsLeafClosing small (closing.Empty i) = (m : Graph) × (slice_get machines i ≡ Some m) × (HasRun m → ⊥)
+  IsLeafClosing small (closing.Tree system tree) = IsSystemOf machines integers registers rows None system × IsAccepted system tree
+  IsLeafClosing small closing.Box = small ≡ true
 
   pub record IsSatAnswer (reach : ℕ) (hit : Hit) : Type 0 where
     pub is_hit : IsHit machines registers integers rows hit.runs hit.integers
@@ -44,11 +44,11 @@ module _ (machines : List Graph) (registers integers : ℕ) (rows : List Row) wh
 
   pub record IsClosedAnswer (small : Bool) (closing : Closing) : Type 0 where
     pub none : HasNoHit
-    pub shown : IsClosing small closing
+    pub shown : IsLeafClosing small closing
 
   pub record IsLongAnswer (region : Region) (small : Bool) (reach : ℕ) (long : LongShown) : Type 0 where
     pub inhabited : All HasRun machines
-    pub past : IsPast reach
+    pub past : HasHitsPast reach
     pub none_in_region : EachHit machines registers integers rows (λ runs numbers. LieIn region runs numbers → ⊥)
     pub shown : IsLongShown machines registers integers rows small (pos reach) long
 
@@ -74,5 +74,5 @@ IsDecided (answer.Long long) = ⊥
 IsDecided (answer.Open system evidence) = ⊥
 
 -- where an answer that decides is owed
-abbrev pub MustDecide : List Graph → List Row → Bool → ℕ → Type 0
-MustDecide machines rows small reach = (small ≡ true) ⊎ ((rows ≡ []) × (total_states machines ≤ reach))
+abbrev pub MustDecideLeaf : List Graph → List Row → Bool → ℕ → Type 0
+MustDecideLeaf machines rows small reach = (small ≡ true) ⊎ ((rows ≡ []) × (total_states machines ≤ reach))

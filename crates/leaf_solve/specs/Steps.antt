@@ -20,11 +20,11 @@ use Rattle.leaf_solve.specs.declared.question.Question.{Question}
 use Rattle.leaf_solve.specs.declared.shortest.Shortest.{Shortest}
 use Rattle.leaf_solve.specs.declared.shortest.Shortest.TheVariants.{Empty, Runs}
 
-abbrev pub IsQuestion : Question → Type 0
-IsQuestion q = IsAsked q.machines.now q.integers q.rows.now q.region.now q.small q.reach
+abbrev pub IsAskedQuestion : Question → Type 0
+IsAskedQuestion q = IsAsked q.machines.now q.integers q.rows.now q.region.now q.small q.reach
 
-abbrev pub Answers : Question → LeafAnswer → Type 0
-Answers q = IsLeafAnswer q.machines.now q.integers q.rows.now q.region.now q.small q.reach
+abbrev pub AnswersQuestion : Question → LeafAnswer → Type 0
+AnswersQuestion q = IsLeafAnswer q.machines.now q.integers q.rows.now q.region.now q.small q.reach
 
 abbrev pub IsSystemFor : Question → Option ℕ → System → Type 0
 IsSystemFor q = IsSystemOf q.machines.now q.integers (length q.region.now.registers) q.rows.now

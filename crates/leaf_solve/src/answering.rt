@@ -1,6 +1,6 @@
 ghost use Rattle.std.specs.Prelude.{IfOk};
 ghost use Rattle.leaf_solve.specs.Questions.{IsAsked};
-ghost use Rattle.leaf_solve.specs.Answers.{IsLeafAnswer, IsDecided, MustDecide};
+ghost use Rattle.leaf_solve.specs.Answers.{IsLeafAnswer, IsDecided, MustDecideLeaf};
 
 use crate::closing::Closing;
 use crate::leaf_answer::LeafAnswer;
@@ -31,7 +31,7 @@ pub fn leaf(
 ) -> Result<LeafAnswer, AllocError>
     requires { IsAsked machines.now integers rows.now region.now small reach }
     ensures answer { IfOk result (IsLeafAnswer machines.now integers rows.now region.now small reach) }
-    ensures decided { MustDecide machines.now rows.now small reach → IfOk result IsDecided }
+    ensures decided { MustDecideLeaf machines.now rows.now small reach → IfOk result IsDecided }
 {
     let runs = match shortest_runs(alloc, machines)? {
         Shortest::Empty(place) => return Ok(LeafAnswer::Closed(Closing::Empty(place))),

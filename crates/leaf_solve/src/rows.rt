@@ -4,7 +4,7 @@ ghost use Rattle.lia_branch.specs.EvidenceHolds.{Holds};
 ghost use Rattle.lia_branch.specs.Outcomes.{IsAccepted};
 ghost use Rattle.leaf_solve.specs.Longs.{HasRun};
 ghost use Rattle.leaf_solve.specs.Answers.{IsDecided, row_reach};
-ghost use Rattle.leaf_solve.specs.Steps.{IsQuestion, Answers, IsSystemFor};
+ghost use Rattle.leaf_solve.specs.Steps.{IsAskedQuestion, AnswersQuestion, IsSystemFor};
 
 use crate::closing::Closing;
 use crate::leaf_answer::LeafAnswer;
@@ -20,10 +20,10 @@ use std::alloc::{AllocError, Global};
 /// The answer where there are rows: by the system with the row for reach; where that is closed, by the one
 /// without; and where the solver gives up, by a search of the region.
 pub fn by_rows(alloc: Global, question: &Question) -> Result<LeafAnswer, AllocError>
-    requires asked { IsQuestion question.now }
+    requires asked { IsAskedQuestion question.now }
     requires has_rows { question.now.rows.now ≢ [] }
     requires inhabited { All HasRun question.now.machines.now }
-    ensures answer { IfOk result (Answers question.now) }
+    ensures answer { IfOk result (AnswersQuestion question.now) }
     ensures decided { question.now.small ≡ true → IfOk result IsDecided }
 {
     let bounded = system(alloc, question, row_reach(question))?;
@@ -42,12 +42,12 @@ fn past_reach(
     bounded: System,
     tree: Tree,
 ) -> Result<LeafAnswer, AllocError>
-    requires asked { IsQuestion question.now }
+    requires asked { IsAskedQuestion question.now }
     requires has_rows { question.now.rows.now ≢ [] }
     requires inhabited { All HasRun question.now.machines.now }
     requires bounded { IsSystemFor question.now (row_reach question.now.machines.now question.now.reach) bounded }
     requires accepted { IsAccepted bounded tree }
-    ensures answer { IfOk result (Answers question.now) }
+    ensures answer { IfOk result (AnswersQuestion question.now) }
     ensures decided { question.now.small ≡ true → IfOk result IsDecided }
 {
     solutions_are_hits(question.machines, &bounded);
@@ -84,12 +84,12 @@ fn in_region(
     bounded: System,
     evidence: Evidence,
 ) -> Result<LeafAnswer, AllocError>
-    requires asked { IsQuestion question.now }
+    requires asked { IsAskedQuestion question.now }
     requires has_rows { question.now.rows.now ≢ [] }
     requires inhabited { All HasRun question.now.machines.now }
     requires bounded { IsSystemFor question.now (row_reach question.now.machines.now question.now.reach) bounded }
     requires gave_up { Holds bounded evidence }
-    ensures answer { IfOk result (Answers question.now) }
+    ensures answer { IfOk result (AnswersQuestion question.now) }
     ensures decided { question.now.small ≡ true → IfOk result IsDecided }
 {
     let found = search(

@@ -3,7 +3,7 @@ ghost use Rattle.std.specs.Prelude.{◌≡◌, length, IfOk};
 ghost use Rattle.lia_branch.specs.EvidenceHolds.{Holds};
 ghost use Rattle.lia_branch.specs.Outcomes.{IfSolution, IfClosed, IfGaveUp, IsSolution, IsAccepted};
 ghost use Rattle.leaf_solve.specs.Answers.{IsSatAnswer, row_reach};
-ghost use Rattle.leaf_solve.specs.Steps.{IsQuestion, IsSystemFor, IsSolvable};
+ghost use Rattle.leaf_solve.specs.Steps.{IsAskedQuestion, IsSystemFor, IsSolvable};
 
 use crate::counts::runs_at;
 use crate::question::Question;
@@ -16,7 +16,7 @@ use sv_list::Items;
 
 /// How many registers the machines have.
 fn registers(question: &Question) -> u32
-    requires { IsQuestion question.now }
+    requires { IsAskedQuestion question.now }
     ensures { result ≡ length question.now.region.now.registers }
 {
     question.region.registers.len() as u32
@@ -35,7 +35,7 @@ pub fn row_reach(question: &Question) -> Option<u64>
 
 /// The system of the machines and the rows, with the row for reach where there is one.
 pub fn system(alloc: Global, question: &Question, reach: Option<u64>) -> Result<System, AllocError>
-    requires { IsQuestion question.now }
+    requires { IsAskedQuestion question.now }
     ensures system { IfOk result (IsSystemFor question.now reach) }
     ensures solvable { IfOk result IsSolvable }
 {
@@ -70,7 +70,7 @@ pub fn hit_of(
     system: &System,
     point: Items<i128>,
 ) -> Result<Hit, AllocError>
-    requires asked { IsQuestion question.now }
+    requires asked { IsAskedQuestion question.now }
     requires system { IsSystemFor question.now (row_reach question.now.machines.now question.now.reach) system.now }
     requires solution { IsSolution system.now point }
     ensures { IfOk result (IsSatAnswer question.now.machines.now (length question.now.region.now.registers) question.now.integers question.now.rows.now question.now.reach) }

@@ -5,7 +5,7 @@ ghost use Rattle.trim_search.specs.Shortest.{IsShortestRun};
 ghost use Rattle.box_search.specs.Hits.{characters};
 ghost use Rattle.leaf_solve.specs.Questions.{total_states};
 ghost use Rattle.leaf_solve.specs.Answers.{IsDecided};
-ghost use Rattle.leaf_solve.specs.Steps.{IsQuestion, Answers};
+ghost use Rattle.leaf_solve.specs.Steps.{IsAskedQuestion, AnswersQuestion};
 
 use crate::leaf_answer::LeafAnswer;
 use crate::long_shown::LongShown;
@@ -57,10 +57,10 @@ pub fn by_words(
     question: &Question,
     runs: Items<Run<u32>>,
 ) -> Result<LeafAnswer, AllocError>
-    requires asked { IsQuestion question.now }
+    requires asked { IsAskedQuestion question.now }
     requires no_rows { question.now.rows.now ≡ [] }
     requires shortest { AllZip IsShortestRun question.now.machines.now runs }
-    ensures answer { IfOk result (Answers question.now) }
+    ensures answer { IfOk result (AnswersQuestion question.now) }
     ensures decided { total_states question.now.machines.now ≤ question.now.reach → IfOk result IsDecided }
     ensures small { question.now.small ≡ true → IfOk result IsDecided }
 {

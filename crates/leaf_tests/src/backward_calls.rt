@@ -119,7 +119,7 @@ fn costs(state: &LeafState, cost: u64) -> bool {
 }
 
 // What is left of `bb` as y twice, cut at this state.
-fn halved(alloc: Global, cut: u32) -> Result<LeafState, BuildFault>
+fn halves(alloc: Global, cut: u32) -> Result<LeafState, BuildFault>
     requires { cut < 3 }
 {
     let piece = any_count(alloc, b'b')?;
@@ -133,7 +133,7 @@ fn halved(alloc: Global, cut: u32) -> Result<LeafState, BuildFault>
 fn least_after(alloc: Global, cut: u32) -> Result<Option<usize>, BuildFault>
     requires { cut < 3 }
 {
-    let after = halved(alloc, cut)?;
+    let after = halves(alloc, cut)?;
     Ok(least_length(alloc, &after, 0)?)
 }
 
@@ -141,7 +141,7 @@ fn least_after(alloc: Global, cut: u32) -> Result<Option<usize>, BuildFault>
 fn costs_after(alloc: Global, cut: u32, cost: u64) -> Result<bool, BuildFault>
     requires { cut < 3 }
 {
-    let after = halved(alloc, cut)?;
+    let after = halves(alloc, cut)?;
     Ok(costs(&after, cost))
 }
 
@@ -156,7 +156,7 @@ fn a_piece_that_stands_twice_costs_twice(rt: HostRuntime) -> Result<(), BuildFau
 }
 
 // What is left of `b` as y and z, cut at this state.
-fn ended(alloc: Global, cut: u32) -> Result<LeafState, BuildFault>
+fn end_of_cut(alloc: Global, cut: u32) -> Result<LeafState, BuildFault>
     requires { cut < 2 }
 {
     let piece = any_count(alloc, b'b')?;
@@ -167,19 +167,19 @@ fn ended(alloc: Global, cut: u32) -> Result<LeafState, BuildFault>
 }
 
 // The length of a shortest word that is left for the variable at this place.
-fn least_ended(alloc: Global, cut: u32, v: usize) -> Result<Option<usize>, BuildFault>
+fn least_end(alloc: Global, cut: u32, v: usize) -> Result<Option<usize>, BuildFault>
     requires { cut < 2 }
 {
-    let after = ended(alloc, cut)?;
+    let after = end_of_cut(alloc, cut)?;
     Ok(least_length(alloc, &after, v)?)
 }
 
 #[test]
 fn a_cut_at_the_start_leaves_the_empty_word(rt: HostRuntime) -> Result<(), BuildFault> {
     let alloc = rt.alloc();
-    assert!(rt; least_ended(alloc, 0, 0)? == Some(0));
-    assert!(rt; least_ended(alloc, 0, 2)? == Some(1));
-    assert!(rt; least_ended(alloc, 1, 2)?.is_none());
+    assert!(rt; least_end(alloc, 0, 0)? == Some(0));
+    assert!(rt; least_end(alloc, 0, 2)? == Some(1));
+    assert!(rt; least_end(alloc, 1, 2)?.is_none());
     Ok(())
 }
 
@@ -205,7 +205,7 @@ fn family_of(alloc: Global, letter: u8, target: Explicit) -> Result<LeafState, A
 }
 
 // Writes `b` for each four `a`.
-fn shortening(alloc: Global) -> Result<Transducer, AllocError>
+fn shortener(alloc: Global) -> Result<Transducer, AllocError>
     ensures { IfOk result IsFormed }
 {
     let pattern = repeat(alloc, b'a', 4)?;
@@ -215,16 +215,16 @@ fn shortening(alloc: Global) -> Result<Transducer, AllocError>
 }
 
 // What is left for y, which has this letter alone: x is y with `b` for each four `a`, and x is `b`.
-fn unfolded(alloc: Global, letter: u8) -> Result<LeafState, BuildFault> {
+fn unfold_letter(alloc: Global, letter: u8) -> Result<LeafState, BuildFault> {
     let target = one_letter(alloc, b'b')?;
     let state = family_of(alloc, letter, target)?;
-    let through = shortening(alloc)?;
+    let through = shortener(alloc)?;
     carry_through(alloc, &state, 1, 0, through, u64::MAX)
 }
 
 // The length of a shortest word that is left for y.
 fn least_unfolded(alloc: Global, letter: u8) -> Result<Option<usize>, BuildFault> {
-    let after = unfolded(alloc, letter)?;
+    let after = unfold_letter(alloc, letter)?;
     Ok(least_length(alloc, &after, 0)?)
 }
 
@@ -238,7 +238,7 @@ fn one_letter_stands_for_four_at_once(rt: HostRuntime) -> Result<(), BuildFault>
 }
 
 // Reads `a` and writes this letter.
-fn writing(alloc: Global, letter: u8) -> Result<TransEdge, AllocError>
+fn writer(alloc: Global, letter: u8) -> Result<TransEdge, AllocError>
     ensures { IfOk result (IsFormedEdge 1) }
 {
     let text = repeat(alloc, letter, 1)?;
@@ -255,12 +255,12 @@ fn writing(alloc: Global, letter: u8) -> Result<TransEdge, AllocError>
 }
 
 // Reads `a` and writes `0` or `1`, each time.
-fn choosing(alloc: Global) -> Result<Transducer, AllocError>
+fn chooser(alloc: Global) -> Result<Transducer, AllocError>
     ensures { IfOk result IsFormed }
 {
     let mut edges = Items::new(alloc);
-    edges.push(writing(alloc, b'0')?)?;
-    edges.push(writing(alloc, b'1')?)?;
+    edges.push(writer(alloc, b'0')?)?;
+    edges.push(writer(alloc, b'1')?)?;
     let mut ends = Items::new(alloc);
     ends.push((0, Word::new(alloc)))?;
     Ok(Transducer {
@@ -275,7 +275,7 @@ fn choosing(alloc: Global) -> Result<Transducer, AllocError>
 fn read_for(alloc: Global, first: u8, second: u8) -> Result<LeafState, BuildFault> {
     let target = both(alloc, first, second)?;
     let state = family_of(alloc, b'a', target)?;
-    let through = choosing(alloc)?;
+    let through = chooser(alloc)?;
     carry_through(alloc, &state, 1, 0, through, u64::MAX)
 }
 

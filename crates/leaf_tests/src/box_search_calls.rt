@@ -1,4 +1,4 @@
-ghost use Rattle.std.specs.Prelude.{◌≡◌, ℕ, ℤ, pos, negsuc, neg_ℤ, ◌<◌, ◌≤ℤ◌, [], ◌∷◌, length, IfOk};
+ghost use Rattle.std.specs.Prelude.{◌≡◌, ℤ, pos, negsuc, neg_ℤ, ◌<◌, ◌≤ℤ◌, [], ◌∷◌, IfOk};
 ghost use Rattle.box_search.specs.Regions.{IsQuestion};
 
 use box_search::{Hit, Region, search};
@@ -72,7 +72,7 @@ fn sums(alloc: Global, sum: i128) -> Result<Question, AllocError>
     })
 }
 
-fn hit(alloc: Global, question: &Question) -> Result<Option<Hit>, AllocError>
+fn find_hit(alloc: Global, question: &Question) -> Result<Option<Hit>, AllocError>
     requires { IsQuestion question.now.machines 1 question.now.rows question.now.region }
 {
     let machines = question.machines.as_slice();
@@ -98,22 +98,22 @@ fn sizes(hit: &Hit) -> (usize, i128) {
 }
 
 // The sizes of what is found of lengths that add up to `sum` and a number from 0 to 8; `None` where nothing is.
-fn found(alloc: Global, sum: i128) -> Result<Option<(usize, i128)>, AllocError>
+fn find_sum(alloc: Global, sum: i128) -> Result<Option<(usize, i128)>, AllocError>
     requires low { pos 0 ≤ℤ sum }
     requires high { sum ≤ℤ pos 100 }
 {
-    let hit = hit(alloc, &sums(alloc, sum)?)?;
+    let hit = find_hit(alloc, &sums(alloc, sum)?)?;
     Ok(hit.map(|hit| sizes(&hit)))
 }
 
 #[test]
 fn lengths_that_add_up(rt: HostRuntime) -> Result<(), AllocError> {
     let alloc = rt.alloc();
-    assert!(rt; found(alloc, 41)?.is_none());
-    assert!(rt; found(alloc, 40)? == Some((40, 0)));
-    assert!(rt; found(alloc, 32)? == Some((32, 0)));
-    assert!(rt; found(alloc, 0)? == Some((0, 0)));
-    assert!(rt; found(alloc, 100)?.is_none());
+    assert!(rt; find_sum(alloc, 41)?.is_none());
+    assert!(rt; find_sum(alloc, 40)? == Some((40, 0)));
+    assert!(rt; find_sum(alloc, 32)? == Some((32, 0)));
+    assert!(rt; find_sum(alloc, 0)? == Some((0, 0)));
+    assert!(rt; find_sum(alloc, 100)?.is_none());
     Ok(())
 }
 
@@ -177,7 +177,7 @@ fn letter_and_number(alloc: Global) -> Result<Question, AllocError>
 
 #[test]
 fn a_letter_and_a_number_below_0(rt: HostRuntime) -> Result<(), AllocError> {
-    let found = hit(rt.alloc(), &letter_and_number(rt.alloc())?)?;
+    let found = find_hit(rt.alloc(), &letter_and_number(rt.alloc())?)?;
     assert!(rt; found.map(|hit| sizes(&hit)) == Some((1, -5)));
     Ok(())
 }
@@ -199,7 +199,7 @@ fn multiples(alloc: Global, states: u32, cost: u64) -> Result<Explicit, AllocErr
 }
 
 // Words that cost 3 a piece, words that cost 5 a piece and words that cost nothing, which are to cost so much together.
-fn made_pieces(alloc: Global, total: u64) -> Result<Pieces, AllocError>
+fn make_pieces(alloc: Global, total: u64) -> Result<Pieces, AllocError>
     ensures { IfOk result (λ p. IsQuestion p.machines 0 [] p.region) }
 {
     let mut machines = Items::new(alloc);
@@ -216,7 +216,7 @@ fn made_pieces(alloc: Global, total: u64) -> Result<Pieces, AllocError>
 
 // Whether there are such words.
 fn is_reached(alloc: Global, total: u64) -> Result<bool, AllocError> {
-    let pieces = made_pieces(alloc, total)?;
+    let pieces = make_pieces(alloc, total)?;
     let machines = pieces.machines.as_slice();
     match search(alloc, machines, 0, &[], &pieces.region)? {
         Some(hit) => Ok(hit.runs.len() == 3),

@@ -116,12 +116,7 @@ fn row(alloc: Global, kind: RowKind, by: i128, constant: i128) -> Result<Row, Al
 }
 
 // What is answered for one machine, with an empty region.
-fn answered(
-    alloc: Global,
-    machine: Explicit,
-    rows: &[Row],
-    reach: u64,
-) -> Result<Ending, AllocError>
+fn answer(alloc: Global, machine: Explicit, rows: &[Row], reach: u64) -> Result<Ending, AllocError>
     requires registers { machine.registers ≡ 1 }
     requires rows { (i : ℕ) (r : Row) → slice_get rows.now i ≡ Some r → IsRowWithin 1 r }
     requires reach { reach ≤ 4194303 }
@@ -138,27 +133,27 @@ fn answered(
 }
 
 // What is answered where the word of a machine has so many characters.
-fn answered_at(alloc: Global, machine: Explicit, length: u32) -> Result<Ending, AllocError>
+fn answer_at(alloc: Global, machine: Explicit, length: u32) -> Result<Ending, AllocError>
     requires { machine.registers ≡ 1 }
 {
     let mut rows = Items::new(alloc);
     rows.push(row(alloc, RowKind::Eq, 1, -i128::from(length))?)?;
-    answered(alloc, machine, rows.as_slice(), REACH)
+    answer(alloc, machine, rows.as_slice(), REACH)
 }
 
 #[test]
 fn a_word_of_a_given_length(rt: HostRuntime) -> Result<(), AllocError> {
     let alloc = rt.alloc();
-    assert!(rt; answered_at(alloc, sample(alloc)?, 5)? == Ending::Sat(5));
-    assert!(rt; answered_at(alloc, sample(alloc)?, 4)? == Ending::Tree);
+    assert!(rt; answer_at(alloc, sample(alloc)?, 5)? == Ending::Sat(5));
+    assert!(rt; answer_at(alloc, sample(alloc)?, 4)? == Ending::Tree);
     Ok(())
 }
 
 #[test]
 fn words_at_the_reach(rt: HostRuntime) -> Result<(), AllocError> {
     let alloc = rt.alloc();
-    assert!(rt; answered_at(alloc, all_words(alloc)?, 4_194_303)? == Ending::Sat(4_194_303));
-    assert!(rt; answered_at(alloc, all_words(alloc)?, 4_194_304)? == Ending::Values);
+    assert!(rt; answer_at(alloc, all_words(alloc)?, 4_194_303)? == Ending::Sat(4_194_303));
+    assert!(rt; answer_at(alloc, all_words(alloc)?, 4_194_304)? == Ending::Values);
     Ok(())
 }
 
@@ -166,9 +161,9 @@ fn words_at_the_reach(rt: HostRuntime) -> Result<(), AllocError> {
 fn shortest_words(rt: HostRuntime) -> Result<(), AllocError> {
     let alloc = rt.alloc();
     let none = Explicit::new(alloc, 1, 1)?;
-    assert!(rt; answered(alloc, none, &[], REACH)? == Ending::Empty(0));
-    assert!(rt; answered(alloc, sample(alloc)?, &[], 1)? == Ending::Sat(1));
-    assert!(rt; answered(alloc, sample(alloc)?, &[], 0)? == Ending::Words);
+    assert!(rt; answer(alloc, none, &[], REACH)? == Ending::Empty(0));
+    assert!(rt; answer(alloc, sample(alloc)?, &[], 1)? == Ending::Sat(1));
+    assert!(rt; answer(alloc, sample(alloc)?, &[], 0)? == Ending::Words);
     Ok(())
 }
 
@@ -198,7 +193,7 @@ fn numbers(alloc: Global) -> Result<Items<Row>, AllocError>
 }
 
 // What is answered for one number between 0 and 1, which the region holds, and no machine.
-fn answered_of_numbers(alloc: Global, small: bool) -> Result<Ending, AllocError> {
+fn answer_of_numbers(alloc: Global, small: bool) -> Result<Ending, AllocError> {
     let rows = numbers(alloc)?;
     let region = Region {
         empty: false,
@@ -212,6 +207,6 @@ fn answered_of_numbers(alloc: Global, small: bool) -> Result<Ending, AllocError>
 #[test]
 fn bounds_close_what_no_tableau_holds(rt: HostRuntime) -> Result<(), AllocError> {
     let alloc = rt.alloc();
-    assert!(rt; answered_of_numbers(alloc, true)? == Ending::Tree);
+    assert!(rt; answer_of_numbers(alloc, true)? == Ending::Tree);
     Ok(())
 }

@@ -1,8 +1,7 @@
 //! Counts of a machine with a cycle that lies apart from its start.
-ghost use Rattle.std.specs.Prelude.{◌≡◌, ◌<◌, ◌≤◌, [], ◌∷◌, ◌++◌, length, map, OnOk, IfOk};
+ghost use Rattle.std.specs.Prelude.{◌≡◌, ◌<◌, [], ◌∷◌, ◌++◌, map, OnOk, IfOk};
 ghost use Rattle.machine_core.specs.Edges.{from_of, at_of};
-ghost use Rattle.parikh_flow.specs.Balance.{AreBalanced};
-ghost use Rattle.parikh_flow.specs.Counts.{to_of, total_count};
+ghost use Rattle.parikh_flow.specs.Counts.{to_of};
 
 use farkas_check::Cutter;
 use machine_core::{Cost, Explicit};
@@ -75,7 +74,7 @@ fn cut(alloc: Global) -> Result<Option<(u32, Items<u32>)>, AllocError> {
 }
 
 // The counts of a run that is made of the counts of `bb` with `ccc` twice behind it.
-fn counted(alloc: Global) -> Result<Items<u64>, FlowFault> {
+fn count_edges(alloc: Global) -> Result<Items<u64>, FlowFault> {
     let machine = sample(alloc)?;
     let run = run_of(alloc, &machine, &[0, 1, 1, 2, 2, 2, 0, 1])?;
     Ok(flow_of(alloc, &machine, &run)?)
@@ -99,7 +98,7 @@ fn a_cutter_finds_the_cycle(rt: HostRuntime) -> Result<(), AllocError> {
 
 #[test]
 fn a_run_has_the_counts_that_it_is_made_of(rt: HostRuntime) -> Result<(), FlowFault> {
-    let counts = counted(rt.alloc())?;
+    let counts = count_edges(rt.alloc())?;
     assert!(rt; counts.as_slice() == [0, 1, 1, 2, 2, 2, 0, 1].as_slice());
     Ok(())
 }

@@ -1,7 +1,7 @@
 //! Parts at concrete words, to hold and not to hold.
 ghost use Rattle.std.specs.Prelude.{◌≡◌, ◌∷◌, [], IfOk};
 
-use lang_pool::Found;
+use lang_pool::PoolValue;
 use machine_core::{Cost, Explicit};
 use part_machines::{Machines, digest, digest_of_others, own_machine, part_machine};
 use std::alloc::{AllocError, Global};
@@ -81,7 +81,7 @@ fn patterns(rt: HostRuntime) -> Result<(), BuildFault> {
 // Whether the machine of the expression is kept.
 fn is_kept(alloc: Global, kept: &Machines, expression: &Regex) -> Result<bool, BuildFault> {
     let found = kept.find_or_build(alloc, expression)?;
-    Ok(matches!(found, Found::Shared(_)))
+    Ok(matches!(found, PoolValue::Shared(_)))
 }
 
 fn digests_of(alloc: Global, expressions: &[Regex]) -> Result<Vec<u64>, AllocError> {

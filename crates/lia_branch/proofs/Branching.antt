@@ -15,15 +15,15 @@ use Rattle.lia_tableau.specs.declared.standing.Standing.{Standing}
 use Rattle.lia_tableau.specs.declared.standing.Standing.TheVariants.{Basic}
 use Rattle.lia_tableau.specs.declared.table.Table.{Table}
 use Rattle.lia_tableau.specs.Adding.{IsPastRow}
-use Rattle.lia_tableau.specs.Crossing.{IsPast}
+use Rattle.lia_tableau.specs.Crossing.{IsPastFault}
 use Rattle.lia_tableau.specs.Pivoting.{IsPastPivot}
 use Rattle.lia_tableau.specs.declared.fault.TableauFault.{TableauFault}
 use Rattle.lia_tableau.specs.declared.fault.TableauFault.TheVariants.{Past, Memory}
 use Rattle.lia_quick.specs.RowTerms.{wider}
 use Rattle.lia_branch.specs.EvidenceHolds.{IsPastAt}
 use Rattle.lia_tableau.specs.Trails.{Trail, stay, pivot}
-use Rattle.lia_branch.specs.Nodes.{Node, BeginsAt, ComesTo, GoesOn, IsRowOf, child_of}
-use Rattle.lia_branch.specs.Founds.{IsReady, IsNodeOf, IsNodeSolution}
+use Rattle.lia_branch.specs.Nodes.{Node, BeginsAt, ComesTo, AddsSlack, IsRowOf, child_of}
+use Rattle.lia_branch.specs.Founds.{IsReadyTableau, IsSystemNode, IsNodeSolution}
 use Rattle.lia_branch.specs.LeafMultipliers.{AreRowsOf}
 use Rattle.sv_linear.specs.Rows.{IsRowWithin}
 
@@ -67,7 +67,7 @@ get_in (y ∷ ys) zero x e = omega arith
 get_in (y ∷ ys) (suc i) x e = let h = get_in ys i x e in omega arith
 
 -- the rows of a side
-pub side_ready : (s : System) (rows : List Row) (before after : Table) (row : Row) → IsReady s rows before → IsRowWithin s.unknowns row → after.unknowns ≡ before.unknowns → after.rows ≡ before.rows ++ row ∷ [] → IsReady s (rows ++ row ∷ []) after
+pub side_ready : (s : System) (rows : List Row) (before after : Table) (row : Row) → IsReadyTableau s rows before → IsRowWithin s.unknowns row → after.unknowns ≡ before.unknowns → after.rows ≡ before.rows ++ row ∷ [] → IsReadyTableau s (rows ++ row ∷ []) after
 side_ready s rows before after row r w n e = record {
   unknowns = n ∙ r.unknowns;
   same_rows = e ∙ ap (λ xs. xs ++ row ∷ []) r.same_rows;
@@ -92,7 +92,7 @@ side_rows cs rows c row a m = record {
     each i d r (inr g) (inl h) = absurd (let w = get_in rows i r h in let e = a.size in omega (arith, g.0))
     each i d r (inr g) (inr h) = subst (λ (x : Constraint). IsRowOf x r) g.1 (subst (λ (x : Row). IsRowOf c x) h.1 m)
 
-pub side_node : (s : System) (rows : List Row) (node : Node) (t : Table) (c : Constraint) (row : Row) → IsNodeOf s rows node → IsRowOf c row → IsNodeOf s (rows ++ row ∷ []) (child_of node t c)
+pub side_node : (s : System) (rows : List Row) (node : Node) (t : Table) (c : Constraint) (row : Row) → IsSystemNode s rows node → IsRowOf c row → IsSystemNode s (rows ++ row ∷ []) (child_of node t c)
 side_node s rows node t c row k m = record { unknowns = k.unknowns; nets = k.nets; rows_of = side_rows node.rows rows c row k.rows_of m }
 
 not_in_end : (lines : List Standing) (line : Row) (q : ℕ) → q < length lines → IsInBasis (lines ++ Basic line ∷ []) q ↔ IsInBasis lines q
@@ -106,7 +106,7 @@ not_in_end lines line q h = (
     old (inr g) = absurd (omega (arith, g.0))
 
 -- the basis of a side is the basis above with the new slack
-pub goes_on : (before after : Table) (c : Constraint) (row : Row) → IsRowOf c row → after.unknowns ≡ before.unknowns → after.rows ≡ before.rows ++ row ∷ [] → IsRowAdded before.lines after.lines row → GoesOn before c after
+pub goes_on : (before after : Table) (c : Constraint) (row : Row) → IsRowOf c row → after.unknowns ≡ before.unknowns → after.rows ≡ before.rows ++ row ∷ [] → IsRowAdded before.lines after.lines row → AddsSlack before c after
 goes_on before after c row m n r a = record {
   unknowns = n;
   row = row;
@@ -121,7 +121,7 @@ pub trail_system : (first last : Table) → Trail first last → (last.unknowns 
 trail_system first last (stay t) = (refl, refl)
 trail_system first last (pivot start next end s rest) = let r = trail_system next end rest in (r.0 ∙ s.unknowns, r.1 ∙ s.rows)
 
-pub settled_ready : (s : System) (rows : List Row) (before after : Table) → IsReady s rows before → Trail before after → IsReady s rows after
+pub settled_ready : (s : System) (rows : List Row) (before after : Table) → IsReadyTableau s rows before → Trail before after → IsReadyTableau s rows after
 settled_ready s rows before after r t = let k = trail_system before after t in record {
   unknowns = k.0 ∙ r.unknowns;
   same_rows = k.1 ∙ r.same_rows;
@@ -133,13 +133,13 @@ settled_ready s rows before after r t = let k = trail_system before after t in r
 pub comes_to : (node : Node) (start t : Table) → BeginsAt node.unknowns node.origin start → Trail start t → ComesTo node t
 comes_to node start t b r = record { start = start; begins = b; trail = r }
 
-pub past_in_pivot : (node : Node) (t : Table) (fault : TableauFault) → ComesTo node t → IsPast (IsPastPivot t) fault →
-    IsPast (λ first second at column. IsPastAt first second at column node) fault
+pub past_in_pivot : (node : Node) (t : Table) (fault : TableauFault) → ComesTo node t → IsPastFault (IsPastPivot t) fault →
+    IsPastFault (λ first second at column. IsPastAt first second at column node) fault
 past_in_pivot node t (Past f s a c) k h = inl (record { basis = t; comes = k; past = h })
 past_in_pivot node t (Memory m) k h = tt
 
-pub past_in_addition : (node : Node) (t : Table) (c : Constraint) (row : Row) (fault : TableauFault) → IsRowOf c row → IsPast (IsPastRow t row) fault →
-    IsPast (λ first second at column. IsPastAt first second at column (child_of node t c)) fault
+pub past_in_addition : (node : Node) (t : Table) (c : Constraint) (row : Row) (fault : TableauFault) → IsRowOf c row → IsPastFault (IsPastRow t row) fault →
+    IsPastFault (λ first second at column. IsPastAt first second at column (child_of node t c)) fault
 past_in_addition node t c row (Past f s a col) m h = inr (record { row = row; is_row = m; past = h })
 past_in_addition node t c row (Memory m) k h = tt
 
@@ -153,10 +153,10 @@ pub fits_negated : (z : ℤ) → IsSymmetric z → FitsSigned w128 (neg_ℤ z)
 fits_negated z h = omega (arith, ints, h)
 
 -- after the pivots of a node
-pub ready_after : (s : System) (before after : Table) → IsReady s before.rows before → Trail before after → IsReady s after.rows after
+pub ready_after : (s : System) (before after : Table) → IsReadyTableau s before.rows before → Trail before after → IsReadyTableau s after.rows after
 ready_after s before after r t =
     let k = settled_ready s before.rows before after r t in
-    subst (λ (rs : List Row). IsReady s rs after) (sym (trail_system before after t).1) k
+    subst (λ (rs : List Row). IsReadyTableau s rs after) (sym (trail_system before after t).1) k
 
-pub node_after : (s : System) (before after : Table) (node : Node) → IsNodeOf s before.rows node → Trail before after → IsNodeOf s after.rows node
-node_after s before after node k t = subst (λ (rs : List Row). IsNodeOf s rs node) (sym (trail_system before after t).1) k
+pub node_after : (s : System) (before after : Table) (node : Node) → IsSystemNode s before.rows node → Trail before after → IsSystemNode s after.rows node
+node_after s before after node k t = subst (λ (rs : List Row). IsSystemNode s rs node) (sym (trail_system before after t).1) k

@@ -22,12 +22,12 @@ use Rattle.farkas_check.specs.declared.tree.Tree.TheVariants as v
 use Rattle.lia_tableau.specs.Quantities.{bound_of}
 use Rattle.lia_tableau.specs.Bases.{IsRowAt}
 use Rattle.lia_tableau.specs.Shown.{IsStatus, ShowsConflict}
-use Rattle.lia_tableau.specs.declared.status.Status.TheVariants.{Conflict}
+use Rattle.lia_tableau.specs.declared.status.TableauStatus.TheVariants.{Conflict}
 use Rattle.lia_tableau.specs.declared.table.Table.{Table}
 use Rattle.lia_branch.specs.Nodes.{Node, ComesTo, IsRowOf}
-use Rattle.lia_branch.specs.Founds.{IsReady, IsNodeOf, IsNodeClosing, IsNodeStop, stop_fact}
+use Rattle.lia_branch.specs.Founds.{IsReadyTableau, IsSystemNode, IsNodeClosing, IsNodeStop, stop_fact}
 use Rattle.lia_branch.specs.LeafMultipliers.{slack_multipliers, sign_of, AreRowsOf, IsPastColumn}
-use Rattle.lia_branch.specs.declared.stop.Stop.TheVariants.{PastSum}
+use Rattle.lia_branch.specs.declared.stop.StopReason.TheVariants.{PastSum}
 use Rattle.farkas_check.specs.NodeLaws.{farkas_met, farkas_fits}
 use Rattle.lia_branch.proofs.ConflictLeaves.{conflict_rule}
 use Rattle.lia_branch.proofs.DueTreeRules.{closed_farkas, stops_open, count_farkas}
@@ -98,7 +98,7 @@ sign_above : (c : ℤ) (negated : Bool) → c ≢ pos 0 → (IsTrue negated → 
 sign_above c true n h k = let s = h refl in omega (arith, ints, s)
 sign_above c false n h k = by_lt_z (pos 0) c (λ l. omega (arith, ints, l)) (λ l. absurd (let s = k refl in n (omega (arith, ints, s, l))))
 
-module _ (s : System) (rows : List Row) (t : Table) (ready : IsReady s rows t) (place : ℕ) (status : IsStatus t (Conflict place)) where
+module _ (s : System) (rows : List Row) (t : Table) (ready : IsReadyTableau s rows t) (place : ℕ) (status : IsStatus t (Conflict place)) where
   pub conflict_place : place < length t.rows
   conflict_place =
       let w = place_within t.lines status.1.quantity status.1.row status.1.is_row.is_line in
@@ -133,7 +133,7 @@ module _ (s : System) (rows : List Row) (t : Table) (ready : IsReady s rows t) (
       pub conflict_rule_here : FarkasRule (map constraint_of rows) ms
       conflict_rule_here = rule (map constraint_of rows) (rows_themselves rows)
 
-      pub conflict_closed : (node : Node) → IsNodeOf s rows node → LeafFits (map constraint_of rows) ms → IsNodeClosing node (v.Farkas ms) 0
+      pub conflict_closed : (node : Node) → IsSystemNode s rows node → LeafFits (map constraint_of rows) ms → IsNodeClosing node (v.Farkas ms) 0
       conflict_closed node k f = record {
         due = closed_farkas node ms (rule node.rows k.rows_of);
         closes = farkas_met never node.nets node.rows ms (rule node.rows k.rows_of);
@@ -141,7 +141,7 @@ module _ (s : System) (rows : List Row) (t : Table) (ready : IsReady s rows t) (
         count = count_farkas ms;
       }
 
-      pub conflict_stopped : (node : Node) (left column : ℕ) → IsNodeOf s rows node → ComesTo node t → IsPastColumn (map constraint_of rows) ms s.unknowns column → IsNodeStop node left v.Open (PastSum column)
+      pub conflict_stopped : (node : Node) (left column : ℕ) → IsSystemNode s rows node → ComesTo node t → IsPastColumn (map constraint_of rows) ms s.unknowns column → IsNodeStop node left v.Open (PastSum column)
       conflict_stopped node left column k m p = record {
         stops = stops_open (stop_fact (PastSum column)) node (record {
           last = t;

@@ -15,7 +15,7 @@ use Rattle.farkas_check.specs.Closings.{combined, coefficient_of, constant_of, A
 use Rattle.lia_tableau.specs.Quantities.{bound_of, bound_of_slack, bound_of_kind}
 use Rattle.lia_tableau.specs.Bases.{IsLine, IsTableau}
 use Rattle.lia_tableau.specs.Shown.{ShowsConflict, Breaks, CanMend, HaveOppositeSigns}
-use Rattle.lia_tableau.specs.declared.bound.Bound.TheVariants.{Free, NotNegative}
+use Rattle.lia_tableau.specs.declared.bound.QuantityBound.TheVariants.{Free, NotNegative}
 use Rattle.lia_tableau.specs.declared.standing.Standing.{Standing}
 use Rattle.lia_branch.specs.Nodes.{IsRowOf}
 use Rattle.lia_branch.specs.LeafMultipliers.{slack_multipliers, unknown_terms, AreRowsOf}

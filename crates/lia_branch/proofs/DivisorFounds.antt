@@ -18,12 +18,12 @@ use Rattle.farkas_check.specs.declared.tree.Tree.TheVariants as v
 use Rattle.lia_tableau.specs.Bases.{IsRowAt}
 use Rattle.lia_tableau.specs.Crossing.{column_number}
 use Rattle.lia_tableau.specs.Shown.{IsStatus, IsUnknownsDivisor}
-use Rattle.lia_tableau.specs.declared.status.Status.TheVariants.{Divisor}
+use Rattle.lia_tableau.specs.declared.status.TableauStatus.TheVariants.{Divisor}
 use Rattle.lia_tableau.specs.declared.table.Table.{Table}
 use Rattle.lia_branch.specs.Nodes.{Node, ComesTo}
-use Rattle.lia_branch.specs.Founds.{IsReady, IsNodeOf, IsNodeClosing, IsNodeStop, stop_fact}
+use Rattle.lia_branch.specs.Founds.{IsReadyTableau, IsSystemNode, IsNodeClosing, IsNodeStop, stop_fact}
 use Rattle.lia_branch.specs.LeafMultipliers.{slack_remainders, AreRowsOf, IsPastColumn}
-use Rattle.lia_branch.specs.declared.stop.Stop.TheVariants.{PastSum}
+use Rattle.lia_branch.specs.declared.stop.StopReason.TheVariants.{PastSum}
 use Rattle.farkas_check.specs.NodeLaws.{divisor_met, divisor_fits}
 use Rattle.lia_branch.proofs.ConflictFounds.{same_fits, parts_same, rows_themselves}
 use Rattle.lia_branch.proofs.DivisorLeaves.{divisor_rule}
@@ -74,7 +74,7 @@ remainder_is n d low high (t ∷ ts) i a = by (nat_lt t.0 n) refl (remainder_is 
 same_divisor : (n : ℕ) (f : Form) (g d : ℕ) → IsUnknownsDivisor n f g → IsUnknownsDivisor n f d → g ≡ d
 same_divisor n f g d a b = dvd_antisymm (b.greatest g a.divides) (a.greatest d b.divides)
 
-module _ (s : System) (rows : List Row) (t : Table) (ready : IsReady s rows t) (place : ℕ) (status : IsStatus t (Divisor place)) where
+module _ (s : System) (rows : List Row) (t : Table) (ready : IsReadyTableau s rows t) (place : ℕ) (status : IsStatus t (Divisor place)) where
   pub divisor_place : place < length t.rows
   divisor_place =
       let w = place_within t.lines status.quantity status.row status.is_row.is_line in
@@ -115,7 +115,7 @@ module _ (s : System) (rows : List Row) (t : Table) (ready : IsReady s rows t) (
       pub divisor_rule_here : DivisorRule (map constraint_of rows) ms divisor
       divisor_rule_here = subst (DivisorRule (map constraint_of rows) ms) (sym is_divisor) (rule (map constraint_of rows) (rows_themselves rows))
 
-      pub divisor_closed : (node : Node) → IsNodeOf s rows node → LeafFits (map constraint_of rows) ms → IsNodeClosing node (v.Divisor ms divisor) 0
+      pub divisor_closed : (node : Node) → IsSystemNode s rows node → LeafFits (map constraint_of rows) ms → IsNodeClosing node (v.Divisor ms divisor) 0
       divisor_closed node k f =
           let r = subst (DivisorRule node.rows ms) (sym is_divisor) (rule node.rows k.rows_of) in
           record {
@@ -131,7 +131,7 @@ module _ (s : System) (rows : List Row) (t : Table) (ready : IsReady s rows t) (
       d_positive : pos 0 <ℤ pos d
       d_positive = let a = status.shows.at_least_two in omega (arith, ints)
 
-      pub divisor_stopped : (node : Node) (left column : ℕ) → IsNodeOf s rows node → ComesTo node t → IsPastColumn (map constraint_of rows) ms s.unknowns column → IsNodeStop node left v.Open (PastSum column)
+      pub divisor_stopped : (node : Node) (left column : ℕ) → IsSystemNode s rows node → ComesTo node t → IsPastColumn (map constraint_of rows) ms s.unknowns column → IsNodeStop node left v.Open (PastSum column)
       divisor_stopped node left column k m p = record {
         stops = stops_open (stop_fact (PastSum column)) node (record {
           last = t;

@@ -18,9 +18,9 @@ use Rattle.farkas_check.specs.Closings.{contains_number, edges_out, edges_in}
 use Rattle.farkas_check.specs.Cuts.{IsNetWithin}
 use Rattle.farkas_check.specs.declared.net.Net.{Net}
 use Rattle.farkas_check.specs.declared.net.NetEdge.{NetEdge}
-use Rattle.lia_branch.specs.EdgeSums.{side_terms, side_sign, picks, AreMarks, IsSideSum}
-use Rattle.lia_branch.specs.declared.edge_sums.Side.{Side}
-use Rattle.lia_branch.specs.declared.edge_sums.Side.TheVariants.{Out, In}
+use Rattle.lia_branch.specs.EdgeSums.{side_terms, side_sign, picks, AreSetMarks, IsSideSum}
+use Rattle.lia_branch.specs.declared.edge_sums.EdgeSide.{EdgeSide}
+use Rattle.lia_branch.specs.declared.edge_sums.EdgeSide.TheVariants.{Out, In}
 
 pushed_coefficient : (v : ℕ) (ts : List (ℕ × ℤ)) (u : ℕ) (a : ℤ) → coefficient v (ts ++ (u, a) ∷ []) ≡ coefficient v ts +ℤ cond (nat_eq u v) a (pos 0)
 pushed_coefficient v [] u a = omega (arith, ints)
@@ -68,7 +68,7 @@ in_more x set z (y ∷ ys) e = by (contains_number y.to set && not (contains_num
     by true h = omega (arith, ints, h)
     by false h = h
 
-side_more : (side : Side) (x : ℕ → ℤ) (set : List ℕ) (es : List NetEdge) (e : NetEdge) → terms_value x (side_terms side set (es ++ e ∷ [])) ≡ terms_value x (side_terms side set es) +ℤ cond (picks side set e) (side_sign side *ℤ x e.unknown) (pos 0)
+side_more : (side : EdgeSide) (x : ℕ → ℤ) (set : List ℕ) (es : List NetEdge) (e : NetEdge) → terms_value x (side_terms side set (es ++ e ∷ [])) ≡ terms_value x (side_terms side set es) +ℤ cond (picks side set e) (side_sign side *ℤ x e.unknown) (pos 0)
 side_more Out x set es e = out_more x set (pos 1) es e
 side_more In x set es e = in_more x set (neg_ℤ (pos 1)) es e
 
@@ -76,17 +76,17 @@ abbrev pub no_edge : NetEdge
 no_edge = record { «from» = 0; to = 0; unknown = 0 }
 
 -- the sum of the first i edges
-pub record IsSummed (side : Side) (set : List ℕ) (es : List NetEdge) (f : Form) (next i : ℕ) : Type 0 where
+pub record IsSummed (side : EdgeSide) (set : List ℕ) (es : List NetEdge) (f : Form) (next i : ℕ) : Type 0 where
   pub value : (x : ℕ → ℤ) (d : ℤ) → form_value x d f ≡ terms_value x (side_terms side set (take i es))
   pub small : (c : Column) → unsigned_abs (entry c f) ≤ i
   pub ascends : AscendsWithin 0 next f.coefficients
   pub bound : next ≤ 2 ^ 32
 
-none_picked : (side : Side) (set : List ℕ) → side_terms side set [] ≡ []
+none_picked : (side : EdgeSide) (set : List ℕ) → side_terms side set [] ≡ []
 none_picked Out set = refl
 none_picked In set = refl
 
-pub summed_first : (side : Side) (set : List ℕ) (es : List NetEdge) (f : Form) → f.coefficients ≡ [] → f.constant ≡ pos 0 → IsSummed side set es f 0 0
+pub summed_first : (side : EdgeSide) (set : List ℕ) (es : List NetEdge) (f : Form) → f.coefficients ≡ [] → f.constant ≡ pos 0 → IsSummed side set es f 0 0
 summed_first side set es f e k = record {
   value = λ x d.
       let a = ap (terms_value x) e in let z = ap (λ w. w *ℤ d) k in let b = ap (terms_value x) (none_picked side set) in
@@ -100,11 +100,11 @@ summed_first side set es f e k = record {
     small (Unknown u) = omega (arith, ap unsigned_abs (ap (coefficient u) e))
     small Constant = omega (arith, ap unsigned_abs k)
 
-take_next : (side : Side) (x : ℕ → ℤ) (set : List ℕ) (es : List NetEdge) (i : ℕ) → i < length es →
+take_next : (side : EdgeSide) (x : ℕ → ℤ) (set : List ℕ) (es : List NetEdge) (i : ℕ) → i < length es →
     terms_value x (side_terms side set (take (i + 1) es)) ≡ terms_value x (side_terms side set (take i es)) +ℤ cond (picks side set (get_or es i no_edge)) (side_sign side *ℤ x (get_or es i no_edge).unknown) (pos 0)
 take_next side x set es i h = ap (λ l. terms_value x (side_terms side set l)) (take_more es i no_edge h) ∙ side_more side x set (take i es) (get_or es i no_edge)
 
-pub summed_skip : (side : Side) (set : List ℕ) (es : List NetEdge) (f : Form) (next i : ℕ) → IsSummed side set es f next i → i < length es → picks side set (get_or es i no_edge) ≡ false → IsSummed side set es f next (i + 1)
+pub summed_skip : (side : EdgeSide) (set : List ℕ) (es : List NetEdge) (f : Form) (next i : ℕ) → IsSummed side set es f next i → i < length es → picks side set (get_or es i no_edge) ≡ false → IsSummed side set es f next (i + 1)
 summed_skip side set es f next i s h p = record {
   value = λ x d.
       let e = ap (λ b. cond b (side_sign side *ℤ x (get_or es i no_edge).unknown) (pos 0)) p in
@@ -114,7 +114,7 @@ summed_skip side set es f next i s h p = record {
   bound = s.bound;
 }
 
-pub summed_more : (side : Side) (set : List ℕ) (es : List NetEdge) (f r : Form) (next after i : ℕ) → IsSummed side set es f next i → i < length es → picks side set (get_or es i no_edge) ≡ true →
+pub summed_more : (side : EdgeSide) (set : List ℕ) (es : List NetEdge) (f r : Form) (next after i : ℕ) → IsSummed side set es f next i → i < length es → picks side set (get_or es i no_edge) ≡ true →
     ((x : ℕ → ℤ) (d : ℤ) → form_value x d r ≡ form_value x d f +ℤ side_sign side *ℤ x (get_or es i no_edge).unknown) → ((c : Column) → unsigned_abs (entry c r) ≤ suc (unsigned_abs (entry c f))) →
     (next ≤ (get_or es i no_edge).unknown → AscendsWithin 0 (suc (get_or es i no_edge).unknown) r.coefficients) →
     after ≤ 2 ^ 32 → (next ≤ (get_or es i no_edge).unknown → after ≡ suc (get_or es i no_edge).unknown) → ((get_or es i no_edge).unknown < next → after ≡ 2 ^ 32) → IsSummed side set es r after (i + 1)
@@ -153,7 +153,7 @@ in_beyond n u set z (e ∷ es) h l = by (contains_number e.to set && not (contai
         ap (λ w. cond w z (pos 0) +ℤ coefficient u (edges_in set es z)) d ∙ omega (arith, ints, r)
     by false r = r
 
-side_beyond : (side : Side) (n u : ℕ) (set : List ℕ) (es : List NetEdge) → All (λ e. e.unknown < n) es → n ≤ u → coefficient u (side_terms side set es) ≡ pos 0
+side_beyond : (side : EdgeSide) (n u : ℕ) (set : List ℕ) (es : List NetEdge) → All (λ e. e.unknown < n) es → n ≤ u → coefficient u (side_terms side set es) ≡ pos 0
 side_beyond Out n u set es h l = out_beyond n u set (pos 1) es h l
 side_beyond In n u set es h l = in_beyond n u set (neg_ℤ (pos 1)) es h l
 
@@ -179,7 +179,7 @@ take_all [] (suc i) h = refl
 take_all (x ∷ xs) zero h = absurd (omega arith)
 take_all (x ∷ xs) (suc i) h = ap (λ l. x ∷ l) (take_all xs i (omega arith))
 
-pub summed_done : (side : Side) (n : ℕ) (net : Net) (set : List ℕ) (f : Form) (next i : ℕ) → IsNetWithin n net → IsSummed side set net.edges f next i → length net.edges ≤ i → i < 2 ^ 64 → IsSideSum side n net set f
+pub summed_done : (side : EdgeSide) (n : ℕ) (net : Net) (set : List ℕ) (f : Form) (next i : ℕ) → IsNetWithin n net → IsSummed side set net.edges f next i → length net.edges ≤ i → i < 2 ^ 64 → IsSideSum side n net set f
 summed_done side n net set f next i w s h k =
     let value : (x : ℕ → ℤ) (d : ℤ) → form_value x d f ≡ terms_value x (side_terms side set net.edges) = λ x d. s.value x d ∙ ap (λ l. terms_value x (side_terms side set l)) (take_all net.edges i h) in
     record {
@@ -231,7 +231,7 @@ or_false false c e = e
 next_state : (states : ℕ) (set : List ℕ) (i : ℕ) → i < length set → (s : ℕ) → contains_number s (take (i + 1) set) ≡ (contains_number s (take i set) || nat_eq (get_or set i 0) s)
 next_state states set i h s = ap (contains_number s) (take_more set i 0 h) ∙ contains_more s (take i set) (get_or set i 0)
 
-pub marked_more : (states : ℕ) (set : List ℕ) (i : ℕ) (marks : List Bool) → i < length set → length marks ≡ states → AreMarks states (take i set) marks → get_or set i 0 < length marks → AreMarks states (take (i + 1) set) (slice_set marks (get_or set i 0) true)
+pub marked_more : (states : ℕ) (set : List ℕ) (i : ℕ) (marks : List Bool) → i < length set → length marks ≡ states → AreSetMarks states (take i set) marks → get_or set i 0 < length marks → AreSetMarks states (take (i + 1) set) (slice_set marks (get_or set i 0) true)
 marked_more states set i marks h l a w s p =
     ⊎_elim
     (λ e.
@@ -244,7 +244,7 @@ marked_more states set i marks h l a w s p =
     ∙ ap Some (sym (next_state states set i h s ∙ or_false (contains_number s (take i set)) (nat_eq (get_or set i 0) s) d)))
     (eqb_tells (get_or set i 0) s)
 
-pub marked_beyond : (states : ℕ) (set : List ℕ) (i : ℕ) (marks : List Bool) → i < length set → length marks ≡ states → AreMarks states (take i set) marks → length marks ≤ get_or set i 0 → AreMarks states (take (i + 1) set) marks
+pub marked_beyond : (states : ℕ) (set : List ℕ) (i : ℕ) (marks : List Bool) → i < length set → length marks ≡ states → AreSetMarks states (take i set) marks → length marks ≤ get_or set i 0 → AreSetMarks states (take (i + 1) set) marks
 marked_beyond states set i marks h l a w s p =
     let d : nat_eq (get_or set i 0) s ≡ false = grind (arith, nat_tests) in
     a s p ∙ ap Some (sym (next_state states set i h s ∙ or_false (contains_number s (take i set)) (nat_eq (get_or set i 0) s) d))

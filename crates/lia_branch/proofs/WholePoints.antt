@@ -13,11 +13,11 @@ use Rattle.lia_tableau.specs.BasicPoints.{IsPoint}
 use Rattle.lia_tableau.specs.Quantities.{SolvesWithSlacks}
 use Rattle.lia_tableau.specs.declared.table.Table.{Table}
 use Rattle.lia_branch.specs.Nodes.{Node, IsRowOf}
-use Rattle.lia_branch.specs.Founds.{IsReady, IsNodeOf, IsWholePoint, IsNodeSolution}
+use Rattle.lia_branch.specs.Founds.{IsReadyTableau, IsSystemNode, IsWholePoint, IsNodeSolution}
 use Rattle.lia_tableau.specs.PointLaws.{whole_meets}
 use Rattle.farkas_check.specs.RowLaws.{meets_row}
 
-module _ (s : System) (rows : List Row) (t : Table) (ready : IsReady s rows t) (meets : (x : ℕ → ℤ) (d : ℤ) → IsPoint t.lines x d → SolvesWithSlacks t.unknowns t.rows x d)
+module _ (s : System) (rows : List Row) (t : Table) (ready : IsReadyTableau s rows t) (meets : (x : ℕ → ℤ) (d : ℤ) → IsPoint t.lines x d → SolvesWithSlacks t.unknowns t.rows x d)
     (point : List ℤ) (whole : IsWholePoint s.unknowns t.lines point) where
   pub each_row : (i : ℕ) (r : Row) → slice_get rows i ≡ Some r → Meets (values_of point) (constraint_of r)
   each_row i r g =
@@ -47,7 +47,7 @@ module _ (s : System) (rows : List Row) (t : Table) (ready : IsReady s rows t) (
   get_same (y ∷ ys) zero d x e = cc
   get_same (y ∷ ys) (suc i) d x e = get_same ys i d x e
 
-  pub node_solution : (node : Node) → IsNodeOf s rows node → All (Joined (values_of point)) s.nets → IsNodeSolution node point
+  pub node_solution : (node : Node) → IsSystemNode s rows node → All (Joined (values_of point)) s.nets → IsNodeSolution node point
   node_solution node k j = record {
     size = whole.size ∙ sym k.unknowns;
     solves = record {

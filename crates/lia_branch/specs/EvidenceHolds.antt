@@ -7,7 +7,7 @@ use Rattle.lia_tableau.specs.Adding.{IsPastRow}
 use Rattle.lia_tableau.specs.Pivoting.{IsPastPivot}
 use Rattle.lia_tableau.specs.declared.table.Table.{Table}
 use Rattle.lia_branch.specs.Nodes.{Node, Origin, root, branch, IsRowOf, ComesTo, root_of}
-use Rattle.lia_branch.specs.DueTrees.{split_count, IsDueTree, StopsAt}
+use Rattle.lia_branch.specs.DueTrees.{split_count, StopsByFact}
 use Rattle.lia_branch.specs.PastSums.{IsPastSum}
 use Rattle.lia_branch.specs.declared.evidence.Evidence.{Evidence}
 use Rattle.lia_branch.specs.declared.evidence.Evidence.TheVariants.{Branches, PastRow, PastSum}
@@ -35,7 +35,8 @@ IsPastAt first second at column node = IsPastInPivot node first second at column
 abbrev pub split_limit : ℕ
 split_limit = 2000
 
+-- each tree stops at an open leaf, so one that closes the system is no evidence
 abbrev pub Holds : System → Evidence → Type 0
-Holds s (Branches tree) = (split_count tree ≡ split_limit) × IsDueTree tree (root_of s)
-Holds s (PastRow tree first second at column) = StopsAt (IsPastAt first second at column) tree (root_of s)
-Holds s (PastSum tree column) = StopsAt (IsPastSum column) tree (root_of s)
+Holds s (Branches tree) = (split_count tree ≡ split_limit) × StopsByFact (λ _. Unit {0}) tree (root_of s)
+Holds s (PastRow tree first second at column) = StopsByFact (IsPastAt first second at column) tree (root_of s)
+Holds s (PastSum tree column) = StopsByFact (IsPastSum column) tree (root_of s)

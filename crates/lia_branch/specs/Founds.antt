@@ -14,12 +14,12 @@ use Rattle.lia_tableau.specs.declared.standing.Standing.{Standing}
 use Rattle.lia_tableau.specs.declared.table.Table.{Table}
 use Rattle.lia_branch.specs.Nodes.{Node}
 use Rattle.lia_branch.specs.DueSplits.{IsWholeAt, IsBetween}
-use Rattle.lia_branch.specs.DueTrees.{Claim, split_count, IsClosed, StopsAt}
+use Rattle.lia_branch.specs.DueTrees.{Claim, split_count, IsClosed, StopsByFact}
 use Rattle.lia_branch.specs.EvidenceHolds.{IsPastAt}
 use Rattle.lia_branch.specs.LeafMultipliers.{AreRowsOf}
 use Rattle.lia_branch.specs.PastSums.{IsPastSum}
-use Rattle.lia_branch.specs.declared.stop.Stop.{Stop}
-use Rattle.lia_branch.specs.declared.stop.Stop.TheVariants.{Branches, PastRow, PastSum}
+use Rattle.lia_branch.specs.declared.stop.StopReason.{StopReason}
+use Rattle.lia_branch.specs.declared.stop.StopReason.TheVariants.{Branches, PastRow, PastSum}
 use Rattle.sv_linear.specs.Rows.{IsRowWithin}
 
 -- no edge's unknown is below 0 where the rows are met
@@ -28,7 +28,7 @@ RowsCountEdges rows nets =
     (x : ℕ → ℤ) → ((i : ℕ) (r : Row) → slice_get rows i ≡ Some r → Meets x (constraint_of r)) → All (λ net. All (λ e. pos 0 ≤ℤ x e.unknown) net.edges) nets
 
 -- the tableau has these rows, over the system's unknowns
-pub record IsReady (s : System) (rows : List Row) (t : Table) : Type 0 where
+pub record IsReadyTableau (s : System) (rows : List Row) (t : Table) : Type 0 where
   pub unknowns : t.unknowns ≡ s.unknowns
   pub same_rows : t.rows ≡ rows
   pub within : (i : ℕ) (r : Row) → slice_get rows i ≡ Some r → IsRowWithin s.unknowns r
@@ -36,7 +36,7 @@ pub record IsReady (s : System) (rows : List Row) (t : Table) : Type 0 where
   pub counts : RowsCountEdges rows s.nets
 
 -- a node of the system with these rows
-pub record IsNodeOf (s : System) (rows : List Row) (node : Node) : Type 0 where
+pub record IsSystemNode (s : System) (rows : List Row) (node : Node) : Type 0 where
   pub unknowns : node.unknowns ≡ s.unknowns
   pub nets : node.nets ≡ s.nets
   pub rows_of : AreRowsOf node.rows rows
@@ -71,12 +71,12 @@ pub record IsNodeClosing (node : Node) (tree : Tree) (splits : ℕ) : Type 0 whe
   pub fits : RowsFit node.nets node.rows tree
   pub count : split_count tree ≡ splits
 
-abbrev pub stop_fact : Stop → Claim
+abbrev pub stop_fact : StopReason → Claim
 stop_fact Branches node = Unit {0}
 stop_fact (PastRow first second at column) node = IsPastAt first second at column node
 stop_fact (PastSum column) node = IsPastSum column node
 
 -- the search stopped at the tree's first open leaf; or it used up its splits
-pub record IsNodeStop (node : Node) (left : ℕ) (tree : Tree) (stop : Stop) : Type 0 where
-  pub stops : StopsAt (stop_fact stop) tree node
+pub record IsNodeStop (node : Node) (left : ℕ) (tree : Tree) (stop : StopReason) : Type 0 where
+  pub stops : StopsByFact (stop_fact stop) tree node
   pub count : stop ≡ Branches → split_count tree ≡ left

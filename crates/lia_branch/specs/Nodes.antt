@@ -22,7 +22,7 @@ pub data Origin : Type 0 where
   branch : Table → Constraint → Origin
 
 -- the basis above, with the slack of the new row
-pub record GoesOn (above : Table) (c : Constraint) (start : Table) : Type 0 where
+pub record AddsSlack (above : Table) (c : Constraint) (start : Table) : Type 0 where
   pub unknowns : start.unknowns ≡ above.unknowns
   pub row : Row
   pub is_row : IsRowOf c row
@@ -31,7 +31,7 @@ pub record GoesOn (above : Table) (c : Constraint) (start : Table) : Type 0 wher
   pub slack : IsInBasis start.lines (length above.lines)
 
 -- the first basis: all slacks
-pub record IsFirst (unknowns : ℕ) (rows : List Row) (start : Table) : Type 0 where
+pub record IsFirstBasis (unknowns : ℕ) (rows : List Row) (start : Table) : Type 0 where
   pub same_unknowns : start.unknowns ≡ unknowns
   pub same_rows : start.rows ≡ rows
   pub basis : IsSlackBasis unknowns start.lines
@@ -51,8 +51,8 @@ abbrev pub child_of : Node → Table → Constraint → Node
 child_of node last c = record { unknowns = node.unknowns; nets = node.nets; rows = node.rows ++ c ∷ []; origin = branch last c }
 
 abbrev pub BeginsAt : ℕ → Origin → Table → Type 0
-BeginsAt n (root rows) start = IsFirst n rows start
-BeginsAt n (branch above c) start = GoesOn above c start
+BeginsAt n (root rows) start = IsFirstBasis n rows start
+BeginsAt n (branch above c) start = AddsSlack above c start
 
 -- the trail of the node comes to this basis
 pub record ComesTo (node : Node) (t : Table) : Type 0 where

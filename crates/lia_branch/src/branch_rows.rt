@@ -5,7 +5,7 @@ ghost use Rattle.farkas_check.specs.Closings.{at_most, at_least, none_out, some_
 ghost use Rattle.farkas_check.specs.Cuts.{IsNetWithin};
 ghost use Rattle.lia_branch.specs.Nodes.{IsRowOf};
 
-use crate::edge_sums::{Side, side_sum};
+use crate::edge_sums::{EdgeSide, side_sum};
 use farkas_check::Net;
 use std::alloc::{AllocError, Global};
 use sv_linear::{Form, Row, RowKind};
@@ -50,7 +50,7 @@ pub(crate) fn none_out_row(
     ensures within { IfOk result (IsRowWithin unknowns) }
 {
     Ok(Row {
-        form: side_sum(alloc, Side::Out, unknowns, net, states)?,
+        form: side_sum(alloc, EdgeSide::Out, unknowns, net, states)?,
         kind: RowKind::Le,
     })
 }
@@ -69,7 +69,7 @@ pub(crate) fn some_in_row(
     let Form {
         coefficients,
         constant: _,
-    } = side_sum(alloc, Side::In, unknowns, net, states)?;
+    } = side_sum(alloc, EdgeSide::In, unknowns, net, states)?;
     Ok(Row {
         form: Form {
             coefficients,

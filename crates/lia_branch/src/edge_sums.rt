@@ -1,9 +1,9 @@
-ghost use Rattle.std.specs.Prelude.{◌≡◌, ℕ, ℤ, suc, ◌+ℤ◌, ◌*ℤ◌, ◌<◌, ◌≤◌, ◌^◌, length, unsigned_abs, IfOk, Bool, true, List, slice_set};
+ghost use Rattle.std.specs.Prelude.{◌≡◌, ℕ, ℤ, suc, ◌+ℤ◌, ◌*ℤ◌, ◌<◌, ◌≤◌, ◌^◌, length, unsigned_abs, IfOk, true, List, slice_set};
 ghost use Rattle.sv_linear.specs.Forms.{form_value, entry};
 ghost use Rattle.sv_linear.specs.Terms.{AscendsWithin};
 ghost use Rattle.sv_linear.specs.declared.column.Column.{Column};
 ghost use Rattle.farkas_check.specs.Cuts.{IsNetWithin};
-ghost use Rattle.lia_branch.specs.EdgeSums.{AreMarks, IsSideSum, picks, side_sign};
+ghost use Rattle.lia_branch.specs.EdgeSums.{AreSetMarks, IsSideSum, picks, side_sign};
 
 use farkas_check::{Net, NetEdge};
 use std::alloc::{AllocError, Global};
@@ -11,7 +11,7 @@ use sv_linear::{Form, FormFault};
 
 /// The edges that a row of a set split counts.
 #[derive(Clone, Copy)]
-pub(crate) enum Side {
+pub(crate) enum EdgeSide {
     /// Those that lead out of a state of the set.
     Out,
     /// Those that enter the set from outside, each counted as -1.
@@ -27,7 +27,7 @@ const PAST_UNKNOWNS: u64 = 1 << 32;
 /// addition of forms an edge.
 pub(crate) fn side_sum(
     alloc: Global,
-    side: Side,
+    side: EdgeSide,
     unknowns: u32,
     net: &Net,
     set: &[u32],
@@ -47,12 +47,12 @@ pub(crate) fn side_sum(
     Ok(sum)
 }
 
-fn sign_of_side(side: Side) -> i128
+fn sign_of_side(side: EdgeSide) -> i128
     ensures { result ≡ side_sign side }
 {
     match side {
-        Side::Out => 1,
-        Side::In => -1,
+        EdgeSide::Out => 1,
+        EdgeSide::In => -1,
     }
 }
 
@@ -106,7 +106,7 @@ fn one_term(alloc: Global, unknown: u32, by: i128) -> Result<Form, AllocError>
 /// For each state whether it is in the set.
 fn marks_of(alloc: Global, states: u32, set: &[u32]) -> Result<Vec<bool>, AllocError>
     ensures size { IfOk result (λ marks. length marks.items ≡ states) }
-    ensures marks { IfOk result (λ marks. AreMarks states set.now marks.items) }
+    ensures marks { IfOk result (λ marks. AreSetMarks states set.now marks.items) }
 {
     let mut marks = Vec::new(alloc);
     for _ in 0..states {
@@ -129,13 +129,13 @@ fn mark(marks: &mut Vec<bool>, state: u32)
 }
 
 /// Whether an edge is on this side of the set with these marks.
-fn is_picked(side: Side, marks: &[bool], edge: NetEdge) -> bool
+fn is_picked(side: EdgeSide, marks: &[bool], edge: NetEdge) -> bool
     requires from { edge.«from» < length marks.now }
     requires to { edge.to < length marks.now }
-    ensures { (states : ℕ) (set : List ℕ) → AreMarks states set marks.now → edge.«from» < states → edge.to < states → result ≡ picks side set edge }
+    ensures { (states : ℕ) (set : List ℕ) → AreSetMarks states set marks.now → edge.«from» < states → edge.to < states → result ≡ picks side set edge }
 {
     match side {
-        Side::Out => marks[edge.from as usize],
-        Side::In => marks[edge.to as usize] && !marks[edge.from as usize],
+        EdgeSide::Out => marks[edge.from as usize],
+        EdgeSide::In => marks[edge.to as usize] && !marks[edge.from as usize],
     }
 }

@@ -16,10 +16,9 @@ pub(crate) enum Fork {
 impl Fork {
     ghost use Rattle.std.specs.Prelude.{◌≡◌, IfOk};
     ghost use Rattle.farkas_check.specs.Systems.{Constraint};
-    ghost use Rattle.lia_tableau.specs.declared.table.Table.{Table};
     ghost use Rattle.sv_linear.specs.Rows.{IsRowWithin};
     ghost use Rattle.lia_branch.specs.Nodes.{IsRowOf};
-    ghost use Rattle.lia_branch.specs.Forks.{fork_tree, AreSides, IsForkWithin};
+    ghost use Rattle.lia_branch.specs.Forks.{fork_tree, AreForkSides, IsForkWithin};
 
     /// The tree that splits so.
     pub(crate) fn tree(self, alloc: Global, first: Tree, second: Tree) -> Result<Tree, AllocError>
@@ -44,7 +43,7 @@ impl Fork {
     /// The row of the first side.
     pub(crate) fn first_row(&self, alloc: Global, system: &System) -> Result<Row, AllocError>
         requires { IsForkWithin system.now self.now }
-        ensures row { (first second : Constraint) → AreSides system.now.nets self.now first second → IfOk result (IsRowOf first) }
+        ensures row { (first second : Constraint) → AreForkSides system.now.nets self.now first second → IfOk result (IsRowOf first) }
         ensures within { IfOk result (IsRowWithin system.now.unknowns) }
     {
         match self {
@@ -61,7 +60,7 @@ impl Fork {
     /// The row of the second side.
     pub(crate) fn second_row(&self, alloc: Global, system: &System) -> Result<Row, AllocError>
         requires { IsForkWithin system.now self.now }
-        ensures row { (first second : Constraint) → AreSides system.now.nets self.now first second → IfOk result (IsRowOf second) }
+        ensures row { (first second : Constraint) → AreForkSides system.now.nets self.now first second → IfOk result (IsRowOf second) }
         ensures within { IfOk result (IsRowWithin system.now.unknowns) }
     {
         match self {

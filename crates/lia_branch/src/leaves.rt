@@ -1,13 +1,13 @@
 ghost use Rattle.std.specs.Prelude.{◌≡◌, pos, ◌<ℤ◌, ◌≤ℤ◌, false, IsTrue, IfOk};
 ghost use Rattle.lia_tableau.specs.Crossing.{column_number};
 ghost use Rattle.lia_tableau.specs.Shown.{IsStatus};
-ghost use Rattle.lia_tableau.specs.declared.status.Status.TheVariants.{Divisor, Conflict};
+ghost use Rattle.lia_tableau.specs.declared.status.TableauStatus.TheVariants.{Divisor, Conflict};
 ghost use Rattle.lia_branch.specs.Nodes.{Node, ComesTo};
-ghost use Rattle.lia_branch.specs.Founds.{IsReady, IsNodeOf};
+ghost use Rattle.lia_branch.specs.Founds.{IsReadyTableau, IsSystemNode};
 ghost use Rattle.lia_branch.specs.Forks.{VisitHolds};
 
 use crate::leaf_sums::{multipliers_of, remainders_of};
-use crate::stop::Stop;
+use crate::stop::StopReason;
 use crate::visit::Visit;
 use farkas_check::{LeafTest, System, Tree, test_divisor, test_farkas};
 use lia_tableau::{Tableau, unknowns_divisor};
@@ -22,9 +22,9 @@ pub(crate) fn conflict_leaf(
     tableau: &Tableau,
     at: u32,
 ) -> Result<Visit, AllocError>
-    requires ready { IsReady system.now rows.now tableau.now }
+    requires ready { IsReadyTableau system.now rows.now tableau.now }
     requires status { IsStatus tableau.now (Conflict at) }
-    ensures { (node : Node) → IsNodeOf system.now rows.now node → ComesTo node tableau.now → IfOk result (VisitHolds system.now tableau.now node) }
+    ensures { (node : Node) → IsSystemNode system.now rows.now node → ComesTo node tableau.now → IfOk result (VisitHolds system.now tableau.now node) }
 {
     let line = tableau.identity(at);
     let negated = is_negative(line.form.constant);
@@ -32,7 +32,7 @@ pub(crate) fn conflict_leaf(
     match test_farkas(alloc, system.unknowns, rows, multipliers.as_slice())? {
         LeafTest::Closes => Ok(Visit::Closed(Tree::Farkas { multipliers })),
         LeafTest::Fails => unreachable!(),
-        LeafTest::Past(column) => Ok(Visit::Stopped(Stop::PastSum(number_of(
+        LeafTest::Past(column) => Ok(Visit::Stopped(StopReason::PastSum(number_of(
             column,
             system.unknowns,
         )))),
@@ -47,9 +47,9 @@ pub(crate) fn divisor_leaf(
     tableau: &Tableau,
     at: u32,
 ) -> Result<Visit, AllocError>
-    requires ready { IsReady system.now rows.now tableau.now }
+    requires ready { IsReadyTableau system.now rows.now tableau.now }
     requires status { IsStatus tableau.now (Divisor at) }
-    ensures { (node : Node) → IsNodeOf system.now rows.now node → ComesTo node tableau.now → IfOk result (VisitHolds system.now tableau.now node) }
+    ensures { (node : Node) → IsSystemNode system.now rows.now node → ComesTo node tableau.now → IfOk result (VisitHolds system.now tableau.now node) }
 {
     let line = tableau.identity(at);
     let divisor = unknowns_divisor(system.unknowns, &line.form);
@@ -66,7 +66,7 @@ pub(crate) fn divisor_leaf(
             divisor,
         })),
         LeafTest::Fails => unreachable!(),
-        LeafTest::Past(column) => Ok(Visit::Stopped(Stop::PastSum(number_of(
+        LeafTest::Past(column) => Ok(Visit::Stopped(StopReason::PastSum(number_of(
             column,
             system.unknowns,
         )))),

@@ -9,8 +9,9 @@
 //! are those of chains, is solved or closed by bounds, or else searched as a system of its own, and its solution or
 //! tree taken to the rows of the whole. All are heuristics, and tested before they are answered. Then the tree of the
 //! whole system whose splits are due is searched, depth first and low before high, by a loop with a stack of its
-//! own. The trail of a node ends by itself, since no basis comes twice. A node that waits keeps its tableau packed, over
-//! that of the node that waits below it, so memory is mostly that of the terms that a split changes times the depth.
+//! own. The trail of a node ends by itself, since no basis comes twice. A node that waits keeps its tableau packed, and
+//! from 65,536 bytes on over that of the node that waits below it, so that memory is the depth times 64 KB at most, or
+//! mostly times that of the terms that a split changes.
 //!
 //! ```text
 //! solve(alloc, &system, &NoCut)?   // a system without nets: Solution, Closed or GaveUp

@@ -1,4 +1,4 @@
-ghost use Rattle.std.specs.Prelude.{◌≡◌, ℕ, All, Some, slice_get, IfOk, IfSome};
+ghost use Rattle.std.specs.Prelude.{◌≡◌, All, Some, IfOk, IfSome};
 ghost use Rattle.farkas_check.specs.Cuts.{IsNetWithin};
 ghost use Rattle.lia_branch.specs.Outcomes.{CountsEdges, IfSolution, IfClosed, IfGaveUp, IsSolution, IsAccepted};
 ghost use Rattle.lia_quick.specs.Finds.{IsPointOf};
@@ -8,7 +8,7 @@ use crate::no_cut::NoCut;
 use crate::outcome::Outcome;
 use crate::searching::search_tree;
 use farkas_check::{Cutter, System};
-use lia_quick::{Elimination, Found, reduce, restore_point, restore_tree, solve_by_bounds};
+use lia_quick::{Elimination, QuickAnswer, reduce, restore_point, restore_tree, solve_by_bounds};
 use std::alloc::{AllocError, Global};
 use sv_list::Items;
 
@@ -36,8 +36,8 @@ pub(crate) fn solve_reduced<C: Cutter>(
         return Ok(None);
     };
     match solve_by_bounds(alloc, system, elimination, &reduced)? {
-        Some(Found::Point(point)) => return joining_point(alloc, system, cutter, point),
-        Some(Found::Closed(tree)) => return Ok(Some(Outcome::Closed(tree))),
+        Some(QuickAnswer::Point(point)) => return joining_point(alloc, system, cutter, point),
+        Some(QuickAnswer::Closed(tree)) => return Ok(Some(Outcome::Closed(tree))),
         None => {}
     }
     if elimination.is_idle() {

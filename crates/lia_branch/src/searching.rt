@@ -1,28 +1,28 @@
 ghost use Rattle.std.specs.Prelude.{◌≡◌, ℕ, suc, ◌<◌, ◌-◌, All, Some, slice_get, IfOk};
 ghost use Rattle.std.specs.List.{count_by};
 ghost use Rattle.sv_linear.specs.Rows.{IsRowWithin};
-ghost use Rattle.lia_tableau.specs.Crossing.{IsPast};
+ghost use Rattle.lia_tableau.specs.Crossing.{IsPastFault};
 ghost use Rattle.lia_branch.specs.Forks.{IsForkWithin};
 ghost use Rattle.lia_branch.specs.Forks.{Path};
 ghost use Rattle.farkas_check.specs.declared.tree.Tree.TheVariants.{Open};
-ghost use Rattle.lia_branch.specs.Nodes.{Node, BeginsAt, IsFirst};
+ghost use Rattle.lia_branch.specs.Nodes.{Node, BeginsAt, IsFirstBasis};
 ghost use Rattle.lia_branch.specs.EvidenceHolds.{IsPastAt, Holds};
-ghost use Rattle.lia_branch.specs.Founds.{IsReady, IsNodeOf, IsNodeStop};
-ghost use Rattle.lia_branch.specs.Forks.{VisitHolds, IsSearching, IsForkAt, IsResumed, EnteredHolds, NextHolds, IsNextSmaller, EnteredBy, is_first};
+ghost use Rattle.lia_branch.specs.Founds.{IsReadyTableau, IsSystemNode, IsNodeStop};
+ghost use Rattle.lia_branch.specs.Forks.{VisitHolds, IsForkAt, IsResumed, EnteredHolds, NextHolds, IsNextSmaller, EnteredBy, is_first};
 ghost use Rattle.lia_branch.specs.Outcomes.{CountsEdges, IfSolution, IfClosed, IfGaveUp, IsSolution, IsAccepted};
 ghost use Rattle.farkas_check.specs.Cuts.{IsNetWithin};
 ghost use Rattle.sv_linear.specs.declared.row.Row.{Row as AnyRow};
 
 use crate::fork::Fork;
 use crate::leaves::{conflict_leaf, divisor_leaf};
-use crate::level::{Entered, Level, Next, Resumed, give_up, resume};
+use crate::level::{Entered, NextNode, Resumed, SplitLevel, give_up, resume};
 use crate::outcome::Outcome;
 use crate::points::{Fraction, first_fraction, whole_point};
-use crate::stop::Stop;
+use crate::stop::StopReason;
 use crate::visit::Visit;
 use farkas_check::{Cutter, System, Tree};
 use lia_pack::PackedTableau;
-use lia_tableau::{Status, Tableau, TableauFault, settle};
+use lia_tableau::{Tableau, TableauFault, TableauStatus, settle};
 use std::alloc::{AllocError, Global};
 use sv_linear::Row;
 use sv_list::Items;
@@ -31,8 +31,8 @@ use sv_list::Items;
 const SPLIT_LIMIT: u32 = 2000;
 
 /// Why a search stops where a row leaves 128 bits.
-fn stop_of(fault: TableauFault) -> Result<Stop, AllocError>
-    ensures { (node : Node) → IsPast (λ first second at column. IsPastAt first second at column node) fault → IfOk result (λ stop. (left : ℕ) → IsNodeStop node left Open stop) }
+fn stop_of(fault: TableauFault) -> Result<StopReason, AllocError>
+    ensures { (node : Node) → IsPastFault (λ first second at column. IsPastAt first second at column node) fault → IfOk result (λ stop. (left : ℕ) → IsNodeStop node left Open stop) }
 {
     match fault {
         TableauFault::Past {
@@ -40,7 +40,7 @@ fn stop_of(fault: TableauFault) -> Result<Stop, AllocError>
             second,
             unknown,
             column,
-        } => Ok(Stop::PastRow {
+        } => Ok(StopReason::PastRow {
             first,
             second,
             unknown,
@@ -57,18 +57,18 @@ fn visit<C: Cutter>(
     cutter: &C,
     tableau: &mut Tableau,
 ) -> Result<Visit, AllocError>
-    requires ready { IsReady system.now tableau.old.rows tableau.old }
+    requires ready { IsReadyTableau system.now tableau.old.rows tableau.old }
     requires cutter { C.nets cutter.now ≡ system.now.nets }
-    ensures ready { IsReady system.now tableau.new.rows tableau.new }
-    ensures found { (node : Node) → IsNodeOf system.now tableau.old.rows node → BeginsAt node.unknowns node.origin tableau.old → IfOk result (VisitHolds system.now tableau.new node) }
+    ensures ready { IsReadyTableau system.now tableau.new.rows tableau.new }
+    ensures found { (node : Node) → IsSystemNode system.now tableau.old.rows node → BeginsAt node.unknowns node.origin tableau.old → IfOk result (VisitHolds system.now tableau.new node) }
 {
     if let Err(fault) = settle(alloc, tableau) {
         return Ok(Visit::Stopped(stop_of(fault)?));
     }
     match tableau.status() {
-        Status::Divisor(at) => divisor_leaf(alloc, system, tableau.rows(), tableau, at),
-        Status::Conflict(at) => conflict_leaf(alloc, system, tableau.rows(), tableau, at),
-        Status::Point => match first_fraction(tableau, system.unknowns) {
+        TableauStatus::Divisor(at) => divisor_leaf(alloc, system, tableau.rows(), tableau, at),
+        TableauStatus::Conflict(at) => conflict_leaf(alloc, system, tableau.rows(), tableau, at),
+        TableauStatus::Point => match first_fraction(tableau, system.unknowns) {
             Some(Fraction { unknown, at }) => Ok(Visit::Split(Fork::Unknown { unknown, at })),
             None => {
                 let point = whole_point(alloc, tableau, system.unknowns)?;
@@ -78,7 +78,7 @@ fn visit<C: Cutter>(
                 }
             }
         },
-        Status::Due => unreachable!(),
+        TableauStatus::Due => unreachable!(),
     }
 }
 
@@ -95,9 +95,9 @@ fn enter(alloc: Global, tableau: Tableau, row: Row) -> Result<Entered, AllocErro
 }
 
 /// The tableau of the last split whose second side waits.
-fn last_tableau(levels: &[Level]) -> Option<&PackedTableau> {
+fn last_tableau(levels: &[SplitLevel]) -> Option<&PackedTableau> {
     for level in levels.iter().rev() {
-        if let Level::First { packed, .. } = level {
+        if let SplitLevel::First { packed, .. } = level {
             return Some(packed);
         }
     }
@@ -108,18 +108,18 @@ fn last_tableau(levels: &[Level]) -> Option<&PackedTableau> {
 fn descend(
     alloc: Global,
     system: &System,
-    levels: &mut Items<Level>,
+    levels: &mut Items<SplitLevel>,
     tableau: Tableau,
     fork: Fork,
 ) -> Result<Entered, AllocError>
     requires within { IsForkWithin system.now fork }
-    requires ready { IsReady system.now tableau.rows tableau }
+    requires ready { IsReadyTableau system.now tableau.rows tableau }
     ensures found { (node : Node) (left : ℕ) → Path system.now levels.old node left → 1 < left → IsForkAt system.now node tableau fork → IfOk result (EnteredBy system.now levels.new (left - 1)) }
     ensures waiting { IfOk result (λ _. count_by is_first levels.new ≡ suc (count_by is_first levels.old)) }
 {
     let row = fork.first_row(alloc, system)?;
     let packed = PackedTableau::of(alloc, &tableau, last_tableau(levels.as_slice()))?;
-    levels.push(Level::First { fork, packed })?;
+    levels.push(SplitLevel::First { fork, packed })?;
     enter(alloc, tableau, row)
 }
 
@@ -127,18 +127,18 @@ fn descend(
 fn cross(
     alloc: Global,
     system: &System,
-    levels: &mut Items<Level>,
+    levels: &mut Items<SplitLevel>,
     tableau: Tableau,
     fork: Fork,
     tree: Tree,
 ) -> Result<Entered, AllocError>
     requires within { IsForkWithin system.now fork }
-    requires ready { IsReady system.now tableau.rows tableau }
+    requires ready { IsReadyTableau system.now tableau.rows tableau }
     ensures found { (left : ℕ) → 0 < left → IsResumed system.now levels.old left tableau fork tree → IfOk result (EnteredBy system.now levels.new left) }
     ensures waiting { IfOk result (λ _. count_by is_first levels.new ≡ count_by is_first levels.old) }
 {
     let row = fork.second_row(alloc, system)?;
-    levels.push(Level::Second { fork, tree })?;
+    levels.push(SplitLevel::Second { fork, tree })?;
     enter(alloc, tableau, row)
 }
 
@@ -146,36 +146,36 @@ fn cross(
 fn next(
     alloc: Global,
     system: &System,
-    levels: &mut Items<Level>,
+    levels: &mut Items<SplitLevel>,
     left: u32,
     tableau: Tableau,
     visit: Visit,
-) -> Result<Next, AllocError>
+) -> Result<NextNode, AllocError>
     requires left { 0 < left }
     requires visit { (node : Node) × (Path system.now levels.old node left × VisitHolds system.now tableau node visit) }
-    requires ready { IsReady system.now tableau.rows tableau }
+    requires ready { IsReadyTableau system.now tableau.rows tableau }
     ensures found { IfOk result (NextHolds system.now levels.new) }
     ensures smaller { IfOk result (IsNextSmaller levels.old levels.new left) }
 {
     match visit {
-        Visit::Solution(point) => Ok(Next::Solution(point)),
-        Visit::Stopped(stop) => Ok(Next::Stopped {
+        Visit::Solution(point) => Ok(NextNode::Solution(point)),
+        Visit::Stopped(stop) => Ok(NextNode::Stopped {
             tree: Tree::Open,
             stop,
         }),
         Visit::Split(fork) => {
             if left == 1 {
                 let tree = fork.tree(alloc, Tree::Open, Tree::Open)?;
-                return Ok(Next::Stopped {
+                return Ok(NextNode::Stopped {
                     tree,
-                    stop: Stop::Branches,
+                    stop: StopReason::Branches,
                 });
             }
             let entered = descend(alloc, system, levels, tableau, fork)?;
             Ok(entered.next(left - 1))
         }
         Visit::Closed(leaf) => match resume(alloc, levels, leaf)? {
-            Resumed::Whole(tree) => Ok(Next::Closed(tree)),
+            Resumed::Whole(tree) => Ok(NextNode::Closed(tree)),
             Resumed::Waiting { fork, tree, packed } => {
                 let waiting = packed.unpack(alloc)?;
                 let entered = cross(alloc, system, levels, waiting, fork, tree)?;
@@ -192,9 +192,9 @@ pub(crate) fn search<C: Cutter>(
     cutter: &C,
     tableau: Tableau,
 ) -> Result<Outcome, AllocError>
-    requires ready { IsReady system.now system.now.rows tableau }
+    requires ready { IsReadyTableau system.now system.now.rows tableau }
     requires cutter { C.nets cutter.now ≡ system.now.nets }
-    requires begins { IsFirst system.now.unknowns system.now.rows tableau }
+    requires begins { IsFirstBasis system.now.unknowns system.now.rows tableau }
     ensures solution { IfOk result (λ o. IfSolution o (IsSolution system.now)) }
     ensures closed { IfOk result (λ o. IfClosed o (IsAccepted system.now)) }
     ensures gave_up { IfOk result (λ o. IfGaveUp o (Holds system.now)) }
@@ -205,16 +205,16 @@ pub(crate) fn search<C: Cutter>(
     'nodes: loop {
         let visit = visit(alloc, system, cutter, &mut tableau)?;
         match next(alloc, system, &mut levels, left, tableau, visit)? {
-            Next::Node {
+            NextNode::Node {
                 tableau: node,
                 left: fewer,
             } => {
                 tableau = node;
                 left = fewer;
             }
-            Next::Solution(point) => return Ok(Outcome::Solution(point)),
-            Next::Closed(tree) => return Ok(Outcome::Closed(tree)),
-            Next::Stopped { tree, stop } => {
+            NextNode::Solution(point) => return Ok(Outcome::Solution(point)),
+            NextNode::Closed(tree) => return Ok(Outcome::Closed(tree)),
+            NextNode::Stopped { tree, stop } => {
                 return Ok(Outcome::GaveUp(give_up(alloc, levels, tree, stop)?));
             }
         }

@@ -1,12 +1,12 @@
 -- Pieces joined one by one.
 use Rattle.std.proofs.Common.{◌≡◌, ℕ, zero, suc, ◌+◌, ◌<◌, ◌≤◌, List, [], ◌∷◌, ◌++◌, length, take, drop, get_or, ap, sym, ◌∙◌, subst, append_assoc, refl, arith}
 use Rattle.lia_pack.specs.Shares.{joined}
-use Rattle.lia_pack.specs.declared.shared.Piece.{Piece}
+use Rattle.lia_pack.specs.declared.pieces.Piece.{Piece}
 
 abbrev pub no_piece : Piece
 no_piece = record { skip = 0; length = 0; fresh = 0 }
 
-drop_at : {X : Type 0} (xs : List X) (i : ℕ) (d : X) → i < length xs → drop i xs ≡ get_or xs i d ∷ drop (suc i) xs
+pub drop_at : {X : Type 0} (xs : List X) (i : ℕ) (d : X) → i < length xs → drop i xs ≡ get_or xs i d ∷ drop (suc i) xs
 drop_at [] i d h = absurd (omega (arith, h))
 drop_at (x ∷ xs) zero d h = refl
 drop_at (x ∷ xs) (suc i) d h = drop_at xs i d (omega arith)

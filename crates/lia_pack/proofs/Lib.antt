@@ -1,4 +1,5 @@
 mod Joining
+mod Layers
 pub mod Bytes
 pub mod Reading
 pub mod Unpacking

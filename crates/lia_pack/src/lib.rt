@@ -2,10 +2,11 @@
 //!
 //! `PackedTableau::of` writes a tableau's rows and lines as numbers, one to three bytes each where they are small, and
 //! `unpack` reads the same tableau back. The central fact is the contract of `unpack`: it answers the very table that
-//! was packed. Both are linear in the tableau's terms.
+//! was packed. Both are linear in the tableau's terms, times the layers, 32 at most.
 //!
-//! Bytes that a tableau packed before has too are kept once: both have pieces of one base, whose references are counted.
-//! Which pieces is a guess, tested before it is kept: joined, they are the bytes.
+//! Of 65,536 bytes or more, those that a tableau packed before has too are kept once: a base and layers over it, whose
+//! references are counted. A layer is pieces of the bytes below it and some that aren't among them. Which pieces is a
+//! guess, tested before it is kept: joined, they are the bytes.
 //!
 //! ```text
 //! let packed = PackedTableau::of(alloc, &tableau, None)?;   // some 3 bytes a term in place of 32

@@ -1,4 +1,4 @@
-use crate::reader::{Reader, next_lines, next_rows};
+use crate::reader::{ByteReader, next_lines, next_rows};
 use crate::shared::SharedBytes;
 use crate::writing::{push_lines, push_rows};
 use lia_tableau::{Table, Tableau};
@@ -21,7 +21,7 @@ impl PackedTableau {
     ghost use Rattle.lia_pack.specs.Tables.{IsPackedOf};
 
     /// Packs a tableau, over the bytes of one that was packed before where these are much the same. Linear in the terms of
-    /// its rows and lines; the only refusal is want of memory.
+    /// its rows and lines, times the layers below, 32 at most; the only refusal is want of memory.
     pub fn of(
         alloc: Global,
         tableau: &Tableau,
@@ -41,13 +41,13 @@ impl PackedTableau {
         })
     }
 
-    /// The tableau that was packed. Linear in the bytes; the only refusal is want of memory.
+    /// The tableau that was packed. Linear in the bytes, times their layers, 32 at most; the only refusal is want of memory.
     pub fn unpack(&self, alloc: Global) -> Result<Tableau, AllocError>
         requires { (t : AnyTable) × IsPackedOf t self.now }
         ensures { (t : AnyTable) → IsPackedOf t self.now → IfOk result (λ r. r ≡ t) }
     {
         let bytes = self.bytes.to_items(alloc)?;
-        let mut reader = Reader {
+        let mut reader = ByteReader {
             left: bytes.as_slice(),
         };
         let rows = next_rows(alloc, &mut reader, self.row_count)?;

@@ -1,21 +1,49 @@
 ghost use Rattle.std.specs.Prelude.{◌≡◌, take, drop, IfOk};
-ghost use Rattle.lia_pack.specs.Shares.{joined};
+ghost use Rattle.lia_pack.specs.Shares.{joined, joined_by};
 
-use crate::shared::Piece;
 use std::alloc::{AllocError, Global};
 use sv_list::Items;
 
-/// The bytes that pieces of a base and fresh ones make. Linear in them.
-pub(crate) fn join(
+/// Some bytes of those below, and then some that these don't have.
+#[derive(Clone, Copy)]
+pub(crate) struct Piece {
+    /// How many bytes of those below are left out before.
+    pub skip: u16,
+    /// How many of them come then.
+    pub length: u16,
+    /// How many come behind them that aren't among those below.
+    pub fresh: u16,
+}
+
+/// Pieces of the bytes below, and the bytes that aren't among them, in their order; and then what is left of both.
+#[derive(Drop)]
+pub(crate) struct Layer {
+    pieces: Items<Piece>,
+    fresh: Items<u8>,
+}
+
+/// The bytes that a layer makes of those below. Linear in them.
+pub(crate) fn join(alloc: Global, below: &[u8], layer: &Layer) -> Result<Items<u8>, AllocError>
+    ensures { IfOk result (λ bytes. bytes ≡ joined_by below.now layer.now) }
+{
+    join_pieces(
+        alloc,
+        below,
+        layer.pieces.as_slice(),
+        layer.fresh.as_slice(),
+    )
+}
+
+fn join_pieces(
     alloc: Global,
-    base: &[u8],
+    below: &[u8],
     pieces: &[Piece],
     fresh: &[u8],
 ) -> Result<Items<u8>, AllocError>
-    ensures { IfOk result (λ bytes. bytes ≡ joined base.now pieces.now fresh.now) }
+    ensures { IfOk result (λ bytes. bytes ≡ joined below.now pieces.now fresh.now) }
 {
     let mut bytes = Vec::new(alloc);
-    let mut rest = base;
+    let mut rest = below;
     let mut left = fresh;
     for piece in pieces {
         let (_, behind) = cut(rest, piece.skip as usize);
@@ -42,7 +70,7 @@ fn cut(bytes: &[u8], at: usize) -> (&[u8], &[u8])
 /// How many bytes go on alike behind a gap.
 const FEWEST: usize = 8;
 
-/// A gap has fewer bytes than this.
+/// A gap that is found has fewer bytes than this; else so many are left out on both sides.
 const GAP: usize = 32;
 
 /// The most bytes of one piece.
@@ -51,20 +79,20 @@ const MOST: usize = u16::MAX as usize;
 /// The memory of a piece.
 const PIECE: usize = 6;
 
-/// Bytes that the base doesn't have may come thick in so many bytes before the pieces are given up.
+/// Bytes that aren't among those below may come thick in so many bytes before the pieces are given up.
 const SLACK: usize = 4096;
 
-/// Pieces of a base that the bytes are made of, and the bytes that it doesn't have; `None` where these take more than an
-/// eighth of the bytes, or well before the end more than a quarter of those so far. Linear in the bytes: where both don't
-/// go on alike, a gap of at most 31 bytes is looked for.
-pub(crate) fn pieces_of(
+/// The layer that makes the bytes of those below; `None` where it takes more than an eighth of the bytes, or well before
+/// the end more than a quarter of those so far. Linear in the bytes: where both don't go on alike, a gap of at most 31
+/// bytes is looked for.
+pub(crate) fn find_layer(
     alloc: Global,
-    base: &[u8],
+    below: &[u8],
     bytes: &[u8],
-) -> Result<Option<(Items<Piece>, Items<u8>)>, AllocError> {
+) -> Result<Option<Layer>, AllocError> {
     let mut pieces = Items::new(alloc);
     let mut fresh = Items::new(alloc);
-    let mut rest = base;
+    let mut rest = below;
     let mut left = bytes;
     let mut skip: usize = 0;
     for _ in 0..bytes.len() {
@@ -96,7 +124,9 @@ pub(crate) fn pieces_of(
         }
     }
     leave_out(&mut pieces, skip.saturating_add(rest.len()))?;
-    Ok(Some((pieces, fresh)))
+    let pieces = Items::from_slice(alloc, pieces.as_slice())?;
+    let fresh = Items::from_slice(alloc, fresh.as_slice())?;
+    Ok(Some(Layer { pieces, fresh }))
 }
 
 fn add_bytes(list: &mut Items<u8>, bytes: &[u8]) -> Result<(), AllocError> {
@@ -106,7 +136,7 @@ fn add_bytes(list: &mut Items<u8>, bytes: &[u8]) -> Result<(), AllocError> {
     Ok(())
 }
 
-/// Pieces that leave out so many bytes of the base.
+/// Pieces that leave out so many bytes of those below.
 fn leave_out(pieces: &mut Items<Piece>, count: usize) -> Result<(), AllocError> {
     let mut count = count;
     for _ in 0..count {
@@ -137,7 +167,7 @@ fn narrow(number: usize) -> u16 {
     }
 }
 
-/// What lies between two pieces: so many bytes of the base, and so many others in their place.
+/// What lies between two pieces: so many bytes of those below, and so many others in their place.
 #[derive(Clone, Copy)]
 struct Gap {
     shared: usize,
@@ -145,9 +175,9 @@ struct Gap {
 }
 
 /// The shortest gap behind which both go on alike.
-fn next_gap(base: &[u8], bytes: &[u8]) -> Gap {
+fn next_gap(below: &[u8], bytes: &[u8]) -> Gap {
     for size in 1..GAP {
-        if let Some(gap) = gap_of(base, bytes, size) {
+        if let Some(gap) = gap_of(below, bytes, size) {
             return gap;
         }
     }
@@ -158,10 +188,10 @@ fn next_gap(base: &[u8], bytes: &[u8]) -> Gap {
 }
 
 /// A gap of so many bytes of both together behind which both go on alike.
-fn gap_of(base: &[u8], bytes: &[u8], size: usize) -> Option<Gap> {
+fn gap_of(below: &[u8], bytes: &[u8], size: usize) -> Option<Gap> {
     for shared in 0..size {
         let own = size - shared;
-        if go_alike(cut(base, shared).1, cut(bytes, own).1) {
+        if go_alike(cut(below, shared).1, cut(bytes, own).1) {
             return Some(Gap { shared, own });
         }
     }
@@ -169,14 +199,14 @@ fn gap_of(base: &[u8], bytes: &[u8], size: usize) -> Option<Gap> {
 }
 
 /// Whether both begin with the same few bytes, or both are at their end.
-fn go_alike(base: &[u8], bytes: &[u8]) -> bool {
-    cut(base, FEWEST).0 == cut(bytes, FEWEST).0
+fn go_alike(below: &[u8], bytes: &[u8]) -> bool {
+    cut(below, FEWEST).0 == cut(bytes, FEWEST).0
 }
 
 /// How many bytes are the same from the first on, as far as one piece goes.
-fn count_same(base: &[u8], bytes: &[u8]) -> usize {
+fn count_same(below: &[u8], bytes: &[u8]) -> usize {
     let mut count: usize = 0;
-    for (one, other) in base.iter().zip(bytes) {
+    for (one, other) in below.iter().zip(bytes) {
         if *one != *other || count == MOST {
             return count;
         }

@@ -14,7 +14,7 @@ use sv_list::Items;
 
 /// The bytes that are left to be read.
 #[derive(Drop)]
-pub(crate) struct Reader<'a> {
+pub(crate) struct ByteReader<'a> {
     pub left: &'a [u8],
 }
 
@@ -29,7 +29,7 @@ fn kind_of_number(number: u128) -> RowKind
 }
 
 /// The next number.
-fn next_number(reader: &mut Reader<'_>) -> u128
+fn next_number(reader: &mut ByteReader<'_>) -> u128
     requires { (n : ℕ) × ((ns : List ℕ) × Say reader.old.left.now (n ∷ ns)) }
     ensures { (n : ℕ) (ns : List ℕ) → Say reader.old.left.now (n ∷ ns) → (result ≡ n) × Say reader.new.left.now ns }
 {
@@ -39,7 +39,7 @@ fn next_number(reader: &mut Reader<'_>) -> u128
 }
 
 /// The next term.
-fn next_term(reader: &mut Reader<'_>) -> (u32, i128)
+fn next_term(reader: &mut ByteReader<'_>) -> (u32, i128)
     requires { (t : ℕ × ℤ) × ((ns : List ℕ) × ((t.0 < 2 ^ 32) × Say reader.old.left.now (term_numbers t ++ ns))) }
     ensures { (t : ℕ × ℤ) (ns : List ℕ) → t.0 < 2 ^ 32 → Say reader.old.left.now (term_numbers t ++ ns) → (result ≡ t) × Say reader.new.left.now ns }
 {
@@ -51,7 +51,7 @@ fn next_term(reader: &mut Reader<'_>) -> (u32, i128)
 /// The next terms, so many.
 fn next_terms(
     alloc: Global,
-    reader: &mut Reader<'_>,
+    reader: &mut ByteReader<'_>,
     count: u128,
 ) -> Result<Items<(u32, i128)>, AllocError>
     requires { (ts : List (ℕ × ℤ)) × ((ns : List ℕ) × ((length ts ≡ count) × (AllByRecursion (λ t. t.0 < 2 ^ 32) ts × Say reader.old.left.now (flat_map term_numbers ts ++ ns)))) }
@@ -65,7 +65,7 @@ fn next_terms(
 }
 
 /// The next row, behind its kind.
-fn next_form(alloc: Global, reader: &mut Reader<'_>, kind: RowKind) -> Result<Row, AllocError>
+fn next_form(alloc: Global, reader: &mut ByteReader<'_>, kind: RowKind) -> Result<Row, AllocError>
     requires { (r : AnyRow) × ((ns : List ℕ) × ((r.kind ≡ kind) × Say reader.old.left.now (form_numbers r ++ ns))) }
     ensures { (r : AnyRow) (ns : List ℕ) → r.kind ≡ kind → Say reader.old.left.now (form_numbers r ++ ns) → IfOk result (λ row. (row ≡ r) × Say reader.new.left.now ns) }
 {
@@ -82,7 +82,7 @@ fn next_form(alloc: Global, reader: &mut Reader<'_>, kind: RowKind) -> Result<Ro
 }
 
 /// The next row.
-fn next_row(alloc: Global, reader: &mut Reader<'_>) -> Result<Row, AllocError>
+fn next_row(alloc: Global, reader: &mut ByteReader<'_>) -> Result<Row, AllocError>
     requires { (r : AnyRow) × ((ns : List ℕ) × Say reader.old.left.now (row_numbers r ++ ns)) }
     ensures { (r : AnyRow) (ns : List ℕ) → Say reader.old.left.now (row_numbers r ++ ns) → IfOk result (λ row. (row ≡ r) × Say reader.new.left.now ns) }
 {
@@ -93,7 +93,7 @@ fn next_row(alloc: Global, reader: &mut Reader<'_>) -> Result<Row, AllocError>
 /// The next rows, so many.
 pub(crate) fn next_rows(
     alloc: Global,
-    reader: &mut Reader<'_>,
+    reader: &mut ByteReader<'_>,
     count: u32,
 ) -> Result<Items<Row>, AllocError>
     requires { (rows : List AnyRow) × ((ns : List ℕ) × ((length rows ≡ count) × Say reader.old.left.now (flat_map row_numbers rows ++ ns))) }
@@ -107,7 +107,7 @@ pub(crate) fn next_rows(
 }
 
 /// How the next quantity stands to the basis.
-fn next_standing(alloc: Global, reader: &mut Reader<'_>) -> Result<Standing, AllocError>
+fn next_standing(alloc: Global, reader: &mut ByteReader<'_>) -> Result<Standing, AllocError>
     requires { (s : AnyStanding) × ((ns : List ℕ) × Say reader.old.left.now (standing_numbers s ++ ns)) }
     ensures { (s : AnyStanding) (ns : List ℕ) → Say reader.old.left.now (standing_numbers s ++ ns) → IfOk result (λ r. (r ≡ s) × Say reader.new.left.now ns) }
 {
@@ -121,7 +121,7 @@ fn next_standing(alloc: Global, reader: &mut Reader<'_>) -> Result<Standing, All
 /// So for so many quantities.
 pub(crate) fn next_lines(
     alloc: Global,
-    reader: &mut Reader<'_>,
+    reader: &mut ByteReader<'_>,
     count: u32,
 ) -> Result<Items<Standing>, AllocError>
     requires { (lines : List AnyStanding) × ((ns : List ℕ) × ((length lines ≡ count) × Say reader.old.left.now (flat_map standing_numbers lines ++ ns))) }

@@ -1,4 +1,4 @@
-use crate::pieces::{join, pieces_of};
+use crate::pieces::{Layer, find_layer, join};
 use std::alloc::{AllocError, Global};
 use std::rc::Rc;
 use sv_list::Items;
@@ -6,31 +6,27 @@ use sv_list::Items;
 /// Fewer bytes share nothing, since a thousand such lists take 64 MB, and pieces take time to find.
 const FEW: usize = 1 << 16;
 
-/// Some bytes of a base, and then some that it doesn't have.
-#[derive(Clone, Copy)]
-pub(crate) struct Piece {
-    /// How many bytes of the base are left out before.
-    pub skip: u16,
-    /// How many bytes of the base come then.
-    pub length: u16,
-    /// How many come behind them that the base doesn't have.
-    pub fresh: u16,
+/// The most layers over one base. Each is joined again where the bytes are wanted.
+const MOST_LAYERS: usize = 32;
+
+/// A layer that several lists of bytes may have.
+#[derive(Drop)]
+pub(crate) struct SharedLayer {
+    layer: Rc<Layer>,
 }
 
-/// Bytes that may share those of others: pieces of a base and the bytes that it doesn't have in their order, and then what
-/// is left of both.
+/// Bytes that may share those of others: a base, and layers over it, each of which makes other bytes of those below.
 #[derive(Drop)]
 pub(crate) struct SharedBytes {
     base: Rc<Items<u8>>,
-    pieces: Items<Piece>,
-    fresh: Items<u8>,
+    layers: Items<SharedLayer>,
 }
 
 impl SharedBytes {
     ghost use Rattle.std.specs.Prelude.{◌≡◌, IfOk, IfSome};
-    ghost use Rattle.lia_pack.specs.Shares.{bytes_of};
+    ghost use Rattle.lia_pack.specs.Shares.{bytes_of, joined_by, values};
 
-    /// The bytes, as pieces of what others have where they are many and that takes little memory.
+    /// The bytes, as a layer over others where they are many and that takes little memory.
     pub fn of(
         alloc: Global,
         bytes: Items<u8>,
@@ -55,41 +51,66 @@ impl SharedBytes {
         match Rc::new(alloc, Items::from_slice(alloc, bytes.as_slice())?) {
             Ok(base) => Ok(SharedBytes {
                 base,
-                pieces: Items::new(alloc),
-                fresh: Items::new(alloc),
+                layers: Items::new(alloc),
             }),
             Err(_) => Err(AllocError),
         }
     }
 
-    /// The bytes as pieces of the base of these, where that takes little memory.
+    /// The bytes as one layer more over these, where that takes little memory.
     fn share(&self, alloc: Global, bytes: &[u8]) -> Result<Option<SharedBytes>, AllocError>
         ensures { IfOk result (λ o. IfSome o (λ s. bytes_of s ≡ bytes.now)) }
     {
-        let base = self.base.as_slice();
-        let Some((pieces, fresh)) = pieces_of(alloc, base, bytes)? else {
+        if self.layers.len() >= MOST_LAYERS {
+            return Ok(None);
+        }
+        let below = self.to_items(alloc)?;
+        let Some(layer) = find_layer(alloc, below.as_slice(), bytes)? else {
             return Ok(None);
         };
-        let whole = join(alloc, base, pieces.as_slice(), fresh.as_slice())?;
+        let whole = join(alloc, below.as_slice(), &layer)?;
         if whole.as_slice() != bytes {
             return Ok(None);
         }
-        Ok(Some(SharedBytes {
-            base: self.base.clone()?,
-            pieces: Items::from_slice(alloc, pieces.as_slice())?,
-            fresh: Items::from_slice(alloc, fresh.as_slice())?,
-        }))
+        Ok(Some(self.add(alloc, layer)?))
     }
 
-    /// The bytes in one list. Linear in them.
+    /// The same bytes with a layer more over them.
+    #[tactic(auto, using(crate::proofs::Layers::values_app, crate::proofs::Layers::layered_app))]
+    fn add(&self, alloc: Global, layer: Layer) -> Result<SharedBytes, AllocError>
+        ensures { IfOk result (λ s. bytes_of s ≡ joined_by (bytes_of self.now) layer) }
+    {
+        let mut layers = self.copy_layers(alloc)?;
+        match Rc::new(alloc, layer) {
+            Ok(layer) => layers.push(SharedLayer { layer })?,
+            Err(_) => return Err(AllocError),
+        }
+        Ok(SharedBytes {
+            base: self.base.clone()?,
+            layers,
+        })
+    }
+
+    /// The layers, shared.
+    fn copy_layers(&self, alloc: Global) -> Result<Items<SharedLayer>, AllocError>
+        ensures { IfOk result (λ layers. values layers ≡ values self.now.layers) }
+    {
+        let mut layers = Items::new(alloc);
+        for layer in self.layers.as_slice() {
+            let layer = layer.layer.clone()?;
+            layers.push(SharedLayer { layer })?;
+        }
+        Ok(layers)
+    }
+
+    /// The bytes in one list. Linear in them, times the number of layers.
     pub fn to_items(&self, alloc: Global) -> Result<Items<u8>, AllocError>
         ensures { IfOk result (λ bytes. bytes ≡ bytes_of self.now) }
     {
-        join(
-            alloc,
-            self.base.as_slice(),
-            self.pieces.as_slice(),
-            self.fresh.as_slice(),
-        )
+        let mut bytes = Items::from_slice(alloc, self.base.as_slice())?;
+        for layer in self.layers.as_slice() {
+            bytes = join(alloc, bytes.as_slice(), &layer.layer)?;
+        }
+        Ok(bytes)
     }
 }

@@ -6,8 +6,8 @@ use Rattle.farkas_check.specs.Fitting.{SumsFit}
 use Rattle.farkas_check.specs.Systems.{Meets, rows_of}
 use Rattle.farkas_check.specs.declared.system.System.{System}
 use Rattle.farkas_check.specs.declared.tree.Tree.{Tree}
-use Rattle.lia_quick.specs.declared.restoring.Found.{Found}
-use Rattle.lia_quick.specs.declared.restoring.Found.TheVariants.{Point, Closed}
+use Rattle.lia_quick.specs.declared.restoring.QuickAnswer.{QuickAnswer}
+use Rattle.lia_quick.specs.declared.restoring.QuickAnswer.TheVariants.{Point, Closed}
 
 -- a value for each unknown, which meet the rows
 pub record IsPointOf (s : System) (point : List ℤ) : Type 0 where
@@ -18,6 +18,6 @@ pub record IsPointOf (s : System) (point : List ℤ) : Type 0 where
 abbrev pub IsTreeOf : System → Tree → Type 0
 IsTreeOf s tree = Closes s tree × SumsFit s tree
 
-abbrev pub IsFound : System → Found → Type 0
-IsFound s (Point point) = IsPointOf s point
-IsFound s (Closed tree) = IsTreeOf s tree
+abbrev pub IsQuickAnswer : System → QuickAnswer → Type 0
+IsQuickAnswer s (Point point) = IsPointOf s point
+IsQuickAnswer s (Closed tree) = IsTreeOf s tree

@@ -1,4 +1,4 @@
-ghost use Rattle.std.specs.Prelude.{◌≡◌, ◌≢◌, map, List, [], ◌∷◌, ◌++◌, ◌+ℤ◌, pos, neg_ℤ, ◌^◌, ◌<◌, IsTrue, IfOk, OnOk};
+ghost use Rattle.std.specs.Prelude.{◌≡◌, ◌≢◌, map, List, [], ◌∷◌, ◌++◌, pos, neg_ℤ, ◌^◌, ◌<◌, IsTrue, IfOk, OnOk};
 ghost use Rattle.sv_linear.specs.Rows.{NameUnknowns};
 ghost use Rattle.sv_linear.specs.Terms.{AscendsWithin};
 ghost use Rattle.farkas_check.specs.Closings.{Closes, FarkasRule, DivisorRule, at_most, at_least};

@@ -1,4 +1,4 @@
-use crate::bounds::{Bounds, Origin, Range, Reason, Rounding, Side, Step};
+use crate::bounds::{BoundReason, BoundSide, BoundStep, Bounds, Origin, Range, Rounding};
 use crate::lifter::Lifter;
 use crate::lifting::Reduction;
 use crate::reasons::{Far, multipliers_of};
@@ -6,12 +6,12 @@ use farkas_check::Tree;
 use std::alloc::{AllocError, Global};
 use sv_list::{Boxed, Items};
 
-/// How many splits a search may make. Coins of six lengths up to 107 take some 2,200.
-const MOST_SPLITS: u32 = 4000;
+/// How many cuts a search may make. Coins of six lengths up to 107 take some 2,200.
+const MOST_CUTS: u32 = 4000;
 
 /// What a search within bounds ends with.
 #[derive(Drop)]
-pub(crate) enum Ending {
+pub(crate) enum BoundsEnding {
     /// A value for each unknown of the reduced system.
     Point(Items<i128>),
     /// A tree of the whole system.
@@ -20,7 +20,7 @@ pub(crate) enum Ending {
 
 /// The unknown is at most `at`, or at least `at + 1`.
 #[derive(Clone, Copy)]
-struct Cut {
+struct BoundCut {
     unknown: u32,
     at: i128,
 }
@@ -35,8 +35,8 @@ enum Other {
 
 /// A split on the way from the root to the node that is searched.
 #[derive(Drop)]
-struct Level {
-    cut: Cut,
+struct CutLevel {
+    cut: BoundCut,
     /// Whether the node is on the low side.
     is_low: bool,
     other: Other,
@@ -46,17 +46,20 @@ struct Level {
 
 /// Searches the reduced system within the bounds of its unknowns; `None` where a number leaves
 /// 128 bits or too much would have to be looked at.
-pub(crate) fn search(alloc: Global, reduction: Reduction) -> Result<Option<Ending>, AllocError> {
+pub(crate) fn search(
+    alloc: Global,
+    reduction: Reduction,
+) -> Result<Option<BoundsEnding>, AllocError> {
     let rows = reduction.reduced.system.rows.as_slice();
     let unknowns = reduction.reduced.system.unknowns;
     let mut bounds = Bounds::new(alloc, rows, unknowns)?;
     let mut lifter = Lifter::new(alloc, reduction)?;
-    let mut levels: Vec<Level> = Vec::new(alloc);
-    let mut left = MOST_SPLITS;
+    let mut levels: Vec<CutLevel> = Vec::new(alloc);
+    let mut left = MOST_CUTS;
     for _ in 0..u32::MAX {
         match bounds.settle(alloc, rows)? {
-            Step::Spent => return Ok(None),
-            Step::Conflict(reason) => {
+            BoundStep::Spent => return Ok(None),
+            BoundStep::Conflict(reason) => {
                 let Some(leaf) = leaf_of(
                     alloc,
                     reduction,
@@ -70,10 +73,10 @@ pub(crate) fn search(alloc: Global, reduction: Reduction) -> Result<Option<Endin
                     return Ok(None);
                 };
                 if let Some(tree) = close(alloc, &mut bounds, &mut levels, leaf)? {
-                    return Ok(Some(Ending::Closed(tree)));
+                    return Ok(Some(BoundsEnding::Closed(tree)));
                 }
             }
-            Step::Rounded(rounding) => {
+            BoundStep::Rounded(rounding) => {
                 left = left.saturating_sub(1);
                 if left == 0
                     || !round(
@@ -88,9 +91,9 @@ pub(crate) fn search(alloc: Global, reduction: Reduction) -> Result<Option<Endin
                     return Ok(None);
                 }
             }
-            Step::Quiet => {
+            BoundStep::Quiet => {
                 let Some(choice) = choose(&bounds, unknowns) else {
-                    return Ok(Some(Ending::Point(point_of(alloc, &bounds, unknowns)?)));
+                    return Ok(Some(BoundsEnding::Point(point_of(alloc, &bounds, unknowns)?)));
                 };
                 left = left.saturating_sub(1);
                 if left == 0 {
@@ -111,7 +114,7 @@ fn leaf_of(
     lifter: &mut Lifter,
     bounds: &mut Bounds,
     branches: usize,
-    reason: &Reason,
+    reason: &BoundReason,
     far: Option<Far>,
 ) -> Result<Option<Tree>, AllocError> {
     let rows = reduction.reduced.sums.len();
@@ -133,7 +136,7 @@ fn leaf_of(
 fn close(
     alloc: Global,
     bounds: &mut Bounds,
-    levels: &mut Vec<Level>,
+    levels: &mut Vec<CutLevel>,
     leaf: Tree,
 ) -> Result<Option<Tree>, AllocError> {
     let mut tree = leaf;
@@ -141,7 +144,7 @@ fn close(
         let Some(level) = levels.pop() else {
             return Ok(Some(tree));
         };
-        let Level {
+        let CutLevel {
             cut,
             is_low,
             other,
@@ -165,7 +168,7 @@ fn close(
     Ok(Some(tree))
 }
 
-fn split(alloc: Global, cut: Cut, low: Tree, high: Tree) -> Result<Tree, AllocError> {
+fn split(alloc: Global, cut: BoundCut, low: Tree, high: Tree) -> Result<Tree, AllocError> {
     Ok(Tree::Split {
         unknown: cut.unknown,
         at: cut.at,
@@ -180,7 +183,7 @@ fn round(
     reduction: Reduction,
     lifter: &mut Lifter,
     bounds: &mut Bounds,
-    levels: &mut Vec<Level>,
+    levels: &mut Vec<CutLevel>,
     rounding: Rounding,
 ) -> Result<bool, AllocError> {
     let far = Far {
@@ -202,8 +205,8 @@ fn round(
     };
     let unknown = rounding.unknown;
     let (at, is_low) = match rounding.side {
-        Side::Upper => (Some(rounding.amount), true),
-        Side::Lower => (rounding.amount.checked_sub(1), false),
+        BoundSide::Upper => (Some(rounding.amount), true),
+        BoundSide::Lower => (rounding.amount.checked_sub(1), false),
     };
     let Some(at) = at else {
         return Ok(false);
@@ -211,7 +214,7 @@ fn round(
     enter(
         bounds,
         levels,
-        Cut { unknown, at },
+        BoundCut { unknown, at },
         is_low,
         Other::Closed(leaf),
     )?;
@@ -221,13 +224,13 @@ fn round(
 /// Goes to one side of a split.
 fn enter(
     bounds: &mut Bounds,
-    levels: &mut Vec<Level>,
-    cut: Cut,
+    levels: &mut Vec<CutLevel>,
+    cut: BoundCut,
     is_low: bool,
     other: Other,
 ) -> Result<(), AllocError> {
     let branch = levels.len();
-    levels.push(Level {
+    levels.push(CutLevel {
         cut,
         is_low,
         other,
@@ -235,16 +238,21 @@ fn enter(
     })?;
     let origin = Origin::Branch(branch);
     if is_low {
-        bounds.add(cut.unknown, Side::Upper, cut.at, origin)
+        bounds.add(cut.unknown, BoundSide::Upper, cut.at, origin)
     } else {
-        bounds.add(cut.unknown, Side::Lower, cut.at.saturating_add(1), origin)
+        bounds.add(
+            cut.unknown,
+            BoundSide::Lower,
+            cut.at.saturating_add(1),
+            origin,
+        )
     }
 }
 
 /// A split to be made, and which side comes first.
 #[derive(Clone, Copy)]
 struct Choice {
-    cut: Cut,
+    cut: BoundCut,
     low_first: bool,
 }
 
@@ -271,13 +279,13 @@ fn choose(bounds: &Bounds, unknowns: u32) -> Option<Choice> {
 
 /// The middle of the narrowest range that holds more than one number, of the unknowns that equations hold or of the
 /// others, behind how far it reaches above one number.
-fn narrowest_cut(bounds: &Bounds, unknowns: u32, in_equation: bool) -> Option<(u128, Cut)> {
-    let mut best: Option<(u128, Cut)> = None;
+fn narrowest_cut(bounds: &Bounds, unknowns: u32, in_equation: bool) -> Option<(u128, BoundCut)> {
+    let mut best: Option<(u128, BoundCut)> = None;
     for unknown in 0..unknowns {
         if bounds.is_held(unknown) && bounds.is_in_equation(unknown) == in_equation {
             if let Some((width, at)) = middle(bounds.range(unknown)) {
                 if is_narrower(best, width) {
-                    best = Some((width, Cut { unknown, at }));
+                    best = Some((width, BoundCut { unknown, at }));
                 }
             }
         }
@@ -285,7 +293,7 @@ fn narrowest_cut(bounds: &Bounds, unknowns: u32, in_equation: bool) -> Option<(u
     best
 }
 
-fn is_narrower(best: Option<(u128, Cut)>, width: u128) -> bool {
+fn is_narrower(best: Option<(u128, BoundCut)>, width: u128) -> bool {
     match best {
         None => true,
         Some((least, _)) => width < least,

@@ -6,14 +6,14 @@ use sv_list::Items;
 
 /// Which bound of an unknown.
 #[derive(Clone, Copy, PartialEq, Eq)]
-pub(crate) enum Side {
+pub(crate) enum BoundSide {
     Lower,
     Upper,
 }
 
 /// A bound that stands, and the number of the fact by which it does.
 #[derive(Clone, Copy)]
-pub(crate) struct Bound {
+pub(crate) struct CarriedBound {
     pub amount: i128,
     pub fact: usize,
 }
@@ -21,25 +21,25 @@ pub(crate) struct Bound {
 /// The bounds of an unknown.
 #[derive(Clone, Copy)]
 pub(crate) struct Range {
-    pub lower: Option<Bound>,
-    pub upper: Option<Bound>,
+    pub lower: Option<CarriedBound>,
+    pub upper: Option<CarriedBound>,
 }
 
 impl Range {
-    pub fn bound(self, side: Side) -> Option<Bound> {
+    pub fn bound(self, side: BoundSide) -> Option<CarriedBound> {
         match side {
-            Side::Lower => self.lower,
-            Side::Upper => self.upper,
+            BoundSide::Lower => self.lower,
+            BoundSide::Upper => self.upper,
         }
     }
 
-    fn with(self, side: Side, bound: Option<Bound>) -> Range {
+    fn with(self, side: BoundSide, bound: Option<CarriedBound>) -> Range {
         match side {
-            Side::Lower => Range {
+            BoundSide::Lower => Range {
                 lower: bound,
                 upper: self.upper,
             },
-            Side::Upper => Range {
+            BoundSide::Upper => Range {
                 lower: self.lower,
                 upper: bound,
             },
@@ -49,7 +49,7 @@ impl Range {
 
 /// A row, taken so often, and with it so often each of some facts.
 #[derive(Drop)]
-pub(crate) struct Reason {
+pub(crate) struct BoundReason {
     pub row: usize,
     pub times: i128,
     pub facts: Items<(usize, i128)>,
@@ -58,7 +58,7 @@ pub(crate) struct Reason {
 /// By what a bound stands.
 #[derive(Drop)]
 pub(crate) enum Origin {
-    Row(Reason),
+    Row(BoundReason),
     /// The row of the branch with this number, from the root on.
     Branch(usize),
 }
@@ -67,8 +67,8 @@ pub(crate) enum Origin {
 #[derive(Drop)]
 pub(crate) struct Fact {
     unknown: u32,
-    side: Side,
-    before: Option<Bound>,
+    side: BoundSide,
+    before: Option<CarriedBound>,
     pub origin: Origin,
 }
 
@@ -76,20 +76,20 @@ pub(crate) struct Fact {
 #[derive(Drop)]
 pub(crate) struct Rounding {
     pub unknown: u32,
-    pub side: Side,
+    pub side: BoundSide,
     pub amount: i128,
     /// How often the row holds the unknown, without its sign.
     pub factor: i128,
-    pub reason: Reason,
+    pub reason: BoundReason,
 }
 
 /// What comes of looking at rows.
 #[derive(Drop)]
-pub(crate) enum Step {
+pub(crate) enum BoundStep {
     /// No row narrows a range further.
     Quiet,
     /// A row isn't met within the ranges.
-    Conflict(Reason),
+    Conflict(BoundReason),
     Rounded(Rounding),
     /// A number leaves 128 bits, or there is no end in sight.
     Spent,
@@ -194,7 +194,7 @@ impl Bounds {
     pub fn add(
         &mut self,
         unknown: u32,
-        side: Side,
+        side: BoundSide,
         amount: i128,
         origin: Origin,
     ) -> Result<(), AllocError> {
@@ -210,7 +210,7 @@ impl Bounds {
             before: range.bound(side),
             origin,
         })?;
-        self.ranges[place] = range.with(side, Some(Bound { amount, fact }));
+        self.ranges[place] = range.with(side, Some(CarriedBound { amount, fact }));
         for row in &self.holders[place] {
             self.queue.put(*row)?;
         }
@@ -242,37 +242,37 @@ impl Bounds {
     }
 
     /// Looks at rows until none narrows a range.
-    pub fn settle(&mut self, alloc: Global, rows: &[Row]) -> Result<Step, AllocError> {
+    pub fn settle(&mut self, alloc: Global, rows: &[Row]) -> Result<BoundStep, AllocError> {
         for _ in 0..WORK {
             let Some(at) = self.queue.next() else {
-                return Ok(Step::Quiet);
+                return Ok(BoundStep::Quiet);
             };
             match self.look(alloc, rows, at)? {
-                Step::Quiet => {}
-                Step::Conflict(reason) => return Ok(Step::Conflict(reason)),
-                Step::Rounded(rounding) => return Ok(Step::Rounded(rounding)),
-                Step::Spent => return Ok(Step::Spent),
+                BoundStep::Quiet => {}
+                BoundStep::Conflict(reason) => return Ok(BoundStep::Conflict(reason)),
+                BoundStep::Rounded(rounding) => return Ok(BoundStep::Rounded(rounding)),
+                BoundStep::Spent => return Ok(BoundStep::Spent),
             }
         }
-        Ok(Step::Spent)
+        Ok(BoundStep::Spent)
     }
 
     /// Looks at a row: an equation both ways.
-    fn look(&mut self, alloc: Global, rows: &[Row], at: usize) -> Result<Step, AllocError> {
+    fn look(&mut self, alloc: Global, rows: &[Row], at: usize) -> Result<BoundStep, AllocError> {
         let Some(row) = rows.get(at) else {
-            return Ok(Step::Quiet);
+            return Ok(BoundStep::Quiet);
         };
         self.spend(row.form.coefficients.len().saturating_add(1));
         if self.work == 0 || self.facts.len() > self.most_facts {
-            return Ok(Step::Spent);
+            return Ok(BoundStep::Spent);
         }
         match row.kind {
             RowKind::Le => self.pass(alloc, row, at, 1),
             RowKind::Eq => match self.pass(alloc, row, at, 1)? {
-                Step::Quiet => self.pass(alloc, row, at, -1),
-                Step::Conflict(reason) => Ok(Step::Conflict(reason)),
-                Step::Rounded(rounding) => Ok(Step::Rounded(rounding)),
-                Step::Spent => Ok(Step::Spent),
+                BoundStep::Quiet => self.pass(alloc, row, at, -1),
+                BoundStep::Conflict(reason) => Ok(BoundStep::Conflict(reason)),
+                BoundStep::Rounded(rounding) => Ok(BoundStep::Rounded(rounding)),
+                BoundStep::Spent => Ok(BoundStep::Spent),
             },
         }
     }
@@ -284,20 +284,20 @@ impl Bounds {
         row: &Row,
         at: usize,
         times: i128,
-    ) -> Result<Step, AllocError> {
+    ) -> Result<BoundStep, AllocError> {
         let Some(least) = self.least(&row.form, times) else {
-            return Ok(Step::Spent);
+            return Ok(BoundStep::Spent);
         };
         if least.missing == 0 && least.total > 0 {
-            return Ok(Step::Conflict(self.reason(alloc, row, at, times, None)?));
+            return Ok(BoundStep::Conflict(self.reason(alloc, row, at, times, None)?));
         }
         if least.missing > 1 {
-            return Ok(Step::Quiet);
+            return Ok(BoundStep::Quiet);
         }
         for (unknown, coefficient) in row.form.coefficients.as_slice() {
             match self.narrow(*unknown, *coefficient, times, least) {
                 Narrowing::None => {}
-                Narrowing::Spent => return Ok(Step::Spent),
+                Narrowing::Spent => return Ok(BoundStep::Spent),
                 Narrowing::To {
                     side,
                     amount,
@@ -306,7 +306,7 @@ impl Bounds {
                     let reason = self.reason(alloc, row, at, times, Some(*unknown))?;
                     if factor != 1 {
                         self.queue.put(at)?;
-                        return Ok(Step::Rounded(Rounding {
+                        return Ok(BoundStep::Rounded(Rounding {
                             unknown: *unknown,
                             side,
                             amount,
@@ -318,7 +318,7 @@ impl Bounds {
                 }
             }
         }
-        Ok(Step::Quiet)
+        Ok(BoundStep::Quiet)
     }
 
     fn least(&self, form: &Form, times: i128) -> Option<Least> {
@@ -347,7 +347,11 @@ impl Bounds {
         match limit(by, own, least.total) {
             None => Narrowing::Spent,
             Some((amount, factor)) => {
-                let side = if by > 0 { Side::Upper } else { Side::Lower };
+                let side = if by > 0 {
+                    BoundSide::Upper
+                } else {
+                    BoundSide::Lower
+                };
                 if is_narrower(range, side, amount) {
                     Narrowing::To {
                         side,
@@ -369,7 +373,7 @@ impl Bounds {
         at: usize,
         times: i128,
         left: Option<u32>,
-    ) -> Result<Reason, AllocError> {
+    ) -> Result<BoundReason, AllocError> {
         let mut facts = Items::new(alloc);
         for (unknown, coefficient) in row.form.coefficients.as_slice() {
             if left != Some(*unknown) {
@@ -379,7 +383,7 @@ impl Bounds {
                 }
             }
         }
-        Ok(Reason {
+        Ok(BoundReason {
             row: at,
             times,
             facts,
@@ -392,7 +396,7 @@ impl Bounds {
 enum Narrowing {
     None,
     To {
-        side: Side,
+        side: BoundSide,
         amount: i128,
         factor: i128,
     },
@@ -400,17 +404,17 @@ enum Narrowing {
 }
 
 /// The bound that makes a term least.
-fn lowering_side(coefficient: i128) -> Side {
+fn lowering_side(coefficient: i128) -> BoundSide {
     if coefficient > 0 {
-        Side::Lower
+        BoundSide::Lower
     } else {
-        Side::Upper
+        BoundSide::Upper
     }
 }
 
 /// The whole number that an unknown's bound is rounded to, by the least value of a row that holds it so often, and
 /// how often it does, without the sign.
-fn limit(by: i128, own: Option<Bound>, total: i128) -> Option<(i128, i128)> {
+fn limit(by: i128, own: Option<CarriedBound>, total: i128) -> Option<(i128, i128)> {
     let rest = match own {
         None => total,
         Some(bound) => total.checked_sub(by.checked_mul(bound.amount)?)?,
@@ -427,10 +431,10 @@ fn limit(by: i128, own: Option<Bound>, total: i128) -> Option<(i128, i128)> {
     }
 }
 
-fn is_narrower(range: Range, side: Side, amount: i128) -> bool {
+fn is_narrower(range: Range, side: BoundSide, amount: i128) -> bool {
     match (range.bound(side), side) {
         (None, _) => true,
-        (Some(bound), Side::Lower) => amount > bound.amount,
-        (Some(bound), Side::Upper) => amount < bound.amount,
+        (Some(bound), BoundSide::Lower) => amount > bound.amount,
+        (Some(bound), BoundSide::Upper) => amount < bound.amount,
     }
 }

@@ -1,9 +1,9 @@
-ghost use Rattle.std.specs.Prelude.{◌≡◌, ◌<ℤ◌, pos, IfOk, IfSome};
+ghost use Rattle.std.specs.Prelude.{◌<ℤ◌, pos, IfOk, IfSome};
 ghost use Rattle.sv_linear.specs.Rows.{NameUnknowns};
 ghost use Rattle.farkas_check.specs.Closings.{Closes};
 ghost use Rattle.farkas_check.specs.Fitting.{SumsFit};
 
-use crate::elimination::{Elimination, Sum};
+use crate::elimination::{Elimination, RowSum};
 use crate::weights::Weights;
 use farkas_check::{LeafTest, System, Tree, test_divisor};
 use std::alloc::{AllocError, Global};
@@ -35,7 +35,7 @@ fn leaf_of(
     alloc: Global,
     system: &System,
     elimination: &Elimination,
-    sum: &Sum,
+    sum: &RowSum,
     divisor: i128,
 ) -> Result<Option<Tree>, AllocError>
     requires names { NameUnknowns system.now.unknowns system.now.rows }

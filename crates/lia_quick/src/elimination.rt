@@ -9,7 +9,7 @@ use sv_list::{Copied, Items};
 
 /// A row of the system, and with it so often each of some earlier sums.
 #[derive(Drop)]
-pub struct Sum {
+pub struct RowSum {
     /// The row's number in the system.
     pub row: usize,
     pub form: Form,
@@ -31,7 +31,7 @@ pub struct Owned {
 /// from the first. No sum holds an unknown that an earlier one owns.
 #[derive(Drop)]
 pub struct Elimination {
-    sums: Items<Sum>,
+    sums: Items<RowSum>,
     /// What each sum owns.
     owned: Items<Option<Owned>>,
     /// For each unknown the number of the sum that owns it.
@@ -69,7 +69,7 @@ impl Elimination {
     }
 
     /// The sums, in the order in which they were taken.
-    pub fn sums(&self) -> &[Sum] {
+    pub fn sums(&self) -> &[RowSum] {
         self.sums.as_slice()
     }
 
@@ -109,7 +109,7 @@ impl Elimination {
         alloc: Global,
         row: usize,
         form: &Form,
-    ) -> Result<Option<Sum>, AllocError> {
+    ) -> Result<Option<RowSum>, AllocError> {
         if is_long(form) {
             self.reduce_long(alloc, row, form)
         } else {
@@ -122,7 +122,7 @@ impl Elimination {
         alloc: Global,
         row: usize,
         form: &Form,
-    ) -> Result<Option<Sum>, AllocError> {
+    ) -> Result<Option<RowSum>, AllocError> {
         let mut form = form.copy(alloc)?;
         let mut steps: Items<(usize, i128)> = Items::new(alloc);
         for _ in 0..self.sums.len() {
@@ -138,7 +138,7 @@ impl Elimination {
             steps.push((at, by))?;
             form = next;
         }
-        Ok(Some(Sum { row, form, steps }))
+        Ok(Some(RowSum { row, form, steps }))
     }
 
     /// The least number of a sum that owns an unknown of the form.
@@ -153,7 +153,7 @@ impl Elimination {
     }
 
     /// The sum with this number, and how often it is added to the form so that its unknown goes out.
-    fn step(&self, at: usize, form: &Form) -> Option<(&Sum, i128)> {
+    fn step(&self, at: usize, form: &Form) -> Option<(&RowSum, i128)> {
         let owned = self.find_owned(at)?;
         let by = factor_of(owned, form.at(owned.unknown))?;
         Some((self.sums.get(at)?, by))
@@ -165,7 +165,7 @@ impl Elimination {
         alloc: Global,
         row: usize,
         form: &Form,
-    ) -> Result<Option<Sum>, AllocError> {
+    ) -> Result<Option<RowSum>, AllocError> {
         let mut numbers = Vec::new(alloc);
         for _ in 0..self.owners.len() {
             numbers.push(0i128)?;
@@ -192,7 +192,7 @@ impl Elimination {
             steps.push((at, by))?;
         }
         let form = form_of(alloc, self.unknowns, &numbers, constant)?;
-        Ok(Some(Sum { row, form, steps }))
+        Ok(Some(RowSum { row, form, steps }))
     }
 
     /// How often the sum with this number is added so that its unknown goes out: 0 where it isn't there.
@@ -207,7 +207,7 @@ impl Elimination {
     }
 
     /// Takes a sum in, with the last unknown that it holds once or -1 times.
-    fn take(&mut self, sum: Sum) -> Result<(), AllocError> {
+    fn take(&mut self, sum: RowSum) -> Result<(), AllocError> {
         let owned = last_unit(&sum.form);
         if let Some(unit) = owned {
             let unknown = unit.unknown as usize;

@@ -32,6 +32,6 @@ mod restoring;
 mod weights;
 
 pub use dividing::close_by_divisor;
-pub use elimination::{Elimination, Owned, Sum};
+pub use elimination::{Elimination, Owned, RowSum};
 pub use reducing::{Reduced, is_within, reduce};
-pub use restoring::{Found, restore_point, restore_tree, solve_by_bounds};
+pub use restoring::{QuickAnswer, restore_point, restore_tree, solve_by_bounds};

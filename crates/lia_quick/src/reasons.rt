@@ -1,4 +1,4 @@
-use crate::bounds::{Fact, Origin, Reason};
+use crate::bounds::{BoundReason, Fact, Origin};
 use crate::weights::Weights;
 use std::alloc::{AllocError, Global};
 use sv_list::Items;
@@ -17,7 +17,7 @@ pub(crate) fn multipliers_of(
     facts: &[Fact],
     rows: usize,
     branches: usize,
-    reason: &Reason,
+    reason: &BoundReason,
     far: Option<Far>,
 ) -> Result<Option<Items<(u32, i128)>>, AllocError> {
     let mut taken = Weights::new(alloc, rows.saturating_add(branches), None)?;
@@ -47,7 +47,7 @@ pub(crate) fn multipliers_of(
 }
 
 /// Takes a reason so often; false where a number leaves 128 bits.
-fn add(times: &mut Weights, taken: &mut Weights, reason: &Reason, count: i128) -> bool {
+fn add(times: &mut Weights, taken: &mut Weights, reason: &BoundReason, count: i128) -> bool {
     match reason.times.checked_mul(count) {
         None => false,
         Some(product) => {

@@ -2,7 +2,7 @@ ghost use Rattle.std.specs.Prelude.{◌≡◌, ℕ, [], Some, slice_get, IfOk, I
 ghost use Rattle.sv_linear.specs.Rows.{IsRowWithin};
 ghost use Rattle.sv_linear.specs.declared.row.Row.{Row};
 
-use crate::elimination::{Elimination, Sum};
+use crate::elimination::{Elimination, RowSum};
 use farkas_check::System;
 use std::alloc::{AllocError, Global};
 use sv_linear::{Form, Row, RowKind};
@@ -14,7 +14,7 @@ pub struct Reduced {
     /// It has the unknowns of the whole system, and no nets.
     pub system: System,
     /// The sum that each of its rows is.
-    pub sums: Items<Sum>,
+    pub sums: Items<RowSum>,
 }
 
 const LEAST: i128 = -i128::MAX;
@@ -56,7 +56,7 @@ pub fn reduce(
 }
 
 /// The row that a sum is: of the kind of the row that it began with.
-fn row_of(alloc: Global, system: &System, sum: &Sum) -> Result<Row, AllocError> {
+fn row_of(alloc: Global, system: &System, sum: &RowSum) -> Result<Row, AllocError> {
     Ok(Row {
         form: sum.form.copy(alloc)?,
         kind: kind_at(system, sum.row),
@@ -90,7 +90,7 @@ fn left_sums(
     alloc: Global,
     system: &System,
     elimination: &Elimination,
-) -> Result<Option<Items<Sum>>, AllocError> {
+) -> Result<Option<Items<RowSum>>, AllocError> {
     let mut left = Left::new(alloc, system.rows.len())?;
     for (at, sum) in elimination.sums().iter().enumerate() {
         if elimination.find_owned(at).is_none()
@@ -112,8 +112,8 @@ fn left_sums(
     Ok(Some(left.sums))
 }
 
-fn copy_of(alloc: Global, sum: &Sum) -> Result<Sum, AllocError> {
-    Ok(Sum {
+fn copy_of(alloc: Global, sum: &RowSum) -> Result<RowSum, AllocError> {
+    Ok(RowSum {
         row: sum.row,
         form: sum.form.copy(alloc)?,
         steps: Items::from_slice(alloc, sum.steps.as_slice())?,
@@ -123,7 +123,7 @@ fn copy_of(alloc: Global, sum: &Sum) -> Result<Sum, AllocError> {
 /// The sums so far, no two alike, found by a table of hashes.
 #[derive(Drop)]
 struct Left {
-    sums: Items<Sum>,
+    sums: Items<RowSum>,
     kinds: Items<RowKind>,
     /// Each place holds the number of a sum behind it by one, or 0; a sum stands at the place of its hash, or at the
     /// first free one behind it.
@@ -147,7 +147,7 @@ impl Left {
     }
 
     /// Puts a sum behind the others where it says something new; false where there are too many terms.
-    fn put(&mut self, alloc: Global, sum: Sum, kind: RowKind) -> Result<bool, AllocError> {
+    fn put(&mut self, alloc: Global, sum: RowSum, kind: RowKind) -> Result<bool, AllocError> {
         if is_met_always(&sum.form, kind) {
             return Ok(true);
         }

@@ -1,9 +1,9 @@
-ghost use Rattle.std.specs.Prelude.{◌≡◌, IfOk, IfSome};
+ghost use Rattle.std.specs.Prelude.{IfOk, IfSome};
 ghost use Rattle.sv_linear.specs.Rows.{NameUnknowns};
-ghost use Rattle.lia_quick.specs.Finds.{IsPointOf, IsTreeOf, IsFound};
+ghost use Rattle.lia_quick.specs.Finds.{IsPointOf, IsTreeOf, IsQuickAnswer};
 
 use crate::accepting::accepts;
-use crate::bound_search::{Ending, search};
+use crate::bound_search::{BoundsEnding, search};
 use crate::elimination::Elimination;
 use crate::filling::{fill, meets};
 use crate::lifting::{Reduction, lift};
@@ -14,7 +14,7 @@ use sv_list::Items;
 
 /// What a quick way finds of a system.
 #[derive(Debug, Drop)]
-pub enum Found {
+pub enum QuickAnswer {
     /// A value for each unknown, which meet the rows.
     Point(Items<i128>),
     /// A tree that closes the system.
@@ -86,9 +86,9 @@ pub fn solve_by_bounds(
     system: &System,
     elimination: &Elimination,
     reduced: &Reduced,
-) -> Result<Option<Found>, AllocError>
+) -> Result<Option<QuickAnswer>, AllocError>
     requires { NameUnknowns system.now.unknowns system.now.rows }
-    ensures { IfOk result (λ o. IfSome o (IsFound system.now)) }
+    ensures { IfOk result (λ o. IfSome o (IsQuickAnswer system.now)) }
 {
     let reduction = Reduction {
         system,
@@ -97,13 +97,13 @@ pub fn solve_by_bounds(
     };
     match search(alloc, reduction)? {
         None => Ok(None),
-        Some(Ending::Point(point)) => match restore_point(system, elimination, point) {
+        Some(BoundsEnding::Point(point)) => match restore_point(system, elimination, point) {
             None => Ok(None),
-            Some(point) => Ok(Some(Found::Point(point))),
+            Some(point) => Ok(Some(QuickAnswer::Point(point))),
         },
-        Some(Ending::Closed(tree)) => match accept(alloc, system, tree)? {
+        Some(BoundsEnding::Closed(tree)) => match accept(alloc, system, tree)? {
             None => Ok(None),
-            Some(tree) => Ok(Some(Found::Closed(tree))),
+            Some(tree) => Ok(Some(QuickAnswer::Closed(tree))),
         },
     }
 }

@@ -11,7 +11,7 @@ use Rattle.lia_tableau.specs.Shown.{Breaks, Mends}
 use Rattle.lia_tableau.specs.declared.standing.Standing.{Standing}
 use Rattle.lia_tableau.specs.declared.standing.Standing.TheVariants.{Outside, Basic}
 use Rattle.lia_tableau.specs.declared.table.Table.{Table}
-use Rattle.lia_tableau.specs.Pivoting.{IsStep}
+use Rattle.lia_tableau.specs.Pivoting.{IsPivotStep}
 use Rattle.lia_tableau.specs.Trails.{HaveSameBasis, Trail, stay, pivot}
 use Rattle.lia_tableau.specs.LineLaws.{not_both, standing_of}
 use Rattle.lia_tableau.proofs.Clashes.{no_clash}
@@ -19,7 +19,7 @@ use Rattle.lia_tableau.proofs.Clashes.{no_clash}
 -- a trail whose pivots exchange quantities below top alone
 data Low (top : ℕ) : Table → Table → Type 0 where
   low_stay : (t : Table) → Low top t t
-  low_pivot : (first next last : Table) (s : IsStep first next) → s.out < top → s.at < top → Low top next last → Low top first last
+  low_pivot : (first next last : Table) (s : IsPivotStep first next) → s.out < top → s.at < top → Low top next last → Low top first last
 
 joined : (top : ℕ) (a b c : Table) → Low top a b → Low top b c → Low top a c
 joined top a b c (low_stay t) y = y
@@ -54,7 +54,7 @@ record Coming (q : ℕ) (a b : Table) : Type 0 where
   before : Table
   after : Table
   first : Low (suc q) a before
-  step : IsStep before after
+  step : IsPivotStep before after
   out_low : step.out < suc q
   is : step.at ≡ q
   rest : Low (suc q) after b
@@ -63,7 +63,7 @@ record Going (q : ℕ) (a b : Table) : Type 0 where
   before : Table
   after : Table
   first : Low (suc q) a before
-  step : IsStep before after
+  step : IsPivotStep before after
   at_low : step.at < suc q
   is : step.out ≡ q
   rest : Low (suc q) after b
@@ -102,16 +102,16 @@ goes q a b (low_pivot first next last s o i rest) y n =
     (eqb_tells s.out q)
 
 -- what a pivot says of its two quantities
-was_out : (a b : Table) (s : IsStep a b) (q : ℕ) → s.at ≡ q → IsOutside a.lines q
+was_out : (a b : Table) (s : IsPivotStep a b) (q : ℕ) → s.at ≡ q → IsOutside a.lines q
 was_out a b s q e = subst (λ j. IsOutside a.lines j) e s.due.outside
 
-is_in : (a b : Table) (s : IsStep a b) (q : ℕ) → s.at ≡ q → IsInBasis b.lines q
+is_in : (a b : Table) (s : IsPivotStep a b) (q : ℕ) → s.at ≡ q → IsInBasis b.lines q
 is_in a b s q e = subst (λ j. IsInBasis b.lines j) e s.exchange.come
 
-was_in : (a b : Table) (s : IsStep a b) (q : ℕ) → s.out ≡ q → IsInBasis a.lines q
+was_in : (a b : Table) (s : IsPivotStep a b) (q : ℕ) → s.out ≡ q → IsInBasis a.lines q
 was_in a b s q e = subst (λ j. IsInBasis a.lines j) e (s.due.line, s.due.is_line)
 
-is_out : (a b : Table) (s : IsStep a b) (q : ℕ) → s.out ≡ q → IsInBasis b.lines q → ⊥
+is_out : (a b : Table) (s : IsPivotStep a b) (q : ℕ) → s.out ≡ q → IsInBasis b.lines q → ⊥
 is_out a b s q e w = not_both b.lines q w.0 w.1 (subst (λ j. IsOutside b.lines j) e s.exchange.gone)
 
 module _ (q : ℕ) (a b : Table) (c : Coming q a b) (g : Going q a b) where
@@ -195,7 +195,7 @@ lower q a b (low_pivot first next last s o i rest) =
     (eqb_tells s.out q))
     (eqb_tells s.at q)
 
-turns : (top : ℕ) (a n b : Table) (s : IsStep a n) → s.out < top → s.at < top → Low top n b → HaveSameBasis a.lines b.lines → ⊥
+turns : (top : ℕ) (a n b : Table) (s : IsPivotStep a n) → s.out < top → s.at < top → Low top n b → HaveSameBasis a.lines b.lines → ⊥
 turns zero a n b s o i rest same = absurd (omega arith)
 turns (suc q) a n b s o i rest same =
     ⊎_elim
@@ -211,10 +211,10 @@ turns (suc q) a n b s o i rest same =
     (eqb_tells s.out q))
     (eqb_tells s.at q)
 
-out_within : (a b : Table) (s : IsStep a b) → s.out < length a.lines
+out_within : (a b : Table) (s : IsPivotStep a b) → s.out < length a.lines
 out_within a b s = slice_get_within a.lines s.out (Basic s.due.line) s.due.is_line
 
-at_within : (a b : Table) (s : IsStep a b) → s.at < length a.lines
+at_within : (a b : Table) (s : IsPivotStep a b) → s.at < length a.lines
 at_within a b s = slice_get_within a.lines s.at Outside s.due.outside
 
 low : (top : ℕ) (a b : Table) → length a.lines ≤ top → Trail a b → Low top a b
@@ -224,7 +224,7 @@ low top a b h (pivot first next last s rest) =
     (low top next last (let e = s.exchange.size in omega arith) rest)
 
 -- no basis comes twice in a trail
-pub no_repeat : (first next last : Table) → IsStep first next → Trail next last → HaveSameBasis first.lines last.lines → ⊥
+pub no_repeat : (first next last : Table) → IsPivotStep first next → Trail next last → HaveSameBasis first.lines last.lines → ⊥
 no_repeat first next last s rest same =
     turns (length first.lines) first next last s (out_within first next s) (at_within first next s)
     (low (length first.lines) next last (let e = s.exchange.size in omega arith) rest) same

@@ -4,8 +4,8 @@ use Rattle.std.proofs.lemmas.Int.{ints, by_lt_z}
 use Rattle.sv_linear.specs.Integers.{mul-neg, mul_comm, mul_not_negative, product_positive, cancel_zero, times_zero, zero_times, zero_or}
 use Rattle.sv_linear.specs.declared.form.Form.{Form}
 use Rattle.lia_tableau.specs.Shown.{Breaks, CanMend}
-use Rattle.lia_tableau.specs.declared.bound.Bound.{Bound}
-use Rattle.lia_tableau.specs.declared.bound.Bound.TheVariants.{Free, NotNegative, Fixed}
+use Rattle.lia_tableau.specs.declared.bound.QuantityBound.{QuantityBound}
+use Rattle.lia_tableau.specs.declared.bound.QuantityBound.TheVariants.{Free, NotNegative, Fixed}
 
 both_negative : (a b : ℤ) → a <ℤ pos 0 → b <ℤ pos 0 → pos 0 ≤ℤ (a *ℤ b)
 both_negative a b p q =
@@ -56,14 +56,14 @@ pub through_zero : (c a y : ℤ) → y ≡ pos 0 → pos 0 ≤ℤ (c *ℤ (a *�
 through_zero c a y e = let z = times_zero c (a *ℤ y) (times_zero a y e) in omega (arith, ints, z)
 
 -- the quantity that went out, where it keeps its bound in the other basis
-pub gone_sign : (b : Bound) (f g : Form) (a own y d : ℤ) → pos 0 <ℤ a → Breaks b f → ValueBy own g.constant y d → (Breaks b g → ⊥) → pos 0 ≤ℤ (f.constant *ℤ (a *ℤ y))
+pub gone_sign : (b : QuantityBound) (f g : Form) (a own y d : ℤ) → pos 0 <ℤ a → Breaks b f → ValueBy own g.constant y d → (Breaks b g → ⊥) → pos 0 ≤ℤ (f.constant *ℤ (a *ℤ y))
 gone_sign Free f g a own y d p h v k = absurd h
 gone_sign NotNegative f g a own y d p h v k =
     mul_not_negative f.constant (a *ℤ y) (omega (arith, ints, h)) (mul_not_negative a y (omega (arith, ints, p)) (kept_positive g own y d v k))
 gone_sign Fixed f g a own y d p h v k = through_zero f.constant a y (kept_zero g own y d v k)
 
 -- a quantity that couldn't mend, and that keeps its bound in the other basis
-pub lesser_sign : (b : Bound) (f g : Form) (a own y d : ℤ) → (CanMend b a f.constant → ⊥) → f.constant ≢ pos 0 → ValueBy own g.constant y d → (Breaks b g → ⊥) → pos 0 ≤ℤ (f.constant *ℤ (a *ℤ y))
+pub lesser_sign : (b : QuantityBound) (f g : Form) (a own y d : ℤ) → (CanMend b a f.constant → ⊥) → f.constant ≢ pos 0 → ValueBy own g.constant y d → (Breaks b g → ⊥) → pos 0 ≤ℤ (f.constant *ℤ (a *ℤ y))
 lesser_sign Free f g a own y d h m v k =
     let none : a ≡ pos 0 = ⊎_elim (λ l. l) (λ l. absurd (h l)) (zero_or a) in
     let z = times_zero f.constant (a *ℤ y) (zero_times a y none) in
@@ -84,7 +84,7 @@ lesser_sign NotNegative f g a own y d h m v k = by_signs f.constant refl (kept_p
 lesser_sign Fixed f g a own y d h m v k = through_zero f.constant a y (kept_zero g own y d v k)
 
 -- the quantity that came in, where it breaks its bound in the other basis
-pub come_sign : (b : Bound) (f g : Form) (a own y d : ℤ) → CanMend b a f.constant → ValueBy own g.constant y d → Breaks b g → pos 0 ≤ℤ (f.constant *ℤ (a *ℤ y))
+pub come_sign : (b : QuantityBound) (f g : Form) (a own y d : ℤ) → CanMend b a f.constant → ValueBy own g.constant y d → Breaks b g → pos 0 ≤ℤ (f.constant *ℤ (a *ℤ y))
 come_sign Free f g a own y d h v k = absurd k
 come_sign Fixed f g a own y d h v k = absurd h
 come_sign NotNegative f g a own y d (inl h) v k =

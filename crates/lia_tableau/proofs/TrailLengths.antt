@@ -7,7 +7,7 @@ use Rattle.std.proofs.lemmas.Bool.Decides.{eqb_tells}
 use Rattle.lia_tableau.specs.declared.standing.Standing.{Standing}
 use Rattle.lia_tableau.specs.declared.standing.Standing.TheVariants.{Outside, Basic}
 use Rattle.lia_tableau.specs.declared.table.Table.{Table}
-use Rattle.lia_tableau.specs.Pivoting.{IsStep}
+use Rattle.lia_tableau.specs.Pivoting.{IsPivotStep}
 use Rattle.lia_tableau.specs.Trails.{HaveSameBasis, Trail, stay, pivot, trail_length, sets_of}
 use Rattle.lia_tableau.proofs.NoRepeats.{no_repeat}
 
@@ -52,7 +52,7 @@ record IsOnTrail (first : Table) (c : ℕ) : Type 0 where
   trail : Trail first table
   is : c ≡ code table.lines
 
-later : (first next : Table) (c : ℕ) → IsStep first next → IsOnTrail next c → IsOnTrail first c
+later : (first next : Table) (c : ℕ) → IsPivotStep first next → IsOnTrail next c → IsOnTrail first c
 later first next c s k = record { table = k.table; trail = pivot first next k.table s k.trail; is = k.is }
 
 all_on : (first last : Table) (t : Trail first last) → AllByRecursion (IsOnTrail first) (codes first last t)
@@ -78,7 +78,7 @@ found first (c ∷ cs) h q e = by (eqb q c) (eqb_tells q c) (found first cs h.1 
     by true (inr s) r w = absurd (let k = s.0 in cc)
     by false (inr s) r w = r w
 
-apart : (first next : Table) → IsStep first next → (c : ℕ) → IsOnTrail next c → eqb (code first.lines) c ≡ false
+apart : (first next : Table) → IsPivotStep first next → (c : ℕ) → IsOnTrail next c → eqb (code first.lines) c ≡ false
 apart first next s c k =
     ⊎_elim
     (λ e. absurd (no_repeat first next k.table s k.trail (same_basis first.lines k.table.lines (sym (same_size next k.table k.trail ∙ s.exchange.size)) (e.1 ∙ k.is))))
@@ -105,10 +105,10 @@ trail_ends first last t =
     omega arith
 
 -- one more due pivot
-abbrev pub extended : (a b c : Table) → Trail a b → IsStep b c → Trail a c
+abbrev pub extended : (a b c : Table) → Trail a b → IsPivotStep b c → Trail a c
 extended a b c (stay t) s = pivot t c c s (stay c)
 extended a b c (pivot first next last s rest) z = pivot first next c s (extended next last c rest z)
 
-pub extended_length : (a b c : Table) (t : Trail a b) (s : IsStep b c) → trail_length a c (extended a b c t s) ≡ suc (trail_length a b t)
+pub extended_length : (a b c : Table) (t : Trail a b) (s : IsPivotStep b c) → trail_length a c (extended a b c t s) ≡ suc (trail_length a b t)
 extended_length a b c (stay t) s = refl
 extended_length a b c (pivot first next last s rest) z = ap suc (extended_length next last c rest z)

@@ -14,8 +14,8 @@ use Rattle.sv_linear.specs.declared.row.Row.{Row}
 use Rattle.lia_tableau.specs.Bases.{is_basic, IsLine, IsOutside, IsRowAt, IsTableau, basics_below}
 use Rattle.lia_tableau.specs.BasicPoints.{IsPoint}
 use Rattle.lia_tableau.specs.Shown.{Breaks}
-use Rattle.lia_tableau.specs.declared.bound.Bound.{Bound}
-use Rattle.lia_tableau.specs.declared.bound.Bound.TheVariants.{Free, NotNegative, Fixed}
+use Rattle.lia_tableau.specs.declared.bound.QuantityBound.{QuantityBound}
+use Rattle.lia_tableau.specs.declared.bound.QuantityBound.TheVariants.{Free, NotNegative, Fixed}
 use Rattle.sv_linear.specs.declared.form.Form.{Form}
 use Rattle.lia_tableau.specs.Quantities.{RowsHold, slack_sum}
 use Rattle.lia_tableau.specs.declared.standing.Standing.{Standing}
@@ -183,7 +183,7 @@ line_is_sum n rows lines t w q f l x d =
     let all = sum_is n rows x d f.form.coefficients (λ k s e. subst (λ m. s.0 < m) t.size (term_within n rows lines t q f l k s e)) in
     omega (arith, ints, zero_line, all)
 
-pub broken_constant : (b : Bound) (f : Form) → Breaks b f → f.constant ≢ pos 0
+pub broken_constant : (b : QuantityBound) (f : Form) → Breaks b f → f.constant ≢ pos 0
 broken_constant Free f h = absurd h
 broken_constant NotNegative f h = λ e. omega (arith, ints, h)
 broken_constant Fixed f h = h

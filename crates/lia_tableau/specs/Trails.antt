@@ -1,7 +1,7 @@
 -- Trails: from one basis to the next by due pivots (Bland, "New finite pivoting rules for the simplex method", 1977).
 use Rattle.std.specs.Prelude.{ℕ, zero, suc, ◌+◌, ◌↔◌, List}
 use Rattle.lia_tableau.specs.Bases.{IsInBasis}
-use Rattle.lia_tableau.specs.Pivoting.{IsStep}
+use Rattle.lia_tableau.specs.Pivoting.{IsPivotStep}
 use Rattle.lia_tableau.specs.declared.standing.Standing.{Standing}
 use Rattle.lia_tableau.specs.declared.table.Table.{Table}
 
@@ -11,7 +11,7 @@ HaveSameBasis before after = (q : ℕ) → IsInBasis before q ↔ IsInBasis afte
 -- a list of due pivots leads from one basis to another
 pub data Trail : Table → Table → Type 0 where
   stay : (t : Table) → Trail t t
-  pivot : (first next last : Table) → IsStep first next → Trail next last → Trail first last
+  pivot : (first next last : Table) → IsPivotStep first next → Trail next last → Trail first last
 
 -- how many pivots it has
 abbrev pub trail_length : (first last : Table) → Trail first last → ℕ

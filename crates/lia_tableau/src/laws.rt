@@ -1,10 +1,9 @@
 //! Laws of tableaux, each stated by a function that does nothing.
-ghost use Rattle.std.specs.Prelude.{◌≡◌, ℕ, ℤ, ◌<◌, List, Some, slice_get};
-ghost use Rattle.sv_linear.specs.Rows.{MeetsRow};
+ghost use Rattle.std.specs.Prelude.{◌≡◌, ℕ, ℤ};
 ghost use Rattle.sv_linear.specs.declared.row.Row.{Row};
 ghost use Rattle.lia_tableau.specs.BasicPoints.{IsPoint};
 ghost use Rattle.lia_tableau.specs.Bases.{IsRowAt};
-ghost use Rattle.lia_tableau.specs.Pivoting.{IsStep};
+ghost use Rattle.lia_tableau.specs.Pivoting.{IsPivotStep};
 ghost use Rattle.lia_tableau.specs.Trails.{HaveSameBasis, Trail};
 ghost use Rattle.lia_tableau.specs.declared.table.Table.{Table};
 
@@ -13,7 +12,7 @@ use crate::tableau::Tableau;
 /// No basis comes twice in a trail of due pivots (Bland, "New finite pivoting rules for the simplex
 /// method", 1977). It speaks of every list of due pivots over bases whose lines are numbers of 128 bits.
 pub fn no_basis_comes_twice()
-    ensures { (first next last : Table) → IsStep first next → Trail next last → HaveSameBasis first.lines last.lines → ⊥ }
+    ensures { (first next last : Table) → IsPivotStep first next → Trail next last → HaveSameBasis first.lines last.lines → ⊥ }
 {}
 
 /// Each basis has a point: values of all quantities over one denominator. And a place among the rows is

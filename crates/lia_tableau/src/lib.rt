@@ -37,12 +37,12 @@ mod tableau;
 mod terms;
 mod verdict;
 
-pub use bound::Bound;
+pub use bound::QuantityBound;
 pub use fault::TableauFault;
 pub use laws::{bases_are_formed, no_basis_comes_twice};
 pub use settling::settle;
 pub use standing::Standing;
-pub use status::Status;
+pub use status::TableauStatus;
 pub use table::Table;
 pub use tableau::Tableau;
 pub use terms::unknowns_divisor;

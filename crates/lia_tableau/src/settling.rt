@@ -1,12 +1,12 @@
-ghost use Rattle.std.specs.Prelude.{◌≡◌, ◌↔◌, IsTrue, OnOk, IfErr};
+ghost use Rattle.std.specs.Prelude.{◌↔◌, IsTrue, OnOk, IfErr};
 ghost use Rattle.lia_tableau.specs.Shown.{IsStatus};
-ghost use Rattle.lia_tableau.specs.Crossing.{IsPast};
+ghost use Rattle.lia_tableau.specs.Crossing.{IsPastFault};
 ghost use Rattle.lia_tableau.specs.Pivoting.{IsPastPivot};
 ghost use Rattle.lia_tableau.specs.Trails.{Trail};
-ghost use Rattle.lia_tableau.specs.declared.status.Status.TheVariants.{Due};
+ghost use Rattle.lia_tableau.specs.declared.status.TableauStatus.TheVariants.{Due};
 
 use crate::fault::TableauFault;
-use crate::status::Status;
+use crate::status::TableauStatus;
 use crate::tableau::Tableau;
 use std::alloc::Global;
 
@@ -16,7 +16,7 @@ use std::alloc::Global;
 pub fn settle(alloc: Global, tableau: &mut Tableau) -> Result<(), TableauFault>
     ensures trail { Trail tableau.old tableau.new }
     ensures settled { OnOk result (IsStatus tableau.new Due → ⊥) }
-    ensures past { IfErr result (IsPast (IsPastPivot tableau.new)) }
+    ensures past { IfErr result (IsPastFault (IsPastPivot tableau.new)) }
 {
     'pivots: while is_due(tableau) {
         tableau.pivot(alloc)?;
@@ -28,7 +28,7 @@ fn is_due(tableau: &Tableau) -> bool
     ensures { IsTrue result ↔ IsStatus tableau.now Due }
 {
     match tableau.status() {
-        Status::Due => true,
-        Status::Divisor(_) | Status::Conflict(_) | Status::Point => false,
+        TableauStatus::Due => true,
+        TableauStatus::Divisor(_) | TableauStatus::Conflict(_) | TableauStatus::Point => false,
     }
 }

@@ -10,9 +10,9 @@ use crate::fault::TableauFault;
 use crate::lines::row_at;
 use crate::shown::{Sought, due_exchange, least_row};
 use crate::standing::Standing;
-use crate::status::Status;
+use crate::status::TableauStatus;
 use crate::table::Table;
-use crate::verdict::{Verdict, no_verdicts, verdict_of, verdicts_of};
+use crate::verdict::{RowVerdict, no_verdicts, verdict_of, verdicts_of};
 use std::alloc::{AllocError, Global};
 use std::marker::Model;
 use std::mem;
@@ -25,7 +25,7 @@ use sv_list::{Copied, Items};
 #[derive(Drop)]
 pub struct Tableau {
     table: Table,
-    verdicts: Items<Option<Verdict>>,
+    verdicts: Items<Option<RowVerdict>>,
 }
 
 impl Model for Tableau {
@@ -44,7 +44,7 @@ impl Model for Tableau {
 }
 
 impl Tableau {
-    ghost use Rattle.std.specs.Prelude.{◌≡◌, ℕ, ℤ, pos, ◌<ℤ◌, ◌+◌, ◌<◌, ◌^◌, ◌↔◌, List, [], ◌∷◌, ◌++◌, Some, length, slice_get, IfOk, IfErr, OnOk, OnErr};
+    ghost use Rattle.std.specs.Prelude.{◌≡◌, ℕ, ℤ, pos, ◌<ℤ◌, ◌+◌, ◌<◌, ◌^◌, ◌↔◌, [], ◌∷◌, ◌++◌, Some, length, slice_get, IfOk, IfErr, OnOk, OnErr};
     ghost use Rattle.sv_linear.specs.Forms.{form_value};
     ghost use Rattle.sv_linear.specs.declared.row.Row.{Row};
     ghost use Rattle.sv_linear.specs.declared.row.RowKind.TheVariants.{Eq};
@@ -53,10 +53,10 @@ impl Tableau {
     ghost use Rattle.lia_tableau.specs.Bases.{IsRowAt, LinesHold, IsSlackBasis};
     ghost use Rattle.lia_tableau.specs.BasicPoints.{IsValueAt, IsPoint};
     ghost use Rattle.lia_tableau.specs.Shown.{IsStatus};
-    ghost use Rattle.lia_tableau.specs.Crossing.{IsPast, IsMemory};
+    ghost use Rattle.lia_tableau.specs.Crossing.{IsPastFault, IsMemory};
     ghost use Rattle.lia_tableau.specs.Pivoting.{IsPivoted, IsPastPivot};
     ghost use Rattle.lia_tableau.specs.Adding.{IsPutOut, IsRowAdded, IsPastRow};
-    ghost use Rattle.lia_tableau.specs.declared.status.Status.TheVariants.{Divisor, Conflict, Point, Due};
+    ghost use Rattle.lia_tableau.specs.declared.status.TableauStatus.TheVariants.{Divisor, Conflict, Point, Due};
     ghost use Rattle.lia_tableau.specs.declared.standing.Standing.TheVariants.{Basic};
 
     /// The tableau whose basis are the slacks of the rows, which name unknowns below `unknowns` alone and
@@ -98,7 +98,7 @@ impl Tableau {
         ensures rows { OnOk result (self.new.rows ≡ self.old.rows ++ row.now ∷ []) }
         ensures pivots { self.new.pivots ≡ self.old.pivots }
         ensures added { OnOk result (IsRowAdded self.old.lines self.new.lines row.now) }
-        ensures past { IfErr result (IsPast (IsPastRow self.old row.now)) }
+        ensures past { IfErr result (IsPastFault (IsPastRow self.old row.now)) }
         ensures unchanged { OnErr result (self.new ≡ self.old) }
     {
         let mut line = self.slack_line(alloc, row)?;
@@ -146,21 +146,21 @@ impl Tableau {
 
     /// What the rows show. Reads what is kept of each row, three flags a quantity, and the terms of one
     /// row at the most; takes no memory.
-    pub fn status(&self) -> Status
+    pub fn status(&self) -> TableauStatus
         ensures shows { IsStatus self.now result }
         ensures no_whole { (k : ℕ) → result ≡ Divisor k → (x : ℕ → ℤ) → SolvesWithSlacks self.now.unknowns self.now.rows x (pos 1) → ⊥ }
         ensures no_rational { (k : ℕ) → result ≡ Conflict k → (x : ℕ → ℤ) (d : ℤ) → pos 0 <ℤ d → SolvesWithSlacks self.now.unknowns self.now.rows x d → ⊥ }
         ensures meets { result ≡ Point → (x : ℕ → ℤ) (d : ℤ) → IsPoint self.now.lines x d → SolvesWithSlacks self.now.unknowns self.now.rows x d }
     {
         if let Some(found) = least_row(&self.table, self.verdicts.as_slice(), Sought::Divisor) {
-            return Status::Divisor(found.place);
+            return TableauStatus::Divisor(found.place);
         }
         if let Some(found) = least_row(&self.table, self.verdicts.as_slice(), Sought::Conflict) {
-            return Status::Conflict(found.place);
+            return TableauStatus::Conflict(found.place);
         }
         match due_exchange(&self.table, self.verdicts.as_slice()) {
-            Some(_) => Status::Due,
-            None => Status::Point,
+            Some(_) => TableauStatus::Due,
+            None => TableauStatus::Point,
         }
     }
 
@@ -200,7 +200,7 @@ impl Tableau {
         ensures pivoted { OnOk result (IsPivoted self.old self.new) }
         ensures solutions { (x : ℕ → ℤ) (d : ℤ) → LinesHold self.new.lines x d ↔ LinesHold self.old.lines x d }
         ensures pivots { OnOk result (self.new.pivots ≡ self.old.pivots + 1) }
-        ensures past { IfErr result (IsPast (IsPastPivot self.old)) }
+        ensures past { IfErr result (IsPastFault (IsPastPivot self.old)) }
         ensures unchanged { OnErr result (self.new ≡ self.old) }
     {
         let Some(exchange) = due_exchange(&self.table, self.verdicts.as_slice()) else {
@@ -293,7 +293,7 @@ fn grow(
     unknowns: u32,
     rows: &mut Items<Row>,
     lines: &mut Items<Standing>,
-    verdicts: &mut Items<Option<Verdict>>,
+    verdicts: &mut Items<Option<RowVerdict>>,
     row: Row,
     line: Row,
 ) -> Result<(), AllocError>

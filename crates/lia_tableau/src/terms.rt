@@ -1,56 +1,55 @@
-ghost use Rattle.std.specs.Prelude.{◌≡◌, ◌≢◌, ℕ, ℤ, pos, ◌<◌, ◌≤◌, ◌^◌, ◌↔◌, IsTrue, MatchOption};
-ghost use Rattle.sv_linear.specs.Terms.{AscendsWithin};
+ghost use Rattle.std.specs.Prelude.{◌≡◌, ◌≢◌, ℕ, pos, ◌<◌, ◌≤◌, ◌↔◌, IsTrue, MatchOption};
 ghost use Rattle.lia_tableau.specs.Quantities.{bound_of, bound_of_kind};
 ghost use Rattle.lia_tableau.specs.Shown.{HoldsEquationsAlone, IsUnknownsDivisor, ShowsDivisor, Breaks, CanMend, Mends, HaveOppositeSigns};
 ghost use Rattle.sv_linear.specs.Rows.{HasSymmetricEntries};
 
-use crate::bound::Bound;
+use crate::bound::QuantityBound;
 use sv_linear::{Form, Row, RowKind, gcd};
 
 /// The least common divisor that shows anything.
 const LEAST_DIVISOR: i128 = 2;
 
 /// The bound of a quantity, where the first ones are unknowns.
-pub(crate) fn bound_at(unknowns: u32, rows: &[Row], quantity: u32) -> Bound
+pub(crate) fn bound_at(unknowns: u32, rows: &[Row], quantity: u32) -> QuantityBound
     ensures { result ≡ bound_of unknowns rows.now quantity }
 {
     if quantity < unknowns {
-        return Bound::Free;
+        return QuantityBound::Free;
     }
     match rows.get((quantity - unknowns) as usize) {
         Some(row) => slack_bound(row.kind),
-        None => Bound::Fixed,
+        None => QuantityBound::Fixed,
     }
 }
 
-fn slack_bound(kind: RowKind) -> Bound
+fn slack_bound(kind: RowKind) -> QuantityBound
     ensures { result ≡ bound_of_kind kind }
 {
     match kind {
-        RowKind::Le => Bound::NotNegative,
-        RowKind::Eq => Bound::Fixed,
+        RowKind::Le => QuantityBound::NotNegative,
+        RowKind::Eq => QuantityBound::Fixed,
     }
 }
 
 /// Whether a quantity of the basis with this bound breaks it.
-pub(crate) fn is_broken(bound: Bound, form: &Form) -> bool
+pub(crate) fn is_broken(bound: QuantityBound, form: &Form) -> bool
     ensures { IsTrue result ↔ Breaks bound form.now }
 {
     match bound {
-        Bound::Free => false,
-        Bound::NotNegative => 0 < form.constant,
-        Bound::Fixed => form.constant != 0,
+        QuantityBound::Free => false,
+        QuantityBound::NotNegative => 0 < form.constant,
+        QuantityBound::Fixed => form.constant != 0,
     }
 }
 
 /// Whether a quantity outside with this bound, held so many times, can mend a break with this constant.
-fn can_mend(bound: Bound, coefficient: i128, constant: i128) -> bool
+fn can_mend(bound: QuantityBound, coefficient: i128, constant: i128) -> bool
     ensures { IsTrue result ↔ CanMend bound coefficient constant }
 {
     match bound {
-        Bound::Free => coefficient != 0,
-        Bound::NotNegative => are_opposite(coefficient, constant),
-        Bound::Fixed => false,
+        QuantityBound::Free => coefficient != 0,
+        QuantityBound::NotNegative => are_opposite(coefficient, constant),
+        QuantityBound::Fixed => false,
     }
 }
 
@@ -83,7 +82,10 @@ fn holds_equations_alone(unknowns: u32, rows: &[Row], form: &Form) -> bool
     ensures { IsTrue result ↔ HoldsEquationsAlone unknowns rows.now form.now }
 {
     for (quantity, _) in form.coefficients.as_slice() {
-        if matches!(bound_at(unknowns, rows, *quantity), Bound::NotNegative) {
+        if matches!(
+            bound_at(unknowns, rows, *quantity),
+            QuantityBound::NotNegative
+        ) {
             return false;
         }
     }

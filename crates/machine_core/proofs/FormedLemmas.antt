@@ -7,39 +7,39 @@ use Rattle.sv_word.specs.Ranges.{in_ranges, IsApartFrom}
 use Rattle.machine_core.specs.declared.edge.Edge.{Edge}
 use Rattle.machine_core.specs.declared.end.End.{End}
 use Rattle.machine_core.specs.Places.{add_to}
-use Rattle.machine_core.specs.Edges.{IsEdge, IsEnd, IsFormed}
+use Rattle.machine_core.specs.Edges.{IsEdge, IsEnd, AreEdgesAndEnds}
 use Rattle.machine_core.specs.Indexed.{AreIndexed}
 use Rattle.machine_core.specs.PlaceLaws.{index-add, length-add_to}
 use Rattle.sv_word.specs.Words.{greatest_character}
 
-module _ (states width : ℕ) (edges : List Edge) (ends : List End) (formed : IsFormed states width edges ends) where
-  formed-edge : (e : Edge) → IsEdge states width e → IsFormed states width (edges ++ e ∷ []) ends
+module _ (states width : ℕ) (edges : List Edge) (ends : List End) (formed : AreEdgesAndEnds states width edges ends) where
+  formed-edge : (e : Edge) → IsEdge states width e → AreEdgesAndEnds states width (edges ++ e ∷ []) ends
   formed-edge e ok = record {
     edge = λ f k. elim (Contains-push_cases edges e f k) [ inl h ↦ formed.edge f h | inr h ↦ subst (IsEdge states width) h ok ];
     ending = formed.ending;
   }
 
-  formed-end : (e : End) → IsEnd states width e → IsFormed states width edges (ends ++ e ∷ [])
+  formed-end : (e : End) → IsEnd states width e → AreEdgesAndEnds states width edges (ends ++ e ∷ [])
   formed-end e ok = record {
     edge = formed.edge;
     ending = λ f k. elim (Contains-push_cases ends e f k) [ inl h ↦ formed.ending f h | inr h ↦ subst (IsEnd states width) h ok ];
   }
 
 -- after a push that may have failed
-module _ {T E : Type 0} (r : Result T E) (states width : ℕ) (edges new_edges : List Edge) (ends new_ends : List End) (formed : IsFormed states width edges ends) where
-  pub formed-edge-pushed : (e : Edge) → IsEdge states width e → OnOk r (new_edges ≡ edges ++ e ∷ []) → OnErr r (new_edges ≡ edges) → IsFormed states width new_edges ends
+module _ {T E : Type 0} (r : Result T E) (states width : ℕ) (edges new_edges : List Edge) (ends new_ends : List End) (formed : AreEdgesAndEnds states width edges ends) where
+  pub formed-edge-pushed : (e : Edge) → IsEdge states width e → OnOk r (new_edges ≡ edges ++ e ∷ []) → OnErr r (new_edges ≡ edges) → AreEdgesAndEnds states width new_edges ends
   formed-edge-pushed e ok a b = by_case r a b
     where
-      by_case : (r : Result T E) → OnOk r (new_edges ≡ edges ++ e ∷ []) → OnErr r (new_edges ≡ edges) → IsFormed states width new_edges ends
-      by_case (Ok x) a b = subst (λ l. IsFormed states width l ends) (sym a) (formed-edge states width edges ends formed e ok)
-      by_case (Err x) a b = subst (λ l. IsFormed states width l ends) (sym b) formed
+      by_case : (r : Result T E) → OnOk r (new_edges ≡ edges ++ e ∷ []) → OnErr r (new_edges ≡ edges) → AreEdgesAndEnds states width new_edges ends
+      by_case (Ok x) a b = subst (λ l. AreEdgesAndEnds states width l ends) (sym a) (formed-edge states width edges ends formed e ok)
+      by_case (Err x) a b = subst (λ l. AreEdgesAndEnds states width l ends) (sym b) formed
 
-  pub formed-end-pushed : (e : End) → IsEnd states width e → OnOk r (new_ends ≡ ends ++ e ∷ []) → OnErr r (new_ends ≡ ends) → IsFormed states width edges new_ends
+  pub formed-end-pushed : (e : End) → IsEnd states width e → OnOk r (new_ends ≡ ends ++ e ∷ []) → OnErr r (new_ends ≡ ends) → AreEdgesAndEnds states width edges new_ends
   formed-end-pushed e ok a b = by_case r a b
     where
-      by_case : (r : Result T E) → OnOk r (new_ends ≡ ends ++ e ∷ []) → OnErr r (new_ends ≡ ends) → IsFormed states width edges new_ends
-      by_case (Ok x) a b = subst (λ l. IsFormed states width edges l) (sym a) (formed-end states width edges ends formed e ok)
-      by_case (Err x) a b = subst (λ l. IsFormed states width edges l) (sym b) formed
+      by_case : (r : Result T E) → OnOk r (new_ends ≡ ends ++ e ∷ []) → OnErr r (new_ends ≡ ends) → AreEdgesAndEnds states width edges new_ends
+      by_case (Ok x) a b = subst (λ l. AreEdgesAndEnds states width edges l) (sym a) (formed-end states width edges ends formed e ok)
+      by_case (Err x) a b = subst (λ l. AreEdgesAndEnds states width edges l) (sym b) formed
 
 module _ (states : ℕ) (edges : List Edge) (ends : List End) (edge_places end_places : List (List ℕ)) (ok : AreIndexed states edges ends edge_places end_places) where
   pub indexed-edge : (e : Edge) (new : List Edge) (rows : List (List ℕ)) (n : ℕ) → new ≡ edges ++ e ∷ [] → n ≡ length edges → rows ≡ add_to e.from n edge_places

@@ -12,7 +12,7 @@ use Rattle.machine_core.specs.Lists.{Any-here, Any-there, Any-cases, Any-none}
 use Rattle.machine_core.specs.Moves.{Moves}
 use Rattle.machine_core.specs.Places.{pick}
 use Rattle.machine_core.specs.PlaceLaws.{pick-more}
-use Rattle.machine_core.specs.Edges.{EndsAt, StepsBy, IsFormed, move_of, from_of, at_of}
+use Rattle.machine_core.specs.Edges.{EndsAt, StepsBy, AreEdgesAndEnds, move_of, from_of, at_of}
 
 -- the step of a loop over places, where the element is read by its place
 pub picked-step : {X Y : Type 0} (f : X → Y) (xs : List X) (ps : List ℕ) (i : ℕ) (x : X) (out new : List Y) (y : Y)
@@ -70,7 +70,7 @@ moves-exact s edges c cost to = kept-exact from_of move_of (Moves c cost to) s e
 pub costs-exact : (s : ℕ) (ends : List End) (cost : List ℕ) → EndsAt ends s cost ↔ Any (λ e. e ≡ cost) (costs_at s ends)
 costs-exact s ends cost = kept-exact at_of (λ e. e.cost) (λ e. e ≡ cost) s ends
 
-pub moves-inhabited : (states width : ℕ) (edges : List Edge) (ends : List End) (formed : IsFormed states width edges ends) (s : ℕ)
+pub moves-inhabited : (states width : ℕ) (edges : List Edge) (ends : List End) (formed : AreEdgesAndEnds states width edges ends) (s : ℕ)
     → All (λ m. IsInhabited m.on) (moves_at s edges)
 moves-inhabited states width edges ends formed s =
     All-map (λ m. IsInhabited m.on) move_of (filter (λ e. nat_eq (from_of e) s) edges)

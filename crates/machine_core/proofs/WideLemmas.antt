@@ -8,9 +8,9 @@ use Rattle.machine_core.specs.declared.edge.Edge.{Edge}
 use Rattle.machine_core.specs.declared.end.End.{End}
 use Rattle.machine_core.specs.Language.{RunsFrom}
 use Rattle.machine_core.specs.Moves.{Moves}
-use Rattle.machine_core.specs.Edges.{EndsAt, StepsBy, IsFormed, move_of, wide_edge, wide_end, edges_top, ends_top, listed_top}
+use Rattle.machine_core.specs.Edges.{EndsAt, StepsBy, AreEdgesAndEnds, move_of, wide_edge, wide_end, edges_top, ends_top, listed_top}
 
-module _ (states n : ℕ) (edges : List Edge) (ends : List End) (formed : IsFormed states 0 edges ends) where
+module _ (states n : ℕ) (edges : List Edge) (ends : List End) (formed : AreEdgesAndEnds states 0 edges ends) where
   wide-ends-in : (s : ℕ) (cost : List ℕ) → EndsAt (map (wide_end n) ends) s cost → EndsAt ends s [] × (cost ≡ zeros n)
   wide-ends-in s cost a =
       let b = Any-from_map (wide_end n) (λ e. (e.at ≡ s) × (e.cost ≡ cost)) ends a in

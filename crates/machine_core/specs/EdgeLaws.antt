@@ -7,7 +7,7 @@ use Rattle.machine_core.specs.Language.{RunsFrom, StopsAt}
 use Rattle.machine_core.specs.LanguageLaws.{runs_width, runs_cut}
 use Rattle.machine_core.specs.CostLaws.{zeros-length, top_by-at, top_by-least, top_by-push, cost_top-at, cost_top-least}
 use Rattle.machine_core.specs.RunBounds.{RunsWithin, PathsWithin, step_within, end_within, runs_from_steps, paths_from_steps}
-use Rattle.machine_core.specs.Edges.{EndsAt, StepsBy, IsFormed, edges_top, ends_top, listed_top}
+use Rattle.machine_core.specs.Edges.{EndsAt, StepsBy, AreEdgesAndEnds, edges_top, ends_top, listed_top}
 use Rattle.machine_core.specs.declared.edge.Edge.{Edge}
 use Rattle.machine_core.specs.declared.end.End.{End}
 use Rattle.sv_word.specs.Words.{greatest_character}
@@ -19,7 +19,7 @@ listed_top-edge edges new ends e h = let r = top_by-push (λ (e : Edge). cost_to
 pub listed_top-end : (edges : List Edge) (ends new : List End) (e : End) → new ≡ ends ++ e ∷ [] → listed_top edges new ≡ max (listed_top edges ends) (cost_top e.cost)
 listed_top-end edges ends new e h = let r = top_by-push (λ (e : End). cost_top e.cost) ends e in rw h (omega arith)
 
-module _ (states width : ℕ) (edges : List Edge) (ends : List End) (formed : IsFormed states width edges ends) where
+module _ (states width : ℕ) (edges : List Edge) (ends : List End) (formed : AreEdgesAndEnds states width edges ends) where
   pub step_target : (s t c : ℕ) (cost : List ℕ) → StepsBy edges s c cost t → t < states
   step_target s t c cost m = subst (λ n. n < states) m.4.1.2 (formed.edge m.1 (m.0, m.2, m.3)).to
 

@@ -58,7 +58,7 @@ pub record IsEnd (states width : ℕ) (e : End) : Type 0 where
   pub at : e.at < states
   pub cost : length e.cost ≡ width
 
-pub record IsFormed (states width : ℕ) (edges : List Edge) (ends : List End) : Type 0 where
+pub record AreEdgesAndEnds (states width : ℕ) (edges : List Edge) (ends : List End) : Type 0 where
   pub edge : (e : Edge) → Contains edges e → IsEdge states width e
   pub ending : (e : End) → Contains ends e → IsEnd states width e
 

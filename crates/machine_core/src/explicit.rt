@@ -1,12 +1,11 @@
-ghost use Rattle.std.specs.Prelude.{◌≡◌, ℕ, ◌<◌, ◌≤◌, ◌↔◌, List, [], ◌∷◌, ◌++◌, length, map, max, slice_get, Some, Any, IsTrue, IfOk, OnOk, OnErr};
+ghost use Rattle.std.specs.Prelude.{◌≡◌, ℕ, ◌<◌, ◌↔◌, List, [], ◌∷◌, ◌++◌, length, map, max, slice_get, Some, IfOk, OnOk, OnErr};
 ghost use Rattle.sv_word.specs.Ranges.{IsInhabited};
 ghost use Rattle.machine_core.specs.Costs.{zeros, cost_top};
 ghost use Rattle.machine_core.specs.Counts.{at_most-below};
 ghost use Rattle.machine_core.specs.Places.{places, pick};
-ghost use Rattle.machine_core.specs.Edges.{edge, ending, from_of, at_of, move_of, wide_edge, wide_end, EndsAt, StepsBy, edges_top, ends_top, listed_top};
+ghost use Rattle.machine_core.specs.Edges.{edge, ending, from_of, at_of, move_of, wide_edge, wide_end, EndsAt, StepsBy, listed_top};
 ghost use Rattle.machine_core.specs.EdgeLaws.{step_target, step_character, step_cost, end_cost};
 ghost use Rattle.machine_core.specs.Graphs.{Accepts, graph_top};
-ghost use Rattle.machine_core.specs.RunBounds.{RunsWithin, PathsWithin};
 
 use crate::cost::Cost;
 use crate::edge::Edge;

@@ -1,5 +1,5 @@
 ghost use Rattle.std.specs.Prelude.{◌<◌};
-ghost use Rattle.machine_core.specs.Edges.{IsFormed};
+ghost use Rattle.machine_core.specs.Edges.{AreEdgesAndEnds};
 
 use crate::edge::Edge;
 use crate::end::End;
@@ -14,5 +14,5 @@ pub struct Graph {
     pub edges: Items<Edge>,
     pub ends: Items<End>,
     pub ghost started: { 0 < states },
-    pub ghost formed: { IsFormed states registers edges ends },
+    pub ghost formed: { AreEdgesAndEnds states registers edges ends },
 }

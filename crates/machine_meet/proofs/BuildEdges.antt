@@ -9,18 +9,18 @@ use Rattle.machine_core.specs.Costs.{IsCost, cost_top}
 use Rattle.machine_core.specs.CostLaws.{top_by-least, cost_top-least}
 use Rattle.machine_core.specs.Lists.{Any-none, Any-append_left, Any-append_right, Any-append_cases, Any-map, Any-from_map}
 use Rattle.machine_core.specs.Moves.{Moves, IsMove}
-use Rattle.machine_core.specs.Edges.{ending, move_of, EndsAt, StepsBy, IsFormed, edges_top, ends_top, listed_top}
+use Rattle.machine_core.specs.Edges.{ending, move_of, EndsAt, StepsBy, AreEdgesAndEnds, edges_top, ends_top, listed_top}
 use Rattle.machine_core.specs.EdgeLaws.{step_target, step_cost, end_cost}
 use Rattle.machine_core.specs.Graphs.{Accepts, graph_top}
 use Rattle.machine_meet.specs.Builds.{placed_edge, placed_end, leaving_edge, StandsFor, IsBranch}
 use Rattle.machine_meet.proofs.BuildRuns.{IsPlaced, union-runs}
 
 -- an edge is of a step on its least character
-pub edge-steps : (states width : ℕ) (edges : List Edge) (ends : List End) → IsFormed states width edges ends → (e : Edge) → Contains edges e → StepsBy edges e.from (least_of e.on) e.cost e.to
+pub edge-steps : (states width : ℕ) (edges : List Edge) (ends : List End) → AreEdgesAndEnds states width edges ends → (e : Edge) → Contains edges e → StepsBy edges e.from (least_of e.on) e.cost e.to
 edge-steps states width edges ends formed e i = (i.0, e, i.1, i.2, (refl, ((formed.edge e i).on, refl, refl)))
 
 -- bounds on what steps and ends cost bound the greatest cost
-pub top-within : (states width bound : ℕ) (edges : List Edge) (ends : List End) → IsFormed states width edges ends
+pub top-within : (states width bound : ℕ) (edges : List Edge) (ends : List End) → AreEdgesAndEnds states width edges ends
     → ((s c : ℕ) (k : List ℕ) (t : ℕ) → StepsBy edges s c k t → IsCost width bound k) → ((s : ℕ) (k : List ℕ) → EndsAt ends s k → IsCost width bound k)
     → listed_top edges ends ≤ bound
 top-within states width bound edges ends formed steps last =
@@ -31,11 +31,11 @@ top-within states width bound edges ends formed steps last =
     omega arith
 
 -- what leaves a state of a well-formed machine leaves one of its states
-pub step-source : (states width : ℕ) (edges : List Edge) (ends : List End) → IsFormed states width edges ends
+pub step-source : (states width : ℕ) (edges : List Edge) (ends : List End) → AreEdgesAndEnds states width edges ends
     → (s c t : ℕ) (k : List ℕ) → StepsBy edges s c k t → s < states
 step-source states width edges ends formed s c t k m = subst (λ n. n < states) m.4.0 (formed.edge m.1 (m.0, m.2, m.3)).from
 
-pub end-source : (states width : ℕ) (edges : List Edge) (ends : List End) → IsFormed states width edges ends
+pub end-source : (states width : ℕ) (edges : List Edge) (ends : List End) → AreEdgesAndEnds states width edges ends
     → (s : ℕ) (k : List ℕ) → EndsAt ends s k → s < states
 end-source states width edges ends formed s k m = subst (λ n. n < states) m.4.0 (formed.ending m.1 (m.0, m.2, m.3)).at
 
@@ -76,7 +76,7 @@ ends-append xs ys s k = let P : End → Type 0 = λ e. (e.at ≡ s) × (e.cost �
     (λ a. Any-append_cases P xs ys a, λ h. elim h [ inl a ↦ Any-append_left P xs ys a | inr a ↦ Any-append_right P xs ys a ])
 
 -- the moves that leave a state of a well-formed machine
-pub moves-formed : (states width : ℕ) (edges : List Edge) (ends : List End) → IsFormed states width edges ends → (s : ℕ) (moves : List (Move ℕ))
+pub moves-formed : (states width : ℕ) (edges : List Edge) (ends : List End) → AreEdgesAndEnds states width edges ends → (s : ℕ) (moves : List (Move ℕ))
     → ((c : ℕ) (k : List ℕ) (t : ℕ) → StepsBy edges s c k t ↔ Any (Moves c k t) moves) → All (λ m. IsInhabited m.on) moves
     → (m : Move ℕ) → Contains moves m → IsMove states width m
 moves-formed states width edges ends formed s moves exact inhabited m i =

@@ -12,7 +12,7 @@ use Rattle.machine_core.specs.Moves.{Moves}
 use Rattle.machine_core.specs.Edges.{move_of, EndsAt, StepsBy}
 use Rattle.machine_core.specs.EdgeLaws.{step_target, step_cost, end_cost}
 use Rattle.machine_core.specs.Graphs.{Accepts, graph_top}
-use Rattle.machine_meet.specs.Builds.{placed_edge, placed_end, after_edge, after_end, AfterSteps, AfterEnds, GoesOn, InTurn}
+use Rattle.machine_meet.specs.Builds.{placed_edge, placed_end, after_edge, after_end, AfterSteps, AfterEnds, AddsPart, InTurn}
 use Rattle.machine_meet.specs.Joins.{CanAdd}
 use Rattle.machine_meet.proofs.JoinLemmas.{take-push}
 use Rattle.machine_meet.proofs.BuildEdges.{placed-steps, placed-ends, steps-append, ends-append, step-source, end-source, top-within}
@@ -49,7 +49,7 @@ module _ (part : Graph) (offset : ℕ) where
   pub goes-on-one : (old new : Graph) (e : End) (moves : List (Move ℕ)) (costs : List (List ℕ)) → new.states ≡ old.states → new.registers ≡ old.registers
       → new.edges ≡ old.edges ++ map (after_edge e offset) moves → new.ends ≡ old.ends ++ map (after_end e) costs
       → ((c : ℕ) (k : List ℕ) (t : ℕ) → StepsBy part.edges 0 c k t ↔ Any (Moves c k t) moves) → ((k : List ℕ) → EndsAt part.ends 0 k ↔ Any (λ x. x ≡ k) costs)
-      → GoesOn old new part (e ∷ []) offset
+      → AddsPart old new part (e ∷ []) offset
   goes-on-one old new e moves costs p q edges ends exact last = record {
     states = p;
     registers = q;
@@ -67,7 +67,7 @@ module _ (part : Graph) (offset : ℕ) where
         );
   }
 
-  pub goes-on-start : (w : Graph) → GoesOn w w part [] offset
+  pub goes-on-start : (w : Graph) → AddsPart w w part [] offset
   goes-on-start w = record {
     states = refl;
     registers = refl;
@@ -76,10 +76,10 @@ module _ (part : Graph) (offset : ℕ) where
   }
 
   pub goes-on-next : (w0 w1 w2 : Graph) (ends : List End) (i : ℕ) (e : End) → i < length ends → e ≡ get_or ends i e
-      → GoesOn w0 w1 part (take i ends) offset → GoesOn w1 w2 part (e ∷ []) offset → GoesOn w0 w2 part (take (i + 1) ends) offset
+      → AddsPart w0 w1 part (take i ends) offset → AddsPart w1 w2 part (e ∷ []) offset → AddsPart w0 w2 part (take (i + 1) ends) offset
   goes-on-next w0 w1 w2 ends i e lt is g h =
       let grown : take (i + 1) ends ≡ take i ends ++ e ∷ [] = rw add-one (take-push ends i e lt ∙ ap (λ x. take i ends ++ x ∷ []) (sym is)) in
-      subst (λ l. GoesOn w0 w2 part l offset) (sym grown) (record {
+      subst (λ l. AddsPart w0 w2 part l offset) (sym grown) (record {
         states = h.states ∙ g.states;
         registers = h.registers ∙ g.registers;
         steps = λ s c k t. (
@@ -121,7 +121,7 @@ pub can-add-within : (w s t : ℕ) (x y : List ℕ) → s + t < 2 ^ 64 → IsCos
 can-add-within w s t x y lt p q = record { same = p.entries ∙ sym q.entries; fits = λ k. let l = p.below k in let r = q.below k in omega arith }
 
 module _ (w3 w4 a b : Graph) (edges : w3.edges ≡ map (placed_edge 0) a.edges ++ map (placed_edge a.states) b.edges) (ends : w3.ends ≡ map (placed_end a.states) b.ends)
-    (on : GoesOn w3 w4 b a.ends a.states) where
+    (on : AddsPart w3 w4 b a.ends a.states) where
   below-a : (s c t : ℕ) (k : List ℕ) → StepsBy a.edges s c k t → s < a.states
   below-a s c t k m = step-source a.states a.registers a.edges a.ends a.formed s c t k m
 

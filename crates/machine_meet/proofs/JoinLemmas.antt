@@ -8,7 +8,7 @@ use Rattle.machine_core.specs.Lists.{Any-none, Any-here, Any-append_left, Any-ap
 use Rattle.machine_core.specs.Moves.{Moves}
 use Rattle.machine_core.specs.declared.machine.Move.{Move}
 use Rattle.machine_meet.specs.Joins.{Joins, IsJoin, AreJoins}
-use Rattle.machine_meet.specs.Overlaps.{Meets}
+use Rattle.machine_meet.specs.Overlaps.{MovesMeet}
 
 module _ {X : Type 0} where
   pub take-push : (xs : List X) (i : ℕ) (d : X) → i < length xs → take (suc i) xs ≡ take i xs ++ get_or xs i d ∷ []
@@ -61,8 +61,8 @@ AreMade {S} heads tails pairs all = (c : ℕ) (cost : List ℕ) (to : List S) �
 
 -- the moves at a listed pair of places
 module _ {S T : Type 0} (heads : List (Move S)) (tails : List (Move T)) (pairs items : List (ℕ × ℕ)) (same : pairs ≡ items)
-    (meet : (i j : ℕ) → Contains items (i, j) ↔ Meets heads tails i j) (n : ℕ) (lt : n < length pairs) where
-  here : Meets heads tails (get_or pairs n (0, 0)).0 (get_or pairs n (0, 0)).1
+    (meet : (i j : ℕ) → Contains items (i, j) ↔ MovesMeet heads tails i j) (n : ℕ) (lt : n < length pairs) where
+  here : MovesMeet heads tails (get_or pairs n (0, 0)).0 (get_or pairs n (0, 0)).1
   here = (meet (get_or pairs n (0, 0)).0 (get_or pairs n (0, 0)).1).0 (subst (λ l. Contains l (get_or pairs n (0, 0))) same (Contains-get_or pairs n (0, 0) lt))
 
   pub first-within : (get_or pairs n (0, 0)).0 < length heads
@@ -110,7 +110,7 @@ module _ {S : Type 0} (heads : List (Move S)) (tails : List (Move (List S))) whe
       )
 
   -- no two moves that meet are left out
-  pub made-all : (pairs : List (ℕ × ℕ)) (all : List (Move (List S))) (n : ℕ) → length pairs ≤ n → ((i j : ℕ) → Contains pairs (i, j) ↔ Meets heads tails i j)
+  pub made-all : (pairs : List (ℕ × ℕ)) (all : List (Move (List S))) (n : ℕ) → length pairs ≤ n → ((i j : ℕ) → Contains pairs (i, j) ↔ MovesMeet heads tails i j)
       → AreMade heads tails (take n pairs) all → AreJoins heads tails all
   made-all pairs all n le meet made c cost to =
       let P : ℕ × ℕ → Type 0 = JoinsAt heads tails c cost to in

@@ -6,7 +6,7 @@ use Rattle.machine_core.specs.Moves.{Moves}
 use Rattle.machine_core.specs.declared.machine.Move.{Move}
 use Rattle.sv_word.specs.Ranges.{in_ranges}
 use Rattle.machine_meet.specs.Products.{AreStates, MeetEnds, MeetSteps}
-use Rattle.machine_meet.specs.Splits.{Picks, AreWide, AreOptions, AreSteps, as_step}
+use Rattle.machine_meet.specs.Splits.{Picks, AreCostsWide, AreOptions, AreSteps, as_step}
 use Rattle.machine_meet.proofs.JoinLemmas.{Any-push, take-push}
 use Rattle.std.proofs.lemmas.List.{take_all, length-take-le}
 use Rattle.std.proofs.lemmas.Cmp.{tied_itself}
@@ -62,7 +62,7 @@ module _ {P S : Type 0} (steps : P → S → ℕ → List ℕ → S → Type 0) 
   -- options have the width of the steps
   pub options-wide : (is_state : P → S → Type 0) (w : ℕ) (ps : List P) (ss : List S) (c : ℕ) (ts : List S) (os : List (List (List ℕ)))
       → ((p : P) (s t : S) (c : ℕ) (k : List ℕ) → Contains ps p → is_state p s → steps p s c k t → length k ≡ w)
-      → length ts ≡ length ps → AreStates is_state ps ss → AreOptions steps ps ss c ts os → AreWide w os
+      → length ts ≡ length ps → AreStates is_state ps ss → AreOptions steps ps ss c ts os → AreCostsWide w os
   options-wide is_state w [] ss c ts [] wide len st h = tt
   options-wide is_state w [] ss c ts (o ∷ os) wide len st h = let n = h.count in absurd (omega arith)
   options-wide is_state w (p ∷ ps) ss c ts [] wide len st h = tt
@@ -200,11 +200,11 @@ module _ {P S : Type 0} (is_state : P → S → Type 0) (width : P → ℕ) (ps 
       → (ss : List S) (c : ℕ) (ts : List S) (os slice : List (List (List ℕ))) (picked : Option (List (List ℕ)))
       → AreStates is_state ps ss → length ts ≡ length ps → AreOptions steps ps ss c ts os → slice ≡ os
       → (ks : List (List ℕ)) × Picks os ks × (sum_costs (length want) ks ≡ want)
-      → (AreWide (length want) slice → IsPick slice want picked)
+      → (AreCostsWide (length want) slice → IsPick slice want picked)
       → IsSome picked × ((ks : List (List ℕ)) → picked ≡ Some ks → AreSteps steps ps ss c ts ks × (sum_costs (length want) ks ≡ want))
   step-picks steps step_width ss c ts os slice picked states count options same some h =
       let wide = options-wide steps is_state (length want) ps ss c ts os (λ p s t d k i st e. step_width p s t d k st e ∙ agree p i) count states options in
-      let pick = subst (λ x. IsPick x want picked) same (h (subst (AreWide (length want)) (sym same) wide)) in (
+      let pick = subst (λ x. IsPick x want picked) same (h (subst (AreCostsWide (length want)) (sym same) wide)) in (
         picked-some os want some.0 picked some.1 some.2 pick,
         λ ks e. let is = subst (IsPick os want) e pick in (picks-are-steps steps ps ss c ts os ks options is.0, is.1),
       )

@@ -17,8 +17,8 @@ use Rattle.sv_word.specs.Pairs.{pair_eq}
 use Rattle.sv_word.specs.Ranges.{in_ranges, IsApartFrom, IsInhabited}
 use Rattle.machine_core.specs.Lists.{Any-none, Any-append_left, Any-append_right, Any-push_cases, Any-here, Any-contains, Any-map, Any-from_map, contained, Contains-here}
 use Rattle.machine_core.specs.declared.machine.Move.{Move}
-use Rattle.machine_meet.specs.declared.overlaps.Span.{Span}
-use Rattle.machine_meet.specs.Overlaps.{Meets, span, IsSpan, Begins}
+use Rattle.machine_meet.specs.declared.overlaps.MoveInterval.{MoveInterval}
+use Rattle.machine_meet.specs.Overlaps.{MovesMeet, span, IsSpan, BeginsWithin}
 
 below-or : (a b : ℕ) → (a < b) ⊎ (b ≤ a)
 below-or a b = grind arith
@@ -75,13 +75,13 @@ is-at-most : (high n : ℕ) → n ≤ high → nat_le n high ≡ true
 is-at-most high n h = grind (arith, nat_tests)
 
 -- what two searches leave of intervals in the order of their first characters
-pub beginning-exact : (spans from out : List Span) (low high i j : ℕ)
-    → i ≤ length spans → IsPartitionPoint (λ (y : Span). nat_lt y.low low ≡ true) (λ (y : Span). nat_lt y.low low ≡ false) spans i → from ≡ drop i spans
-    → j ≤ length from → IsPartitionPoint (λ (y : Span). nat_le y.low high ≡ true) (λ (y : Span). nat_le y.low high ≡ false) from j → out ≡ take j from
-    → (s : Span) → Contains out s ↔ (Contains spans s × (low ≤ s.low) × (s.low ≤ high))
+pub beginning-exact : (spans from out : List MoveInterval) (low high i j : ℕ)
+    → i ≤ length spans → IsPartitionPoint (λ (y : MoveInterval). nat_lt y.low low ≡ true) (λ (y : MoveInterval). nat_lt y.low low ≡ false) spans i → from ≡ drop i spans
+    → j ≤ length from → IsPartitionPoint (λ (y : MoveInterval). nat_le y.low high ≡ true) (λ (y : MoveInterval). nat_le y.low high ≡ false) from j → out ≡ take j from
+    → (s : MoveInterval) → Contains out s ↔ (Contains spans s × (low ≤ s.low) × (s.low ≤ high))
 beginning-exact spans from out low high i j l1 p1 e1 l2 p2 e2 s =
-    let rest = failing (λ (y : Span). nat_lt y.low low) spans i l1 p1 s in
-    let front = passing (λ (y : Span). nat_le y.low high) from j l2 p2 s in (
+    let rest = failing (λ (y : MoveInterval). nat_lt y.low low) spans i l1 p1 s in
+    let front = passing (λ (y : MoveInterval). nat_le y.low high) from j l2 p2 s in (
       λ h.
           let a = front.0 (subst (λ l. Contains l s) e2 h) in
           let b = rest.0 (subst (λ l. Contains l s) e1 a.0) in
@@ -120,21 +120,21 @@ some-inhabits low [] c apart h = cc
 some-inhabits low (p ∷ rs) c apart h = in-pair (p ∷ rs) p.0 p (Contains-here p rs) (omega arith) apart.1
 
 -- the intervals of the moves before a place
-abbrev pub HasSpans : {S : Type 0} → List (Move S) → ℕ → List Span → Type 0
-HasSpans moves n spans = (s : Span) → Contains spans s ↔ ((s.place < n) × IsSpan moves s)
+abbrev pub HasSpans : {S : Type 0} → List (Move S) → ℕ → List MoveInterval → Type 0
+HasSpans moves n spans = (s : MoveInterval) → Contains spans s ↔ ((s.place < n) × IsSpan moves s)
 
 module _ {S : Type 0} (moves : List (Move S)) where
   pub spans-none : HasSpans moves 0 []
   spans-none s = (λ h. let l = h.1 in absurd (omega arith), λ h. let l = h.0 in absurd (omega arith))
 
-  pub spans-more : (spans new : List Span) (n : ℕ) (m : Move S) → slice_get moves n ≡ Some m → ((p : ℕ × ℕ) → Contains m.on p → p.0 ≤ p.1)
+  pub spans-more : (spans new : List MoveInterval) (n : ℕ) (m : Move S) → slice_get moves n ≡ Some m → ((p : ℕ × ℕ) → Contains m.on p → p.0 ≤ p.1)
       → new ≡ spans ++ map (span n) m.on → HasSpans moves n spans → HasSpans moves (n + 1) new
   spans-more spans new n m at forward made before s = (
     λ h. elim (Contains-append_cases spans (map (span n) m.on) s (subst (λ l. Contains l s) made h)) [
       | inl i ↦ let b = (before s).0 i in let l = b.0 in (omega arith, b.1)
       | inr i ↦
           let p = image (span n) m.on s i in
-          subst (λ (x : Span). (x.place < n + 1) × IsSpan moves x) p.2 (omega arith, (m, at, p.1, forward p.0 p.1))
+          subst (λ (x : MoveInterval). (x.place < n + 1) × IsSpan moves x) p.2 (omega arith, (m, at, p.1, forward p.0 p.1))
     ],
     λ h. subst (λ l. Contains l s) (sym made) (elim (below-or s.place n) [
       | inl lt ↦ Contains-append_left spans (map (span n) m.on) s ((before s).1 (lt, h.1))
@@ -149,32 +149,32 @@ module _ {S : Type 0} (moves : List (Move S)) where
     ]),
   )
 
-  pub spans-done : (spans sorted : List Span) (n : ℕ) → length moves ≤ n → IsPermutation spans sorted → HasSpans moves n spans
-      → (s : Span) → Contains sorted s ↔ IsSpan moves s
+  pub spans-done : (spans sorted : List MoveInterval) (n : ℕ) → length moves ≤ n → IsPermutation spans sorted → HasSpans moves n spans
+      → (s : MoveInterval) → Contains sorted s ↔ IsSpan moves s
   spans-done spans sorted n le perm has s = (
     λ h. ((has s).0 (Contains-permutation sorted spans s (IsPermutation-sym spans sorted perm) h)).1,
     λ h. let lt = slice_get_within moves s.place h.0 h.1 in Contains-permutation spans sorted s perm ((has s).1 (omega arith, h)),
   )
 
 -- pairs of places where an interval begins within another one
-abbrev pub AreBegun : List Span → List Span → List (ℕ × ℕ) → Type 0
-AreBegun around spans pairs = (i j : ℕ) → Contains pairs (i, j) ↔ Begins around spans i j
+abbrev pub AreBegun : List MoveInterval → List MoveInterval → List (ℕ × ℕ) → Type 0
+AreBegun around spans pairs = (i j : ℕ) → Contains pairs (i, j) ↔ BeginsWithin around spans i j
 
-abbrev pub with_place : ℕ → Span → ℕ × ℕ
+abbrev pub with_place : ℕ → MoveInterval → ℕ × ℕ
 with_place place s = (place, s.place)
 
-module _ (spans : List Span) where
-  abbrev Inner : Span → ℕ → Span → Type 0
+module _ (spans : List MoveInterval) where
+  abbrev Inner : MoveInterval → ℕ → MoveInterval → Type 0
   Inner a j b = (b.place ≡ j) × (a.low ≤ b.low) × (b.low ≤ a.high)
 
-  abbrev Outer : ℕ → ℕ → Span → Type 0
+  abbrev Outer : ℕ → ℕ → MoveInterval → Type 0
   Outer i j a = (a.place ≡ i) × Any (Inner a j) spans
 
   pub begun-none : AreBegun [] spans []
   begun-none i j = (λ h. let l = h.1 in absurd (omega arith), λ h. absurd (Any-none (Outer i j) h))
 
-  pub begun-more : (around window : List Span) (pairs new : List (ℕ × ℕ)) (n : ℕ) (a d : Span) → n < length around → a ≡ get_or around n d
-      → ((s : Span) → Contains window s ↔ (Contains spans s × (a.low ≤ s.low) × (s.low ≤ a.high)))
+  pub begun-more : (around window : List MoveInterval) (pairs new : List (ℕ × ℕ)) (n : ℕ) (a d : MoveInterval) → n < length around → a ≡ get_or around n d
+      → ((s : MoveInterval) → Contains window s ↔ (Contains spans s × (a.low ≤ s.low) × (s.low ≤ a.high)))
       → new ≡ pairs ++ map (with_place a.place) window → AreBegun (take n around) spans pairs → AreBegun (take (n + 1) around) spans new
   begun-more around window pairs new n a d lt is within made before i j =
       let grown : take (n + 1) around ≡ take n around ++ a ∷ [] = take_more around n d lt ∙ ap (λ y. take n around ++ y ∷ []) (sym is) in (
@@ -197,13 +197,13 @@ module _ (spans : List Span) where
         ]),
       )
 
-  pub begun-done : (around : List Span) (pairs : List (ℕ × ℕ)) (n : ℕ) → length around ≤ n → AreBegun (take n around) spans pairs → AreBegun around spans pairs
+  pub begun-done : (around : List MoveInterval) (pairs : List (ℕ × ℕ)) (n : ℕ) → length around ≤ n → AreBegun (take n around) spans pairs → AreBegun around spans pairs
   begun-done around pairs n le h = subst (λ l. AreBegun l spans pairs) (take_all n around le) h
 
 -- moves of which intervals overlap read a character in common
-module _ {S T : Type 0} (heads : List (Move S)) (tails : List (Move T)) (hs ts : List Span)
-    (heads-are : (s : Span) → Contains hs s ↔ IsSpan heads s) (tails-are : (s : Span) → Contains ts s ↔ IsSpan tails s) where
-  begins-meet : (i j : ℕ) → Begins hs ts i j → Meets heads tails i j
+module _ {S T : Type 0} (heads : List (Move S)) (tails : List (Move T)) (hs ts : List MoveInterval)
+    (heads-are : (s : MoveInterval) → Contains hs s ↔ IsSpan heads s) (tails-are : (s : MoveInterval) → Contains ts s ↔ IsSpan tails s) where
+  begins-meet : (i j : ℕ) → BeginsWithin hs ts i j → MovesMeet heads tails i j
   begins-meet i j h =
       let a = contained (Outer ts i j) hs h in
       let b = contained (Inner ts a.0 j) ts a.2.1 in
@@ -219,7 +219,7 @@ module _ {S T : Type 0} (heads : List (Move S)) (tails : List (Move T)) (hs ts :
       )
 
   -- and the other way round one of two such intervals begins within the other one
-  meet-begins : (i j : ℕ) → Meets heads tails i j → Begins hs ts i j ⊎ Begins ts hs j i
+  meet-begins : (i j : ℕ) → MovesMeet heads tails i j → BeginsWithin hs ts i j ⊎ BeginsWithin ts hs j i
   meet-begins i j m =
       let p = pair-of m.0.on m.2 m.5 in
       let q = pair-of m.1.on m.2 m.6 in
@@ -246,11 +246,11 @@ pair-same p q e =
     let second : p.1 ≡ q.1 = grind (arith, nat_tests) in
     ap (λ (x : ℕ). (x, p.1)) first ∙ ap (λ (y : ℕ). (q.0, y)) second
 
-pub meeting-done : {S T : Type 0} (heads : List (Move S)) (tails : List (Move T)) (hs ts : List Span) (first others pairs sorted out : List (ℕ × ℕ))
-    → ((s : Span) → Contains hs s ↔ IsSpan heads s) → ((s : Span) → Contains ts s ↔ IsSpan tails s)
+pub meeting-done : {S T : Type 0} (heads : List (Move S)) (tails : List (Move T)) (hs ts : List MoveInterval) (first others pairs sorted out : List (ℕ × ℕ))
+    → ((s : MoveInterval) → Contains hs s ↔ IsSpan heads s) → ((s : MoveInterval) → Contains ts s ↔ IsSpan tails s)
     → AreBegun hs ts first → AreBegun ts hs others → pairs ≡ first ++ map swapped others
     → IsPermutation pairs sorted → IsFiltered (DiffersFromLast pair_eq) [] sorted out
-    → (i j : ℕ) → Contains out (i, j) ↔ Meets heads tails i j
+    → (i j : ℕ) → Contains out (i, j) ↔ MovesMeet heads tails i j
 meeting-done heads tails hs ts first others pairs sorted out heads-are tails-are first-are others-are made perm filtered i j =
     let is : out ≡ dedup pair_eq sorted = dedup_is pair_eq sorted out filtered in (
       λ h.

@@ -6,10 +6,10 @@ use Rattle.std.proofs.Common.{add-one}
 use Rattle.std.proofs.lemmas.List.{length-take-le, take_all, reverse-append}
 use Rattle.machine_core.specs.Lists.{Any-none, Any-here, Any-cases, Any-push_cases}
 use Rattle.machine_meet.proofs.JoinLemmas.{take-push}
-use Rattle.machine_meet.specs.Splits.{Picks, IsPick, AreWide, IsRest, turned}
+use Rattle.machine_meet.specs.Splits.{Picks, IsPick, AreCostsWide, IsRest, turned}
 
 -- the costs that are picked out of lists of costs of this width have their sum in it
-pub picked-length : (width : ℕ) (os : List (List (List ℕ))) (ks : List (List ℕ)) → AreWide width os → Picks os ks → length (sum_costs width ks) ≡ width
+pub picked-length : (width : ℕ) (os : List (List (List ℕ))) (ks : List (List ℕ)) → AreCostsWide width os → Picks os ks → length (sum_costs width ks) ≡ width
 picked-length width [] [] wide p = zeros-length width
 picked-length width [] (k ∷ ks) wide p = absurd p
 picked-length width (o ∷ os) [] wide p = absurd p
@@ -57,7 +57,7 @@ add_costs-cancel (n ∷ k) (x ∷ xs) (y ∷ ys) p q e =
     cc
 
 -- nothing is left for the others
-pub after-none : (cost want : List ℕ) (rest : List (List (List ℕ))) → length cost ≡ length want → AreWide (length want) rest
+pub after-none : (cost want : List ℕ) (rest : List (List (List ℕ))) → length cost ≡ length want → AreCostsWide (length want) rest
     → ((left : List ℕ) → IsRest want cost left → ⊥) → IsPick ((cost ∷ []) ∷ rest) want None
 after-none cost want rest e wide wrong [] p sum = absurd p
 after-none cost want rest e wide wrong (k ∷ ks) p sum = elim (Any-cases (λ e. e ≡ k) cost [] p.0) [
@@ -66,7 +66,7 @@ after-none cost want rest e wide wrong (k ∷ ks) p sum = elim (Any-cases (λ e.
 ]
 
 -- the others have no costs that add up to what is left
-pub after-left : (cost want left : List ℕ) (rest : List (List (List ℕ))) → length cost ≡ length want → AreWide (length want) rest
+pub after-left : (cost want left : List ℕ) (rest : List (List (List ℕ))) → length cost ≡ length want → AreCostsWide (length want) rest
     → IsRest want cost left → IsPick rest left None → IsPick ((cost ∷ []) ∷ rest) want None
 after-left cost want left rest e wide l wrong [] p sum = absurd p
 after-left cost want left rest e wide l wrong (k ∷ ks) p sum = elim (Any-cases (λ e. e ≡ k) cost [] p.0) [
@@ -150,8 +150,8 @@ left-all whole part rest i low high count same h =
 
 -- one cost more that goes with none of the others' costs
 pub none-of-next : (costs : List (List ℕ)) (cost want : List ℕ) (rest : List (List (List ℕ))) (i : ℕ) (picked : Option (List (List ℕ))) → i < length costs → cost ≡ get_or costs i cost → picked ≡ None
-    → (length cost ≡ length want → AreWide (length want) rest → IsPick ((cost ∷ []) ∷ rest) want picked)
-    → (AreWide (length want) (costs ∷ rest) → NoneOf (take i costs) rest want) → AreWide (length want) (costs ∷ rest) → NoneOf (take (i + 1) costs) rest want
+    → (length cost ≡ length want → AreCostsWide (length want) rest → IsPick ((cost ∷ []) ∷ rest) want picked)
+    → (AreCostsWide (length want) (costs ∷ rest) → NoneOf (take i costs) rest want) → AreCostsWide (length want) (costs ∷ rest) → NoneOf (take (i + 1) costs) rest want
 none-of-next costs cost want rest i picked lt is none last before wide =
     let e : take (i + 1) costs ≡ take i costs ++ cost ∷ [] = rw add-one (take-push costs i cost lt ∙ ap (λ x. take i costs ++ x ∷ []) (sym is)) in
     let long : length cost ≡ length want = wide.0 cost (i, cost, lt, sym is, refl) in
@@ -159,8 +159,8 @@ none-of-next costs cost want rest i picked lt is none last before wide =
 
 -- one of the costs that goes with some of the others' costs
 pub one-of-next : (costs : List (List ℕ)) (cost want : List ℕ) (rest : List (List (List ℕ))) (i : ℕ) (picked : Option (List (List ℕ))) (ks : List (List ℕ)) → i < length costs → cost ≡ get_or costs i cost → picked ≡ Some ks
-    → (length cost ≡ length want → AreWide (length want) rest → IsPick ((cost ∷ []) ∷ rest) want picked)
-    → AreWide (length want) (costs ∷ rest) → IsPick (costs ∷ rest) want (Some ks)
+    → (length cost ≡ length want → AreCostsWide (length want) rest → IsPick ((cost ∷ []) ∷ rest) want picked)
+    → AreCostsWide (length want) (costs ∷ rest) → IsPick (costs ∷ rest) want (Some ks)
 one-of-next costs cost want rest i picked ks lt is some last wide =
     let long : length cost ≡ length want = wide.0 cost (i, cost, lt, sym is, refl) in
     one-of-some costs cost want rest ks (i, cost, lt, sym is, refl) (subst (IsPick ((cost ∷ []) ∷ rest) want) some (last long wide.1))

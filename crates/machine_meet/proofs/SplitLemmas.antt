@@ -11,7 +11,7 @@ use Rattle.machine_core.specs.Lists.{slice_get-push_cases}
 use Rattle.machine_core.specs.Costs.{IsCost}
 use Rattle.machine_meet.specs.Products.{AreStates, MeetEnds, MeetSteps}
 use Rattle.machine_meet.specs.ProductLaws.{first-states, step-states, meet_step-cost, meet_end-cost}
-use Rattle.machine_meet.specs.Splits.{AreSteps, IsRow, IsColumn, AreRuns, as_step}
+use Rattle.machine_meet.specs.Splits.{AreSteps, IsSplitRow, IsColumn, ArePartRuns, as_step}
 use Rattle.machine_meet.proofs.PlaceLemmas.{none-some, got-through, beside, same_some, map-got, map-each, take-got}
 
 -- what the rows cost at each part, added up by parts
@@ -107,7 +107,7 @@ module _ {P S : Type 0} (ends : P → S → List ℕ → Type 0) (steps : P → 
   -- the run of the part at a place
   pub part-runs : (w : ℕ) (ps : List P) (run : Run (List S)) → IsRun (MeetEnds ends w ps) (MeetSteps steps w ps) (map first ps) run
       → (rows : List (List (List ℕ))) (lasts : List (List ℕ)) → length rows ≡ length run.costs
-      → ((i : ℕ) (row : List (List ℕ)) → slice_get rows i ≡ Some row → IsRow steps w ps run i row)
+      → ((i : ℕ) (row : List (List ℕ)) → slice_get rows i ≡ Some row → IsSplitRow steps w ps run i row)
       → ((at : List S) → slice_get run.states (length run.word) ≡ Some at → AreSteps (as_step ends) ps at 0 at lasts)
       → (j : ℕ) (p : P) (part : Run S) → slice_get ps j ≡ Some p → part.word ≡ run.word → IsColumn j run.states part.states → IsColumn j rows part.costs
       → slice_get lasts j ≡ Some part.last → IsRun (ends p) (steps p) (first p) part
@@ -150,8 +150,8 @@ module _ {P S : Type 0} (ends : P → S → List ℕ → Type 0) (steps : P → 
             last = last.each j p path.0 path.0 part.last ep stop.2 stop.2 el;
           }
 
-  pub runs-push : (ps : List P) (word : List ℕ) (rs : List (Run S)) (p : P) (r : Run S) → AreRuns ends steps first ps word rs
-      → IsRun (ends p) (steps p) (first p) r → r.word ≡ word → AreRuns ends steps first (ps ++ p ∷ []) word (rs ++ r ∷ [])
+  pub runs-push : (ps : List P) (word : List ℕ) (rs : List (Run S)) (p : P) (r : Run S) → ArePartRuns ends steps first ps word rs
+      → IsRun (ends p) (steps p) (first p) r → r.word ≡ word → ArePartRuns ends steps first (ps ++ p ∷ []) word (rs ++ r ∷ [])
   runs-push [] word [] p r h is e = (is, e, tt)
   runs-push [] word (x ∷ rs) p r h is e = absurd h
   runs-push (q ∷ ps) word [] p r h is e = absurd h
@@ -232,19 +232,19 @@ module _ {P S : Type 0} (ends : P → S → List ℕ → Type 0) (steps : P → 
 
 module _ {P S : Type 0} (steps : P → S → ℕ → List ℕ → S → Type 0) (w : ℕ) (ps : List P) (run : Run (List S)) where
   abbrev pub AreRows : List (List (List ℕ)) → Type 0
-  AreRows rows = (at : ℕ) (row : List (List ℕ)) → slice_get rows at ≡ Some row → IsRow steps w ps run at row
+  AreRows rows = (at : ℕ) (row : List (List ℕ)) → slice_get rows at ≡ Some row → IsSplitRow steps w ps run at row
 
   pub rows-start : AreRows []
   rows-start at row e = absurd (none-some row e)
 
-  pub rows-push : (rows : List (List (List ℕ))) (row : List (List ℕ)) → AreRows rows → IsRow steps w ps run (length rows) row → AreRows (rows ++ row ∷ [])
+  pub rows-push : (rows : List (List (List ℕ))) (row : List (List ℕ)) → AreRows rows → IsSplitRow steps w ps run (length rows) row → AreRows (rows ++ row ∷ [])
   rows-push rows row h is at x e = elim (slice_get-push_cases rows row at x e) [
     | inl a ↦ h at x a
-    | inr a ↦ subst (IsRow steps w ps run at) a.1 (subst (λ n. IsRow steps w ps run n row) (sym a.0) is)
+    | inr a ↦ subst (IsSplitRow steps w ps run at) a.1 (subst (λ n. IsSplitRow steps w ps run n row) (sym a.0) is)
   ]
 
   pub row-is : (i : ℕ) (from to : List S) (c : ℕ) (cost : List ℕ) (row : List (List ℕ)) → Reads run i from to c cost
-      → AreSteps steps ps from c to row → sum_costs w row ≡ cost → IsRow steps w ps run i row
+      → AreSteps steps ps from c to row → sum_costs w row ≡ cost → IsSplitRow steps w ps run i row
   row-is i from to c cost row h is sum = record {
     count = is.count;
     steps_are = λ u v d eu ev ed.
@@ -283,9 +283,9 @@ totals-next {S} rs new r ts i h pushed e =
 
 -- one more of the parts' runs
 pub runs-next : {P S : Type 0} (ends : P → S → List ℕ → Type 0) (steps : P → S → ℕ → List ℕ → S → Type 0) (first : P → S) (ps : List P) (word : List ℕ)
-    (rs new : List (Run S)) (i : ℕ) (p : P) (r : Run S) → slice_get ps i ≡ Some p → AreRuns ends steps first (take i ps) word rs
-    → IsRun (ends p) (steps p) (first p) r → r.word ≡ word → new ≡ rs ++ r ∷ [] → AreRuns ends steps first (take (i + 1) ps) word new
+    (rs new : List (Run S)) (i : ℕ) (p : P) (r : Run S) → slice_get ps i ≡ Some p → ArePartRuns ends steps first (take i ps) word rs
+    → IsRun (ends p) (steps p) (first p) r → r.word ≡ word → new ≡ rs ++ r ∷ [] → ArePartRuns ends steps first (take (i + 1) ps) word new
 runs-next ends steps first ps word rs new i p r at h is e pushed =
     let grown : take (i + 1) ps ≡ take i ps ++ p ∷ [] = rw add-one (take-got ps i p at) in
-    subst (λ qs. AreRuns ends steps first qs word new) (sym grown) (subst (AreRuns ends steps first (take i ps ++ p ∷ []) word) (sym pushed)
+    subst (λ qs. ArePartRuns ends steps first qs word new) (sym grown) (subst (ArePartRuns ends steps first (take i ps ++ p ∷ []) word) (sym pushed)
     (runs-push ends steps first (take i ps) word rs p r h is e))

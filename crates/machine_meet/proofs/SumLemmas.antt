@@ -2,7 +2,7 @@
 use Rattle.std.proofs.Common.{◌≡◌, ℕ, zero, suc, ◌+◌, ◌<◌, ◌^◌, ◌↔◌, inl, inr, List, [], ◌∷◌, ◌++◌, length, take, drop, get_or, Any, Contains, refl, ap, sym, ◌∙◌, subst, arith, add-one}
 use Rattle.machine_core.specs.Costs.{add_costs, zeros, IsCost}
 use Rattle.machine_meet.specs.Joins.{AddsSums, AreSums, CanAdd}
-use Rattle.machine_meet.specs.Products.{AreStates, AreEnds, summed}
+use Rattle.machine_meet.specs.Products.{AreStates, AreEndCosts, summed}
 use Rattle.machine_meet.specs.ProductLaws.{meet_end-cost}
 use Rattle.machine_core.specs.Lists.{Any-none, Any-push_cases}
 use Rattle.machine_meet.proofs.JoinLemmas.{take-push, take-all, Any-push, Any-old}
@@ -55,7 +55,7 @@ total-all tails heads new i e g = subst (λ hs. AreSums hs tails new) (take-all 
 
 module _ {P S : Type 0} (ends : P → S → List ℕ → Type 0) (w : ℕ) where
   ends-step : (p : P) (ps : List P) (s : S) (ss : List S) (heads tails all : List (List ℕ))
-      → ((cost : List ℕ) → ends p s cost ↔ Any (λ e. e ≡ cost) heads) → AreEnds ends w ps ss tails → AreSums heads tails all → AreEnds ends w (p ∷ ps) (s ∷ ss) all
+      → ((cost : List ℕ) → ends p s cost ↔ Any (λ e. e ≡ cost) heads) → AreEndCosts ends w ps ss tails → AreSums heads tails all → AreEndCosts ends w (p ∷ ps) (s ∷ ss) all
   ends-step p ps s ss heads tails all head tail sums cost = (
     λ h. (
         let a = (head h.0).0 h.2 in
@@ -69,29 +69,29 @@ module _ {P S : Type 0} (ends : P → S → List ℕ → Type 0) (w : ℕ) where
   pub ends-at : (ps : List P) (ss : List S) (i : ℕ) (p : P) (s : S) (heads tails all : List (List ℕ))
       → i < length ps → length ss ≡ length ps → p ≡ get_or ps i p → s ≡ get_or ss i s
       → ((cost : List ℕ) → ends p s cost ↔ Any (λ e. e ≡ cost) heads)
-      → AreEnds ends w (drop (suc i) ps) (drop (suc i) ss) tails → AreSums heads tails all → AreEnds ends w (drop i ps) (drop i ss) all
+      → AreEndCosts ends w (drop (suc i) ps) (drop (suc i) ss) tails → AreSums heads tails all → AreEndCosts ends w (drop i ps) (drop i ss) all
   ends-at ps ss i p s heads tails all lt len e f head tail sums =
       let dp : drop i ps ≡ p ∷ drop (suc i) ps = drop-here ps i p lt ∙ ap (λ x. x ∷ drop (suc i) ps) (sym e) in
       let ds : drop i ss ≡ s ∷ drop (suc i) ss = drop-here ss i s (omega arith) ∙ ap (λ x. x ∷ drop (suc i) ss) (sym f) in
-      subst (λ xs. AreEnds ends w xs (drop i ss) all) (sym dp) (subst (λ xs. AreEnds ends w (p ∷ drop (suc i) ps) xs all) (sym ds)
+      subst (λ xs. AreEndCosts ends w xs (drop i ss) all) (sym dp) (subst (λ xs. AreEndCosts ends w (p ∷ drop (suc i) ps) xs all) (sym ds)
       (ends-step p (drop (suc i) ps) s (drop (suc i) ss) heads tails all head tail sums))
 
-  pub ends-start : (ps : List P) (ss : List S) (all : List (List ℕ)) → length ss ≡ length ps → all ≡ zeros w ∷ [] → AreEnds ends w (drop (length ps) ps) (drop (length ps) ss) all
+  pub ends-start : (ps : List P) (ss : List S) (all : List (List ℕ)) → length ss ≡ length ps → all ≡ zeros w ∷ [] → AreEndCosts ends w (drop (length ps) ps) (drop (length ps) ss) all
   ends-start ps ss all len e =
       let dp = drop-end ps in
       let ds : drop (length ps) ss ≡ [] = subst (λ n. drop n ss ≡ []) len (drop-end ss) in
-      subst (λ xs. AreEnds ends w xs (drop (length ps) ss) all) (sym dp) (subst (λ xs. AreEnds ends w [] xs all) (sym ds) (subst (AreEnds ends w [] []) (sym e) one))
+      subst (λ xs. AreEndCosts ends w xs (drop (length ps) ss) all) (sym dp) (subst (λ xs. AreEndCosts ends w [] xs all) (sym ds) (subst (AreEndCosts ends w [] []) (sym e) one))
     where
       last : (cost : List ℕ) → Any (λ e. e ≡ cost) (zeros w ∷ []) → cost ≡ zeros w
       last cost (zero, x, lt, e, p) = sym p ∙ sym e
       last cost (suc k, x, lt, e, p) = absurd (omega arith)
 
-      one : AreEnds ends w [] [] (zeros w ∷ [])
+      one : AreEndCosts ends w [] [] (zeros w ∷ [])
       one cost = (λ h. (zero, zeros w, omega arith, refl, sym h), last cost)
 
 module _ {P S : Type 0} (ends : P → S → List ℕ → Type 0) (w : ℕ) where
   -- where no end of the parts from some place on is left, none of the product is
-  pub ends-stuck : (ps : List P) (ss : List S) (i : ℕ) → AreEnds ends w (drop i ps) (drop i ss) [] → AreEnds ends w ps ss []
+  pub ends-stuck : (ps : List P) (ss : List S) (i : ℕ) → AreEndCosts ends w (drop i ps) (drop i ss) [] → AreEndCosts ends w ps ss []
   ends-stuck ps ss zero h = h
   ends-stuck [] [] (suc i) h = h
   ends-stuck [] (s ∷ ss) (suc i) h = λ cost. (λ m. absurd m, λ a. absurd (Any-none (λ e. e ≡ cost) a))
@@ -106,7 +106,7 @@ module _ {P S : Type 0} (is_state : P → S → Type 0) (ends : P → S → List
     (w : ℕ) (ps : List P) (agree : (p : P) → Contains ps p → width p ≡ w) (fits : summed top ps < 2 ^ 64) where
   pub can-end-at : (ss : List S) → AreStates is_state ps ss → (i : ℕ) (p : P) (s : S) → i < length ps → p ≡ get_or ps i p → s ≡ get_or ss i s
       → (heads tails : List (List ℕ))
-      → ((cost : List ℕ) → ends p s cost ↔ Any (λ e. e ≡ cost) heads) → AreEnds ends w (drop (suc i) ps) (drop (suc i) ss) tails
+      → ((cost : List ℕ) → ends p s cost ↔ Any (λ e. e ≡ cost) heads) → AreEndCosts ends w (drop (suc i) ps) (drop (suc i) ss) tails
       → (h t : List ℕ) → Contains heads h → Contains tails t → CanAdd h t
   can-end-at ss states i p s lt e f heads tails head tail h t in-h in-t =
       let st = states-at is_state ps ss i p s states lt e f in

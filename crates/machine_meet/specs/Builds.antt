@@ -58,7 +58,7 @@ abbrev pub AfterEnds : List End → List End → ℕ → List ℕ → Type 0
 AfterEnds ends others s k = (x y : List ℕ) × EndsAt ends s x × EndsAt others 0 y × (k ≡ add_costs x y)
 
 -- `new` is `old` where after each of these ends the steps and ends of the start of `part` follow
-pub record GoesOn (old new part : Graph) (ends : List End) (offset : ℕ) : Type 0 where
+pub record AddsPart (old new part : Graph) (ends : List End) (offset : ℕ) : Type 0 where
   pub states : new.states ≡ old.states
   pub registers : new.registers ≡ old.registers
   pub steps : (s c : ℕ) (k : List ℕ) (t : ℕ) → StepsBy new.edges s c k t ↔ (StepsBy old.edges s c k t ⊎ AfterSteps ends part.edges offset s c k t)

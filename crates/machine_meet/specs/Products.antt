@@ -77,5 +77,5 @@ abbrev pub AreProduct : {P S : Type 0} → (P → S → ℕ → List ℕ → S �
 AreProduct {P} {S} steps width ps ss all = (c : ℕ) (cost : List ℕ) (to : List S) → MeetSteps steps width ps ss c cost to ↔ Any (Moves c cost to) all
 
 -- these are the costs at which a word may end in the product
-abbrev pub AreEnds : {P S : Type 0} → (P → S → List ℕ → Type 0) → ℕ → List P → List S → List (List ℕ) → Type 0
-AreEnds ends width ps ss all = (cost : List ℕ) → MeetEnds ends width ps ss cost ↔ Any (λ e. e ≡ cost) all
+abbrev pub AreEndCosts : {P S : Type 0} → (P → S → List ℕ → Type 0) → ℕ → List P → List S → List (List ℕ) → Type 0
+AreEndCosts ends width ps ss all = (cost : List ℕ) → MeetEnds ends width ps ss cost ↔ Any (λ e. e ≡ cost) all

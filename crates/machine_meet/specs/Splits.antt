@@ -23,9 +23,9 @@ turned None = None
 turned (Some xs) = Some (reverse xs)
 
 -- each cost of the lists has one number for each of so many registers
-abbrev pub AreWide : ℕ → List (List (List ℕ)) → Type 0
-AreWide width [] = ⊤
-AreWide width (o ∷ os) = ((k : List ℕ) → Any (λ e. e ≡ k) o → length k ≡ width) × AreWide width os
+abbrev pub AreCostsWide : ℕ → List (List (List ℕ)) → Type 0
+AreCostsWide width [] = ⊤
+AreCostsWide width (o ∷ os) = ((k : List ℕ) → Any (λ e. e ≡ k) o → length k ≡ width) × AreCostsWide width os
 
 -- what is left of `whole` without `part`
 abbrev pub IsRest : List ℕ → List ℕ → List ℕ → Type 0
@@ -55,7 +55,7 @@ module _ {P S : Type 0} (steps : P → S → ℕ → List ℕ → S → Type 0) 
         → steps p s c k t
 
   -- these costs are those of the parts at step `at` of a run of the product, and add up to what the step costs
-  pub record IsRow (width : ℕ) (parts : List P) (run : Run (List S)) (at : ℕ) (row : List (List ℕ)) : Type 0 where
+  pub record IsSplitRow (width : ℕ) (parts : List P) (run : Run (List S)) (at : ℕ) (row : List (List ℕ)) : Type 0 where
     pub count : length row ≡ length parts
     pub steps_are : (from to : List S) (c : ℕ) → slice_get run.states at ≡ Some from → slice_get run.states (suc at) ≡ Some to
         → slice_get run.word at ≡ Some c → AreSteps parts from c to row
@@ -67,8 +67,8 @@ pub record IsColumn {X : Type 0} (at : ℕ) (rows : List (List X)) (column : Lis
   pub each : (i : ℕ) (row : List X) (x : X) → slice_get rows i ≡ Some row → slice_get column i ≡ Some x → slice_get row at ≡ Some x
 
 -- one run of each part, in the order of the parts, and each on this word
-abbrev pub AreRuns : {P S : Type 0} → (P → S → List ℕ → Type 0) → (P → S → ℕ → List ℕ → S → Type 0) → (P → S) → List P → List ℕ → List (Run S) → Type 0
-AreRuns ends steps first [] word [] = ⊤
-AreRuns ends steps first [] word (r ∷ rs) = ⊥
-AreRuns ends steps first (p ∷ ps) word [] = ⊥
-AreRuns ends steps first (p ∷ ps) word (r ∷ rs) = IsRun (ends p) (steps p) (first p) r × (r.word ≡ word) × AreRuns ends steps first ps word rs
+abbrev pub ArePartRuns : {P S : Type 0} → (P → S → List ℕ → Type 0) → (P → S → ℕ → List ℕ → S → Type 0) → (P → S) → List P → List ℕ → List (Run S) → Type 0
+ArePartRuns ends steps first [] word [] = ⊤
+ArePartRuns ends steps first [] word (r ∷ rs) = ⊥
+ArePartRuns ends steps first (p ∷ ps) word [] = ⊥
+ArePartRuns ends steps first (p ∷ ps) word (r ∷ rs) = IsRun (ends p) (steps p) (first p) r × (r.word ≡ word) × ArePartRuns ends steps first ps word rs

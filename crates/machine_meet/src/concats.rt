@@ -2,7 +2,7 @@ ghost use Rattle.std.specs.Prelude.{◌≡◌, ℕ, ◌+◌, ◌<◌, ◌≤◌,
 ghost use Rattle.machine_core.specs.declared.machine.Move.{Move};
 ghost use Rattle.machine_core.specs.Graphs.{Accepts, graph_top};
 ghost use Rattle.machine_core.specs.Moves.{IsMove};
-ghost use Rattle.machine_meet.specs.Builds.{after_edge, after_end, GoesOn, InTurn};
+ghost use Rattle.machine_meet.specs.Builds.{after_edge, after_end, AddsPart, InTurn};
 ghost use Rattle.machine_meet.specs.Joins.{CanAdd};
 
 use crate::place::{count, place_edges, place_ends};
@@ -50,7 +50,7 @@ fn go_on(
     requires at { end.now.at < whole.old.states }
     requires cost { length end.now.cost ≡ whole.old.registers }
     requires fits { (k : List ℕ) → length k ≡ whole.old.registers → ((r : ℕ) → slice_index k r ≤ graph_top part.now) → CanAdd end.now.cost k }
-    ensures { OnOk result (GoesOn whole.old whole.new part.now (end.now ∷ []) offset) }
+    ensures { OnOk result (AddsPart whole.old whole.new part.now (end.now ∷ []) offset) }
 {
     let moves = part.moves(alloc, &0)?;
     edges_after(alloc, whole, end, moves.as_slice(), offset)?;

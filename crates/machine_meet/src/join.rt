@@ -1,8 +1,7 @@
 //! The moves of two machines, joined.
-ghost use Rattle.std.specs.Prelude.{◌≡◌, ℕ, ◌+◌, ◌<◌, ◌≤◌, ◌^◌, ◌↔◌, ◌&&◌, [], ◌∷◌, List, length, IfOk, All, Any, Contains, IsTrue};
-ghost use Rattle.sv_word.specs.Ranges.{in_ranges, IsInhabited};
+ghost use Rattle.std.specs.Prelude.{◌≡◌, ℕ, ◌<◌, ◌∷◌, List, IfOk, Contains, IsTrue};
+ghost use Rattle.sv_word.specs.Ranges.{in_ranges};
 ghost use Rattle.machine_core.specs.declared.machine.Move.{Move};
-ghost use Rattle.machine_core.specs.Moves.{Moves};
 ghost use Rattle.machine_meet.specs.Joins.{IsJoin, CanAdd, AreInhabited, AreJoins};
 
 use crate::overlaps::meeting_pairs;

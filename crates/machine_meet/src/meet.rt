@@ -1,4 +1,4 @@
-ghost use Rattle.std.specs.Prelude.{◌≡◌, ℕ, ◌+◌, ◌<◌, ◌≤◌, ◌^◌, ◌↔◌, [], ◌∷◌, List, length, map, IfOk, All, Any, Contains};
+ghost use Rattle.std.specs.Prelude.{◌≡◌, ◌<◌, ◌^◌, [], map, Contains};
 ghost use Rattle.machine_meet.specs.Products.{AreStates, MeetEnds, MeetSteps, meet_width, summed, multiplied, MeetsAll};
 ghost use Rattle.machine_meet.specs.ProductLaws.{first-states, step-states, step-character, meet_end-cost, meet_step-cost, states-at_most};
 

@@ -1,7 +1,7 @@
 //! Which moves of two lists read a character in common.
 ghost use Rattle.std.specs.Prelude.{◌≡◌, ℕ, ◌≤◌, ◌↔◌, ◌++◌, map, Contains, IfOk, OnOk};
 ghost use Rattle.std.specs.List.Sorted.{IsNonDecreasingBy};
-ghost use Rattle.machine_meet.specs.Overlaps.{span, IsSpan, Begins, Meets};
+ghost use Rattle.machine_meet.specs.Overlaps.{span, IsSpan, BeginsWithin, MovesMeet};
 
 use machine_core::Move;
 use std::alloc::{AllocError, Global};
@@ -9,7 +9,7 @@ use sv_word::Ranges;
 
 /// An interval of the characters that the move at `place` of a list reads.
 #[derive(Clone, Copy)]
-pub struct Span {
+pub struct MoveInterval {
     pub low: u32,
     pub high: u32,
     pub place: usize,
@@ -26,7 +26,7 @@ pub fn meeting_pairs<S, T>(
     heads: &[Move<S>],
     tails: &[Move<T>],
 ) -> Result<Vec<(usize, usize)>, AllocError>
-    ensures { IfOk result (λ v. (i j : ℕ) → Contains v.items (i, j) ↔ Meets heads.now tails.now i j) }
+    ensures { IfOk result (λ v. (i j : ℕ) → Contains v.items (i, j) ↔ MovesMeet heads.now tails.now i j) }
 {
     let heads = spans_of(alloc, heads)?;
     let tails = spans_of(alloc, tails)?;
@@ -39,9 +39,9 @@ pub fn meeting_pairs<S, T>(
 }
 
 // The intervals of the moves, in the order of their first characters.
-fn spans_of<S>(alloc: Global, moves: &[Move<S>]) -> Result<Vec<Span>, AllocError>
+fn spans_of<S>(alloc: Global, moves: &[Move<S>]) -> Result<Vec<MoveInterval>, AllocError>
     ensures order { IfOk result (λ v. IsNonDecreasingBy (λ s. s.low) v.items) }
-    ensures exact { IfOk result (λ v. (s : Span) → Contains v.items s ↔ IsSpan moves.now s) }
+    ensures exact { IfOk result (λ v. (s : MoveInterval) → Contains v.items s ↔ IsSpan moves.now s) }
 {
     let mut spans = Vec::new(alloc);
     for (place, step) in moves.iter().enumerate() {
@@ -52,12 +52,12 @@ fn spans_of<S>(alloc: Global, moves: &[Move<S>]) -> Result<Vec<Span>, AllocError
 }
 
 // Adds the intervals of the move at `place`.
-fn push_spans(spans: &mut Vec<Span>, on: &Ranges, place: usize) -> Result<(), AllocError>
+fn push_spans(spans: &mut Vec<MoveInterval>, on: &Ranges, place: usize) -> Result<(), AllocError>
     ensures ok { OnOk result (spans.new.items ≡ spans.old.items ++ map (span place) on.now) }
     ensures forward { (pair : ℕ × ℕ) → Contains on.now pair → pair.0 ≤ pair.1 }
 {
     for pair in on.as_slice() {
-        spans.push(Span {
+        spans.push(MoveInterval {
             low: pair.0,
             high: pair.1,
             place,
@@ -69,11 +69,11 @@ fn push_spans(spans: &mut Vec<Span>, on: &Ranges, place: usize) -> Result<(), Al
 // The places of one of `around` and one of `spans` that begins within it.
 fn pair_within(
     alloc: Global,
-    around: &[Span],
-    spans: &[Span],
+    around: &[MoveInterval],
+    spans: &[MoveInterval],
 ) -> Result<Vec<(usize, usize)>, AllocError>
     requires { IsNonDecreasingBy (λ s. s.low) spans.now }
-    ensures { IfOk result (λ v. (i j : ℕ) → Contains v.items (i, j) ↔ Begins around.now spans.now i j) }
+    ensures { IfOk result (λ v. (i j : ℕ) → Contains v.items (i, j) ↔ BeginsWithin around.now spans.now i j) }
 {
     let mut pairs = Vec::new(alloc);
     for outer in around {
@@ -87,9 +87,9 @@ fn pair_within(
 }
 
 // Those that begin from `low` to `high`, by two binary searches.
-fn beginning(spans: &[Span], low: u32, high: u32) -> &[Span]
+fn beginning(spans: &[MoveInterval], low: u32, high: u32) -> &[MoveInterval]
     requires { IsNonDecreasingBy (λ s. s.low) spans.now }
-    ensures { (s : Span) → Contains result.now s ↔ (Contains spans.now s × (low ≤ s.low) × (s.low ≤ high)) }
+    ensures { (s : MoveInterval) → Contains result.now s ↔ (Contains spans.now s × (low ≤ s.low) × (s.low ≤ high)) }
 {
     let (_, from) = spans.split_at(spans.partition_point(|span| span.low < low));
     let (window, _) = from.split_at(from.partition_point(|span| span.low <= high));
@@ -100,7 +100,7 @@ fn beginning(spans: &[Span], low: u32, high: u32) -> &[Span]
 fn push_pairs(
     pairs: &mut Vec<(usize, usize)>,
     place: usize,
-    spans: &[Span],
+    spans: &[MoveInterval],
 ) -> Result<(), AllocError>
     ensures { OnOk result (pairs.new.items ≡ pairs.old.items ++ map (λ s. (place, s.place)) spans.now) }
 {

@@ -1,6 +1,6 @@
 //! One cost out of each list, so that they add up to a given cost.
 ghost use Rattle.std.specs.Prelude.{◌≡◌, [], ◌∷◌, ◌++◌, length, reverse, IfOk};
-ghost use Rattle.machine_meet.specs.Splits.{IsPick, AreWide, IsLeft, turned};
+ghost use Rattle.machine_meet.specs.Splits.{IsPick, AreCostsWide, IsLeft, turned};
 
 use machine_core::Cost;
 use std::alloc::{AllocError, Global};
@@ -43,7 +43,7 @@ fn pick_after(
     rest: &[Items<Cost>],
     want: &Cost,
 ) -> Result<Option<Items<Cost>>, AllocError>
-    ensures { IfOk result (λ picked. length cost.now ≡ length want.now → AreWide (length want.now) rest.now
+    ensures { IfOk result (λ picked. length cost.now ≡ length want.now → AreCostsWide (length want.now) rest.now
         → IsPick ((cost.now ∷ []) ∷ rest.now) want.now (turned picked)) }
 {
     match left_of(alloc, want, cost)? {
@@ -63,7 +63,7 @@ fn pick_one_of(
     rest: &[Items<Cost>],
     want: &Cost,
 ) -> Result<Option<Items<Cost>>, AllocError>
-    ensures { IfOk result (λ picked. AreWide (length want.now) (costs.now ∷ rest.now)
+    ensures { IfOk result (λ picked. AreCostsWide (length want.now) (costs.now ∷ rest.now)
         → IsPick (costs.now ∷ rest.now) want.now (turned picked)) }
 {
     for cost in costs {
@@ -81,7 +81,7 @@ fn pick_back(
     options: &[Items<Cost>],
     want: &Cost,
 ) -> Result<Option<Items<Cost>>, AllocError>
-    ensures { IfOk result (λ picked. AreWide (length want.now) options.now → IsPick options.now want.now (turned picked)) }
+    ensures { IfOk result (λ picked. AreCostsWide (length want.now) options.now → IsPick options.now want.now (turned picked)) }
 {
     match options {
         [] => Ok(pick_none(alloc, want)),
@@ -117,7 +117,7 @@ pub fn pick(
     options: &[Items<Cost>],
     want: &Cost,
 ) -> Result<Option<Items<Cost>>, AllocError>
-    ensures { IfOk result (λ picked. AreWide (length want.now) options.now → IsPick options.now want.now picked) }
+    ensures { IfOk result (λ picked. AreCostsWide (length want.now) options.now → IsPick options.now want.now picked) }
 {
     match pick_back(alloc, options, want)? {
         None => Ok(None),

@@ -1,8 +1,7 @@
 //! The meeting of machines: what each of them reads, at the sum of their costs.
-ghost use Rattle.std.specs.Prelude.{◌≡◌, ℕ, ◌+◌, ◌<◌, ◌≤◌, ◌^◌, ◌↔◌, [], ◌∷◌, List, length, map, IfOk, All, Any, Contains};
-ghost use Rattle.machine_core.specs.Moves.{Moves};
+ghost use Rattle.std.specs.Prelude.{◌≡◌, ◌<◌, ◌^◌, [], ◌∷◌, map, IfOk, Contains};
 ghost use Rattle.machine_meet.specs.Joins.{AreInhabited, listed};
-ghost use Rattle.machine_meet.specs.Products.{AreStates, MeetSteps, summed, IsNothing, AreProduct};
+ghost use Rattle.machine_meet.specs.Products.{AreStates, summed, IsNothing, AreProduct};
 
 use crate::join::join_all;
 use machine_core::{Cost, Machine, Move, State};

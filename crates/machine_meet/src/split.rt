@@ -4,7 +4,7 @@ ghost use Rattle.machine_core.specs.declared.run.Run.{Run};
 ghost use Rattle.machine_core.specs.Runs.{IsRun, run_total};
 ghost use Rattle.machine_meet.specs.Products.{AreStates, MeetEnds, MeetSteps, meet_width};
 ghost use Rattle.machine_core.specs.Costs.{sum_costs};
-ghost use Rattle.machine_meet.specs.Splits.{AreSteps, AreRuns, IsRow, IsColumn, as_step};
+ghost use Rattle.machine_meet.specs.Splits.{AreSteps, ArePartRuns, IsSplitRow, IsColumn, as_step};
 
 use crate::column::column;
 use crate::meet::Meet;
@@ -61,7 +61,7 @@ fn pick_steps<P: Machine>(
         (map P.first meet.now.parts.now) run.now }
     ensures count { IfOk result (λ rows. length rows ≡ length run.now.costs) }
     ensures rows { IfOk result (λ rows. (at : ℕ) (row : List (List ℕ)) → slice_get rows at ≡ Some row
-        → IsRow P.steps_to (meet_width P.width meet.now.parts.now) meet.now.parts.now run.now at row) }
+        → IsSplitRow P.steps_to (meet_width P.width meet.now.parts.now) meet.now.parts.now run.now at row) }
 {
     let mut rows = Items::new(alloc);
     let states = run.states.as_slice();
@@ -113,7 +113,7 @@ pub fn split_run<P: Machine>(
     requires { IsRun (MeetEnds P.ends_with (meet_width P.width meet.now.parts.now) meet.now.parts.now)
         (MeetSteps P.steps_to (meet_width P.width meet.now.parts.now) meet.now.parts.now)
         (map P.first meet.now.parts.now) run.now }
-    ensures runs { IfOk result (AreRuns P.ends_with P.steps_to P.first meet.now.parts.now run.now.word) }
+    ensures runs { IfOk result (ArePartRuns P.ends_with P.steps_to P.first meet.now.parts.now run.now.word) }
     ensures costs { IfOk result (λ runs. sum_costs (meet_width P.width meet.now.parts.now) (map (λ (r : Run P.St). run_total r) runs) ≡ run_total run.now) }
 {
     let rows = pick_steps(alloc, meet, run)?;

@@ -1,7 +1,7 @@
 //! The end costs of machines, added up.
-ghost use Rattle.std.specs.Prelude.{◌≡◌, ℕ, ◌+◌, ◌<◌, ◌≤◌, ◌^◌, List, length, IfOk, OnOk, Contains};
+ghost use Rattle.std.specs.Prelude.{◌≡◌, ℕ, ◌<◌, ◌^◌, List, IfOk, OnOk, Contains};
 ghost use Rattle.machine_meet.specs.Joins.{CanAdd, AddsSums, AreSums};
-ghost use Rattle.machine_meet.specs.Products.{AreStates, AreEnds, summed};
+ghost use Rattle.machine_meet.specs.Products.{AreStates, AreEndCosts, summed};
 
 use machine_core::{Cost, Machine};
 use std::alloc::{AllocError, Global};
@@ -43,7 +43,7 @@ pub fn end_product<P: Machine>(
     requires states { AreStates P.is_state parts.now at.now }
     requires width { (p : P) → Contains parts.now p → P.width p ≡ width }
     requires fits { summed P.top parts.now < 2 ^ 64 }
-    ensures { IfOk result (AreEnds P.ends_with width parts.now at.now) }
+    ensures { IfOk result (AreEndCosts P.ends_with width parts.now at.now) }
 {
     let mut all = Items::new(alloc);
     all.push(Cost::zeros(alloc, width)?)?;

@@ -1,4 +1,4 @@
-ghost use Rattle.std.specs.Prelude.{◌≡◌, ◌≤◌, ◌<◌, IfOk, All, length};
+ghost use Rattle.std.specs.Prelude.{◌≡◌, ◌<◌, IfOk, All, length};
 
 use machine_core::{
     Cost, CostFault, Explicit, Index, Machine, Move, Run, State, language_of_runs,
@@ -10,7 +10,7 @@ use sv_list::{Copied, Items};
 use sv_word::{Ranges, Word};
 
 // On `b` to `d` state 0 stays, and words end there.
-fn looped(alloc: Global) -> Result<Explicit, AllocError>
+fn loop_of_two(alloc: Global) -> Result<Explicit, AllocError>
     ensures states { IfOk result (λ m. m.states ≡ 2) }
     ensures registers { IfOk result (λ m. m.registers ≡ 0) }
 {
@@ -34,7 +34,7 @@ fn stays(alloc: Global, machine: &Explicit) -> Result<bool, AllocError>
 
 #[test]
 fn a_state_tells_what_leaves_it(rt: HostRuntime) -> Result<(), AllocError> {
-    let machine = looped(rt.alloc())?;
+    let machine = loop_of_two(rt.alloc())?;
     assert!(rt; stays(rt.alloc(), &machine)?);
     Ok(())
 }
@@ -49,7 +49,7 @@ fn is_wide(machine: &Explicit) -> bool {
 
 #[test]
 fn a_machine_gets_registers(rt: HostRuntime) -> Result<(), AllocError> {
-    let machine = looped(rt.alloc())?;
+    let machine = loop_of_two(rt.alloc())?;
     let wide = machine.widen(rt.alloc(), 5)?;
     assert!(rt; is_wide(&wide));
     Ok(())
@@ -57,7 +57,7 @@ fn a_machine_gets_registers(rt: HostRuntime) -> Result<(), AllocError> {
 
 #[test]
 fn a_copy_has_the_places(rt: HostRuntime) -> Result<(), AllocError> {
-    let machine = looped(rt.alloc())?;
+    let machine = loop_of_two(rt.alloc())?;
     let copy = machine.copy(rt.alloc())?;
     assert!(rt; copy.edges_from(0).len() == 1 && copy.ends_at(1).is_empty());
     Ok(())
@@ -142,6 +142,6 @@ fn machines_are_shared(rt: HostRuntime) -> Result<(), AllocError> {
     crosses::<Explicit>();
     crosses::<Run<u32>>();
     crosses::<Move<u32>>();
-    laws_of(&looped(rt.alloc())?);
+    laws_of(&loop_of_two(rt.alloc())?);
     Ok(())
 }

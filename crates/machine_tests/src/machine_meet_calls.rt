@@ -127,7 +127,7 @@ fn spelt(alloc: Global, code: u32) -> Result<Word, AllocError> {
 }
 
 // What the list says that a word costs.
-fn listed(list: &[(u32, u64)], code: u32) -> Option<u64> {
+fn listing_at(list: &[(u32, u64)], code: u32) -> Option<u64> {
     for (word, cost) in list {
         if *word == code {
             return Some(*cost);
@@ -140,7 +140,7 @@ fn listed(list: &[(u32, u64)], code: u32) -> Option<u64> {
 fn has(alloc: Global, machine: &Explicit, list: &[(u32, u64)]) -> Result<bool, AllocError> {
     for code in 1..32 {
         let word = spelt(alloc, code)?;
-        if charge(alloc, machine, word.as_slice())? != listed(list, code) {
+        if charge(alloc, machine, word.as_slice())? != listing_at(list, code) {
             return Ok(false);
         }
     }
@@ -361,7 +361,7 @@ fn no_part_reads_every_character(rt: HostRuntime) -> Result<(), AllocError> {
 }
 
 // From the only state on `a` to `c`, on `c` to `e`, and on `g`.
-fn left(alloc: Global) -> Result<Explicit, AllocError>
+fn left_part(alloc: Global) -> Result<Explicit, AllocError>
     ensures registers { IfOk result (λ m. m.registers ≡ 1) }
     ensures top { IfOk result (λ m. graph_top m < 2 ^ 32) }
 {
@@ -402,7 +402,7 @@ fn move_costs(alloc: Global, a: Explicit, b: Explicit) -> Result<Vec<u64>, Alloc
 }
 
 fn moves_cost(alloc: Global, want: &[u64]) -> Result<bool, AllocError> {
-    let left = left(alloc)?;
+    let left = left_part(alloc)?;
     let right = right(alloc)?;
     let costs = move_costs(alloc, left, right)?;
     Ok(costs.as_slice() == want)

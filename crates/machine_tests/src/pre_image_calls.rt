@@ -35,7 +35,7 @@ fn add_edge(
 }
 
 // The machine of the word `x&lt;`.
-fn escaped(alloc: Global) -> Result<Explicit, AllocError>
+fn escapes(alloc: Global) -> Result<Explicit, AllocError>
     ensures states { IfOk result (λ m. m.states ≡ 6) }
     ensures registers { IfOk result (λ m. m.registers ≡ 0) }
 {
@@ -67,7 +67,7 @@ fn is_pair(alloc: Global, pre: &Pre, read: &[u32], written: &[u32]) -> Result<bo
 fn words_are_found_before_a_replacement(rt: HostRuntime) -> Result<(), BuildFault> {
     let alloc = rt.alloc();
     let escape = replace_all(alloc, &word(alloc, b"<")?, &word(alloc, b"&lt;")?)?;
-    let target = escaped(alloc)?;
+    let target = escapes(alloc)?;
     let pre = Pre::of(alloc, &escape, &target)?;
     assert!(rt; is_pair(alloc, &pre, &[0x78, 0x3c], &[0x78, 0x26, 0x6c, 0x74, 0x3b])?);
     Ok(())
@@ -93,7 +93,7 @@ fn is_between(
 
 #[test]
 fn slices_have_the_runs_between(rt: HostRuntime) -> Result<(), BuildFault> {
-    let target = escaped(rt.alloc())?;
+    let target = escapes(rt.alloc())?;
     assert!(rt; is_between(rt.alloc(), &target, 1, Some(3), &[0x26, 0x6c])?);
     assert!(rt; is_between(rt.alloc(), &target, 3, None, &[0x74, 0x3b])?);
     Ok(())

@@ -15,7 +15,7 @@ fn text(alloc: Global, text: &str) -> Result<Regex, AllocError> {
     Ok(Regex::Text(word))
 }
 
-fn boxed(alloc: Global, letters: &str) -> Result<Boxed<Regex>, AllocError> {
+fn boxed_literal(alloc: Global, letters: &str) -> Result<Boxed<Regex>, AllocError> {
     Boxed::new(alloc, text(alloc, letters)?)
 }
 
@@ -43,14 +43,14 @@ fn tells(alloc: Global, regex: &Regex, own: &str, other: &str) -> Result<bool, B
 }
 
 // `(re.++ (re.++ "a" "b") "c")`.
-fn nested(alloc: Global) -> Result<Regex, AllocError> {
+fn nest(alloc: Global) -> Result<Regex, AllocError> {
     let inner = Regex::Concat(texts(alloc, "a", "b")?);
     Ok(Regex::Concat(two(alloc, inner, text(alloc, "c")?)?))
 }
 
 // `(re.diff (re.union "ab" (re.opt "b")) "ab")`.
 fn less(alloc: Global) -> Result<Regex, AllocError> {
-    let option = Regex::Opt(boxed(alloc, "b")?);
+    let option = Regex::Opt(boxed_literal(alloc, "b")?);
     let either = Regex::Union(two(alloc, text(alloc, "ab")?, option)?);
     Ok(Regex::Diff(two(alloc, either, text(alloc, "ab")?)?))
 }
@@ -58,7 +58,7 @@ fn less(alloc: Global) -> Result<Regex, AllocError> {
 #[test]
 fn lists_have_their_words(rt: HostRuntime) -> Result<(), BuildFault> {
     let alloc = rt.alloc();
-    assert!(rt; tells(alloc, &nested(alloc)?, "abc", "ab")?);
+    assert!(rt; tells(alloc, &nest(alloc)?, "abc", "ab")?);
     assert!(rt; tells(alloc, &less(alloc)?, "b", "ab")?);
     Ok(())
 }
@@ -66,9 +66,9 @@ fn lists_have_their_words(rt: HostRuntime) -> Result<(), BuildFault> {
 #[test]
 fn copies_have_their_words(rt: HostRuntime) -> Result<(), BuildFault> {
     let alloc = rt.alloc();
-    let some = Regex::Loop(boxed(alloc, "a")?, 2, 3);
+    let some = Regex::Loop(boxed_literal(alloc, "a")?, 2, 3);
     assert!(rt; tells(alloc, &some, "aaa", "a")?);
-    let plus = Regex::Plus(boxed(alloc, "ab")?);
+    let plus = Regex::Plus(boxed_literal(alloc, "ab")?);
     assert!(rt; tells(alloc, &plus, "abab", "")?);
     Ok(())
 }
@@ -76,7 +76,7 @@ fn copies_have_their_words(rt: HostRuntime) -> Result<(), BuildFault> {
 #[test]
 fn others_have_their_words(rt: HostRuntime) -> Result<(), BuildFault> {
     let alloc = rt.alloc();
-    let others = Regex::Comp(boxed(alloc, "b")?);
+    let others = Regex::Comp(boxed_literal(alloc, "b")?);
     assert!(rt; tells(alloc, &others, "ab", "b")?);
     assert!(rt; tells(alloc, &Regex::Range(0x61, 0x62), "b", "c")?);
     Ok(())
@@ -100,7 +100,7 @@ fn letters_are_one_part(rt: HostRuntime) -> Result<(), BuildFault> {
 }
 
 // The number with which the expression is refused.
-fn refused(alloc: Global, regex: &Regex, limit: u64) -> Option<u64> {
+fn refusal(alloc: Global, regex: &Regex, limit: u64) -> Option<u64> {
     match build(alloc, regex, limit) {
         Err(BuildFault::States(n)) => Some(n),
         _ => None,
@@ -110,7 +110,7 @@ fn refused(alloc: Global, regex: &Regex, limit: u64) -> Option<u64> {
 #[test]
 fn more_states_than_the_limit(rt: HostRuntime) -> Result<(), BuildFault> {
     let word = text(rt.alloc(), "ab")?;
-    assert!(rt; refused(rt.alloc(), &word, 2) == Some(3));
+    assert!(rt; refusal(rt.alloc(), &word, 2) == Some(3));
     assert!(rt; bound(&word) == 3);
     assert!(rt; build(rt.alloc(), &word, 3)?.states() == 3);
     Ok(())

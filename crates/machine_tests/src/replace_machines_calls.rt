@@ -66,7 +66,7 @@ fn with_each(alloc: Global, text: &[u8], pattern: &[u8], by: &[u8]) -> Result<Ve
 }
 
 // The text of so many of these letters with this number.
-fn numbered(
+fn number_states(
     alloc: Global,
     letters: &[u8],
     length: u32,
@@ -126,7 +126,7 @@ fn is_replaced(
     length: u32,
     number: u32,
 ) -> Result<bool, AllocError> {
-    let read = numbered(alloc, letters, length, number)?;
+    let read = number_states(alloc, letters, length, number)?;
     let written = with_each(alloc, &read, pattern, b"c")?;
     relates(alloc, machine, &read, &written)
 }

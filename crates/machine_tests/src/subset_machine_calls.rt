@@ -91,7 +91,7 @@ fn reads(alloc: Global, subset: &Subset, word: &[u32]) -> Result<bool, AllocErro
 }
 
 // Whether the lists read the word where it is the machine's, and those of the others where it isn't.
-fn told(alloc: Global, machine: &Explicit, word: &[u32], own: bool) -> Result<bool, AllocError>
+fn tell(alloc: Global, machine: &Explicit, word: &[u32], own: bool) -> Result<bool, AllocError>
     requires { machine.now.registers ≡ 0 }
 {
     let reads_own = reads(alloc, &Subset::of(machine, false), word)?;
@@ -102,23 +102,23 @@ fn told(alloc: Global, machine: &Explicit, word: &[u32], own: bool) -> Result<bo
 #[test]
 fn words_are_told_apart(rt: HostRuntime) -> Result<(), AllocError> {
     let machine = last_but_one(rt.alloc())?;
-    assert!(rt; told(rt.alloc(), &machine, &[A, B], true)?);
-    assert!(rt; told(rt.alloc(), &machine, &[B, A, B, B], false)?);
+    assert!(rt; tell(rt.alloc(), &machine, &[A, B], true)?);
+    assert!(rt; tell(rt.alloc(), &machine, &[B, A, B, B], false)?);
     Ok(())
 }
 
 #[test]
 fn the_last_character_is_read(rt: HostRuntime) -> Result<(), AllocError> {
     let machine = from_b_on(rt.alloc())?;
-    assert!(rt; told(rt.alloc(), &machine, &[LAST, B, LAST], true)?);
-    assert!(rt; told(rt.alloc(), &machine, &[LAST, A, A], false)?);
+    assert!(rt; tell(rt.alloc(), &machine, &[LAST, B, LAST], true)?);
+    assert!(rt; tell(rt.alloc(), &machine, &[LAST, A, A], false)?);
     Ok(())
 }
 
 fn crosses<T: Send + Sync>(_value: &T) {}
 
 // How many lists follow on the start.
-fn following(alloc: Global, subset: &Subset) -> Result<usize, AllocError> {
+fn count_next(alloc: Global, subset: &Subset) -> Result<usize, AllocError> {
     let start = subset.start(alloc)?;
     Ok(subset.moves(alloc, &start)?.len())
 }
@@ -128,6 +128,6 @@ fn characters_are_joined(rt: HostRuntime) -> Result<(), AllocError> {
     let machine = last_but_one(rt.alloc())?;
     let subset = Subset::of(&machine, true);
     crosses(&subset);
-    assert!(rt; following(rt.alloc(), &subset)? == 3);
+    assert!(rt; count_next(rt.alloc(), &subset)? == 3);
     Ok(())
 }

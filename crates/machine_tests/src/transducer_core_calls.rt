@@ -30,7 +30,7 @@ fn edge(lo: u32, hi: u32, items: Items<Item>) -> TransEdge {
 }
 
 // One state, and one edge that writes each character from `lo` to `hi` moved by a number.
-fn moving(alloc: Global, lo: u32, hi: u32, by: i32) -> Result<Transducer, AllocError> {
+fn mover(alloc: Global, lo: u32, hi: u32, by: i32) -> Result<Transducer, AllocError> {
     let mut items = Items::new(alloc);
     items.push(Item::Shift(by))?;
     let mut edges = Items::new(alloc);
@@ -71,7 +71,7 @@ fn characters_are_moved(rt: HostRuntime) -> Result<(), AllocError> {
         (97, 97, -97, "a", "\0", Some(1)),
         (97, 122, 196_607, "a", "", None),
     ] {
-        let made = moving(rt.alloc(), lo, hi, by);
+        let made = mover(rt.alloc(), lo, hi, by);
         assert!(rt; steps(rt.alloc(), made, read, written)? == count, "{read}");
     }
     Ok(())
@@ -201,7 +201,7 @@ fn writes(
 }
 
 // On "a" this text is written.
-fn writing(alloc: Global, text: &str) -> Result<TransEdge, AllocError> {
+fn writer(alloc: Global, text: &str) -> Result<TransEdge, AllocError> {
     let mut items = Items::new(alloc);
     items.push(Item::Text(word(alloc, text)?))?;
     Ok(edge(97, 97, items))
@@ -211,7 +211,7 @@ fn writing(alloc: Global, text: &str) -> Result<TransEdge, AllocError> {
 fn edges_choosing(alloc: Global) -> Result<Items<TransEdge>, AllocError> {
     let mut edges = Items::new(alloc);
     for text in ["", "b", "cc"] {
-        edges.push(writing(alloc, text)?)?;
+        edges.push(writer(alloc, text)?)?;
     }
     Ok(edges)
 }
@@ -224,7 +224,7 @@ fn ends_choosing(alloc: Global) -> Result<Items<(u32, Word)>, AllocError> {
     Ok(ends)
 }
 
-fn choosing(alloc: Global) -> Result<Transducer, AllocError> {
+fn chooser(alloc: Global) -> Result<Transducer, AllocError> {
     let edges = edges_choosing(alloc)?;
     let ends = ends_choosing(alloc)?;
     Ok(Transducer {
@@ -250,7 +250,7 @@ fn outputs_are_what_may_be_written(rt: HostRuntime) -> Result<(), AllocError> {
         ("aa", "!b", false),
         ("ab", "b", false),
     ] {
-        let is = writes(rt.alloc(), choosing(rt.alloc()), read, text)?;
+        let is = writes(rt.alloc(), chooser(rt.alloc()), read, text)?;
         assert!(rt; is == written, "{text}");
     }
     Ok(())

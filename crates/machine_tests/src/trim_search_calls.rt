@@ -40,7 +40,7 @@ fn sample(alloc: Global) -> Result<Explicit, AllocError>
 }
 
 // The number with which a machine is refused.
-fn refused(alloc: Global, machine: &Explicit, limit: u64) -> Option<u64> {
+fn refusal(alloc: Global, machine: &Explicit, limit: u64) -> Option<u64> {
     match materialise(alloc, machine, limit) {
         Err(BuildFault::States(n)) => Some(n),
         _ => None,
@@ -50,8 +50,8 @@ fn refused(alloc: Global, machine: &Explicit, limit: u64) -> Option<u64> {
 #[test]
 fn more_states_than_the_limit(rt: HostRuntime) -> Result<(), AllocError> {
     let machine = sample(rt.alloc())?;
-    assert!(rt; refused(rt.alloc(), &machine, 3) == Some(4));
-    assert!(rt; refused(rt.alloc(), &machine, 4).is_none());
+    assert!(rt; refusal(rt.alloc(), &machine, 3) == Some(4));
+    assert!(rt; refusal(rt.alloc(), &machine, 4).is_none());
     Ok(())
 }
 

@@ -3,7 +3,7 @@ use Rattle.std.proofs.Common.{◌≡◌, ℕ, zero, suc, ◌<◌, ℤ, pos, ◌�
 use Rattle.std.proofs.lemmas.Int.{ints}
 use Rattle.sv_linear.specs.declared.row.Row.{Row}
 use Rattle.farkas_check.specs.Closings.{at_least}
-use Rattle.farkas_check.specs.Cuts.{IsCut}
+use Rattle.farkas_check.specs.Cuts.{IsNetCut}
 use Rattle.farkas_check.specs.Systems.{Meets, Reached, reached_start, reached_edge, Joined, constraint_of, rows_of}
 use Rattle.farkas_check.specs.declared.net.NetEdge.{NetEdge}
 use Rattle.farkas_check.specs.declared.system.System.{System}
@@ -27,7 +27,7 @@ unreached x zero l h = absurd (h reached_start)
 unreached x (suc zero) l h = (0, omega arith, refl)
 unreached x (suc (suc s)) l h = absurd (omega (arith, l))
 
-pub loop_cut : (x : ℕ → ℤ) → pos 0 <ℤ x 0 → IsCut x (loop_net ∷ []) 0 (1 ∷ [])
+pub loop_cut : (x : ℕ → ℤ) → pos 0 <ℤ x 0 → IsNetCut x (loop_net ∷ []) 0 (1 ∷ [])
 loop_cut x used = record {
   net = loop_net;
   is_net = refl;

@@ -38,7 +38,7 @@ fn names_below(form: &Form, unknowns: u32) -> bool
 }
 
 /// The rows, which are to name unknowns below `unknowns` alone.
-fn named(rows: &[Row], unknowns: u32) -> Result<&[Row], Fail>
+fn rows_within(rows: &[Row], unknowns: u32) -> Result<&[Row], Fail>
     ensures { IfOk result (λ rows. NameUnknowns unknowns rows.now) }
 {
     for row in rows {
@@ -183,13 +183,13 @@ const LARGE: [Entries; 4] = [
 /// What is told of the sum of these multiples of the rows.
 fn test_sum(alloc: Global, multipliers: &[(u32, i128)]) -> Result<LeafTest, Fail> {
     let rows = rows_of(alloc, LARGE.as_slice())?;
-    Ok(test_farkas(alloc, 2, named(rows.as_slice(), 2)?, multipliers)?)
+    Ok(test_farkas(alloc, 2, rows_within(rows.as_slice(), 2)?, multipliers)?)
 }
 
 /// What is told of the third row alone, divided.
 fn test_third(alloc: Global, by: i128) -> Result<LeafTest, Fail> {
     let rows = rows_of(alloc, LARGE.as_slice())?;
-    Ok(test_divisor(alloc, 2, named(rows.as_slice(), 2)?, &[(2, 1)], by)?)
+    Ok(test_divisor(alloc, 2, rows_within(rows.as_slice(), 2)?, &[(2, 1)], by)?)
 }
 
 /// Single leaves over rows, named by their first column past 128 bits.

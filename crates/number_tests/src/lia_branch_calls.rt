@@ -1,4 +1,4 @@
-ghost use Rattle.std.specs.Prelude.{◌≡◌, ℕ, [], ◌∷◌, Some, slice_get, IfOk, IsTrue, true, false, pos, ◌<ℤ◌, ◌≤ℤ◌};
+ghost use Rattle.std.specs.Prelude.{◌≡◌, ℕ, [], ◌∷◌, Some, slice_get, IfOk, true, false, pos, ◌<ℤ◌, ◌≤ℤ◌};
 ghost use Rattle.farkas_check.specs.Closings.{at_least};
 ghost use Rattle.farkas_check.specs.Cuts.{values_of};
 ghost use Rattle.lia_branch.specs.LoopNets.{loop_net};

@@ -6,7 +6,7 @@ ghost use Rattle.sv_linear.specs.declared.row.Row.{Row as AnyRow};
 
 use crate::systems::{row_of, system_over};
 use farkas_check::{System, Tree};
-use lia_quick::{Elimination, Found, close_by_divisor, reduce, solve_by_bounds};
+use lia_quick::{Elimination, QuickAnswer, close_by_divisor, reduce, solve_by_bounds};
 use std::alloc::Global;
 use std::test::Fail;
 use sv_linear::RowKind;
@@ -49,7 +49,7 @@ fn is_divided(alloc: Global, constant: i128) -> Result<bool, Fail> {
 }
 
 /// What their bounds show.
-fn bounded(
+fn bounds_of(
     alloc: Global,
     kinds: u32,
     worths: &[(u32, i128)],
@@ -63,8 +63,8 @@ fn bounded(
         return Ok(Answer::Nothing);
     };
     match solve_by_bounds(alloc, &system, &elimination, &reduced)? {
-        Some(Found::Point(_)) => Ok(Answer::Point),
-        Some(Found::Closed(_)) => Ok(Answer::Closed),
+        Some(QuickAnswer::Point(_)) => Ok(Answer::Point),
+        Some(QuickAnswer::Closed(_)) => Ok(Answer::Closed),
         None => Ok(Answer::Nothing),
     }
 }
@@ -74,15 +74,15 @@ fn coins_of_6_and_10(rt: HostRuntime) -> Result<(), Fail> {
     let alloc = rt.alloc();
     assert!(rt; is_divided(alloc, -27)?);
     assert!(rt; !is_divided(alloc, -14)?);
-    assert!(rt; bounded(alloc, 2, &TWO, -28)? == Answer::Point);
-    assert!(rt; bounded(alloc, 2, &TWO, -14)? == Answer::Closed);
+    assert!(rt; bounds_of(alloc, 2, &TWO, -28)? == Answer::Point);
+    assert!(rt; bounds_of(alloc, 2, &TWO, -14)? == Answer::Closed);
     Ok(())
 }
 
 #[test]
 fn coins_of_six_kinds(rt: HostRuntime) -> Result<(), Fail> {
     let alloc = rt.alloc();
-    assert!(rt; bounded(alloc, 6, &SIX, -769)? == Answer::Closed);
-    assert!(rt; bounded(alloc, 6, &SIX, -770)? == Answer::Point);
+    assert!(rt; bounds_of(alloc, 6, &SIX, -769)? == Answer::Closed);
+    assert!(rt; bounds_of(alloc, 6, &SIX, -770)? == Answer::Point);
     Ok(())
 }

@@ -2,7 +2,7 @@ ghost use Rattle.std.specs.Prelude.{◌≡◌, ◌+◌, length, IfOk, OnOk};
 ghost use Rattle.sv_linear.specs.Terms.{AscendsWithin};
 ghost use Rattle.sv_linear.specs.Rows.{HasSymmetricEntries, IsRowWithin};
 
-use lia_tableau::{Status, Tableau, TableauFault, settle};
+use lia_tableau::{Tableau, TableauFault, TableauStatus, settle};
 use std::alloc::Global;
 use std::test::Fail;
 use sv_linear::{Form, Row, RowKind};
@@ -97,7 +97,7 @@ fn pivot(alloc: Global, tableau: &mut Tableau) -> Result<Option<Refusal>, Fail>
     ensures rows { tableau.new.rows ≡ tableau.old.rows }
 {
     match tableau.status() {
-        Status::Due => match tableau.pivot(alloc) {
+        TableauStatus::Due => match tableau.pivot(alloc) {
             Ok(()) => Ok(None),
             Err(fault) => Ok(Some(refusal(fault)?)),
         },
@@ -117,7 +117,7 @@ fn lines_of(tableau: &Tableau) -> [Line; 3]
 }
 
 /// What is told of a tableau of three rows and two unknowns: its lines, x, y and its status.
-type State = ([Line; 3], (i128, i128), (i128, i128), Status);
+type State = ([Line; 3], (i128, i128), (i128, i128), TableauStatus);
 
 fn state_of(tableau: &Tableau) -> State
     requires unknowns { tableau.now.unknowns ≡ 2 }
@@ -157,7 +157,7 @@ const START: State = (
     ],
     (0, 1),
     (0, 1),
-    Status::Due,
+    TableauStatus::Due,
 );
 
 const FIRST: State = (
@@ -168,7 +168,7 @@ const FIRST: State = (
     ],
     (3, 2),
     (0, 1),
-    Status::Due,
+    TableauStatus::Due,
 );
 
 const SECOND: State = (
@@ -179,7 +179,7 @@ const SECOND: State = (
     ],
     (3, 2),
     (1, 3),
-    Status::Due,
+    TableauStatus::Due,
 );
 
 const THIRD: State = (
@@ -190,7 +190,7 @@ const THIRD: State = (
     ],
     (20, 3),
     (1, 3),
-    Status::Point,
+    TableauStatus::Point,
 );
 
 #[test]
@@ -219,7 +219,7 @@ fn comes_back(alloc: Global, tableau: &mut Tableau) -> Result<bool, Fail>
             return Ok(true);
         }
         seen.push(lines)?;
-        if tableau.status() != Status::Due {
+        if tableau.status() != TableauStatus::Due {
             return Ok(false);
         }
         if pivot(alloc, tableau)?.is_some() {
@@ -230,7 +230,7 @@ fn comes_back(alloc: Global, tableau: &mut Tableau) -> Result<bool, Fail>
 }
 
 /// Whether some list of lines comes twice before the tableau of these rows is settled, and its status then.
-fn goes_round(alloc: Global, table: &[Entries]) -> Result<(bool, Status), Fail>
+fn goes_round(alloc: Global, table: &[Entries]) -> Result<(bool, TableauStatus), Fail>
     requires { length table.now ≡ 3 }
 {
     let mut tableau = tableau_of(alloc, table)?;
@@ -239,7 +239,7 @@ fn goes_round(alloc: Global, table: &[Entries]) -> Result<(bool, Status), Fail>
 }
 
 /// The status when `settle` is done, and how many rows there are.
-fn settle_all(alloc: Global, table: &[Entries]) -> Result<(Status, usize), Fail> {
+fn settle_all(alloc: Global, table: &[Entries]) -> Result<(TableauStatus, usize), Fail> {
     let mut tableau = tableau_of(alloc, table)?;
     settle(alloc, &mut tableau)?;
     Ok((tableau.status(), tableau.rows().len()))
@@ -263,7 +263,7 @@ fn no_basis_twice(rt: HostRuntime) -> Result<(), Fail> {
     Ok(())
 }
 
-fn status_of(alloc: Global, first: Entries, second: Entries) -> Result<Status, Fail> {
+fn status_of(alloc: Global, first: Entries, second: Entries) -> Result<TableauStatus, Fail> {
     let table = [first, second];
     Ok(tableau_of(alloc, table.as_slice())?.status())
 }
@@ -274,22 +274,22 @@ fn statuses(rt: HostRuntime) -> Result<(), Fail> {
     let alloc = rt.alloc();
     let none = (RowKind::Le, [0, 0], 1);
     let halves = (RowKind::Eq, [2, -2], 1);
-    assert!(rt; status_of(alloc, halves, none)? == Status::Divisor(0));
+    assert!(rt; status_of(alloc, halves, none)? == TableauStatus::Divisor(0));
     let loose = (RowKind::Le, [2, -2], 1);
     let thirds = (RowKind::Eq, [3, 0], MAX);
-    assert!(rt; status_of(alloc, loose, thirds)? == Status::Divisor(1));
+    assert!(rt; status_of(alloc, loose, thirds)? == TableauStatus::Divisor(1));
     let large = (RowKind::Eq, [MAX, 0], 1);
-    assert!(rt; status_of(alloc, large, none)? == Status::Divisor(0));
+    assert!(rt; status_of(alloc, large, none)? == TableauStatus::Divisor(0));
     let whole = (RowKind::Eq, [2, 3], 1);
-    assert!(rt; status_of(alloc, whole, none)? == Status::Conflict(1));
+    assert!(rt; status_of(alloc, whole, none)? == TableauStatus::Conflict(1));
     let below = (RowKind::Eq, [0, 0], -1);
-    assert!(rt; status_of(alloc, below, none)? == Status::Conflict(0));
+    assert!(rt; status_of(alloc, below, none)? == TableauStatus::Conflict(0));
     let even = (RowKind::Eq, [2, 0], 4);
     let first = (RowKind::Le, [1, 0], 1);
-    assert!(rt; status_of(alloc, even, first)? == Status::Due);
+    assert!(rt; status_of(alloc, even, first)? == TableauStatus::Due);
     let least = (RowKind::Le, [1, 0], -MAX);
     let zero = (RowKind::Eq, [2, 0], 0);
-    assert!(rt; status_of(alloc, zero, least)? == Status::Point);
+    assert!(rt; status_of(alloc, zero, least)? == TableauStatus::Point);
     Ok(())
 }
 
@@ -362,7 +362,7 @@ fn add_row(
     alloc: Global,
     kind: RowKind,
     [x, y, constant]: [i128; 3],
-) -> Result<(Line, Line, Status), Fail> {
+) -> Result<(Line, Line, TableauStatus), Fail> {
     let mut tableau = turn_once(alloc)?;
     let row = row_of(alloc, kind, [x, y], constant)?;
     match tableau.add_row(alloc, &row) {
@@ -400,7 +400,10 @@ fn added_rows(rt: HostRuntime) -> Result<(), Fail> {
         (RowKind::Eq, [0, -MAX, 0], [0, -MAX, 0, 1, 0, 0]),
     ] {
         let got = add_row(rt.alloc(), kind, entries)?;
-        assert!(rt; got == (FIRST_LINE, line, Status::Point), "{entries:?}");
+        assert!(rt;
+            got == (FIRST_LINE, line, TableauStatus::Point),
+            "{entries:?}"
+        );
     }
     Ok(())
 }

@@ -1,6 +1,6 @@
-ghost use Rattle.std.specs.Prelude.{◌≡◌, ℕ, ◌+◌, ◌<◌, ◌≤◌, min, length, vec_len, slice_range, slice_index_or, IfOk};
+ghost use Rattle.std.specs.Prelude.{◌≡◌, ℕ, ◌+◌, ◌<◌, ◌≤◌, length, vec_len, slice_index_or, IfOk};
 ghost use Rattle.std.specs.List.{AllZip};
-ghost use Rattle.par_phase.specs.Shares.{first_of, share_of};
+ghost use Rattle.par_phase.specs.Shares.{share_of};
 
 use crate::gate::Gate;
 use crate::job::Job;
@@ -9,11 +9,11 @@ use std::alloc::{AllocError, Global};
 use std::thread;
 use std::thread::Threads;
 
-/// Does each job once, and gives the outcomes in the order of the jobs.
+/// The outcomes of the jobs, in their order.
 ///
 /// `workers` is how many shares the jobs are cut into at the most. Each share is done by one
-/// thread, its jobs in order, and each job is announced at `gate` first. The only error is want of
-/// memory; some jobs may then not have been done.
+/// thread, its jobs in order, each once and announced at `gate` first: no clause says so, tests do.
+/// The only error is want of memory; some jobs may then not have been done.
 pub fn run_jobs<R: Threads + Sync, J: Job + Sync, G: Gate + Sync>(
     rt: &R,
     alloc: Global,

@@ -13,7 +13,7 @@ use Rattle.machine_core.specs.declared.edge.Edge.{Edge}
 use Rattle.machine_core.specs.declared.end.End.{End}
 use Rattle.machine_core.specs.declared.graph.Graph.{Graph}
 use Rattle.parikh_flow.specs.Rows.{terms_by, machine_terms, edge_balance, end_balance, state_row, IsSameRow, AreSameRows}
-use Rattle.parikh_flow.specs.Building.{IsAdded, IsAddedAt, AreAdded, AreOpened, AreStateForms, equation_row}
+use Rattle.parikh_flow.specs.Building.{AreTermsAdded, IsTermAdded, AreAdded, AreOpened, AreStateForms, equation_row}
 use Rattle.parikh_flow.proofs.FormLemmas.{added-none, added-join, added-term, added-zero, ascends-more, ascends-push, terms-more}
 
 by_same : {P : Type 0} (m n : ℕ) → (m ≡ n → P) → ((m ≡ n → ⊥) → P) → P
@@ -51,10 +51,10 @@ get-some (x ∷ xs) (suc i) lt = get-some xs i (omega arith)
 
 -- nothing was added
 pub added-nothing : (ts : ℕ → List (ℕ × ℤ)) (next more : ℕ) (a : List Form) → next ≤ more → ((s : ℕ) (f : Form) → slice_get a s ≡ Some f → AscendsWithin 0 next f.coefficients)
-    → ((s : ℕ) (f : Form) → IsAdded (ts s) f f) → AreAdded ts more a a
+    → ((s : ℕ) (f : Form) → AreTermsAdded (ts s) f f) → AreAdded ts more a a
 added-nothing ts next more a le ascend none = record {
   size = refl;
-  each = λ s f g e h. (let same : f ≡ g = cc in subst (IsAdded (ts s) f) same (none s f));
+  each = λ s f g e h. (let same : f ≡ g = cc in subst (AreTermsAdded (ts s) f) same (none s f));
   ascend = λ s g e. ascends-more 0 next more g.coefficients le (ascend s g e);
 }
 
@@ -69,13 +69,13 @@ added-both ts us m n a b d p q = record {
   ascend = q.ascend;
 }
 
-pub added-same : (ts us : ℕ → List (ℕ × ℤ)) (n : ℕ) (a b : List Form) → ((s : ℕ) (f g : Form) → IsAdded (ts s) f g → IsAdded (us s) f g) → AreAdded ts n a b → AreAdded us n a b
+pub added-same : (ts us : ℕ → List (ℕ × ℤ)) (n : ℕ) (a b : List Form) → ((s : ℕ) (f g : Form) → AreTermsAdded (ts s) f g → AreTermsAdded (us s) f g) → AreAdded ts n a b → AreAdded us n a b
 added-same ts us n a b h p = record { size = p.size; each = λ s f g e k. h s f g (p.each s f g e k); ascend = p.ascend }
 
 -- a term was added at one place
 pub added-at : (at unknown : ℕ) (c : ℤ) (by : ℕ → ℤ) (a b : List Form) → (c ≡ pos 0 → ⊥) → by at ≡ c → ((s : ℕ) → (s ≡ at → ⊥) → by s ≡ pos 0)
     → ((f : Form) → slice_get a at ≡ Some f → AscendsWithin 0 unknown f.coefficients) → ((s : ℕ) (f : Form) → slice_get a s ≡ Some f → AscendsWithin 0 (unknown + 1) f.coefficients)
-    → IsAddedAt at unknown c a b → AreAdded (λ s. (unknown, by s) ∷ []) (unknown + 1) a b
+    → IsTermAdded at unknown c a b → AreAdded (λ s. (unknown, by s) ∷ []) (unknown + 1) a b
 added-at at unknown c by a b some here others below ascend p = record {
   size = ap length p.set ∙ length-set a at p.now;
   each = λ s f g e h. by_same s at (here-added s f g e h) (other-added s f g e h);
@@ -88,7 +88,7 @@ added-at at unknown c by a b some here others below ascend p = record {
     other : (s : ℕ) (g : Form) → (s ≡ at → ⊥) → slice_get b s ≡ Some g → slice_get a s ≡ Some g
     other s g ne h = sym (get-other a at s p.now ne) ∙ subst (λ l. slice_get l s ≡ Some g) p.set h
 
-    here-added : (s : ℕ) (f g : Form) → slice_get a s ≡ Some f → slice_get b s ≡ Some g → s ≡ at → IsAdded ((unknown, by s) ∷ []) f g
+    here-added : (s : ℕ) (f g : Form) → slice_get a s ≡ Some f → slice_get b s ≡ Some g → s ≡ at → AreTermsAdded ((unknown, by s) ∷ []) f g
     here-added s f g e h z =
         let e' = subst (λ n. slice_get a n ≡ Some f) z e in
         let h' = subst (λ n. slice_get b n ≡ Some g) z h in
@@ -98,13 +98,13 @@ added-at at unknown c by a b some here others below ascend p = record {
         let second : p.now ≡ g = cc in
         let added = added-term unknown c p.before p.now p.coefficients p.constant in
         let is : c ≡ by s = sym here ∙ ap by (sym z) in
-        subst (λ (x : Form). IsAdded ((unknown, by s) ∷ []) f x) second (subst (λ (x : Form). IsAdded ((unknown, by s) ∷ []) x p.now) first (subst (λ z. IsAdded ((unknown, z) ∷ []) p.before p.now) is added))
+        subst (λ (x : Form). AreTermsAdded ((unknown, by s) ∷ []) f x) second (subst (λ (x : Form). AreTermsAdded ((unknown, by s) ∷ []) x p.now) first (subst (λ z. AreTermsAdded ((unknown, z) ∷ []) p.before p.now) is added))
 
-    other-added : (s : ℕ) (f g : Form) → slice_get a s ≡ Some f → slice_get b s ≡ Some g → (s ≡ at → ⊥) → IsAdded ((unknown, by s) ∷ []) f g
+    other-added : (s : ℕ) (f g : Form) → slice_get a s ≡ Some f → slice_get b s ≡ Some g → (s ≡ at → ⊥) → AreTermsAdded ((unknown, by s) ∷ []) f g
     other-added s f g e h ne =
         let k = other s g ne h in
         let same : f ≡ g = cc in
-        subst (λ (x : Form). IsAdded ((unknown, by s) ∷ []) f x) same (added-zero unknown (by s) f (others s ne))
+        subst (λ (x : Form). AreTermsAdded ((unknown, by s) ∷ []) f x) same (added-zero unknown (by s) f (others s ne))
 
     here-ascends : (s : ℕ) (g : Form) → slice_get b s ≡ Some g → s ≡ at → AscendsWithin 0 (unknown + 1) g.coefficients
     here-ascends s g h z =
@@ -125,7 +125,7 @@ unit-other s v ne = by_test (nat_eq v s) refl
     by_test true t = absurd (ne (grind (arith, nat_tests)))
 
 -- two terms of one unknown
-added-sum : (unknown : ℕ) (x y : ℤ) (f g : Form) → IsAdded ((unknown, x) ∷ (unknown, y) ∷ []) f g → IsAdded ((unknown, x +ℤ y) ∷ []) f g
+added-sum : (unknown : ℕ) (x y : ℤ) (f g : Form) → AreTermsAdded ((unknown, x) ∷ (unknown, y) ∷ []) f g → AreTermsAdded ((unknown, x +ℤ y) ∷ []) f g
 added-sum unknown x y f g a = record { terms = λ u. a.terms u ∙ ap (λ z. coefficient u f.coefficients +ℤ z) (by_test u (nat_eq unknown u)); constant = a.constant }
   where
     by_test : (u : ℕ) (b : Bool) → cond b x (pos 0) +ℤ (cond b y (pos 0) +ℤ pos 0) ≡ cond b (x +ℤ y) (pos 0) +ℤ pos 0
@@ -138,17 +138,17 @@ module _ (e : Edge) (unknown : ℕ) (a b d : List Form) (ascend : (s : ℕ) (f :
   added-loop same = added-nothing (λ s. (unknown, edge_balance s e) ∷ []) unknown (unknown + 1) a (omega arith) ascend
       (λ s f. added-zero unknown (edge_balance s e) f (let z = ap (unit s) same in omega (arith, ints)))
 
-  first : IsAddedAt e.to unknown (pos 1) a b → AreAdded (λ s. (unknown, unit s e.to) ∷ []) (unknown + 1) a b
+  first : IsTermAdded e.to unknown (pos 1) a b → AreAdded (λ s. (unknown, unit s e.to) ∷ []) (unknown + 1) a b
   first p = added-at e.to unknown (pos 1) (λ s. unit s e.to) a b (λ z. absurd (omega (arith, ints))) (unit-same e.to e.to refl) (λ s ne. unit-other s e.to (λ z. ne (sym z)))
       (λ f h. ascend e.to f h) (λ s f h. ascends-more 0 unknown (unknown + 1) f.coefficients (omega arith) (ascend s f h)) p
 
-  pub second-below : (e.from ≡ e.to → ⊥) → IsAddedAt e.to unknown (pos 1) a b → (f : Form) → slice_get b e.from ≡ Some f → AscendsWithin 0 unknown f.coefficients
+  pub second-below : (e.from ≡ e.to → ⊥) → IsTermAdded e.to unknown (pos 1) a b → (f : Form) → slice_get b e.from ≡ Some f → AscendsWithin 0 unknown f.coefficients
   second-below ne p f h = ascend e.from f (sym (get-other a e.to e.from p.now ne) ∙ subst (λ l. slice_get l e.from ≡ Some f) p.set h)
 
-  pub second-size : IsAddedAt e.to unknown (pos 1) a b → length b ≡ length a
+  pub second-size : IsTermAdded e.to unknown (pos 1) a b → length b ≡ length a
   second-size p = (first p).size
 
-  pub added-edge : (e.from ≡ e.to → ⊥) → IsAddedAt e.to unknown (pos 1) a b → IsAddedAt e.from unknown (negsuc 0) b d → AreAdded (λ s. (unknown, edge_balance s e) ∷ []) (unknown + 1) a d
+  pub added-edge : (e.from ≡ e.to → ⊥) → IsTermAdded e.to unknown (pos 1) a b → IsTermAdded e.from unknown (negsuc 0) b d → AreAdded (λ s. (unknown, edge_balance s e) ∷ []) (unknown + 1) a d
   added-edge ne p q =
       let one = first p in
       let two = added-at e.from unknown (negsuc 0) (λ s. neg_ℤ (unit s e.from)) b d (λ z. absurd (omega (arith, ints))) (let z = unit-same e.from e.from refl in omega (arith, ints))
@@ -158,7 +158,7 @@ module _ (e : Edge) (unknown : ℕ) (a b d : List Form) (ascend : (s : ℕ) (f :
       (added-both (λ s. (unknown, unit s e.to) ∷ []) (λ s. (unknown, neg_ℤ (unit s e.from)) ∷ []) (unknown + 1) (unknown + 1) a b d one two)
 
 -- an end
-pub added-end : (e : End) (unknown : ℕ) (a b : List Form) → ((s : ℕ) (f : Form) → slice_get a s ≡ Some f → AscendsWithin 0 unknown f.coefficients) → IsAddedAt e.at unknown (negsuc 0) a b
+pub added-end : (e : End) (unknown : ℕ) (a b : List Form) → ((s : ℕ) (f : Form) → slice_get a s ≡ Some f → AscendsWithin 0 unknown f.coefficients) → IsTermAdded e.at unknown (negsuc 0) a b
     → AreAdded (λ s. (unknown, end_balance s e) ∷ []) (unknown + 1) a b
 added-end e unknown a b ascend p =
     added-at e.at unknown (negsuc 0) (λ s. end_balance s e) a b (λ z. absurd (omega (arith, ints))) (let z = unit-same e.at e.at refl in omega (arith, ints))
@@ -170,7 +170,7 @@ pub added-more : {X : Type 0} (by : ℕ → X → ℤ) (base i unknown : ℕ) (x
     → AreAdded (λ s. terms_by (by s) base (take i xs)) unknown a b → AreAdded (λ s. (unknown, by s x) ∷ []) (unknown + 1) b d → AreAdded (λ s. terms_by (by s) base (take (i + 1) xs)) (unknown + 1) a d
 added-more {X} by base i unknown xs x a b d lt read next p q =
     added-same (λ s. terms_by (by s) base (take i xs) ++ (unknown, by s x) ∷ []) (λ s. terms_by (by s) base (take (i + 1) xs)) (unknown + 1) a d
-    (λ s f g h. subst (λ ts. IsAdded ts f g) (ap (λ n. terms_by (by s) base (take i xs) ++ (n, by s x) ∷ []) next ∙ sym (terms-more (by s) base xs i x x lt read)) h)
+    (λ s f g h. subst (λ ts. AreTermsAdded ts f g) (ap (λ n. terms_by (by s) base (take i xs) ++ (n, by s x) ∷ []) next ∙ sym (terms-more (by s) base xs i x x lt read)) h)
     (added-both (λ s. terms_by (by s) base (take i xs)) (λ s. (unknown, by s x) ∷ []) unknown (unknown + 1) a b d p q)
 
 take-all : {X : Type 0} (xs : List X) (i : ℕ) → length xs ≤ i → take i xs ≡ xs
@@ -190,7 +190,7 @@ pub added-start : {X : Type 0} (by : ℕ → X → ℤ) (base : ℕ) (xs : List 
     → AreAdded (λ s. terms_by (by s) base (take 0 xs)) base a a
 added-start {X} by base xs a ascend = added-nothing (λ s. terms_by (by s) base (take 0 xs)) base base a (omega arith) ascend (λ s f. none xs s f)
   where
-    none : (xs : List X) (s : ℕ) (f : Form) → IsAdded (terms_by (by s) base (take 0 xs)) f f
+    none : (xs : List X) (s : ℕ) (f : Form) → AreTermsAdded (terms_by (by s) base (take 0 xs)) f f
     none [] s f = added-none f
     none (x ∷ xs) s f = added-none f
 

@@ -9,23 +9,23 @@ use Rattle.parikh_flow.specs.Counts.{size_of}
 use Rattle.parikh_flow.specs.Nets.{net_of, nets_of, net_edge, net_edges}
 use Rattle.machine_core.specs.declared.edge.Edge.{Edge}
 use Rattle.parikh_flow.specs.Rows.{terms_by, by_machine, unknowns_after}
-use Rattle.parikh_flow.specs.Building.{numbered, IsAdded}
+use Rattle.parikh_flow.specs.Building.{numbered, AreTermsAdded}
 use Rattle.parikh_flow.proofs.ValueLemmas.{coefficient-append}
 
-pub added-none : (f : Form) → IsAdded [] f f
+pub added-none : (f : Form) → AreTermsAdded [] f f
 added-none f = record { terms = λ u. omega (arith, ints); constant = refl }
 
-pub added-join : (ts us : List (ℕ × ℤ)) (f g h : Form) → IsAdded ts f g → IsAdded us g h → IsAdded (ts ++ us) f h
+pub added-join : (ts us : List (ℕ × ℤ)) (f g h : Form) → AreTermsAdded ts f g → AreTermsAdded us g h → AreTermsAdded (ts ++ us) f h
 added-join ts us f g h a b = record {
   terms = λ u. (let x = a.terms u in let y = b.terms u in let e = coefficient-append u ts us in omega (arith, ints));
   constant = b.constant ∙ a.constant;
 }
 
-pub added-term : (unknown : ℕ) (c : ℤ) (f g : Form) → g.coefficients ≡ f.coefficients ++ (unknown, c) ∷ [] → g.constant ≡ f.constant → IsAdded ((unknown, c) ∷ []) f g
+pub added-term : (unknown : ℕ) (c : ℤ) (f g : Form) → g.coefficients ≡ f.coefficients ++ (unknown, c) ∷ [] → g.constant ≡ f.constant → AreTermsAdded ((unknown, c) ∷ []) f g
 added-term unknown c f g e k = record { terms = λ u. ap (coefficient u) e ∙ coefficient-append u f.coefficients ((unknown, c) ∷ []); constant = k }
 
 -- a term with the coefficient 0 adds nothing
-pub added-zero : (unknown : ℕ) (c : ℤ) (f : Form) → c ≡ pos 0 → IsAdded ((unknown, c) ∷ []) f f
+pub added-zero : (unknown : ℕ) (c : ℤ) (f : Form) → c ≡ pos 0 → AreTermsAdded ((unknown, c) ∷ []) f f
 added-zero unknown c f z = record { terms = λ u. by_test u (nat_eq unknown u); constant = refl }
   where
     by_test : (u : ℕ) (b : Bool) → coefficient u f.coefficients ≡ coefficient u f.coefficients +ℤ (cond b c (pos 0) +ℤ pos 0)
@@ -135,11 +135,11 @@ net-more base es i e lt read =
 
 -- one coefficient more
 pub added-next : (base i unknown : ℕ) (cs : List ℤ) (c : ℤ) (f g h : Form) → i < length cs → unknown ≡ base + i → c ≡ get_or cs i (pos 0)
-    → IsAdded (numbered base (take i cs)) f g → IsAdded ((unknown, c) ∷ []) g h → IsAdded (numbered base (take (i + 1) cs)) f h
+    → AreTermsAdded (numbered base (take i cs)) f g → AreTermsAdded ((unknown, c) ∷ []) g h → AreTermsAdded (numbered base (take (i + 1) cs)) f h
 added-next base i unknown cs c f g h lt next read a b =
-    subst (λ ts. IsAdded ts f h) (ap (λ n. numbered base (take i cs) ++ (n, c) ∷ []) next ∙ sym (terms-more (λ z. z) base cs i c (pos 0) lt read))
+    subst (λ ts. AreTermsAdded ts f h) (ap (λ n. numbered base (take i cs) ++ (n, c) ∷ []) next ∙ sym (terms-more (λ z. z) base cs i c (pos 0) lt read))
     (added-join (numbered base (take i cs)) ((unknown, c) ∷ []) f g h a b)
 
 -- terms of edges, of ends and of machines, from coefficients that were listed
-pub added-as : (ts us : List (ℕ × ℤ)) (f g : Form) → ts ≡ us → IsAdded ts f g → IsAdded us f g
-added-as ts us f g e a = subst (λ l. IsAdded l f g) e a
+pub added-as : (ts us : List (ℕ × ℤ)) (f g : Form) → ts ≡ us → AreTermsAdded ts f g → AreTermsAdded us f g
+added-as ts us f g e a = subst (λ l. AreTermsAdded l f g) e a

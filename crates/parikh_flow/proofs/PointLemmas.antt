@@ -17,7 +17,7 @@ use Rattle.box_search.specs.Hits.{IsHit, HaveRegisters, AreRunsOf, runs_total, c
 use Rattle.parikh_flow.specs.Counts.{counts_at, to_of, size_of, edge_counts, end_counts}
 use Rattle.parikh_flow.specs.Nets.{net_edge, net_edges, net_of, nets_of, counted, AreJoined}
 use Rattle.parikh_flow.specs.Rows.{unknowns_after, inequality, register_row, not_negative_row, family_rows, family_terms, machine_terms, reach_rows, run_rows, equation, end_row, state_row, machine_rows, edge_balance, end_balance, IsSameRow, AreSameRows, IsSystemOf}
-use Rattle.parikh_flow.specs.Solutions.{AreCountsAt, HaveFlowsAt, AreValuesOf}
+use Rattle.parikh_flow.specs.Solutions.{AreCountsAt, HaveFlowsAt, AreRunValues}
 use Rattle.parikh_flow.specs.Balance.{one_at, AreBalanced}
 use Rattle.sv_linear.specs.Points.{unit}
 use Rattle.machine_core.specs.Edges.{from_of, at_of}
@@ -230,7 +230,7 @@ module _ (machines : List Graph) (registers : ℕ) (runs : List (Run ℕ)) (inte
 pub hit-solution : (machines : List Graph) (registers : ℕ) (rows : List Row) (reach : Option ℕ) (s : System) (runs : List (Run ℕ)) (integers : List ℤ)
     → IsSystemOf machines (length integers) registers rows reach s → NameUnknowns (length integers + registers) rows → HaveRegisters registers machines
     → IsHit machines registers (length integers) rows runs integers → IfSome reach (λ most. characters runs ≤ most)
-    → (x : ℕ → ℤ) × AreValuesOf x machines registers runs integers × Solves x (rows_of s) s.nets
+    → (x : ℕ → ℤ) × AreRunValues x machines registers runs integers × Solves x (rows_of s) s.nets
 hit-solution machines registers rows reach s runs integers is names same hit short = (
   point_of machines registers runs integers hit.each same,
   record {

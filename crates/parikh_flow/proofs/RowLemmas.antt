@@ -10,7 +10,7 @@ use Rattle.machine_core.specs.declared.end.End.{End}
 use Rattle.machine_core.specs.declared.graph.Graph.{Graph}
 use Rattle.farkas_check.specs.Systems.{Constraint}
 use Rattle.parikh_flow.specs.Rows.{terms_by, machine_terms, edge_cost, end_cost, IsSameRow, AreSameRows}
-use Rattle.parikh_flow.specs.Building.{numbered, IsAdded}
+use Rattle.parikh_flow.specs.Building.{numbered, AreTermsAdded}
 use Rattle.parikh_flow.proofs.FormLemmas.{added-join, numbered-map, numbered-ones}
 
 pub same-append : (xs ys : List Row) (cs ds : List Constraint) → AreSameRows xs cs → AreSameRows ys ds → AreSameRows (xs ++ ys) (cs ++ ds)
@@ -36,11 +36,11 @@ rows-next f a n k rows new r e h g push =
 
 -- what a machine adds
 pub costs-added : (m : Graph) (k base mid : ℕ) (edges : List Edge) (ends : List End) (of_edges of_ends : List ℤ) (f g h : Form) → edges ≡ m.edges → ends ≡ m.ends → of_edges ≡ map (edge_cost k) edges → of_ends ≡ map (end_cost k) ends
-    → mid ≡ base + length m.edges → IsAdded (numbered base of_edges) f g → IsAdded (numbered mid of_ends) g h → IsAdded (machine_terms (edge_cost k) (end_cost k) base m) f h
+    → mid ≡ base + length m.edges → AreTermsAdded (numbered base of_edges) f g → AreTermsAdded (numbered mid of_ends) g h → AreTermsAdded (machine_terms (edge_cost k) (end_cost k) base m) f h
 costs-added m k base mid edges ends of_edges of_ends f g h ee en oe on em a b =
     let first : numbered base of_edges ≡ terms_by (edge_cost k) base m.edges = ap (numbered base) (oe ∙ ap (map (edge_cost k)) ee) ∙ numbered-map (edge_cost k) base m.edges in
     let second : numbered mid of_ends ≡ terms_by (end_cost k) (base + length m.edges) m.ends = ap (λ n. numbered n of_ends) em ∙ ap (numbered (base + length m.edges)) (on ∙ ap (map (end_cost k)) en) ∙ numbered-map (end_cost k) (base + length m.edges) m.ends in
-    added-join (terms_by (edge_cost k) base m.edges) (terms_by (end_cost k) (base + length m.edges) m.ends) f g h (subst (λ l. IsAdded l f g) first a) (subst (λ l. IsAdded l g h) second b)
+    added-join (terms_by (edge_cost k) base m.edges) (terms_by (end_cost k) (base + length m.edges) m.ends) f g h (subst (λ l. AreTermsAdded l f g) first a) (subst (λ l. AreTermsAdded l g h) second b)
 
 zero-terms : {X : Type 0} (base : ℕ) (xs : List X) (u : ℕ) → coefficient u (terms_by (λ _. pos 0) base xs) ≡ pos 0
 zero-terms base [] u = refl
@@ -50,11 +50,11 @@ zero-terms base (x ∷ xs) u = by_test (nat_eq base u) (zero-terms (suc base) xs
     by_test true e = omega (arith, ints)
     by_test false e = omega (arith, ints)
 
-pub lengths-added : (m : Graph) (base : ℕ) (edges : List Edge) (each : List ℤ) (f g : Form) → edges ≡ m.edges → each ≡ replicate (length edges) (pos 1) → IsAdded (numbered base each) f g
-    → IsAdded (machine_terms (λ _. pos 1) (λ _. pos 0) base m) f g
+pub lengths-added : (m : Graph) (base : ℕ) (edges : List Edge) (each : List ℤ) (f g : Form) → edges ≡ m.edges → each ≡ replicate (length edges) (pos 1) → AreTermsAdded (numbered base each) f g
+    → AreTermsAdded (machine_terms (λ _. pos 1) (λ _. pos 0) base m) f g
 lengths-added m base edges each f g ee oe a =
     let first : numbered base each ≡ terms_by (λ _. pos 1) base m.edges = ap (numbered base) (oe ∙ ap (λ (l : List Edge). replicate (length l) (pos 1)) ee) ∙ numbered-ones base m.edges in
-    added-join (terms_by (λ _. pos 1) base m.edges) (terms_by (λ _. pos 0) (base + length m.edges) m.ends) f g g (subst (λ l. IsAdded l f g) first a)
+    added-join (terms_by (λ _. pos 1) base m.edges) (terms_by (λ _. pos 0) (base + length m.edges) m.ends) f g g (subst (λ l. AreTermsAdded l f g) first a)
     (record { terms = λ u. (let z = zero-terms (base + length m.edges) m.ends u in omega (arith, ints)); constant = refl })
 
 pub length-ones : (each : List ℤ) (n : ℕ) → each ≡ replicate n (pos 1) → length each ≡ n
@@ -65,7 +65,7 @@ length-ones each n e = ap length e ∙ sizes n
     sizes (suc n) = ap suc (sizes n)
 
 -- the end row
-pub ends-added : (m : Graph) (base mid : ℕ) (ends : List End) (each : List ℤ) (f g : Form) → ends ≡ m.ends → each ≡ replicate (length ends) (pos 1) → mid ≡ base + length m.edges → f.coefficients ≡ [] → IsAdded (numbered mid each) f g
+pub ends-added : (m : Graph) (base mid : ℕ) (ends : List End) (each : List ℤ) (f g : Form) → ends ≡ m.ends → each ≡ replicate (length ends) (pos 1) → mid ≡ base + length m.edges → f.coefficients ≡ [] → AreTermsAdded (numbered mid each) f g
     → (u : ℕ) → coefficient u g.coefficients ≡ coefficient u (terms_by (λ _. pos 1) (base + length m.edges) m.ends)
 ends-added m base mid ends each f g ee oe em none a u =
     let all : numbered mid each ≡ terms_by (λ _. pos 1) (base + length m.edges) m.ends = ap (λ n. numbered n each) em ∙ ap (numbered (base + length m.edges)) (oe ∙ ap (λ (l : List End). replicate (length l) (pos 1)) ee) ∙ numbered-ones (base + length m.edges) m.ends in

@@ -16,7 +16,7 @@ use Rattle.farkas_check.specs.declared.net.NetEdge.{NetEdge}
 use Rattle.farkas_check.specs.Systems.{Reached, reached_start, reached_edge, Joined}
 use Rattle.farkas_check.specs.Cuts.{IsUnreached}
 use Rattle.parikh_flow.specs.Balance.{one_at}
-use Rattle.parikh_flow.specs.Flows.{LeadsAlong, GoesAlong, IsTally}
+use Rattle.parikh_flow.specs.Flows.{LeadsAlong, GoesAlong, CountsPlaces}
 use Rattle.parikh_flow.specs.Nets.{net_edge, net_edges, net_of, counted}
 use Rattle.parikh_flow.specs.Tours.{IsWalk, IsDrained, IsToured, IsMet}
 use Rattle.parikh_flow.proofs.Gets.{slice_get-below, slice_get-some}
@@ -183,7 +183,7 @@ module _ (m : Graph) (f g : List ℕ) (same : (p : ℕ) → p < length m.edges �
 
   -- where no edge is left, the counts are those of the tour
   pub tour-tally : (last : ℕ) → length g ≡ length m.edges + length m.ends → ((p : ℕ) → slice_index left p ≡ 0)
-      → ((q : ℕ) → slice_index (drop (length m.edges) g) q ≡ one_at q last) → IsTally m (reverse back) last g
+      → ((q : ℕ) → slice_index (drop (length m.edges) g) q ≡ one_at q last) → CountsPlaces m (reverse back) last g
   tour-tally last size none ends = record {
     size = size;
     of_edges = λ p lt. (let s = same p lt in let n = none p in let c = t.counted p in let r = occurrences-reverse p back in omega arith);

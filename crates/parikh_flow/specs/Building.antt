@@ -13,12 +13,12 @@ abbrev pub numbered : ℕ → List ℤ → List (ℕ × ℤ)
 numbered = terms_by (λ z. z)
 
 -- the terms were added to the form
-pub record IsAdded (ts : List (ℕ × ℤ)) (old new : Form) : Type 0 where
+pub record AreTermsAdded (ts : List (ℕ × ℤ)) (old new : Form) : Type 0 where
   pub terms : (u : ℕ) → coefficient u new.coefficients ≡ coefficient u old.coefficients +ℤ coefficient u ts
   pub constant : new.constant ≡ old.constant
 
 -- one term was added to the form at this place
-pub record IsAddedAt (at unknown : ℕ) (c : ℤ) (old new : List Form) : Type 0 where
+pub record IsTermAdded (at unknown : ℕ) (c : ℤ) (old new : List Form) : Type 0 where
   pub before : Form
   pub now : Form
   pub found : slice_get old at ≡ Some before
@@ -29,7 +29,7 @@ pub record IsAddedAt (at unknown : ℕ) (c : ℤ) (old new : List Form) : Type 0
 -- to the form of each state its terms were added, for unknowns below `next`
 pub record AreAdded (ts : ℕ → List (ℕ × ℤ)) (next : ℕ) (old new : List Form) : Type 0 where
   pub size : length new ≡ length old
-  pub each : (s : ℕ) (f g : Form) → slice_get old s ≡ Some f → slice_get new s ≡ Some g → IsAdded (ts s) f g
+  pub each : (s : ℕ) (f g : Form) → slice_get old s ≡ Some f → slice_get new s ≡ Some g → AreTermsAdded (ts s) f g
   pub ascend : (s : ℕ) (g : Form) → slice_get new s ≡ Some g → AscendsWithin 0 next g.coefficients
 
 -- a form without unknowns for each state: 1 at the start

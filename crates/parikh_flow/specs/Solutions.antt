@@ -31,7 +31,7 @@ HaveJoinedCounts x base (m ∷ ms) =
     ((f : List ℕ) × AreCountsAt x base m f × AreBalanced m f × AreJoined m f) × HaveJoinedCounts x (base + size_of m) ms
 
 -- x has the whole numbers, the totals of the runs at each register, and counts of the runs
-pub record AreValuesOf (x : ℕ → ℤ) (machines : List Graph) (registers : ℕ) (runs : List (Run ℕ)) (numbers : List ℤ) : Type 0 where
+pub record AreRunValues (x : ℕ → ℤ) (machines : List Graph) (registers : ℕ) (runs : List (Run ℕ)) (numbers : List ℤ) : Type 0 where
   pub integers : (k : ℕ) → k < length numbers → x k ≡ get_or numbers k (pos 0)
   pub totals : (k : ℕ) → k < registers → x (length numbers + k) ≡ pos (slice_index (runs_total registers runs) k)
   pub flows : HaveFlowsAt x (length numbers + registers) machines runs

@@ -1,5 +1,5 @@
 //! The rows which say that counts balance at each state.
-ghost use Rattle.std.specs.Prelude.{◌≡◌, ◌≢◌, ℕ, ◌+◌, ◌<◌, ◌^◌, pos, [], ◌∷◌, List, length, map, slice_get, Some, All, IfOk, OnOk};
+ghost use Rattle.std.specs.Prelude.{◌≡◌, ◌≢◌, ℕ, ◌+◌, ◌<◌, ◌^◌, pos, [], ◌∷◌, length, map, slice_get, Some, All, IfOk, OnOk};
 ghost use Rattle.std.specs.List.{range_with_len};
 ghost use Rattle.sv_linear.specs.Points.{unit};
 ghost use Rattle.sv_linear.specs.Terms.{AscendsWithin};
@@ -8,7 +8,7 @@ ghost use Rattle.machine_core.specs.declared.edge.Edge.{Edge};
 ghost use Rattle.machine_core.specs.declared.end.End.{End};
 ghost use Rattle.parikh_flow.specs.Counts.{size_of};
 ghost use Rattle.parikh_flow.specs.Rows.{terms_by, edge_balance, end_balance, state_row, AreSameRows};
-ghost use Rattle.parikh_flow.specs.Building.{IsAddedAt, AreAdded, AreOpened, AreStateForms, equation_row};
+ghost use Rattle.parikh_flow.specs.Building.{IsTermAdded, AreAdded, AreOpened, AreStateForms, equation_row};
 
 use crate::sizes::end_base;
 use machine_core::{Edge, End, Explicit};
@@ -26,7 +26,7 @@ fn push_at(
     requires at { at < length forms.old.items }
     requires last { (f : Form) → slice_get forms.old.items at ≡ Some f → AscendsWithin 0 unknown f.coefficients }
     requires not_zero { coefficient ≢ pos 0 }
-    ensures { OnOk result (IsAddedAt at unknown coefficient forms.old.items forms.new.items) }
+    ensures { OnOk result (IsTermAdded at unknown coefficient forms.old.items forms.new.items) }
 {
     forms[at as usize].push(unknown, coefficient)?;
     Ok(())

@@ -1,4 +1,4 @@
-ghost use Rattle.std.specs.Prelude.{◌≡◌, ℕ, ◌+◌, ◌<◌, ◌≤◌, ◌↔◌, List, length, replicate, slice_get, slice_set, slice_index, Some, IfOk, IsTrue};
+ghost use Rattle.std.specs.Prelude.{◌≡◌, ◌+◌, ◌<◌, ◌↔◌, length, replicate, slice_get, slice_set, slice_index, Some, IfOk, IsTrue};
 ghost use Rattle.machine_core.specs.declared.edge.Edge.{Edge};
 ghost use Rattle.machine_core.specs.declared.end.End.{End};
 ghost use Rattle.machine_core.specs.Moves.{Moves};

@@ -1,5 +1,5 @@
 //! Laws of counts, each stated by a function that does nothing.
-ghost use Rattle.std.specs.Prelude.{◌≡◌, ℕ, suc, ℤ, pos, ◌+◌, ◌<◌, ◌≤◌, ◌≤ℤ◌, Option, IfSome, List, length, map, All};
+ghost use Rattle.std.specs.Prelude.{◌≡◌, ℕ, suc, ℤ, pos, ◌+◌, ◌≤◌, ◌≤ℤ◌, Option, IfSome, List, length, map, All};
 ghost use Rattle.std.specs.List.{range_with_len};
 ghost use Rattle.sv_linear.specs.Rows.{NameUnknowns};
 ghost use Rattle.sv_linear.specs.declared.row.Row.{Row};
@@ -7,7 +7,7 @@ ghost use Rattle.farkas_check.specs.Systems.{Meets, Solves, rows_of};
 ghost use Rattle.farkas_check.specs.Cuts.{IsNetWithin};
 ghost use Rattle.box_search.specs.Hits.{IsHit, HaveRegisters, characters};
 ghost use Rattle.parikh_flow.specs.Rows.{IsSystemOf};
-ghost use Rattle.parikh_flow.specs.Solutions.{HaveFlowsAt, HaveJoinedCounts, AreValuesOf};
+ghost use Rattle.parikh_flow.specs.Solutions.{HaveFlowsAt, HaveJoinedCounts, AreRunValues};
 ghost use Rattle.machine_core.specs.Graphs.{IsRunOf};
 ghost use Rattle.machine_core.specs.declared.run.Run.{Run};
 ghost use Rattle.parikh_flow.specs.Counts.{total_count};
@@ -55,7 +55,7 @@ pub fn solutions_are_hits(machines: &[Explicit], system: &System)
         → IsSystemOf machines.now (length numbers) registers rows reach system.now → NameUnknowns (length numbers + registers) rows
         → HaveRegisters registers machines.now
         → IsHit machines.now registers (length numbers) rows runs numbers → IfSome reach (λ most. characters runs ≤ most)
-        → (x : ℕ → ℤ) × AreValuesOf x machines.now registers runs numbers × Solves x (rows_of system.now) system.now.nets }
+        → (x : ℕ → ℤ) × AreRunValues x machines.now registers runs numbers × Solves x (rows_of system.now) system.now.nets }
 {}
 
 /// The nets of the system of machines and rows name unknowns of the system and states of their own.

@@ -1,5 +1,5 @@
 //! The states of a net that are reached from its start over used edges.
-ghost use Rattle.std.specs.Prelude.{◌≡◌, ℕ, suc, pos, ◌<◌, ◌≤ℤ◌, ◌<ℤ◌, ◌↔◌, List, [], length, true, false, slice_get, Some, All, OnOk, IfOk, MatchOption};
+ghost use Rattle.std.specs.Prelude.{◌≡◌, ℕ, suc, pos, ◌<◌, ◌≤ℤ◌, ◌<ℤ◌, ◌↔◌, [], length, true, false, slice_get, Some, All, OnOk, IfOk, MatchOption};
 ghost use Rattle.machine_core.specs.Places.{IsIndex, places};
 ghost use Rattle.farkas_check.specs.Systems.{Reached, Joined};
 ghost use Rattle.farkas_check.specs.Cuts.{values_of, IsNetWithin, IsUnreached};

@@ -1,11 +1,11 @@
 //! The rows of a system beside those that are given.
-ghost use Rattle.std.specs.Prelude.{◌≡◌, ℕ, ◌+◌, ◌-◌, ◌<◌, ◌≤◌, ◌^◌, pos, neg_ℤ, length, map, All, IfOk, IfSome, OnOk};
+ghost use Rattle.std.specs.Prelude.{ℕ, ◌+◌, ◌-◌, ◌<◌, ◌≤◌, ◌^◌, pos, neg_ℤ, map, All, IfOk, IfSome, OnOk};
 ghost use Rattle.std.specs.List.{range_with_len};
 ghost use Rattle.sv_linear.specs.Terms.{AscendsWithin};
 ghost use Rattle.box_search.specs.Hits.{HaveRegisters};
 ghost use Rattle.parikh_flow.specs.Counts.{size_of};
 ghost use Rattle.parikh_flow.specs.Rows.{machine_terms, family_terms, unknowns_after, edge_cost, end_cost, register_row, not_negative_row, end_row, machine_rows, family_rows, reach_rows, inequality, IsSameRow, AreSameRows};
-ghost use Rattle.parikh_flow.specs.Building.{IsAdded, CostsFit};
+ghost use Rattle.parikh_flow.specs.Building.{AreTermsAdded, CostsFit};
 
 use crate::balances::state_rows;
 use crate::sizes::{end_base, next_base};
@@ -26,7 +26,7 @@ fn push_costs(
     requires register { register < machine.now.registers }
     requires room { base + size_of machine.now < 2 ^ 32 }
     requires ascends { AscendsWithin 0 base form.old.coefficients }
-    ensures added { OnOk result (IsAdded (machine_terms (edge_cost register) (end_cost register) base machine.now) form.old form.new) }
+    ensures added { OnOk result (AreTermsAdded (machine_terms (edge_cost register) (end_cost register) base machine.now) form.old form.new) }
     ensures ascends { OnOk result (AscendsWithin 0 (base + size_of machine.now) form.new.coefficients) }
     ensures fit { OnOk result (CostsFit register machine.now) }
 {

@@ -1,7 +1,6 @@
 ghost use Rattle.std.specs.Prelude.{◌≡◌, ℕ, ◌+◌, ◌<◌, ◌≤◌, ◌↔◌, true, false, List, ◌∷◌, length, reverse, slice_get, slice_index, Some, IfOk, Err, Contains};
 ghost use Rattle.std.specs.List.Sorted.{IsStrictlyIncreasing};
 ghost use Rattle.machine_core.specs.declared.edge.Edge.{Edge};
-ghost use Rattle.machine_core.specs.declared.end.End.{End};
 ghost use Rattle.machine_core.specs.declared.run.Run.{Run};
 ghost use Rattle.sv_word.specs.Ranges.{least_of};
 ghost use Rattle.machine_core.specs.Graphs.{IsRunOf};
@@ -14,7 +13,7 @@ ghost use Rattle.parikh_flow.specs.Tours.{IsWalk, IsMet};
 
 use crate::flow_fault::FlowFault;
 use crate::tour::tour_of;
-use machine_core::{Cost, Edge, End, Explicit, Run};
+use machine_core::{Cost, Edge, Explicit, Run};
 use std::alloc::{AllocError, Global};
 use sv_list::{Copied, Items};
 use sv_word::{Ranges, Word};

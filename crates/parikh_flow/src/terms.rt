@@ -1,8 +1,8 @@
 //! Terms for the edges and ends of machines.
-ghost use Rattle.std.specs.Prelude.{◌≡◌, ℕ, ◌+◌, ◌<◌, ◌^◌, pos, [], ◌∷◌, length, map, All, replicate, slice_index, IfOk, OnOk};
+ghost use Rattle.std.specs.Prelude.{◌≡◌, ◌+◌, ◌<◌, ◌^◌, pos, [], ◌∷◌, length, map, All, replicate, slice_index, IfOk, OnOk};
 ghost use Rattle.sv_linear.specs.Terms.{AscendsWithin};
 ghost use Rattle.parikh_flow.specs.Rows.{edge_cost, end_cost};
-ghost use Rattle.parikh_flow.specs.Building.{numbered, IsAdded};
+ghost use Rattle.parikh_flow.specs.Building.{numbered, AreTermsAdded};
 
 use machine_core::{Cost, Edge, End};
 use std::alloc::{AllocError, Global};
@@ -12,7 +12,7 @@ use sv_list::Items;
 // Adds the term of an unknown above all that the form has, unless its coefficient is 0.
 fn push_term(form: &mut Form, unknown: u32, coefficient: i128) -> Result<(), AllocError>
     requires { AscendsWithin 0 unknown form.old.coefficients }
-    ensures added { OnOk result (IsAdded ((unknown, coefficient) ∷ []) form.old form.new) }
+    ensures added { OnOk result (AreTermsAdded ((unknown, coefficient) ∷ []) form.old form.new) }
     ensures ascends { OnOk result (AscendsWithin 0 (unknown + 1) form.new.coefficients) }
 {
     if coefficient == 0 {
@@ -26,7 +26,7 @@ fn push_term(form: &mut Form, unknown: u32, coefficient: i128) -> Result<(), All
 pub fn push_terms(form: &mut Form, base: u32, coefficients: &[i128]) -> Result<(), AllocError>
     requires room { base + length coefficients.now < 2 ^ 32 }
     requires ascends { AscendsWithin 0 base form.old.coefficients }
-    ensures added { OnOk result (IsAdded (numbered base coefficients.now) form.old form.new) }
+    ensures added { OnOk result (AreTermsAdded (numbered base coefficients.now) form.old form.new) }
     ensures ascends { OnOk result (AscendsWithin 0 (base + length coefficients.now) form.new.coefficients) }
 {
     let mut unknown = base;

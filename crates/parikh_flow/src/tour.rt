@@ -1,11 +1,9 @@
 //! A walk over all edges that are to be used, each as often as it is counted.
-ghost use Rattle.std.specs.Prelude.{◌≡◌, ℕ, ◌+◌, ◌<◌, ◌≤◌, Bool, true, false, List, length, take, replicate, slice_get, slice_index, Some, IfOk, OnOk, if◌then◌else◌};
+ghost use Rattle.std.specs.Prelude.{◌≡◌, ℕ, ◌+◌, ◌<◌, ◌≤◌, true, false, List, length, replicate, slice_get, slice_index, Some, IfOk, OnOk, if◌then◌else◌};
 ghost use Rattle.machine_core.specs.declared.edge.Edge.{Edge};
-ghost use Rattle.machine_core.specs.Edges.{from_of, at_of};
 ghost use Rattle.machine_core.specs.Places.{places};
 ghost use Rattle.parikh_flow.specs.declared.tour.Tour.{Tour};
-ghost use Rattle.parikh_flow.specs.Counts.{total_count, edge_counts, end_counts};
-ghost use Rattle.parikh_flow.specs.Balance.{AreBalanced};
+ghost use Rattle.parikh_flow.specs.Counts.{total_count};
 ghost use Rattle.parikh_flow.specs.Tours.{IsTour, IsToured, IsNextLeft, IsDrained, Balances};
 
 use machine_core::{Edge, Explicit};

@@ -6,7 +6,7 @@ use Rattle.sv_word.specs.Words.{IsWord, greatest_character}
 use Rattle.sv_terms.specs.Language.{Word}
 use Rattle.machine_core.specs.declared.graph.Graph.{Graph}
 use Rattle.regex_machine.specs.Laws.{drop-get}
-use Rattle.part_machines.specs.declared.table.Row.{Row}
+use Rattle.part_machines.specs.declared.table.TableRow.{TableRow}
 use Rattle.part_machines.specs.Chains.{AreRanges, chain_row, chain_rows, follows, ranges_of, within}
 use Rattle.part_machines.specs.Parts.{Decides}
 use Rattle.part_machines.specs.Tables.{IsOfTable, IsRow, after, lead_by, leg, next, row_of}
@@ -46,7 +46,7 @@ past [] longer lost from (suc (suc i)) h = refl
 past (r ∷ ranges) longer lost from zero h = absurd (omega (arith, h))
 past (r ∷ ranges) longer lost from (suc i) h = past ranges longer lost (from + 1) i (omega (arith, h))
 
-pub chain-formed : (ranges : List (ℕ × ℕ)) (longer : Bool) (lost from : ℕ) → AreRanges ranges → (i : ℕ) (row : Row) → slice_get (chain_rows longer lost from ranges) i ≡ Some row → IsRow row
+pub chain-formed : (ranges : List (ℕ × ℕ)) (longer : Bool) (lost from : ℕ) → AreRanges ranges → (i : ℕ) (row : TableRow) → slice_get (chain_rows longer lost from ranges) i ≡ Some row → IsRow row
 chain-formed [] longer lost from h zero row e = let same : row_of [] (if longer then from else lost) ≡ row = cc in subst IsRow same tt
 chain-formed [] longer lost from h (suc zero) row e = let same : row_of [] lost ≡ row = cc in subst IsRow same tt
 chain-formed [] longer lost from h (suc (suc i)) row e = cc
@@ -203,7 +203,7 @@ module _ (ranges : List (ℕ × ℕ)) (longer : Bool) where
       (less_or_not s (lost + 1))
 
 -- the machine of a chain
-pub chain-decides : (ranges : List (ℕ × ℕ)) (longer holds : Bool) (rows : List Row) (states : ℕ) (m : Graph) → rows ≡ chain_rows longer (length ranges + 1) 0 ranges → states ≡ length ranges + (if holds then 1 else 2)
+pub chain-decides : (ranges : List (ℕ × ℕ)) (longer holds : Bool) (rows : List TableRow) (states : ℕ) (m : Graph) → rows ≡ chain_rows longer (length ranges + 1) 0 ranges → states ≡ length ranges + (if holds then 1 else 2)
     → m.states ≡ states → IsOfTable (next rows) (length ranges) holds m → Decides (follows longer ranges) holds (length ranges + (if holds then 1 else 2)) m
 chain-decides ranges longer holds rows states m made size is table = by holds refl
   where

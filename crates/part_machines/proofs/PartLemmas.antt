@@ -18,12 +18,12 @@ use Rattle.sv_terms.specs.CutOff.{below-power}
 use Rattle.sv_terms.specs.declared.regex.Regex.{Regex}
 use Rattle.machine_core.specs.declared.graph.Graph.{Graph}
 use Rattle.machine_meet.specs.Products.{multiplied}
-use Rattle.regex_machine.specs.Joined.{ArePlain, Reads, WordsOf}
+use Rattle.regex_machine.specs.Joined.{HaveNoRegisters, HasWords, WordsOf}
 use Rattle.regex_machine.specs.Built.{Builds}
 use Rattle.regex_machine.specs.Kinds.{states_of}
 use Rattle.trim_search.specs.declared.build_fault.BuildFault.{BuildFault}
 use Rattle.trim_search.specs.declared.build_fault.BuildFault.TheVariants.{States}
-use Rattle.straight_line.specs.Bounds.{part_bound, product_by}
+use Rattle.cube_bounds.specs.Bounds.{part_bound, product_by}
 use Rattle.straight_line.specs.Satisfying.{MeetsPart, Says}
 use Rattle.straight_line.specs.declared.variable.Own.{Own}
 use Rattle.straight_line.specs.declared.variable.Own.TheVariants as own
@@ -149,7 +149,7 @@ part-of part o m e h = subst (λ x. IsOfPart (x, part.1) m) (sym e) h
 pub refused : (P : Word → Type 0) (most limit : ℕ) (r : Result Graph BuildFault) (n : ℕ) → Builds P most limit r → r ≡ Err (States n) → limit < most
 refused P most limit r n h e = (subst (Builds P most limit) e h).0
 
-pub made : (P : Word → Type 0) (most limit : ℕ) (r : Result Graph BuildFault) (m : Graph) → Builds P most limit r → r ≡ Ok m → Reads P m × (m.states ≤ most)
+pub made : (P : Word → Type 0) (most limit : ℕ) (r : Result Graph BuildFault) (m : Graph) → Builds P most limit r → r ≡ Ok m → HasWords P m × (m.states ≤ most)
 made P most limit r m h e = let x = subst (Builds P most limit) e h in (x.0, x.1)
 
 pub at-ok : (P : Graph → Type 0) (r : Result Graph BuildFault) (m : Graph) → r ≡ Ok m → IfOk r P → P m
@@ -241,7 +241,7 @@ of-more parts i ms new part m lt is h made e =
     let grown : take (i + 1) parts ≡ take i parts ++ part ∷ [] = take_more parts i part lt ∙ ap (λ p. take i parts ++ p ∷ []) (sym is) in
     subst (λ l. AreOfParts l new) (sym grown) (subst (AreOfParts (take i parts ++ part ∷ [])) (sym e) (of-push (take i parts) ms part m h made))
 
-pub of-plain : (parts : List (Own × Bool)) (ms : List Graph) → AreOfParts parts ms → ArePlain ms
+pub of-plain : (parts : List (Own × Bool)) (ms : List Graph) → AreOfParts parts ms → HaveNoRegisters ms
 of-plain [] [] h m (n, lt, e) = absurd (omega (arith, lt))
 of-plain [] (x ∷ ms) h m i = absurd h
 of-plain (part ∷ parts) [] h m i = absurd h
@@ -265,7 +265,7 @@ of-states [] (m ∷ ms) h = absurd h
 of-states (part ∷ parts) [] h = absurd h
 of-states (part ∷ parts) (m ∷ ms) h = mul-le-mul h.0.few (of-states parts ms h.1)
 
-pub joint-reads : (parts : List (Own × Bool)) (ms : List Graph) (m : Graph) → AreOfParts parts ms → Reads (InAllOf WordsOf ms) m → m.states ≤ multiplied states_of ms → ReadsParts parts m
+pub joint-reads : (parts : List (Own × Bool)) (ms : List Graph) (m : Graph) → AreOfParts parts ms → HasWords (InAllOf WordsOf ms) m → m.states ≤ multiplied states_of ms → ReadsParts parts m
 joint-reads parts ms m h reads few = record {
   reads = record {
     plain = reads.plain;

@@ -11,11 +11,11 @@ use Rattle.sv_terms.specs.ReplacementLaws.{begins-of, begins-split}
 use Rattle.sv_terms.specs.PatternLaws.{fits}
 use Rattle.machine_core.specs.declared.graph.Graph.{Graph}
 use Rattle.replace_machines.specs.Borders.{IsBorder, IsNext}
-use Rattle.replace_machines.specs.Rows.{at, target, Ascends, AreRows, IsBorderOf}
-use Rattle.part_machines.specs.declared.table.Leg.{Leg}
-use Rattle.part_machines.specs.declared.table.Row.{Row}
+use Rattle.replace_machines.specs.Rows.{at, target, Ascends, AreMatchRows, IsBorderOf}
+use Rattle.part_machines.specs.declared.table.TableLeg.{TableLeg}
+use Rattle.part_machines.specs.declared.table.TableRow.{TableRow}
 use Rattle.part_machines.specs.Parts.{Decides}
-use Rattle.part_machines.specs.Patterns.{AreRowsOf, NextOfWhole, finds, spread, spread_row}
+use Rattle.part_machines.specs.Patterns.{ArePatternRows, NextOfWhole, finds, spread, spread_row}
 use Rattle.part_machines.specs.Tables.{IsOfTable, IsRow, after, lead, lead_by, leg, next}
 use Rattle.part_machines.proofs.TableLemmas.{lead-here, lead-later, less_or_not, table-decides}
 
@@ -56,15 +56,15 @@ lead-spread (p ∷ row) low c h = by (nat_eq p.0 c) refl (lead-spread row (suc p
         (less_or_not c (p.0 + 1)))
         (less_or_not c p.0)
 
-pub spread-formed : (row : List (ℕ × ℕ)) (low : ℕ) → Ascends low row → AllByRecursion (λ (l : Leg). l.stop ≤ greatest_character + 1) (spread row)
+pub spread-formed : (row : List (ℕ × ℕ)) (low : ℕ) → Ascends low row → AllByRecursion (λ (l : TableLeg). l.stop ≤ greatest_character + 1) (spread row)
 spread-formed [] low h = tt
 spread-formed (p ∷ row) low h = let x = h.1 in (omega (arith, x), (omega (arith, x), spread-formed row (suc p.0) h.2))
 
 -- once no character is left
-pub legs-formed : (row : List (ℕ × ℕ)) (legs : List Leg) (i : ℕ) → Ascends 0 row → length row ≤ i → spread row ≡ legs ++ spread (drop i row) → AllByRecursion (λ (l : Leg). l.stop ≤ greatest_character + 1) legs
+pub legs-formed : (row : List (ℕ × ℕ)) (legs : List TableLeg) (i : ℕ) → Ascends 0 row → length row ≤ i → spread row ≡ legs ++ spread (drop i row) → AllByRecursion (λ (l : TableLeg). l.stop ≤ greatest_character + 1) legs
 legs-formed row legs i h past e =
     let all : spread row ≡ legs = e ∙ ap (λ l. legs ++ spread l) (drop_all row i past) ∙ append-nil legs in
-    subst (AllByRecursion (λ (l : Leg). l.stop ≤ greatest_character + 1)) all (spread-formed row 0 h)
+    subst (AllByRecursion (λ (l : TableLeg). l.stop ≤ greatest_character + 1)) all (spread-formed row 0 h)
   where
     drop_all : (xs : List (ℕ × ℕ)) (i : ℕ) → length xs ≤ i → drop i xs ≡ []
     drop_all [] zero h = refl
@@ -187,7 +187,7 @@ longest-same : (p r : Word) (q c t : ℕ) → length p ≡ 0 → t ≡ 0 → IsL
 longest-same p r q c t z e = subst (IsLongest p r) (sym e) (record { within = omega arith; spelled = spells-none p r; most = λ i h s. omega (arith, h, z) })
 
 -- the words that end with the pattern
-module _ (p : Word) (rows : List Row) (are : AreRowsOf false p rows) where
+module _ (p : Word) (rows : List TableRow) (are : ArePatternRows false p rows) where
   end-next : (r : Word) (q c : ℕ) → IsLongest p r q → IsLongest p (c ∷ r) (next rows q c)
   end-next r q c h = ⊎_elim
       (λ a. longest-next p r q c (next rows q c) a.0 h.spelled (λ i lt s. h.most i (omega (arith, lt)) s) (are.part q c a.0))
@@ -276,7 +276,7 @@ later-occurs p w some = (out, back)
         subst (Later p []) (sym whole) (later-in p (a ++ p) b [] (omega (arith, n, some)) (begins-spells p (onto [] (a ++ p)) g))
 
 -- the words in which the pattern occurs
-module _ (p : Word) (rows : List Row) (are : AreRowsOf true p rows) where
+module _ (p : Word) (rows : List TableRow) (are : ArePatternRows true p rows) where
   stays-found : (w : Word) → after (next rows) (length p) w ≡ length p
   stays-found [] = refl
   stays-found (c ∷ w) = ap (λ s. after (next rows) s w) (are.whole c) ∙ stays-found w
@@ -322,16 +322,16 @@ module _ (p : Word) (rows : List Row) (are : AreRowsOf true p rows) where
       omega (arith, n))
       (less_or_not q (length p))
 
-past-rows : (rows : List Row) (s c : ℕ) → length rows ≤ s → next rows s c ≡ s
+past-rows : (rows : List TableRow) (s c : ℕ) → length rows ≤ s → next rows s c ≡ s
 past-rows rows s c h = ap (λ o. lead_by o s c) (past rows s h)
   where
-    past : (xs : List Row) (i : ℕ) → length xs ≤ i → slice_get xs i ≡ None
+    past : (xs : List TableRow) (i : ℕ) → length xs ≤ i → slice_get xs i ≡ None
     past [] i h = refl
     past (x ∷ xs) zero h = absurd (omega (arith, h))
     past (x ∷ xs) (suc i) h = past xs i (omega (arith, h))
 
 -- the machine of a pattern
-pub pattern-decides : (stays : Bool) (p : Word) (holds : Bool) (rows : List Row) (m : Graph) → AreRowsOf stays p rows → m.states ≡ length p + 1 → IsOfTable (next rows) (length p) holds m → Decides (finds stays p) holds (length p + 1) m
+pub pattern-decides : (stays : Bool) (p : Word) (holds : Bool) (rows : List TableRow) (m : Graph) → ArePatternRows stays p rows → m.states ≡ length p + 1 → IsOfTable (next rows) (length p) holds m → Decides (finds stays p) holds (length p + 1) m
 pattern-decides true p holds rows m are size table =
     table-decides holds (next rows) (length p) (length p + 1) (occurs p) m table
     (λ s c h. let n = are.size in let e = past-rows rows s c (omega (arith, h, n, size)) in omega (arith, e, h))
@@ -358,15 +358,15 @@ no-row : (rows : List (List (ℕ × ℕ))) (m : ℕ) (back : List (ℕ × ℕ)) 
 no-row [] m back e got = cc
 no-row (x ∷ rows) m back e got = omega (arith, e)
 
-pub whole-back : (stays : Bool) (p : Word) (rows : List (List (ℕ × ℕ))) (back : List (ℕ × ℕ)) (m : ℕ) (row : Row) → stays ≡ false → length rows ≡ length p → AreRows p rows → IsBorderOf p (length p) m → slice_get rows m ≡ Some back
+pub whole-back : (stays : Bool) (p : Word) (rows : List (List (ℕ × ℕ))) (back : List (ℕ × ℕ)) (m : ℕ) (row : TableRow) → stays ≡ false → length rows ≡ length p → AreMatchRows p rows → IsBorderOf p (length p) m → slice_get rows m ≡ Some back
     → row ≡ spread_row back → (c : ℕ) → NextOfWhole stays p c (lead row.rest row.legs c)
 whole-back true p rows back m row e size are b got is c = cc
-whole-back false p rows back m row e size are b got is c = subst (λ (x : Row). NextOfWhole false p c (lead x.rest x.legs c)) (sym is) (⊎_elim
+whole-back false p rows back m row e size are b got is c = subst (λ (x : TableRow). NextOfWhole false p c (lead x.rest x.legs c)) (sym is) (⊎_elim
     (λ z. absurd (no-row rows m back (size ∙ z.0) got))
     (λ f. let r = are.row m back got in inr (m, f, subst (IsNext (at p) m c) (sym (lead-spread back 0 c r.ascends)) (r.next c)))
     b)
 
-pub row-ascends : (p : Word) (rows items : List (List (ℕ × ℕ))) (i : ℕ) (row r : List (ℕ × ℕ)) → items ≡ rows → AreRows p rows → i < length items → row ≡ get_or items i row → r ≡ row → Ascends 0 r
+pub row-ascends : (p : Word) (rows items : List (List (ℕ × ℕ))) (i : ℕ) (row r : List (ℕ × ℕ)) → items ≡ rows → AreMatchRows p rows → i < length items → row ≡ get_or items i row → r ≡ row → Ascends 0 r
 row-ascends p rows items i row r same are lt is e =
     let got : slice_get rows i ≡ Some row = ap (λ l. slice_get l i) (sym same) ∙ get-at items i row lt is in
     subst (Ascends 0) (sym e) (are.row i row got).ascends
@@ -377,16 +377,16 @@ row-ascends p rows items i row r same are lt is e =
     get-at (y ∷ xs) (suc i) x lt is = get-at xs i x (omega (arith, lt)) is
 
 -- the rows together
-spread-at : (rows : List (List (ℕ × ℕ))) (last : Row) (q : ℕ) (row : List (ℕ × ℕ)) → slice_get rows q ≡ Some row → slice_get (map spread_row rows ++ last ∷ []) q ≡ Some (spread_row row)
+spread-at : (rows : List (List (ℕ × ℕ))) (last : TableRow) (q : ℕ) (row : List (ℕ × ℕ)) → slice_get rows q ≡ Some row → slice_get (map spread_row rows ++ last ∷ []) q ≡ Some (spread_row row)
 spread-at [] last q row e = cc
 spread-at (x ∷ rows) last zero row e = let same : x ≡ row = cc in ap (λ r. Some (spread_row r)) same
 spread-at (x ∷ rows) last (suc q) row e = spread-at rows last q row e
 
-last-at : (rows : List (List (ℕ × ℕ))) (last : Row) → slice_get (map spread_row rows ++ last ∷ []) (length rows) ≡ Some last
+last-at : (rows : List (List (ℕ × ℕ))) (last : TableRow) → slice_get (map spread_row rows ++ last ∷ []) (length rows) ≡ Some last
 last-at [] last = refl
 last-at (x ∷ rows) last = last-at rows last
 
-spread-size : (rows : List (List (ℕ × ℕ))) (last : Row) → length (map spread_row rows ++ last ∷ []) ≡ length rows + 1
+spread-size : (rows : List (List (ℕ × ℕ))) (last : TableRow) → length (map spread_row rows ++ last ∷ []) ≡ length rows + 1
 spread-size [] last = refl
 spread-size (x ∷ rows) last = let e = spread-size rows last in omega (arith, e)
 
@@ -395,9 +395,9 @@ row-in [] q h = absurd (omega (arith, h))
 row-in (x ∷ xs) zero h = (x, refl)
 row-in (x ∷ xs) (suc q) h = row-in xs q (omega (arith, h))
 
-pub rows-made : (stays : Bool) (p : Word) (parts : List (List (ℕ × ℕ))) (last : Row) (rows : List Row) → length parts ≡ length p → AreRows p parts → ((c : ℕ) → NextOfWhole stays p c (lead last.rest last.legs c))
-    → rows ≡ map spread_row parts ++ last ∷ [] → AreRowsOf stays p rows
-rows-made stays p parts last rows size are whole is = subst (AreRowsOf stays p) (sym is) (record {
+pub rows-made : (stays : Bool) (p : Word) (parts : List (List (ℕ × ℕ))) (last : TableRow) (rows : List TableRow) → length parts ≡ length p → AreMatchRows p parts → ((c : ℕ) → NextOfWhole stays p c (lead last.rest last.legs c))
+    → rows ≡ map spread_row parts ++ last ∷ [] → ArePatternRows stays p rows
+rows-made stays p parts last rows size are whole is = subst (ArePatternRows stays p) (sym is) (record {
   size = spread-size parts last ∙ ap (λ n. n + 1) size;
   part = λ q c lt.
       let g = row-in parts q (omega (arith, lt, size)) in
@@ -406,7 +406,7 @@ rows-made stays p parts last rows size are whole is = subst (AreRowsOf stays p) 
   whole = λ c. subst (NextOfWhole stays p c) (sym (ap (λ n. next (map spread_row parts ++ last ∷ []) n c) (sym size) ∙ ap (λ o. lead_by o (length parts) c) (last-at parts last))) (whole c);
 })
 
-pub rows-formed : (p : Word) (parts : List (List (ℕ × ℕ))) (last : Row) (rows : List Row) → AreRows p parts → IsRow last → rows ≡ map spread_row parts ++ last ∷ [] → (s : ℕ) (row : Row) → slice_get rows s ≡ Some row → IsRow row
+pub rows-formed : (p : Word) (parts : List (List (ℕ × ℕ))) (last : TableRow) (rows : List TableRow) → AreMatchRows p parts → IsRow last → rows ≡ map spread_row parts ++ last ∷ [] → (s : ℕ) (row : TableRow) → slice_get rows s ≡ Some row → IsRow row
 rows-formed p parts last rows are ok is s row e = by parts s (λ q r g. (are.row q r g).ascends) (subst (λ l. slice_get l s ≡ Some row) is e)
   where
     by : (parts : List (List (ℕ × ℕ))) (s : ℕ) → ((q : ℕ) (r : List (ℕ × ℕ)) → slice_get parts q ≡ Some r → Ascends 0 r) → slice_get (map spread_row parts ++ last ∷ []) s ≡ Some row → IsRow row

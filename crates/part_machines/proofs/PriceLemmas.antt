@@ -12,7 +12,7 @@ use Rattle.machine_core.specs.declared.end.End.{End}
 use Rattle.machine_core.specs.Language.{RunsFrom}
 use Rattle.machine_core.specs.RunBounds.{runs_from_steps, paths_from_steps}
 use Rattle.machine_core.specs.Moves.{Moves}
-use Rattle.machine_core.specs.Edges.{EndsAt, StepsBy, IsFormed, move_of, wide_end}
+use Rattle.machine_core.specs.Edges.{EndsAt, StepsBy, AreEdgesAndEnds, move_of, wide_end}
 use Rattle.machine_core.specs.EdgeLaws.{step_target}
 use Rattle.part_machines.specs.Parts.{IsPriced, priced_edge, times}
 
@@ -27,7 +27,7 @@ times-more n (k ∷ each) =
     let rest = times-more n each in
     cc
 
-module _ (states : ℕ) (each : List ℕ) (edges : List Edge) (ends : List End) (formed : IsFormed states 0 edges ends) where
+module _ (states : ℕ) (each : List ℕ) (edges : List Edge) (ends : List End) (formed : AreEdgesAndEnds states 0 edges ends) where
   priced-ends-in : (s : ℕ) (cost : List ℕ) → EndsAt (map (wide_end (length each)) ends) s cost → EndsAt ends s [] × (cost ≡ zeros (length each))
   priced-ends-in s cost a =
       let b = Any-from_map (wide_end (length each)) (λ e. (e.at ≡ s) × (e.cost ≡ cost)) ends a in
@@ -81,8 +81,8 @@ is-priced each m n plain registers states edges ends = record {
   paths = λ register. paths_from_steps (λ s. s < n.states) (StepsBy n.edges) register (slice_index each register) target (step-most register) n.registers;
 }
   where
-    formed : IsFormed m.states 0 m.edges m.ends
-    formed = subst (λ k. IsFormed m.states k m.edges m.ends) plain m.formed
+    formed : AreEdgesAndEnds m.states 0 m.edges m.ends
+    formed = subst (λ k. AreEdgesAndEnds m.states k m.edges m.ends) plain m.formed
 
     target : (s t c : ℕ) (cost : List ℕ) → s < n.states → StepsBy n.edges s c cost t → t < n.states
     target s t c cost h st = step_target n.states n.registers n.edges n.ends n.formed s t c cost st

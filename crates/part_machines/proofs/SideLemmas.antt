@@ -11,9 +11,9 @@ use Rattle.sv_terms.specs.Language.{Word, InAllOf, InFirstOnly, InOneOf}
 use Rattle.sv_terms.specs.declared.regex.Regex.{Regex}
 use Rattle.machine_core.specs.declared.graph.Graph.{Graph}
 use Rattle.machine_meet.specs.Products.{multiplied}
-use Rattle.regex_machine.specs.Joined.{ArePlain, Reads, WordsOf}
+use Rattle.regex_machine.specs.Joined.{HaveNoRegisters, HasWords, WordsOf}
 use Rattle.regex_machine.specs.Kinds.{states_of}
-use Rattle.straight_line.specs.Bounds.{part_bound, product_by}
+use Rattle.cube_bounds.specs.Bounds.{part_bound, product_by}
 use Rattle.straight_line.specs.Satisfying.{MeetsPart}
 use Rattle.straight_line.specs.declared.variable.Own.{Own}
 use Rattle.straight_line.specs.declared.variable.Own.TheVariants.{InRe}
@@ -159,7 +159,7 @@ sets-few (part ∷ parts) (m ∷ ms) n most h le =
     let turn = mul_assoc most (sets_bound part) (product_by sets_bound parts) in
     omega arith
 
-module _ (parts : List Part) (within outside : List Graph) (met : Graph) (sides : AreSides parts within outside) (reads : Reads (InAllOf WordsOf within) met) (few : met.states ≤ multiplied states_of within) where
+module _ (parts : List Part) (within outside : List Graph) (met : Graph) (sides : AreSides parts within outside) (reads : HasWords (InAllOf WordsOf within) met) (few : met.states ≤ multiplied states_of within) where
   pub sides-few : from_left without_size (map states_of (met ∷ outside)) ≤ product_by part_bound parts
   sides-few =
       let low = of-states sides.met within sides.of_met in
@@ -167,7 +167,7 @@ module _ (parts : List Part) (within outside : List Graph) (met : Graph) (sides 
       let le = sides.few in
       omega arith
 
-  pub sides-read : (m : Graph) → Reads (InFirstOnly WordsOf (met ∷ outside)) m → m.states ≤ from_left without_size (map states_of (met ∷ outside)) → ReadsParts parts m
+  pub sides-read : (m : Graph) → HasWords (InFirstOnly WordsOf (met ∷ outside)) m → m.states ≤ from_left without_size (map states_of (met ∷ outside)) → ReadsParts parts m
   sides-read m read low = record {
     reads = record {
       plain = read.plain;
@@ -187,16 +187,16 @@ module _ (parts : List Part) (within outside : List Graph) (met : Graph) (sides 
   }
 
 -- where no word is barred
-pub sides-met : (parts : List Part) (within outside : List Graph) (met : Graph) → AreSides parts within outside → outside ≡ [] → Reads (InAllOf WordsOf within) met → met.states ≤ multiplied states_of within → ReadsParts parts met
+pub sides-met : (parts : List Part) (within outside : List Graph) (met : Graph) → AreSides parts within outside → outside ≡ [] → HasWords (InAllOf WordsOf within) met → met.states ≤ multiplied states_of within → ReadsParts parts met
 sides-met parts within outside met sides none reads few =
     sides-read parts within outside met sides reads few met
-    (subst (λ ms. Reads (InFirstOnly WordsOf (met ∷ ms)) met) (sym none) (record { plain = reads.plain; words = λ w. (λ r. (r, λ o. o), λ h. h.0) }))
+    (subst (λ ms. HasWords (InFirstOnly WordsOf (met ∷ ms)) met) (sym none) (record { plain = reads.plain; words = λ w. (λ r. (r, λ o. o), λ h. h.0) }))
     (subst (λ ms. met.states ≤ from_left without_size (map states_of (met ∷ ms))) (sym none) (omega arith))
 
 -- a list of machines without registers
-pub plain-more : (m : Graph) (ms all : List Graph) → all ≡ m ∷ ms → m.registers ≡ 0 → ArePlain ms → ArePlain all
-plain-more m ms all e plain others = subst ArePlain (sym e) each
+pub plain-more : (m : Graph) (ms all : List Graph) → all ≡ m ∷ ms → m.registers ≡ 0 → HaveNoRegisters ms → HaveNoRegisters all
+plain-more m ms all e plain others = subst HaveNoRegisters (sym e) each
   where
-    each : ArePlain (m ∷ ms)
+    each : HaveNoRegisters (m ∷ ms)
     each x (zero, lt, same) = subst (λ (g : Graph). g.registers ≡ 0) same plain
     each x (suc n, lt, same) = others x (n, omega (arith, lt), same)

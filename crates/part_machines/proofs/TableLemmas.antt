@@ -15,8 +15,8 @@ use Rattle.machine_core.specs.Language.{RunsFrom}
 use Rattle.machine_core.specs.Edges.{edge, ending, move_of, EndsAt, StepsBy}
 use Rattle.machine_core.specs.Moves.{Moves}
 use Rattle.machine_core.specs.Lists.{Any-none, Any-here, Any-push_cases, Any-append_left, Any-append_right}
-use Rattle.part_machines.specs.declared.table.Leg.{Leg}
-use Rattle.part_machines.specs.declared.table.Row.{Row}
+use Rattle.part_machines.specs.declared.table.TableLeg.{TableLeg}
+use Rattle.part_machines.specs.declared.table.TableRow.{TableRow}
 use Rattle.part_machines.specs.Parts.{Decides}
 use Rattle.part_machines.specs.Tables.{IsLast, IsOfTable, IsRow, StepsAlong, StepsOfRow, after, lead, lead_by, next}
 
@@ -56,19 +56,19 @@ leg-added at start stop to states on free old new some among set none is s c cos
     )
 
 -- what a row has left
-pub lead-here : (rest : ℕ) (l : Leg) (legs : List Leg) (c : ℕ) → c < l.stop → lead rest (l ∷ legs) c ≡ l.to
+pub lead-here : (rest : ℕ) (l : TableLeg) (legs : List TableLeg) (c : ℕ) → c < l.stop → lead rest (l ∷ legs) c ≡ l.to
 lead-here rest l legs c h = ⊎_elim (λ a. ap (λ b. if b then l.to else lead rest legs c) a.1) (λ b. let x = b.0 in absurd (omega (arith, x, h))) (less_or_not c l.stop)
 
-pub lead-later : (rest : ℕ) (l : Leg) (legs : List Leg) (c : ℕ) → l.stop ≤ c → lead rest (l ∷ legs) c ≡ lead rest legs c
+pub lead-later : (rest : ℕ) (l : TableLeg) (legs : List TableLeg) (c : ℕ) → l.stop ≤ c → lead rest (l ∷ legs) c ≡ lead rest legs c
 lead-later rest l legs c h = ⊎_elim (λ a. let x = a.0 in absurd (omega (arith, x, h))) (λ b. ap (λ t. if t then l.to else lead rest legs c) b.1) (less_or_not c l.stop)
 
 -- what a row says up to where its first legs stop, and that the legs that are left say the rest
-pub record IsLed (old new : List Edge) (at : ℕ) (row : Row) (start states : ℕ) (left : List Leg) : Type 0 where
+pub record IsLed (old new : List Edge) (at : ℕ) (row : TableRow) (start states : ℕ) (left : List TableLeg) : Type 0 where
   pub steps : (s c : ℕ) (cost : List ℕ) (t : ℕ) → StepsBy new s c cost t ↔ (StepsBy old s c cost t ⊎ StepsOfRow at row start states s c cost t)
   pub rest : (c : ℕ) → start ≤ c → lead row.rest row.legs c ≡ lead row.rest left c
   pub bound : start ≤ greatest_character + 1
 
-pub led-first : (E : List Edge) (at : ℕ) (row : Row) (states : ℕ) → IsLed E E at row 0 states row.legs
+pub led-first : (E : List Edge) (at : ℕ) (row : TableRow) (states : ℕ) → IsLed E E at row 0 states row.legs
 led-first E at row states = record {
   steps = λ s c cost t. or-none (λ b. let x = b.1 in omega (arith, x));
   rest = λ c h. refl;
@@ -76,7 +76,7 @@ led-first E at row states = record {
 }
 
 -- up to the next stop, all characters lead to one state
-led-up : {A0 A1 A2 : Type 0} (at : ℕ) (row : Row) (states start stop to s c : ℕ) (cost : List ℕ) (t : ℕ) → ((d : ℕ) → start ≤ d → d < stop → lead row.rest row.legs d ≡ to)
+led-up : {A0 A1 A2 : Type 0} (at : ℕ) (row : TableRow) (states start stop to s c : ℕ) (cost : List ℕ) (t : ℕ) → ((d : ℕ) → start ≤ d → d < stop → lead row.rest row.legs d ≡ to)
     → A1 ↔ (A0 ⊎ StepsOfRow at row start states s c cost t) → A2 ↔ (A1 ⊎ StepsAlong at start stop to states s c cost t) → A2 ↔ (A0 ⊎ StepsOfRow at row (max start stop) states s c cost t)
 led-up at row states start stop to s c cost t leads one two = (
   λ a. elim (two.0 a) [
@@ -92,7 +92,7 @@ led-up at row states start stop to s c cost t leads one two = (
   ]),
 )
 
-pub led-more : (old mid new : List Edge) (at : ℕ) (row : Row) (start states : ℕ) (l : Leg) (left : List Leg) → l.stop ≤ greatest_character + 1 → IsLed old mid at row start states (l ∷ left)
+pub led-more : (old mid new : List Edge) (at : ℕ) (row : TableRow) (start states : ℕ) (l : TableLeg) (left : List TableLeg) → l.stop ≤ greatest_character + 1 → IsLed old mid at row start states (l ∷ left)
     → ((s c : ℕ) (cost : List ℕ) (t : ℕ) → StepsBy new s c cost t ↔ (StepsBy mid s c cost t ⊎ StepsAlong at start l.stop l.to states s c cost t)) → IsLed old new at row (max start l.stop) states left
 led-more old mid new at row start states l left within h added = record {
   steps = λ s c cost t. led-up at row states start l.stop l.to s c cost t (λ d a b. h.rest d a ∙ lead-here row.rest l left d b) (h.steps s c cost t) (added s c cost t);
@@ -100,7 +100,7 @@ led-more old mid new at row start states l left within h added = record {
   bound = (let x = h.bound in omega (arith, x, within));
 }
 
-pub led-last : (old mid new : List Edge) (at : ℕ) (row : Row) (start states : ℕ) → IsLed old mid at row start states []
+pub led-last : (old mid new : List Edge) (at : ℕ) (row : TableRow) (start states : ℕ) → IsLed old mid at row start states []
     → ((s c : ℕ) (cost : List ℕ) (t : ℕ) → StepsBy new s c cost t ↔ (StepsBy mid s c cost t ⊎ StepsAlong at start (greatest_character + 1) row.rest states s c cost t))
     → (s c : ℕ) (cost : List ℕ) (t : ℕ) → StepsBy new s c cost t ↔ (StepsBy old s c cost t ⊎ StepsOfRow at row (greatest_character + 1) states s c cost t)
 led-last old mid new at row start states h added s c cost t =
@@ -108,44 +108,44 @@ led-last old mid new at row start states h added s c cost t =
     subst (λ n. StepsBy new s c cost t ↔ (StepsBy old s c cost t ⊎ StepsOfRow at row n states s c cost t)) top
     (led-up at row states start (greatest_character + 1) row.rest s c cost t (λ d a b. h.rest d a) (h.steps s c cost t) (added s c cost t))
 
-stop-within : (legs : List Leg) (i : ℕ) (d : Leg) → AllByRecursion (λ (x : Leg). x.stop ≤ greatest_character + 1) legs → i < length legs → (get_or legs i d).stop ≤ greatest_character + 1
+stop-within : (legs : List TableLeg) (i : ℕ) (d : TableLeg) → AllByRecursion (λ (x : TableLeg). x.stop ≤ greatest_character + 1) legs → i < length legs → (get_or legs i d).stop ≤ greatest_character + 1
 stop-within [] i d h lt = absurd (omega (arith, lt))
 stop-within (x ∷ legs) zero d h lt = h.0
 stop-within (x ∷ legs) (suc i) d h lt = stop-within legs i d h.1 (omega (arith, lt))
 
-drop_all : (legs : List Leg) (i : ℕ) → length legs ≤ i → drop i legs ≡ []
+drop_all : (legs : List TableLeg) (i : ℕ) → length legs ≤ i → drop i legs ≡ []
 drop_all [] zero h = refl
 drop_all [] (suc i) h = refl
 drop_all (x ∷ legs) zero h = absurd (omega (arith, h))
 drop_all (x ∷ legs) (suc i) h = drop_all legs i (omega (arith, h))
 
 -- the turn of a leg
-pub led-turn : (old mid new : List Edge) (at : ℕ) (row : Row) (start states i : ℕ) (d l : Leg) → i < length row.legs → l ≡ get_or row.legs i d → IsRow row → IsLed old mid at row start states (drop i row.legs)
+pub led-turn : (old mid new : List Edge) (at : ℕ) (row : TableRow) (start states i : ℕ) (d l : TableLeg) → i < length row.legs → l ≡ get_or row.legs i d → IsRow row → IsLed old mid at row start states (drop i row.legs)
     → ((s c : ℕ) (cost : List ℕ) (t : ℕ) → StepsBy new s c cost t ↔ (StepsBy mid s c cost t ⊎ StepsAlong at start l.stop l.to states s c cost t)) → IsLed old new at row (max start l.stop) states (drop (i + 1) row.legs)
 led-turn old mid new at row start states i d l lt is formed h added =
     let left : drop i row.legs ≡ l ∷ drop (i + 1) row.legs = drop_more row.legs i d lt ∙ ap (λ x. x ∷ drop (i + 1) row.legs) (sym is) in
-    led-more old mid new at row start states l (drop (i + 1) row.legs) (subst (λ (x : Leg). x.stop ≤ greatest_character + 1) (sym is) (stop-within row.legs i d formed lt)) (subst (IsLed old mid at row start states) left h) added
+    led-more old mid new at row start states l (drop (i + 1) row.legs) (subst (λ (x : TableLeg). x.stop ≤ greatest_character + 1) (sym is) (stop-within row.legs i d formed lt)) (subst (IsLed old mid at row start states) left h) added
 
-pub led-all : (old mid new : List Edge) (at : ℕ) (row : Row) (start states i : ℕ) → length row.legs ≤ i → IsLed old mid at row start states (drop i row.legs)
+pub led-all : (old mid new : List Edge) (at : ℕ) (row : TableRow) (start states i : ℕ) → length row.legs ≤ i → IsLed old mid at row start states (drop i row.legs)
     → ((s c : ℕ) (cost : List ℕ) (t : ℕ) → StepsBy new s c cost t ↔ (StepsBy mid s c cost t ⊎ StepsAlong at start (greatest_character + 1) row.rest states s c cost t))
     → (s c : ℕ) (cost : List ℕ) (t : ℕ) → StepsBy new s c cost t ↔ (StepsBy old s c cost t ⊎ StepsOfRow at row (greatest_character + 1) states s c cost t)
 led-all old mid new at row start states i past h added = led-last old mid new at row start states (subst (IsLed old mid at row start states) (drop_all row.legs i past) h) added
 
-pub led-loop : (old : List Edge) (m n : Graph) (at : ℕ) (row : Row) (start states i stop : ℕ) (legs : List Leg) (d : Leg) → legs ≡ row.legs → i < length legs → m.states ≡ states → stop ≡ max start (get_or legs i d).stop → IsRow row
+pub led-loop : (old : List Edge) (m n : Graph) (at : ℕ) (row : TableRow) (start states i stop : ℕ) (legs : List TableLeg) (d : TableLeg) → legs ≡ row.legs → i < length legs → m.states ≡ states → stop ≡ max start (get_or legs i d).stop → IsRow row
     → IsLed old m.edges at row start states (drop i row.legs)
     → ((s c : ℕ) (cost : List ℕ) (t : ℕ) → StepsBy n.edges s c cost t ↔ (StepsBy m.edges s c cost t ⊎ StepsAlong at start (get_or legs i d).stop (get_or legs i d).to m.states s c cost t))
     → IsLed old n.edges at row stop states (drop (i + 1) row.legs)
 led-loop old m n at row start states i stop legs d same lt size top formed h added =
-    subst (λ k. IsLed old n.edges at row k states (drop (i + 1) row.legs)) (sym (top ∙ ap (λ (l : List Leg). max start (get_or l i d).stop) same))
-    (led-turn old m.edges n.edges at row start states i d (get_or row.legs i d) (subst (λ (l : List Leg). i < length l) same lt) refl formed h
+    subst (λ k. IsLed old n.edges at row k states (drop (i + 1) row.legs)) (sym (top ∙ ap (λ (l : List TableLeg). max start (get_or l i d).stop) same))
+    (led-turn old m.edges n.edges at row start states i d (get_or row.legs i d) (subst (λ (l : List TableLeg). i < length l) same lt) refl formed h
     (λ s c cost t. subst (λ x. StepsBy n.edges s c cost t ↔ (StepsBy m.edges s c cost t ⊎ StepsAlong at start (get_or row.legs i d).stop (get_or row.legs i d).to x s c cost t)) size
-    (subst (λ (l : List Leg). StepsBy n.edges s c cost t ↔ (StepsBy m.edges s c cost t ⊎ StepsAlong at start (get_or l i d).stop (get_or l i d).to m.states s c cost t)) same (added s c cost t))))
+    (subst (λ (l : List TableLeg). StepsBy n.edges s c cost t ↔ (StepsBy m.edges s c cost t ⊎ StepsAlong at start (get_or l i d).stop (get_or l i d).to m.states s c cost t)) same (added s c cost t))))
 
-pub led-end : (old : List Edge) (m n : Graph) (at : ℕ) (row : Row) (start states i : ℕ) (legs : List Leg) → legs ≡ row.legs → length legs ≤ i → m.states ≡ states → IsLed old m.edges at row start states (drop i row.legs)
+pub led-end : (old : List Edge) (m n : Graph) (at : ℕ) (row : TableRow) (start states i : ℕ) (legs : List TableLeg) → legs ≡ row.legs → length legs ≤ i → m.states ≡ states → IsLed old m.edges at row start states (drop i row.legs)
     → ((s c : ℕ) (cost : List ℕ) (t : ℕ) → StepsBy n.edges s c cost t ↔ (StepsBy m.edges s c cost t ⊎ StepsAlong at start (greatest_character + 1) row.rest m.states s c cost t))
     → (s c : ℕ) (cost : List ℕ) (t : ℕ) → StepsBy n.edges s c cost t ↔ (StepsBy old s c cost t ⊎ StepsOfRow at row (greatest_character + 1) states s c cost t)
 led-end old m n at row start states i legs same past size h added =
-    led-all old m.edges n.edges at row start states i (subst (λ (l : List Leg). length l ≤ i) same past) h
+    led-all old m.edges n.edges at row start states i (subst (λ (l : List TableLeg). length l ≤ i) same past) h
     (λ s c cost t. subst (λ x. StepsBy n.edges s c cost t ↔ (StepsBy m.edges s c cost t ⊎ StepsAlong at start (greatest_character + 1) row.rest x s c cost t)) size (added s c cost t))
 
 -- the ends
@@ -178,11 +178,11 @@ end-added old new at last holds free h none is s cost =
     )
 
 -- the steps and ends of the states below `count`
-pub record AreMade (rows : List Row) (last : ℕ) (holds : Bool) (count states : ℕ) (edges : List Edge) (ends : List End) : Type 0 where
+pub record AreMade (rows : List TableRow) (last : ℕ) (holds : Bool) (count states : ℕ) (edges : List Edge) (ends : List End) : Type 0 where
   pub steps : (s c : ℕ) (cost : List ℕ) (t : ℕ) → StepsBy edges s c cost t ↔ ((s < count) × (c ≤ greatest_character) × ([] ≡ cost) × (next rows s c ≡ t) × (t < states))
   pub stops : (s : ℕ) (cost : List ℕ) → EndsAt ends s cost ↔ ((s < count) × ([] ≡ cost) × IsLast holds last s)
 
-pub made-none : (rows : List Row) (last : ℕ) (holds : Bool) (states : ℕ) (edges : List Edge) (ends : List End) → edges ≡ [] → ends ≡ [] → AreMade rows last holds 0 states edges ends
+pub made-none : (rows : List TableRow) (last : ℕ) (holds : Bool) (states : ℕ) (edges : List Edge) (ends : List End) → edges ≡ [] → ends ≡ [] → AreMade rows last holds 0 states edges ends
 made-none rows last holds states edges ends free none = record {
   steps = λ s c cost t. (
     λ h. absurd (Any-none (λ (e : Edge). (e.from ≡ s) × Moves c cost t (move_of e)) (subst (λ l. StepsBy l s c cost t) free h)),
@@ -197,7 +197,7 @@ made-none rows last holds states edges ends free none = record {
 last-or-before : (s n : ℕ) → s < n + 1 → (s < n) ⊎ (n ≡ s)
 last-or-before s n h = ⊎_elim (λ a. inl a.0) (λ b. let x = b.0 in inr (omega (arith, x, h))) (less_or_not s n)
 
-pub made-more : (rows : List Row) (last : ℕ) (holds : Bool) (at states : ℕ) (row : Row) (edges more : List Edge) (ends others : List End) → slice_get rows at ≡ Some row → AreMade rows last holds at states edges ends
+pub made-more : (rows : List TableRow) (last : ℕ) (holds : Bool) (at states : ℕ) (row : TableRow) (edges more : List Edge) (ends others : List End) → slice_get rows at ≡ Some row → AreMade rows last holds at states edges ends
     → ((s c : ℕ) (cost : List ℕ) (t : ℕ) → StepsBy more s c cost t ↔ (StepsBy edges s c cost t ⊎ StepsOfRow at row (greatest_character + 1) states s c cost t))
     → ((s : ℕ) (cost : List ℕ) → EndsAt others s cost ↔ (EndsAt ends s cost ⊎ ((at ≡ s) × ([] ≡ cost) × IsLast holds last s)))
     → AreMade rows last holds (at + 1) states more others
@@ -227,7 +227,7 @@ made-more rows last holds at states row edges more ends others is h added ended 
     leads : (s c : ℕ) → at ≡ s → next rows s c ≡ lead row.rest row.legs c
     leads s c e = ap (λ n. next rows n c) (sym e) ∙ ap (λ o. lead_by o at c) is
 
-pub made-turn : (rows : List Row) (last : ℕ) (holds : Bool) (at states : ℕ) (row : Row) (m n k : Graph) → at < length rows → row ≡ get_or rows at row → m.states ≡ states → AreMade rows last holds at states m.edges m.ends
+pub made-turn : (rows : List TableRow) (last : ℕ) (holds : Bool) (at states : ℕ) (row : TableRow) (m n k : Graph) → at < length rows → row ≡ get_or rows at row → m.states ≡ states → AreMade rows last holds at states m.edges m.ends
     → ((s c : ℕ) (cost : List ℕ) (t : ℕ) → StepsBy n.edges s c cost t ↔ (StepsBy m.edges s c cost t ⊎ StepsOfRow at row (greatest_character + 1) m.states s c cost t)) → n.ends ≡ m.ends
     → k.edges ≡ n.edges → ((s : ℕ) (cost : List ℕ) → EndsAt k.ends s cost ↔ (EndsAt n.ends s cost ⊎ ((at ≡ s) × ([] ≡ cost) × IsLast holds last s))) → AreMade rows last holds (at + 1) states k.edges k.ends
 made-turn rows last holds at states row m n k lt is size h added same_ends same_edges ended =
@@ -236,19 +236,19 @@ made-turn rows last holds at states row m n k lt is size h added same_ends same_
     (subst (λ x. StepsBy n.edges s c cost t ↔ (StepsBy m.edges s c cost t ⊎ StepsOfRow at row (greatest_character + 1) x s c cost t)) size (added s c cost t)))
     (λ s cost. subst (λ es. EndsAt k.ends s cost ↔ (EndsAt es s cost ⊎ ((at ≡ s) × ([] ≡ cost) × IsLast holds last s))) same_ends (ended s cost))
   where
-    get-at : (xs : List Row) (i : ℕ) (x : Row) → i < length xs → x ≡ get_or xs i x → slice_get xs i ≡ Some x
+    get-at : (xs : List TableRow) (i : ℕ) (x : TableRow) → i < length xs → x ≡ get_or xs i x → slice_get xs i ≡ Some x
     get-at [] i x lt is = absurd (omega (arith, lt))
     get-at (y ∷ xs) zero x lt is = ap Some (sym is)
     get-at (y ∷ xs) (suc i) x lt is = get-at xs i x (omega (arith, lt)) is
 
-pub made-all : (rows : List Row) (last : ℕ) (holds : Bool) (states : ℕ) (m : Graph) → m.registers ≡ 0 → m.states ≡ states → AreMade rows last holds states states m.edges m.ends → IsOfTable (next rows) last holds m
+pub made-all : (rows : List TableRow) (last : ℕ) (holds : Bool) (states : ℕ) (m : Graph) → m.registers ≡ 0 → m.states ≡ states → AreMade rows last holds states states m.edges m.ends → IsOfTable (next rows) last holds m
 made-all rows last holds states m plain size h = record {
   plain = plain;
   steps = λ s c cost t. subst (λ n. StepsBy m.edges s c cost t ↔ ((s < n) × (c ≤ greatest_character) × ([] ≡ cost) × (next rows s c ≡ t) × (t < n))) (sym size) (h.steps s c cost t);
   ends = λ s cost. subst (λ n. EndsAt m.ends s cost ↔ ((s < n) × ([] ≡ cost) × IsLast holds last s)) (sym size) (h.stops s cost);
 }
 
-pub made-end : (rows : List Row) (last : ℕ) (holds : Bool) (at states : ℕ) (m : Graph) → m.registers ≡ 0 → m.states ≡ states → states ≤ at → at ≤ states → AreMade rows last holds at states m.edges m.ends → IsOfTable (next rows) last holds m
+pub made-end : (rows : List TableRow) (last : ℕ) (holds : Bool) (at states : ℕ) (m : Graph) → m.registers ≡ 0 → m.states ≡ states → states ≤ at → at ≤ states → AreMade rows last holds at states m.edges m.ends → IsOfTable (next rows) last holds m
 made-end rows last holds at states m plain size low high h = made-all rows last holds states m plain size (subst (λ k. AreMade rows last holds k states m.edges m.ends) (let e : at ≡ states = omega (arith, low, high) in e) h)
 
 -- the words

@@ -7,19 +7,19 @@ use Rattle.machine_core.specs.declared.graph.Graph.{Graph}
 use Rattle.machine_core.specs.declared.edge.Edge.{Edge}
 use Rattle.machine_core.specs.Edges.{edge}
 use Rattle.machine_core.specs.Graphs.{Accepts, GraphRunsWithin, GraphPathsWithin}
-use Rattle.regex_machine.specs.Joined.{Reads}
-use Rattle.straight_line.specs.Bounds.{part_bound, product_by}
+use Rattle.regex_machine.specs.Joined.{HasWords}
+use Rattle.cube_bounds.specs.Bounds.{part_bound, product_by}
 use Rattle.straight_line.specs.Satisfying.{MeetsPart}
 use Rattle.straight_line.specs.declared.variable.Own.{Own}
 
 -- without registers it reads the words of which the test has this answer, and has at most so many states
 pub record Decides (test : Word → Bool) (holds : Bool) (most : ℕ) (m : Graph) : Type 0 where
-  pub reads : Reads (λ w. IsWord w × (test w ≡ holds)) m
+  pub reads : HasWords (λ w. IsWord w × (test w ≡ holds)) m
   pub few : m.states ≤ most
 
 -- without registers it reads the words that meet the part, and has at most as many states as its bound
 pub record IsOfPart (part : Own × Bool) (m : Graph) : Type 0 where
-  pub reads : Reads (λ w. IsWord w × MeetsPart w part) m
+  pub reads : HasWords (λ w. IsWord w × MeetsPart w part) m
   pub few : m.states ≤ part_bound part
 
 -- one for each part, in their order
@@ -31,7 +31,7 @@ AreOfParts (part ∷ parts) (m ∷ ms) = IsOfPart part m × AreOfParts parts ms
 
 -- without registers it reads the words that meet all parts, and has at most as many states as their bounds make multiplied
 pub record ReadsParts (parts : List (Own × Bool)) (m : Graph) : Type 0 where
-  pub reads : Reads (λ w. IsWord w × AllByRecursion (MeetsPart w) parts) m
+  pub reads : HasWords (λ w. IsWord w × AllByRecursion (MeetsPart w) parts) m
   pub few : m.states ≤ product_by part_bound parts
 
 -- so many times a cost

@@ -5,8 +5,8 @@ use Rattle.sv_terms.specs.Replacement.{begins, occurs}
 use Rattle.replace_machines.specs.Borders.{IsNext, IsFailure}
 use Rattle.replace_machines.specs.Rows.{at}
 use Rattle.part_machines.specs.Tables.{leg, row_of, next}
-use Rattle.part_machines.specs.declared.table.Leg.{Leg}
-use Rattle.part_machines.specs.declared.table.Row.{Row}
+use Rattle.part_machines.specs.declared.table.TableLeg.{TableLeg}
+use Rattle.part_machines.specs.declared.table.TableRow.{TableRow}
 
 -- the pattern occurs in the word, or with false, the word ends with it
 abbrev pub finds : Bool → Word → Word → Bool
@@ -14,11 +14,11 @@ finds true p w = occurs p w
 finds false p w = begins (reverse p) (reverse w)
 
 -- each of some characters alone leads to its state, and all others to 0
-abbrev pub spread : List (ℕ × ℕ) → List Leg
+abbrev pub spread : List (ℕ × ℕ) → List TableLeg
 spread [] = []
 spread (p ∷ row) = leg p.0 0 ∷ leg (p.0 + 1) p.1 ∷ spread row
 
-abbrev pub spread_row : List (ℕ × ℕ) → Row
+abbrev pub spread_row : List (ℕ × ℕ) → TableRow
 spread_row row = row_of (spread row) 0
 
 -- where a character leads once the whole pattern stands: nowhere else where it stays, and else as from the longest shorter border
@@ -27,7 +27,7 @@ NextOfWhole true p c t = t ≡ length p
 NextOfWhole false p c t = ((length p ≡ 0) × (t ≡ 0)) ⊎ ((m : ℕ) × IsFailure (at p) (length p) m × IsNext (at p) m c t)
 
 -- one row for each beginning of the pattern, by its length
-pub record AreRowsOf (stays : Bool) (p : Word) (rows : List Row) : Type 0 where
+pub record ArePatternRows (stays : Bool) (p : Word) (rows : List TableRow) : Type 0 where
   pub size : length rows ≡ length p + 1
   pub part : (q c : ℕ) → q < length p → IsNext (at p) q c (next rows q c)
   pub whole : (c : ℕ) → NextOfWhole stays p c (next rows (length p) c)

@@ -1,11 +1,10 @@
 //! Words along a chain of ranges of characters.
-ghost use Rattle.std.specs.Prelude.{◌≡◌, ℕ, ◌+◌, ◌<◌, ◌≤◌, ◌^◌, Bool, cond, [], ◌∷◌, length, map, if◌then◌else◌, IfOk};
+ghost use Rattle.std.specs.Prelude.{◌≡◌, ◌+◌, ◌<◌, ◌≤◌, ◌^◌, length, if◌then◌else◌, IfOk};
 ghost use Rattle.sv_word.specs.Words.{greatest_character};
 ghost use Rattle.part_machines.specs.Chains.{AreRanges, chain_row, chain_rows as rows_of_chain, follows, ranges_of as ranges_of_word};
 ghost use Rattle.part_machines.specs.Parts.{Decides};
-ghost use Rattle.part_machines.specs.Tables.{row_of};
 
-use crate::table::{Leg, Row, plain_row, table_machine};
+use crate::table::{TableLeg, TableRow, plain_row, table_machine};
 use machine_core::Explicit;
 use std::alloc::{AllocError, Global};
 use sv_list::Items;
@@ -25,25 +24,29 @@ pub fn ranges_of(alloc: Global, word: &Word) -> Result<Items<(u32, u32)>, AllocE
 }
 
 // The row of the state `at`, from which the characters of a range lead on.
-fn chain_row(alloc: Global, lost: u32, at: u32, range: (u32, u32)) -> Result<Row, AllocError>
+fn chain_row(alloc: Global, lost: u32, at: u32, range: (u32, u32)) -> Result<TableRow, AllocError>
     requires next { at < lost }
     requires range { range.1 ≤ greatest_character }
     ensures { IfOk result (λ row. row ≡ chain_row lost at range) }
 {
     let mut legs = Items::new(alloc);
-    legs.push(Leg {
+    legs.push(TableLeg {
         stop: range.0,
         to: lost,
     })?;
-    legs.push(Leg {
+    legs.push(TableLeg {
         stop: range.1 + 1,
         to: at + 1,
     })?;
-    Ok(Row { legs, rest: lost })
+    Ok(TableRow { legs, rest: lost })
 }
 
 // The table of a chain: one row for each range, one behind them, and one for what is lost.
-fn chain_rows(alloc: Global, ranges: &[(u32, u32)], longer: bool) -> Result<Items<Row>, AllocError>
+fn chain_rows(
+    alloc: Global,
+    ranges: &[(u32, u32)],
+    longer: bool,
+) -> Result<Items<TableRow>, AllocError>
     requires few { length ranges.now + 2 < 2 ^ 32 }
     requires ranges { AreRanges ranges.now }
     ensures { IfOk result (λ rows. rows ≡ rows_of_chain longer (length ranges.now + 1) 0 ranges.now) }

@@ -1,6 +1,6 @@
 //! Laws of the bounds.
-ghost use Rattle.std.specs.Prelude.{ℕ, ◌≤◌, List, Bool};
-ghost use Rattle.straight_line.specs.Bounds.{part_bound, product_by};
+ghost use Rattle.std.specs.Prelude.{◌≤◌, List, Bool};
+ghost use Rattle.cube_bounds.specs.Bounds.{part_bound, product_by};
 ghost use Rattle.straight_line.specs.declared.variable.Own.{Own as AnyOwn};
 ghost use denote.Param.Send.{IsSend, IsSync};
 ghost use Rattle.part_machines.specs.contracts.machines.Machines.{the_row as machines_row};

@@ -4,7 +4,7 @@ ghost use Rattle.lang_pool.specs.Found.{found_value};
 
 use crate::digests::digest;
 use crate::keep::Keep;
-use lang_pool::{Found, Pool};
+use lang_pool::{Pool, PoolValue};
 use std::alloc::{AllocError, Global};
 use sv_terms::Regex;
 
@@ -34,7 +34,11 @@ impl Machines {
     ///
     /// Where it is kept, be it as the machine or as one with too many states, time is that of the digest, of a search
     /// among the digests and of one comparison; else also that of [`Keep::of`].
-    pub fn find_or_build(&self, alloc: Global, regex: &Regex) -> Result<Found<'_, Keep>, AllocError>
+    pub fn find_or_build(
+        &self,
+        alloc: Global,
+        regex: &Regex,
+    ) -> Result<PoolValue<'_, Keep>, AllocError>
         ensures { IfOk result (λ found. (found_value found).0 ≡ regex.now) }
     {
         match self.digests.binary_search(&digest(regex)) {
@@ -45,7 +49,7 @@ impl Machines {
                     .get(cell, regex, &mut note, || make(alloc, regex))?;
                 Ok(found)
             }
-            Err(_) => Ok(Found::Owned(make(alloc, regex)?)),
+            Err(_) => Ok(PoolValue::Owned(make(alloc, regex)?)),
         }
     }
 }

@@ -1,11 +1,11 @@
 //! The machine of all parts of a variable.
 ghost use Rattle.std.specs.Prelude.{◌≡◌, ℕ, ◌<◌, ◌∷◌, false, map, Err, IfOk, IfSome, OnOk};
 ghost use Rattle.regex_machine.specs.Built.{Builds};
-ghost use Rattle.regex_machine.specs.Joined.{ArePlain, WordsOf};
+ghost use Rattle.regex_machine.specs.Joined.{HaveNoRegisters, WordsOf};
 ghost use Rattle.regex_machine.specs.Kinds.{states_of};
 ghost use Rattle.sv_terms.specs.Bounds.{from_left, without_size};
 ghost use Rattle.sv_terms.specs.Language.{InFirstOnly};
-ghost use Rattle.straight_line.specs.Bounds.{part_bound, product_by};
+ghost use Rattle.cube_bounds.specs.Bounds.{part_bound, product_by};
 ghost use Rattle.straight_line.specs.declared.variable.Own.TheVariants.{InRe};
 ghost use Rattle.trim_search.specs.declared.build_fault.BuildFault.TheVariants.{States};
 ghost use Rattle.part_machines.specs.Parts.{IsOfParts, ReadsParts};
@@ -25,7 +25,7 @@ use trim_search::BuildFault;
 // The machines of some parts: one for each part that is met as it stands, and for each expression that no word may
 // be in that of the expression.
 #[derive(Drop)]
-struct Sides {
+struct PartSides {
     within: Items<Explicit>,
     outside: Items<Explicit>,
 }
@@ -65,7 +65,7 @@ fn add_side(
 }
 
 // The machines of all parts.
-fn sides_of(alloc: Global, parts: &[(Own, bool)], kept: &Machines) -> Result<Sides, BuildFault>
+fn sides_of(alloc: Global, parts: &[(Own, bool)], kept: &Machines) -> Result<PartSides, BuildFault>
     ensures sides { IfOk result (λ sides. AreSides parts.now sides.within sides.outside) }
     ensures refused { (n : ℕ) → result ≡ Err (States n) → MOST_STATES < product_by part_bound parts.now }
 {
@@ -74,7 +74,7 @@ fn sides_of(alloc: Global, parts: &[(Own, bool)], kept: &Machines) -> Result<Sid
     for part in parts {
         add_side(alloc, &mut within, &mut outside, part, kept)?;
     }
-    Ok(Sides { within, outside })
+    Ok(PartSides { within, outside })
 }
 
 // The words of the machine that none of the others reads: their subsets are made as they are met with its states.
@@ -84,7 +84,7 @@ fn without(
     others: Items<Explicit>,
 ) -> Result<Explicit, BuildFault>
     requires plain { machine.registers ≡ 0 }
-    requires others { ArePlain others }
+    requires others { HaveNoRegisters others }
     ensures { Builds (InFirstOnly WordsOf (machine ∷ others)) (from_left without_size (map states_of (machine ∷ others))) MOST_STATES result }
 {
     let mut all = Items::new(alloc);
@@ -107,7 +107,7 @@ fn joint_machine(
         let machine = part_machine(alloc, &parts[0], kept)?;
         return Ok(machine);
     }
-    let Sides { within, outside } = sides_of(alloc, parts, kept)?;
+    let PartSides { within, outside } = sides_of(alloc, parts, kept)?;
     let met = all_of(alloc, within.as_slice(), MOST_STATES)?;
     if outside.is_empty() {
         return Ok(met);

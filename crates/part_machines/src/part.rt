@@ -1,7 +1,7 @@
 //! The machine of one part.
 ghost use Rattle.std.specs.Prelude.{◌≡◌, ℕ, ◌+◌, ◌≤◌, ◌<◌, Err, IfOk, length};
 ghost use Rattle.trim_search.specs.declared.build_fault.BuildFault.TheVariants.{States};
-ghost use Rattle.straight_line.specs.Bounds.{part_bound};
+ghost use Rattle.cube_bounds.specs.Bounds.{part_bound};
 ghost use Rattle.straight_line.specs.declared.variable.Own.TheVariants.{InRe};
 ghost use Rattle.sv_terms.specs.Bounds.{size};
 ghost use Rattle.sv_terms.specs.declared.regex.Regex.TheVariants.{Comp};

@@ -1,12 +1,12 @@
 //! Words in which a pattern occurs, and words that end with it.
-ghost use Rattle.std.specs.Prelude.{◌≡◌, ℕ, ◌+◌, ◌<◌, ◌≤◌, ◌^◌, length, IfOk, slice_get, Some};
-ghost use Rattle.replace_machines.specs.Rows.{AreRows, Ascends, IsBorderOf};
+ghost use Rattle.std.specs.Prelude.{◌≡◌, ℕ, ◌+◌, ◌<◌, ◌^◌, length, IfOk, slice_get, Some};
+ghost use Rattle.replace_machines.specs.Rows.{AreMatchRows, Ascends, IsBorderOf};
 ghost use Rattle.part_machines.specs.Parts.{Decides};
-ghost use Rattle.part_machines.specs.Patterns.{AreRowsOf, NextOfWhole, finds, spread, spread_row};
+ghost use Rattle.part_machines.specs.Patterns.{ArePatternRows, NextOfWhole, finds, spread, spread_row};
 ghost use Rattle.part_machines.specs.Tables.{IsRow, lead};
-ghost use Rattle.part_machines.specs.declared.table.Row.{Row as AnyRow};
+ghost use Rattle.part_machines.specs.declared.table.TableRow.{TableRow as AnyRow};
 
-use crate::table::{Leg, Row, plain_row, table_machine};
+use crate::table::{TableLeg, TableRow, plain_row, table_machine};
 use machine_core::Explicit;
 use replace_machines::{FailureAutomaton, failure_automaton, row_at};
 use std::alloc::{AllocError, Global};
@@ -14,23 +14,23 @@ use sv_list::Items;
 use sv_word::Word;
 
 // The row on which these characters lead to their states and all others to 0.
-fn spread_row(alloc: Global, row: &[(u32, u32)]) -> Result<Row, AllocError>
+fn spread_row(alloc: Global, row: &[(u32, u32)]) -> Result<TableRow, AllocError>
     requires { Ascends 0 row.now }
     ensures row { IfOk result (λ spread. spread ≡ spread_row row.now) }
     ensures formed { IfOk result IsRow }
 {
     let mut legs = Items::new(alloc);
     for pair in row {
-        legs.push(Leg {
+        legs.push(TableLeg {
             stop: pair.0,
             to: 0,
         })?;
-        legs.push(Leg {
+        legs.push(TableLeg {
             stop: pair.0 + 1,
             to: pair.1,
         })?;
     }
-    Ok(Row { legs, rest: 0 })
+    Ok(TableRow { legs, rest: 0 })
 }
 
 // The row of the whole pattern.
@@ -39,10 +39,10 @@ fn whole_row(
     pattern: &Word,
     automaton: &FailureAutomaton,
     stays: bool,
-) -> Result<Row, AllocError>
+) -> Result<TableRow, AllocError>
     requires size { length pattern.now < 2 ^ 32 }
     requires length { length automaton.now.rows ≡ length pattern.now }
-    requires rows { AreRows pattern.now automaton.now.rows }
+    requires rows { AreMatchRows pattern.now automaton.now.rows }
     requires border { IsBorderOf pattern.now (length pattern.now) automaton.now.border }
     ensures next { IfOk result (λ row. (c : ℕ) → NextOfWhole stays pattern.now c (lead row.rest row.legs c)) }
     ensures formed { IfOk result IsRow }
@@ -59,9 +59,9 @@ fn whole_row(
 }
 
 // The table of a pattern: one row for each of its beginnings.
-fn pattern_rows(alloc: Global, pattern: &Word, stays: bool) -> Result<Items<Row>, AllocError>
+fn pattern_rows(alloc: Global, pattern: &Word, stays: bool) -> Result<Items<TableRow>, AllocError>
     requires { length pattern.now < 2 ^ 32 }
-    ensures rows { IfOk result (AreRowsOf stays pattern.now) }
+    ensures rows { IfOk result (ArePatternRows stays pattern.now) }
     ensures formed { IfOk result (λ rows. (s : ℕ) (row : AnyRow) → slice_get rows s ≡ Some row → IsRow row) }
 {
     let automaton = failure_automaton(alloc, pattern)?;

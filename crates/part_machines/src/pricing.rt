@@ -1,5 +1,5 @@
 //! Machines whose characters all cost the same.
-ghost use Rattle.std.specs.Prelude.{◌≡◌, ◌∷◌, IfOk};
+ghost use Rattle.std.specs.Prelude.{◌≡◌, IfOk};
 ghost use Rattle.part_machines.specs.Parts.{IsPriced};
 
 use machine_core::{Cost, Explicit};

@@ -1,9 +1,9 @@
 //! Machines by tables: where each state leads on each character.
-ghost use Rattle.std.specs.Prelude.{◌≡◌, ℕ, ◌+◌, ◌<◌, ◌≤◌, ◌⊎◌, ◌↔◌, Bool, IsTrue, List, [], ◌∷◌, ◌++◌, length, slice_get, Some, IfOk, OnOk};
+ghost use Rattle.std.specs.Prelude.{◌≡◌, ℕ, ◌+◌, ◌<◌, ◌≤◌, ◌⊎◌, ◌↔◌, List, [], length, slice_get, Some, IfOk, OnOk};
 ghost use Rattle.sv_word.specs.Words.{greatest_character};
 ghost use Rattle.machine_core.specs.Edges.{EndsAt, StepsBy};
 ghost use Rattle.part_machines.specs.Tables.{IsLast, IsOfTable, IsRow, StepsAlong, StepsOfRow, next, row_of};
-ghost use Rattle.part_machines.specs.declared.table.Row.{Row as AnyRow};
+ghost use Rattle.part_machines.specs.declared.table.TableRow.{TableRow as AnyRow};
 
 use machine_core::{Cost, Explicit};
 use std::alloc::{AllocError, Global};
@@ -12,23 +12,23 @@ use sv_word::{GREATEST_CHARACTER, Ranges};
 
 /// The characters below `stop` lead to the state `to`, from where the leg before stops.
 #[derive(Debug, Drop)]
-pub struct Leg {
+pub struct TableLeg {
     pub stop: u32,
     pub to: u32,
 }
 
 /// Where a state leads: along its legs, and to the state `rest` behind the last one.
 #[derive(Debug, Drop)]
-pub struct Row {
-    pub legs: Items<Leg>,
+pub struct TableRow {
+    pub legs: Items<TableLeg>,
     pub rest: u32,
 }
 
 /// The row on which every character leads to one state.
-pub fn plain_row(alloc: Global, rest: u32) -> Row
+pub fn plain_row(alloc: Global, rest: u32) -> TableRow
     ensures { result ≡ row_of [] rest }
 {
-    Row {
+    TableRow {
         legs: Items::new(alloc),
         rest,
     }
@@ -66,7 +66,7 @@ fn add_leg(
 }
 
 // Adds the edges of a row. Linear in its legs.
-fn add_row(alloc: Global, machine: &mut Explicit, at: u32, row: &Row) -> Result<(), AllocError>
+fn add_row(alloc: Global, machine: &mut Explicit, at: u32, row: &TableRow) -> Result<(), AllocError>
     requires at { at < machine.old.states }
     requires plain { machine.old.registers ≡ 0 }
     requires row { IsRow row.now }
@@ -113,7 +113,7 @@ fn add_end(
 /// every other one. Linear in the legs.
 pub fn table_machine(
     alloc: Global,
-    rows: &[Row],
+    rows: &[TableRow],
     states: u32,
     last: u32,
     holds: bool,

@@ -1,5 +1,5 @@
 -- Where a run ends once it went along a word, and the moves of a pre-image.
-use Rattle.std.proofs.Common.{◌≡◌, ℕ, ◌+◌, ◌*◌, ◌<◌, ◌≤◌, ◌^◌, ◌↔◌, IsTrue, max, List, [], ◌∷◌, length, Any, Contains, refl, sym, ap, ap₂, ◌∙◌, subst, append-nil, mul-le-mul_left, arith}
+use Rattle.std.proofs.Common.{◌≡◌, ℕ, ◌+◌, ◌*◌, ◌<◌, ◌≤◌, ◌^◌, ◌↔◌, IsTrue, max, List, [], length, Any, Contains, refl, sym, ap, ap₂, ◌∙◌, subst, append-nil, mul-le-mul_left, arith}
 use Rattle.sv_word.specs.Ranges.{in_ranges}
 use Rattle.machine_core.specs.declared.machine.Move.{Move}
 use Rattle.machine_core.specs.declared.graph.Graph.{Graph}
@@ -17,7 +17,7 @@ use Rattle.sv_terms.specs.TransducerSizes.{items_size, edges_most, ends_most}
 use Rattle.sv_terms.specs.TransducerSizeLaws.{edge_most}
 use Rattle.pre_image.specs.PreImages.{PreEnds, PreSteps, pre_top}
 use Rattle.pre_image.specs.PreLaws.{end_writes}
-use Rattle.pre_image.specs.Leading.{CanAdd, Goes, AreLeads, Passes, Closes}
+use Rattle.pre_image.specs.Leading.{CanAdd, Goes, AreLeads, Passes, EndsInPair}
 use Rattle.pre_image.proofs.LeadLemmas.{lead-path}
 
 -- a lead, and a cost at which a word may end where it ends
@@ -95,10 +95,10 @@ sent-all m s low high W V same leads h to c cost goal = (
 )
 
 module _ (t : Transducer) (m : Graph) where
-  pub all-ends : (at : ℕ × ℕ) (cost : List ℕ) → Any (Closes m at cost) t.ends ↔ PreEnds t m at cost
+  pub all-ends : (at : ℕ × ℕ) (cost : List ℕ) → Any (EndsInPair m at cost) t.ends ↔ PreEnds t m at cost
   all-ends at cost = (
-    λ a. let f = contained (Closes m at cost) t.ends a in (f.0.1, subst (λ n. Contains t.ends (n, f.0.1)) f.2.0 f.1, f.2.1),
-    λ e. Any-contains (Closes m at cost) t.ends (at.0, e.0) e.1 (refl, e.2),
+    λ a. let f = contained (EndsInPair m at cost) t.ends a in (f.0.1, subst (λ n. Contains t.ends (n, f.0.1)) f.2.0 f.1, f.2.1),
+    λ e. Any-contains (EndsInPair m at cost) t.ends (at.0, e.0) e.1 (refl, e.2),
   )
 
   pub all-moves : (at : ℕ × ℕ) (c : ℕ) (cost : List ℕ) (to : ℕ × ℕ) → PreSteps t m at c cost to ↔ Any (Passes m at c cost to) t.edges

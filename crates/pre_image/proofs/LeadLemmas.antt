@@ -1,5 +1,5 @@
 -- Leads gone on by a step: where a machine may be once it went along one character more.
-use Rattle.std.proofs.Common.{◌≡◌, ℕ, zero, suc, ◌+◌, ◌*◌, ◌<◌, ◌≤◌, ◌^◌, ◌↔◌, inl, inr, ◌&&◌, nat_le, Bool, true, false, IsTrue, List, [], ◌∷◌, ◌++◌, length, map, Any, All, Contains, refl, sym, ap, ◌∙◌, subst, mul-le-mul_left, arith}
+use Rattle.std.proofs.Common.{◌≡◌, ℕ, zero, suc, ◌+◌, ◌*◌, ◌<◌, ◌≤◌, ◌^◌, ◌↔◌, inl, inr, ◌&&◌, nat_le, Bool, true, false, IsTrue, List, [], ◌∷◌, ◌++◌, length, Any, All, Contains, refl, sym, ap, ◌∙◌, subst, mul-le-mul_left, arith}
 use Rattle.std.proofs.lemmas.List.{length-map}
 use Rattle.std.proofs.lemmas.Bool.{leb-true, le-leb}
 use Rattle.sv_word.specs.Ranges.{in_ranges, IsInhabited, least_of}

@@ -1,5 +1,5 @@
 -- A list looked at from its front: what holds of some element that was looked at, once one element more was.
-use Rattle.std.proofs.Common.{◌≡◌, ℕ, zero, suc, ◌+◌, ◌<◌, ◌≤◌, ◌↔◌, ◌⊎◌, inl, inr, List, [], ◌∷◌, ◌++◌, length, take, get_or, Any, refl, sym, ap, ◌∙◌, subst, append_assoc}
+use Rattle.std.proofs.Common.{◌≡◌, ℕ, ◌+◌, ◌<◌, ◌≤◌, ◌↔◌, ◌⊎◌, inl, inr, List, [], ◌∷◌, ◌++◌, length, take, get_or, Any, refl, sym, ap, ◌∙◌, subst, append_assoc}
 use Rattle.std.proofs.lemmas.List.{take_more, take_all}
 use Rattle.machine_core.specs.Lists.{Any-none, Any-here, Any-push_cases, Any-append_left, Any-append_right}
 use Rattle.sv_terms.specs.Language.{Word}

@@ -11,25 +11,25 @@ use Rattle.machine_core.specs.Lists.{Any-contains, contained}
 use Rattle.machine_core.specs.Runs.{IsPath}
 use Rattle.pre_image.specs.Leading.{Goes}
 use Rattle.pre_image.specs.Lifts.{IsRest}
-use Rattle.pre_image.specs.Parts.{EndsBy}
+use Rattle.pre_image.specs.Parts.{EndsByPath}
 use Rattle.pre_image.proofs.WayLemmas.{left-unique}
 
 -- a run ends by some end of the machine
-pub some-end : (m : Graph) (at : ℕ) (word cost : List ℕ) → RunsFrom (EndsAt m.ends) (StepsBy m.edges) at word cost → Any (EndsBy m at word cost) m.ends
+pub some-end : (m : Graph) (at : ℕ) (word cost : List ℕ) → RunsFrom (EndsAt m.ends) (StepsBy m.edges) at word cost → Any (EndsByPath m at word cost) m.ends
 some-end m at word cost r =
     let cut = run_cut m.states m.registers m.edges m.ends m.formed [] word at cost (subst (λ w. RunsFrom (EndsAt m.ends) (StepsBy m.edges) at w cost) (sym (append-nil word)) r) in
     let f = contained (λ (e : End). (e.at ≡ cut.0) × (e.cost ≡ cut.2)) m.ends cut.4 in
-    Any-contains (EndsBy m at word cost) m.ends f.0 f.1 (
+    Any-contains (EndsByPath m at word cost) m.ends f.0 f.1 (
       cut.1,
       subst (λ t. RunsFrom (StopsAt m.registers t) (StepsBy m.edges) at word cut.1) (sym f.2.0) cut.3,
       ap (λ k. add_costs k cut.1) f.2.1 ∙ add_costs-comm cut.2 cut.1 ∙ sym cut.5,
     )
 
-pub end-rest : (m : Graph) (at : ℕ) (word cost : List ℕ) (final : End) → length cost ≡ m.registers → (e : EndsBy m at word cost final) → IsRest cost final.cost e.0
+pub end-rest : (m : Graph) (at : ℕ) (word cost : List ℕ) (final : End) → length cost ≡ m.registers → (e : EndsByPath m at word cost final) → IsRest cost final.cost e.0
 end-rest m at word cost final whole e = record { width = path_width m.states m.registers m.edges m.ends m.formed final.at word at e.0 e.1 ∙ sym whole; sum = e.2 }
 
 pub end-goes : (m : Graph) (at : ℕ) (word cost left : List ℕ) (final : End) → length final.cost ≡ m.registers → length cost ≡ m.registers
-    → IsRest cost final.cost left → EndsBy m at word cost final → Goes m at word left final.at
+    → IsRest cost final.cost left → EndsByPath m at word cost final → Goes m at word left final.at
 end-goes m at word cost left final wide whole r e =
     let size : length e.0 ≡ m.registers = path_width m.states m.registers m.edges m.ends m.formed final.at word at e.0 e.1 in
     let same : e.0 ≡ left = left-unique final.cost e.0 left (size ∙ sym wide) (r.width ∙ whole ∙ sym wide) (e.2 ∙ sym r.sum) in

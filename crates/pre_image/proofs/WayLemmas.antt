@@ -15,8 +15,8 @@ use Rattle.machine_core.specs.EdgeLaws.{path_width}
 use Rattle.pre_image.proofs.JoinLemmas.{behind}
 use Rattle.sv_terms.specs.Language.{Word}
 use Rattle.pre_image.specs.Leading.{Goes, AreLeads}
-use Rattle.pre_image.specs.Lifts.{EndsAs, IsLeft, Works, IsRest, IsWay, IsNext, IsTried, IsUnderway}
-use Rattle.pre_image.specs.declared.ways.Next.{Next}
+use Rattle.pre_image.specs.Lifts.{EndsAs, GoesOnAt, Works, IsRest, IsWay, IsNextStep, IsTried, IsUnderway}
+use Rattle.pre_image.specs.declared.ways.NextStep.{NextStep}
 use Rattle.sv_word.specs.Ranges.{in_ranges, IsInhabited, least_of}
 use Rattle.pre_image.proofs.LeadLemmas.{lead-path}
 
@@ -88,7 +88,7 @@ module _ (m : Graph) (from : ℕ) (word : Word) (to : ℕ) (cost : List ℕ) whe
   }
 
   pub way-next : (i at : ℕ) (left : List ℕ) (states : List ℕ) (costs : List (List ℕ)) → i < length word → IsUnderway m from word to cost i at left states costs
-      → (c : ℕ) → c ≡ get_or word i 0 → (rest : Word) → rest ≡ drop (i + 1) word → (paid : List ℕ) (next : ℕ) (more : List ℕ) → IsNext m at c rest to left paid next more
+      → (c : ℕ) → c ≡ get_or word i 0 → (rest : Word) → rest ≡ drop (i + 1) word → (paid : List ℕ) (next : ℕ) (more : List ℕ) → IsNextStep m at c rest to left paid next more
       → IsUnderway m from word to cost (i + 1) next more (states ++ next ∷ []) (costs ++ paid ∷ [])
   way-next i at left states costs lt h c ec rest er paid next more n = record {
     path = subst (λ w. IsPath (StepsBy m.edges) from (states ++ next ∷ []) w (costs ++ paid ∷ []) next) (sym (take_more word i 0 lt ∙ ap (λ z. take i word ++ z ∷ []) (sym ec)))
@@ -136,7 +136,7 @@ move-steps m at steps exact inhabited s i =
     )
 
 pub tried-next : (m : Graph) (at c : ℕ) (steps : List (Move ℕ)) → ((d : ℕ) (cost : List ℕ) (to : ℕ) → StepsBy m.edges at d cost to ↔ Any (Moves d cost to) steps)
-    → (s : Move ℕ) → Contains steps s → IsTrue (in_ranges s.on c) → (rest : Word) (to : ℕ) (cost : List ℕ) (n : Next) → IsTried m s rest to cost n → IsNext m at c rest to cost n.cost n.to n.left
+    → (s : Move ℕ) → Contains steps s → IsTrue (in_ranges s.on c) → (rest : Word) (to : ℕ) (cost : List ℕ) (n : NextStep) → IsTried m s rest to cost n → IsNextStep m at c rest to cost n.cost n.to n.left
 tried-next m at c steps exact s i on rest to cost n t = record {
   step = subst (λ k. StepsBy m.edges at c k n.to) (sym t.paid) (subst (StepsBy m.edges at c s.cost) (sym t.next) ((exact c s.cost s.to).1 (Any-contains (Moves c s.cost s.to) steps s i (on, refl, refl))));
   goes = t.goes;
@@ -158,14 +158,14 @@ left-unique (p ∷ part) (x ∷ a) (y ∷ b) la lb e =
 
 -- behind the step the machine goes on at just what is left
 pub left-goes : (m : Graph) (s : Move ℕ) (word : List ℕ) (to : ℕ) (cost left other : List ℕ) → length s.cost ≡ m.registers → length cost ≡ m.registers
-    → IsRest cost s.cost left → IsLeft m s word to cost other → Goes m s.to word left to
+    → IsRest cost s.cost left → GoesOnAt m s word to cost other → Goes m s.to word left to
 left-goes m s word to cost left other wide whole r l =
     let size : length other ≡ m.registers = path_width m.states m.registers m.edges m.ends m.formed to word s.to other l.goes in
     let same : other ≡ left = left-unique s.cost other left (size ∙ sym wide) (r.width ∙ whole ∙ sym wide) (l.sum ∙ sym r.sum) in
     subst (λ k. Goes m s.to word k to) same l.goes
 
 -- where nothing is left there is no such step
-pub left-rest : (m : Graph) (s : Move ℕ) (word : List ℕ) (to : ℕ) (cost other : List ℕ) → length cost ≡ m.registers → IsLeft m s word to cost other → IsRest cost s.cost other
+pub left-rest : (m : Graph) (s : Move ℕ) (word : List ℕ) (to : ℕ) (cost other : List ℕ) → length cost ≡ m.registers → GoesOnAt m s word to cost other → IsRest cost s.cost other
 left-rest m s word to cost other whole l = record { width = path_width m.states m.registers m.edges m.ends m.formed to word s.to other l.goes ∙ sym whole; sum = l.sum }
 
 -- some listed move works where the machine goes along the whole

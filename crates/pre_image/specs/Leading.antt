@@ -63,5 +63,5 @@ abbrev pub Passes : Graph → ℕ × ℕ → ℕ → List ℕ → ℕ × ℕ →
 Passes m at c cost to e = (e.from ≡ at.0) × (e.lo ≤ c) × (c ≤ e.hi) × (e.to ≡ to.0) × Goes m at.1 (spelling c e.items) cost to.1
 
 -- at an end of a transducer a word may end in this pair of states at this cost
-abbrev pub Closes : Graph → ℕ × ℕ → List ℕ → ℕ × Word → Type 0
-Closes m at cost e = (e.0 ≡ at.0) × RunsFrom (EndsAt m.ends) (StepsBy m.edges) at.1 e.1 cost
+abbrev pub EndsInPair : Graph → ℕ × ℕ → List ℕ → ℕ × Word → Type 0
+EndsInPair m at cost e = (e.0 ≡ at.0) × RunsFrom (EndsAt m.ends) (StepsBy m.edges) at.1 e.1 cost

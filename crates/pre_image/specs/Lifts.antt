@@ -4,7 +4,7 @@ use Rattle.machine_core.specs.declared.run.Run.{Run}
 use Rattle.machine_core.specs.declared.graph.Graph.{Graph}
 use Rattle.sv_word.specs.Ranges.{in_ranges}
 use Rattle.machine_core.specs.declared.machine.Move.{Move}
-use Rattle.pre_image.specs.declared.ways.Next.{Next}
+use Rattle.pre_image.specs.declared.ways.NextStep.{NextStep}
 use Rattle.machine_core.specs.Costs.{add_costs, zeros, total_of}
 use Rattle.machine_core.specs.Edges.{StepsBy}
 use Rattle.machine_core.specs.Language.{RunsFrom, StopsAt}
@@ -28,7 +28,7 @@ pub record IsWay (m : Graph) (from : ℕ) (word : List ℕ) (to : ℕ) (cost : L
   pub total : total_of costs (zeros m.registers) ≡ cost
 
 -- a step on the character from this state, behind which the machine goes on on the word to the state `to`, at what is left of the cost
-pub record IsNext (m : Graph) (at c : ℕ) (word : List ℕ) (to : ℕ) (cost paid : List ℕ) (next : ℕ) (left : List ℕ) : Type 0 where
+pub record IsNextStep (m : Graph) (at c : ℕ) (word : List ℕ) (to : ℕ) (cost paid : List ℕ) (next : ℕ) (left : List ℕ) : Type 0 where
   pub step : StepsBy m.edges at c paid next
   pub goes : RunsFrom (StopsAt m.registers to) (StepsBy m.edges) next word left
   pub sum : add_costs paid left ≡ cost
@@ -38,16 +38,16 @@ abbrev pub EndsAs : ℕ → List ℕ → Move ℕ → Type 0
 EndsAs to cost l = (l.to ≡ to) × (l.cost ≡ cost)
 
 -- behind the step the machine goes on on the word at what is left of the cost
-pub record IsLeft (m : Graph) (move : Move ℕ) (word : List ℕ) (to : ℕ) (cost left : List ℕ) : Type 0 where
+pub record GoesOnAt (m : Graph) (move : Move ℕ) (word : List ℕ) (to : ℕ) (cost left : List ℕ) : Type 0 where
   pub goes : RunsFrom (StopsAt m.registers to) (StepsBy m.edges) move.to word left
   pub sum : add_costs move.cost left ≡ cost
 
 -- the step reads the character, and behind it the machine goes on on the word at what is left of the cost
 abbrev pub Works : Graph → ℕ → List ℕ → ℕ → List ℕ → Move ℕ → Type 0
-Works m c word to cost move = IsTrue (in_ranges move.on c) × (left : List ℕ) × IsLeft m move word to cost left
+Works m c word to cost move = IsTrue (in_ranges move.on c) × (left : List ℕ) × GoesOnAt m move word to cost left
 
 -- the step was tried: it is this one, and the machine goes on behind it at what is left
-pub record IsTried (m : Graph) (move : Move ℕ) (word : List ℕ) (to : ℕ) (cost : List ℕ) (found : Next) : Type 0 where
+pub record IsTried (m : Graph) (move : Move ℕ) (word : List ℕ) (to : ℕ) (cost : List ℕ) (found : NextStep) : Type 0 where
   pub paid : found.cost ≡ move.cost
   pub next : found.to ≡ move.to
   pub goes : RunsFrom (StopsAt m.registers to) (StepsBy m.edges) found.to word found.left

@@ -1,5 +1,5 @@
 -- What a transducer wrote in a step of a run, or at its end, with the target's way along it.
-use Rattle.std.specs.Prelude.{◌≡◌, ℕ, ◌≤◌, List, Contains, Some}
+use Rattle.std.specs.Prelude.{◌≡◌, ℕ, ◌≤◌, List, Some}
 use Rattle.machine_core.specs.declared.graph.Graph.{Graph}
 use Rattle.machine_core.specs.declared.end.End.{End}
 use Rattle.machine_core.specs.Costs.{add_costs}
@@ -9,13 +9,13 @@ use Rattle.sv_terms.specs.Language.{Word}
 use Rattle.sv_terms.specs.Transduction.{written_at}
 use Rattle.sv_terms.specs.declared.transducer.TransEdge.{TransEdge}
 use Rattle.sv_terms.specs.declared.transducer.Transducer.{Transducer}
-use Rattle.pre_image.specs.declared.parts.Part.{Part}
+use Rattle.pre_image.specs.declared.parts.SpelledWord.{SpelledWord}
 use Rattle.pre_image.specs.declared.parts.LastPart.{LastPart}
 use Rattle.pre_image.specs.Lifts.{IsWay}
 use Rattle.pre_image.specs.Liftings.{IsLiftedStep, IsLiftedEnd}
 
 -- by this edge
-pub record IsEdgePart (m : Graph) (edge : TransEdge) (from : ℕ × ℕ) (c : ℕ) (cost : List ℕ) (to : ℕ × ℕ) (part : Part) : Type 0 where
+pub record IsEdgePart (m : Graph) (edge : TransEdge) (from : ℕ × ℕ) (c : ℕ) (cost : List ℕ) (to : ℕ × ℕ) (part : SpelledWord) : Type 0 where
   pub begins : edge.from ≡ from.0
   pub low : edge.lo ≤ c
   pub high : c ≤ edge.hi
@@ -23,12 +23,12 @@ pub record IsEdgePart (m : Graph) (edge : TransEdge) (from : ℕ × ℕ) (c : �
   pub written : written_at c edge.items ≡ Some part.word
   pub way : IsWay m from.1 part.word to.1 cost part.way.states part.way.costs
 
-abbrev pub IsStepPart : Transducer → Graph → ℕ × ℕ → ℕ → List ℕ → ℕ × ℕ → Part → Type 0
+abbrev pub IsStepPart : Transducer → Graph → ℕ × ℕ → ℕ → List ℕ → ℕ × ℕ → SpelledWord → Type 0
 IsStepPart t m from c cost to part = IsLiftedStep t m from c cost to part.word part.way.states part.way.costs
 
 -- the target has a path on the word to this end, and path and end cost so much
-abbrev pub EndsBy : Graph → ℕ → List ℕ → List ℕ → End → Type 0
-EndsBy m at word cost final = (paid : List ℕ) × RunsFrom (StopsAt m.registers final.at) (StepsBy m.edges) at word paid × (add_costs final.cost paid ≡ cost)
+abbrev pub EndsByPath : Graph → ℕ → List ℕ → List ℕ → End → Type 0
+EndsByPath m at word cost final = (paid : List ℕ) × RunsFrom (StopsAt m.registers final.at) (StepsBy m.edges) at word paid × (add_costs final.cost paid ≡ cost)
 
 -- by this end of the target
 pub record IsFinalPart (m : Graph) (at : ℕ) (word : Word) (final : End) (cost : List ℕ) (part : LastPart) : Type 0 where

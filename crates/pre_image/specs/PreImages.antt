@@ -1,6 +1,6 @@
 -- The pre-image of a machine under a transducer: the words for which the transducer may write a word of the machine, each at what that word costs there
 -- (backward propagation through a transducer, Chen et al., POPL 2019; with the costs of cost-enriched automata, ATVA 2020).
-use Rattle.std.specs.Prelude.{◌≡◌, ℕ, ◌<◌, ◌≤◌, ◌+◌, ◌*◌, ◌↔◌, max, List, Contains}
+use Rattle.std.specs.Prelude.{◌≡◌, ℕ, ◌<◌, ◌+◌, ◌*◌, max, List, Contains}
 use Rattle.machine_core.specs.declared.graph.Graph.{Graph}
 use Rattle.machine_core.specs.Language.{RunsFrom, StopsAt}
 use Rattle.machine_core.specs.Edges.{EndsAt, StepsBy, edges_top, ends_top}

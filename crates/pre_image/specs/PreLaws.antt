@@ -6,7 +6,7 @@ use Rattle.machine_core.specs.declared.graph.Graph.{Graph}
 use Rattle.machine_core.specs.Costs.{IsCost}
 use Rattle.machine_core.specs.Counts.{AreAtMost, at_most-below, at_most-pairs}
 use Rattle.machine_core.specs.Language.{RunsFrom, StopsAt}
-use Rattle.machine_core.specs.Edges.{EndsAt, StepsBy, edges_top, ends_top}
+use Rattle.machine_core.specs.Edges.{StepsBy, edges_top, ends_top}
 use Rattle.machine_core.specs.EdgeLaws.{step_character, path_target, path_width, run_width, listed_runs, listed_paths}
 use Rattle.sv_terms.specs.Language.{Word}
 use Rattle.sv_terms.specs.Transduction.{written_at, IsFormed}

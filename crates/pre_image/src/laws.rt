@@ -1,5 +1,5 @@
 //! Laws of slices and pre-images, each stated by a function that does nothing.
-ghost use Rattle.std.specs.Prelude.{◌≡◌, ℕ, ◌<◌, ◌+◌, ◌*◌, ◌↔◌, List, Some};
+ghost use Rattle.std.specs.Prelude.{ℕ, ◌<◌, ◌+◌, ◌*◌, ◌↔◌, List, Some};
 ghost use Rattle.machine_core.specs.Language.{RunsFrom};
 ghost use Rattle.machine_core.specs.Runs.{IsRun};
 ghost use Rattle.machine_core.specs.declared.run.Run.{Run};

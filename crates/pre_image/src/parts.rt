@@ -1,34 +1,34 @@
 //! What a transducer wrote in a step of a run, or at its end, with the target's way along it.
-ghost use Rattle.std.specs.Prelude.{◌≡◌, ⊤, ℕ, ◌+◌, ◌*◌, ◌<◌, ◌≤◌, ◌^◌, ◌++◌, [], ◌∷◌, length, IfOk, OnOk, MatchOption, Contains};
+ghost use Rattle.std.specs.Prelude.{◌≡◌, ◌*◌, ◌<◌, ◌≤◌, ◌^◌, length, IfOk, MatchOption};
 ghost use Rattle.machine_core.specs.Edges.{EndsAt, StepsBy, edges_top};
 ghost use Rattle.machine_core.specs.Language.{RunsFrom};
-ghost use Rattle.pre_image.specs.Leading.{Closes, Passes};
+ghost use Rattle.pre_image.specs.Leading.{EndsInPair, Passes};
 ghost use Rattle.sv_terms.specs.TransducerSizes.{items_size};
 ghost use Rattle.pre_image.specs.PreImages.{PreEnds, PreSteps};
-ghost use Rattle.pre_image.specs.Parts.{EndsBy, IsEdgePart, IsFinalPart, IsEndPart, IsClosingPart, IsStepPart, IsLastPart};
+ghost use Rattle.pre_image.specs.Parts.{EndsByPath, IsEdgePart, IsFinalPart, IsEndPart, IsClosingPart, IsStepPart, IsLastPart};
 ghost use Rattle.sv_word.specs.Words.{greatest_character};
 
 use crate::pre::Pre;
-use crate::ways::{Way, goes, minus, way_on};
+use crate::ways::{CostedPath, goes, minus, way_on};
 use machine_core::{Cost, End, Explicit};
 use std::alloc::{AllocError, Global};
-use sv_list::{Copied, Items};
+use sv_list::Copied;
 use sv_terms::TransEdge;
 use sv_word::Word;
 use transducer_core::text_at;
 
 /// A written word, and a way of the target along it.
 #[derive(Drop)]
-pub struct Part {
+pub struct SpelledWord {
     pub word: Word,
-    pub way: Way,
+    pub way: CostedPath,
 }
 
 /// The same at the end of a run, with the target's end cost.
 #[derive(Drop)]
 pub struct LastPart {
     pub word: Word,
-    pub way: Way,
+    pub way: CostedPath,
     pub last: Cost,
 }
 
@@ -41,7 +41,7 @@ fn edge_part(
     c: u32,
     cost: &Cost,
     to: &(u32, u32),
-) -> Result<Option<Part>, AllocError>
+) -> Result<Option<SpelledWord>, AllocError>
     requires from { from.now.1 < target.now.states }
     requires width { length cost.now ≡ target.now.registers }
     requires character { c ≤ greatest_character }
@@ -69,7 +69,7 @@ fn edge_part(
         return Ok(None);
     }
     let way = way_on(alloc, target, from.1, word.as_slice(), to.1, cost)?;
-    Ok(Some(Part { word, way }))
+    Ok(Some(SpelledWord { word, way }))
 }
 
 /// What the transducer wrote in the step, with the target's way.
@@ -80,7 +80,7 @@ pub fn step_part(
     c: u32,
     cost: &Cost,
     to: &(u32, u32),
-) -> Result<Part, AllocError>
+) -> Result<SpelledWord, AllocError>
     requires from { from.now.1 < pre.now.target.now.states }
     requires width { length cost.now ≡ pre.now.target.now.registers }
     requires character { c ≤ greatest_character }
@@ -109,7 +109,7 @@ fn final_part(
     requires width { length cost.now ≡ target.now.registers }
     requires end { length end.now.cost ≡ target.now.registers }
     requires fits { edges_top target.now.edges * length word.now < 2 ^ 64 }
-    ensures { IfOk result (λ o. MatchOption o (EndsBy target.now at word.now cost.now end.now → ⊥) (IsFinalPart target.now at word.now end.now cost.now)) }
+    ensures { IfOk result (λ o. MatchOption o (EndsByPath target.now at word.now cost.now end.now → ⊥) (IsFinalPart target.now at word.now end.now cost.now)) }
 {
     let left = match minus(alloc, cost, &end.cost)? {
         None => return Ok(None),
@@ -158,7 +158,7 @@ fn closing_part(
     requires at { at.now.1 < target.now.states }
     requires width { length cost.now ≡ target.now.registers }
     requires fits { edges_top target.now.edges * length end.now.1 < 2 ^ 64 }
-    ensures { IfOk result (λ o. MatchOption o (Closes target.now at.now cost.now end.now → ⊥) (IsClosingPart target.now at.now end.now cost.now)) }
+    ensures { IfOk result (λ o. MatchOption o (EndsInPair target.now at.now cost.now end.now → ⊥) (IsClosingPart target.now at.now end.now cost.now)) }
 {
     if end.0 != at.0 {
         return Ok(None);

@@ -5,7 +5,7 @@ ghost use Rattle.machine_core.specs.Moves.{Moves};
 ghost use Rattle.machine_core.specs.Places.{IsIndex, pick};
 ghost use Rattle.machine_core.specs.Language.{RunsFrom};
 ghost use Rattle.machine_core.specs.Edges.{EndsAt, StepsBy, edges_top, ends_top};
-ghost use Rattle.pre_image.specs.Leading.{CanAdd, Passes, Closes, Goes};
+ghost use Rattle.pre_image.specs.Leading.{CanAdd, Passes, EndsInPair, Goes};
 ghost use Rattle.sv_terms.specs.Transduction.{IsFormed};
 ghost use Rattle.sv_terms.specs.TransducerSizes.{items_size};
 ghost use Rattle.sv_terms.specs.declared.transducer.TransEdge.{TransEdge};
@@ -153,7 +153,7 @@ fn costs_of(
     requires within { (i p : ℕ) → slice_get places.now i ≡ Some p → p < length ends.now }
     requires at { at.now.1 < target.now.states }
     requires fits { (e : ℕ × List ℕ) → Contains ends.now e → edges_top target.now.edges * length e.1 + ends_top target.now.ends < 2 ^ 64 }
-    ensures { IfOk result (λ all. (cost : List ℕ) → Any (λ e. e ≡ cost) all ↔ Any (Closes target.now at.now cost) (pick ends.now places.now)) }
+    ensures { IfOk result (λ all. (cost : List ℕ) → Any (λ e. e ≡ cost) all ↔ Any (EndsInPair target.now at.now cost) (pick ends.now places.now)) }
 {
     let mut all = Items::new(alloc);
     for place in places {
@@ -197,7 +197,7 @@ fn add_end(
 ) -> Result<(), AllocError>
     requires at { at.now.1 < target.now.states }
     requires fits { edges_top target.now.edges * length end.now.1 + ends_top target.now.ends < 2 ^ 64 }
-    ensures { OnOk result ((cost : List ℕ) → Any (λ e. e ≡ cost) all.new ↔ (Any (λ e. e ≡ cost) all.old ⊎ Closes target.now at.now cost end.now)) }
+    ensures { OnOk result ((cost : List ℕ) → Any (λ e. e ≡ cost) all.new ↔ (Any (λ e. e ≡ cost) all.old ⊎ EndsInPair target.now at.now cost end.now)) }
 {
     if end.0 != at.0 {
         return Ok(());

@@ -1,4 +1,4 @@
-ghost use Rattle.std.specs.Prelude.{◌≡◌, ℕ, ◌<◌, ◌↔◌, IfOk, Any, List};
+ghost use Rattle.std.specs.Prelude.{◌≡◌, ◌<◌, IfOk};
 ghost use Rattle.machine_core.specs.Edges.{StepsBy, listed_top};
 ghost use Rattle.machine_core.specs.Counts.{at_most-below};
 ghost use Rattle.machine_core.specs.EdgeLaws.{step_target, step_character, step_cost};

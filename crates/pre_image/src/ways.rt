@@ -1,10 +1,9 @@
 //! Paths of a target on a written word, by what they cost in all.
-ghost use Rattle.std.specs.Prelude.{◌≡◌, ⊤, ℕ, ◌+◌, ◌*◌, ◌<◌, ◌≤◌, ◌^◌, ◌↔◌, ◌∷◌, List, length, IfOk, MatchOption, Any, IsTrue};
+ghost use Rattle.std.specs.Prelude.{◌≡◌, ℕ, ◌+◌, ◌*◌, ◌<◌, ◌^◌, ◌↔◌, ◌∷◌, List, length, IfOk, MatchOption, Any, IsTrue};
 ghost use Rattle.machine_core.specs.declared.machine.Move.{Move};
-ghost use Rattle.machine_core.specs.Edges.{StepsBy, edges_top};
-ghost use Rattle.machine_core.specs.Costs.{add_costs};
+ghost use Rattle.machine_core.specs.Edges.{edges_top};
 ghost use Rattle.pre_image.specs.Leading.{Goes};
-ghost use Rattle.pre_image.specs.Lifts.{EndsAs, IsLeft, IsRest, IsTried, IsWay, IsNext};
+ghost use Rattle.pre_image.specs.Lifts.{EndsAs, GoesOnAt, IsRest, IsTried, IsWay, IsNextStep};
 
 use crate::leading::{along, spell_word};
 use machine_core::{Cost, Explicit, Machine, Move};
@@ -13,14 +12,14 @@ use sv_list::{Copied, Items};
 
 /// The states of a path behind the first one, and the cost of each step.
 #[derive(Drop)]
-pub struct Way {
+pub struct CostedPath {
     pub states: Items<u32>,
     pub costs: Items<Cost>,
 }
 
 /// A step to the state `to`, and what is left to be paid behind it.
 #[derive(Drop)]
-pub struct Next {
+pub struct NextStep {
     pub cost: Cost,
     pub to: u32,
     pub left: Cost,
@@ -88,12 +87,12 @@ fn try_step(
     rest: &[u32],
     to: u32,
     cost: &Cost,
-) -> Result<Option<Next>, AllocError>
+) -> Result<Option<NextStep>, AllocError>
     requires at { step.now.to < target.now.states }
     requires width { length step.now.cost ≡ target.now.registers }
     requires whole { length cost.now ≡ target.now.registers }
     requires fits { edges_top target.now.edges * length rest.now < 2 ^ 64 }
-    ensures { IfOk result (λ o. MatchOption o ((left : List ℕ) → IsLeft target.now step.now rest.now to cost.now left → ⊥) (IsTried target.now step.now rest.now to cost.now)) }
+    ensures { IfOk result (λ o. MatchOption o ((left : List ℕ) → GoesOnAt target.now step.now rest.now to cost.now left → ⊥) (IsTried target.now step.now rest.now to cost.now)) }
 {
     let left = match minus(alloc, cost, &step.cost)? {
         None => return Ok(None),
@@ -103,7 +102,7 @@ fn try_step(
         return Ok(None);
     }
     let paid = step.cost.copy(alloc)?;
-    Ok(Some(Next {
+    Ok(Some(NextStep {
         cost: paid,
         to: step.to,
         left,
@@ -120,12 +119,12 @@ fn next_step(
     rest: &[u32],
     to: u32,
     cost: &Cost,
-) -> Result<Next, AllocError>
+) -> Result<NextStep, AllocError>
     requires at { at < target.now.states }
     requires width { length cost.now ≡ target.now.registers }
     requires fits { edges_top target.now.edges * length rest.now < 2 ^ 64 }
     requires goes { Goes target.now at (c ∷ rest.now) cost.now to }
-    ensures { IfOk result (λ n. IsNext target.now at c rest.now to cost.now n.cost n.to n.left) }
+    ensures { IfOk result (λ n. IsNextStep target.now at c rest.now to cost.now n.cost n.to n.left) }
 {
     let steps = target.moves(alloc, &at)?;
     for step in steps.as_slice() {
@@ -148,7 +147,7 @@ pub fn way_on(
     word: &[u32],
     to: u32,
     cost: &Cost,
-) -> Result<Way, AllocError>
+) -> Result<CostedPath, AllocError>
     requires from { from < target.now.states }
     requires width { length cost.now ≡ target.now.registers }
     requires fits { edges_top target.now.edges * length word.now < 2 ^ 64 }
@@ -166,5 +165,5 @@ pub fn way_on(
         at = next.to;
         left = next.left;
     }
-    Ok(Way { states, costs })
+    Ok(CostedPath { states, costs })
 }

@@ -8,8 +8,8 @@ use Rattle.sv_terms.specs.declared.regex.Regex.{Regex}
 use Rattle.trim_search.specs.declared.build_fault.BuildFault.{BuildFault}
 use Rattle.trim_search.specs.declared.build_fault.BuildFault.TheVariants as fault
 use Rattle.sv_terms.specs.Bounds.{size}
-use Rattle.regex_machine.specs.Built.{Builds, Fits}
-use Rattle.regex_machine.specs.Joined.{Reads}
+use Rattle.regex_machine.specs.Built.{Builds, FitsStates}
+use Rattle.regex_machine.specs.Joined.{HasWords}
 use Rattle.regex_machine.proofs.WordLemmas.{reads-same}
 
 -- other words that are the same, and a greater bound
@@ -41,7 +41,7 @@ copy-is (Err e) m P is p = tt
 
 -- what was made, where it fits
 pub fits-builds : (P : Word → Type 0) (size limit : ℕ) (made : Result Graph AllocError) (r : Result Graph BuildFault)
-    → IfOk made (Reads P) → IfOk made (λ m. m.states ≤ size) → Fits limit made r → Builds P size limit r
+    → IfOk made (HasWords P) → IfOk made (λ m. m.states ≤ size) → FitsStates limit made r → Builds P size limit r
 fits-builds P size limit (Ok m) (Ok n) reads few h = subst (λ (x : Graph). Builds P size limit (Ok x)) (sym h.0) (reads, few, h.1)
 fits-builds P size limit (Ok m) (Err (fault.States n)) reads few h = ((let low = h.0 in let most : m.states ≤ size = few in omega arith), h.1)
 fits-builds P size limit (Ok m) (Err (fault.Memory e)) reads few h = absurd h

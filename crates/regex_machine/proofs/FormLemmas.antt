@@ -11,11 +11,11 @@ use Rattle.trim_search.specs.declared.build_fault.BuildFault.{BuildFault}
 use Rattle.sv_terms.specs.Bounds.{size, from_left, without_size}
 use Rattle.regex_machine.specs.Built.{Builds}
 use Rattle.regex_machine.specs.Copied.{InCopies, copies_size}
-use Rattle.regex_machine.specs.Joined.{WordsOf, Reads, AreMade}
+use Rattle.regex_machine.specs.Joined.{WordsOf, HasWords, AreMade}
 use Rattle.regex_machine.specs.Kinds.{Together, weight, most_states, states_of}
 use Rattle.regex_machine.specs.Parts.{AddsParts}
-use Rattle.regex_machine.specs.declared.kind.Kind.{Kind}
-use Rattle.regex_machine.specs.declared.kind.Kind.TheVariants as kind
+use Rattle.regex_machine.specs.declared.kind.JoinKind.{JoinKind}
+use Rattle.regex_machine.specs.declared.kind.JoinKind.TheVariants as kind
 use Rattle.regex_machine.proofs.BuiltLemmas.{builds-as, builds-form}
 use Rattle.regex_machine.proofs.CopyLanguage.{star-copied, plus-copied, opt-copied, loop-copied, copied-same}
 use Rattle.regex_machine.proofs.KindLemmas.{formed, formed-words, formed-size, first-fewer, power-more}
@@ -23,7 +23,7 @@ use Rattle.regex_machine.proofs.LanguageLemmas.{first-made}
 use Rattle.sv_terms.specs.BoundLaws.{size-Star, size-Plus, size-Opt, size-Comp, size-Diff, size-Loop}
 
 module _ (regex : Regex) (limit : ℕ) (x : Result Graph BuildFault) where
-  pub builds-list : (k : Kind) (rs slice : List Regex) → slice ≡ rs → regex ≡ formed k rs
+  pub builds-list : (k : JoinKind) (rs slice : List Regex) → slice ≡ rs → regex ≡ formed k rs
       → Builds (Together k In slice) (most_states k (weight k size slice)) limit x → Builds (In regex) (size regex) limit x
   builds-list k rs slice seen is h =
       builds-form regex (formed k rs) (Together k In rs) (most_states k (weight k size rs)) limit x is (formed-words k rs) (formed-size k rs)
@@ -88,19 +88,19 @@ copies-most least most n = by_test (nat_eq least 0)
     by_test true = omega arith
     by_test false = omega arith
 
-most-more : (k : Kind) (n m : ℕ) → n ≤ m → most_states k n ≤ most_states k m
+most-more : (k : JoinKind) (n m : ℕ) → n ≤ m → most_states k n ≤ most_states k m
 most-more kind.Turn n m le = omega arith
 most-more kind.One n m le = omega arith
 most-more kind.All n m le = le
 
 -- what is built of machines of the parts
 module _ (limit : ℕ) (x : Result Graph BuildFault) where
-  pub complement-made : (r : Regex) (n : Graph) → Reads (In r) n → n.states ≤ size r
+  pub complement-made : (r : Regex) (n : Graph) → HasWords (In r) n → n.states ≤ size r
       → Builds (λ w. IsWord w × (WordsOf n w → ⊥)) (2 ^ n.states) limit x → Builds (λ w. IsWord w × (In r w → ⊥)) (2 ^ size r) limit x
   complement-made r n made few h = builds-as (λ w. IsWord w × (WordsOf n w → ⊥)) (λ w. IsWord w × (In r w → ⊥)) (2 ^ n.states) (2 ^ size r) limit
       (λ w. (λ y. (y.0, λ z. y.1 ((made.words w).1 z)), λ y. (y.0, λ z. y.1 ((made.words w).0 z)))) (power-more n.states (size r) few) x h
 
-  pub copies-made : (r : Regex) (n : Graph) (least most : ℕ) (again : Bool) → Reads (In r) n → n.states ≤ size r
+  pub copies-made : (r : Regex) (n : Graph) (least most : ℕ) (again : Bool) → HasWords (In r) n → n.states ≤ size r
       → Builds (InCopies (WordsOf n) least most again) (copies_size least most n.states) limit x → Builds (InCopies (In r) least most again) (copies_size least most (size r)) limit x
   copies-made r n least most again made few h = builds-as (InCopies (WordsOf n) least most again) (InCopies (In r) least most again) (copies_size least most n.states) (copies_size least most (size r)) limit
       (copied-same (WordsOf n) (In r) made.words least most again) (copies-more least most n.states (size r) few) x h
@@ -116,7 +116,7 @@ module _ (limit : ℕ) (x : Result Graph BuildFault) where
   loop-made r i j h = builds-as (InCopies (In r) i j false) (λ w. (n : ℕ) × (i ≤ n) × (n ≤ j) × Power (In r) n w) (copies_size i j (size r)) (j * size r + 1) limit
       (loop-copied (In r) i j) (copies-most i j (size r)) x h
 
-  pub list-made : (k : Kind) (rs : List Regex) (parts list : List Graph) → list ≡ parts → (start : List Graph) → start ≡ [] → AddsParts k rs start parts
+  pub list-made : (k : JoinKind) (rs : List Regex) (parts list : List Graph) → list ≡ parts → (start : List Graph) → start ≡ [] → AddsParts k rs start parts
       → Builds (Together k WordsOf list) (most_states k (weight k states_of list)) limit x → Builds (Together k In rs) (most_states k (weight k size rs)) limit x
   list-made k rs parts list seen start none adds h =
       let all : list ≡ adds.more = seen ∙ adds.grown ∙ ap (λ l. l ++ adds.more) none in

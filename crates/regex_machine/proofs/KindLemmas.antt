@@ -11,11 +11,11 @@ use Rattle.sv_terms.specs.declared.regex.Regex.TheVariants as v
 use Rattle.sv_terms.specs.Language.{Word, Language, In, InOneOf, InEachInTurn, InAllOf}
 use Rattle.sv_terms.specs.Opened.{In-Concat, In-Union, In-Inter}
 use Rattle.sv_terms.specs.Bounds.{size, from_left, fold_left, in_turn_size, choice_size, both_size, without_size}
-use Rattle.regex_machine.specs.Joined.{WordsOf, Reads, ArePlain, AreMade}
+use Rattle.regex_machine.specs.Joined.{WordsOf, HasWords, HaveNoRegisters, AreMade}
 use Rattle.regex_machine.specs.Kinds.{Together, weight, most_states, states_of}
 use Rattle.regex_machine.specs.Parts.{AddsParts}
-use Rattle.regex_machine.specs.declared.kind.Kind.{Kind}
-use Rattle.regex_machine.specs.declared.kind.Kind.TheVariants as kind
+use Rattle.regex_machine.specs.declared.kind.JoinKind.{JoinKind}
+use Rattle.regex_machine.specs.declared.kind.JoinKind.TheVariants as kind
 use Rattle.sv_terms.specs.BoundLaws.{size-Concat, size-Union, size-Inter, size-some}
 
 -- two lists, one after the other
@@ -56,20 +56,20 @@ module _ {X : Type 0} (P : X → Language) where
   all-join (x ∷ xs) ys w h g = (h.0, all-join xs ys w h.1 g)
 
 module _ {X Y : Type 0} (P : X → Language) (Q : Y → Language) where
-  abbrev Within : Kind → List X → List Y → Type 0
+  abbrev Within : JoinKind → List X → List Y → Type 0
   Within k xs us = (w : Word) → Together k P xs w → Together k Q us w
 
-  within-append : (k : Kind) (xs ys : List X) (us vs : List Y) → Within k xs us → Within k ys vs → Within k (xs ++ ys) (us ++ vs)
+  within-append : (k : JoinKind) (xs ys : List X) (us vs : List Y) → Within k xs us → Within k ys vs → Within k (xs ++ ys) (us ++ vs)
   within-append kind.Turn xs ys us vs f g w h = let r = turn-split P xs ys w h in turn-join Q us vs w r.0 r.1 r.2 (f r.0 r.3) (g r.1 r.4)
   within-append kind.One xs ys us vs f g w h = one-join Q us vs w (elim (one-split P xs ys w h) [ inl a ↦ inl (f w a) | inr b ↦ inr (g w b) ])
   within-append kind.All xs ys us vs f g w h = let r = all-split P xs ys w h in all-join Q us vs w (f w r.0) (g w r.1)
 
-  within-none : (k : Kind) → Within k [] []
+  within-none : (k : JoinKind) → Within k [] []
   within-none kind.Turn w h = h
   within-none kind.One w h = absurd h
   within-none kind.All w h = h
 
-  within-one : (k : Kind) (x : X) (y : Y) → ((w : Word) → P x w → Q y w) → Within k (x ∷ []) (y ∷ [])
+  within-one : (k : JoinKind) (x : X) (y : Y) → ((w : Word) → P x w → Q y w) → Within k (x ∷ []) (y ∷ [])
   within-one kind.Turn x y f w h = (h.0, h.1, h.2, f h.0 h.3, h.4)
   within-one kind.One x y f w (inl h) = inl (f w h)
   within-one kind.One x y f w (inr h) = absurd h
@@ -94,7 +94,7 @@ choice-few f [] h = omega arith
 choice-few f (x ∷ []) h = absurd (h (omega arith))
 choice-few f (x ∷ y ∷ xs) h = let more = summed-more f (x ∷ y ∷ xs) in omega arith
 
-weight-append : {X Y : Type 0} (k : Kind) (f : X → ℕ) (g : Y → ℕ) (xs ys : List X) (us vs : List Y)
+weight-append : {X Y : Type 0} (k : JoinKind) (f : X → ℕ) (g : Y → ℕ) (xs ys : List X) (us vs : List Y)
     → weight k f xs ≤ weight k g us → weight k f ys ≤ weight k g vs → weight k f (xs ++ ys) ≤ weight k g (us ++ vs)
 weight-append kind.Turn f g xs ys us vs p q = let a = summed-append f xs ys in let b = summed-append g us vs in omega arith
 weight-append kind.One f g xs ys us vs p q = let a = summed-append (λ x. f x + 1) xs ys in let b = summed-append (λ y. g y + 1) us vs in omega arith
@@ -102,12 +102,12 @@ weight-append kind.All f g xs ys us vs p q =
     let both : multiplied f xs * multiplied f ys ≤ multiplied g us * multiplied g vs = mul-le-mul p q in
     rw (multiplied-append f xs ys, multiplied-append g us vs) both
 
-weight-one : {X Y : Type 0} (k : Kind) (f : X → ℕ) (g : Y → ℕ) (x : X) (y : Y) → f x ≤ g y → weight k f (x ∷ []) ≤ weight k g (y ∷ [])
+weight-one : {X Y : Type 0} (k : JoinKind) (f : X → ℕ) (g : Y → ℕ) (x : X) (y : Y) → f x ≤ g y → weight k f (x ∷ []) ≤ weight k g (y ∷ [])
 weight-one kind.Turn f g x y h = omega arith
 weight-one kind.One f g x y h = omega arith
 weight-one kind.All f g x y h = omega arith
 
-weight-none : {X Y : Type 0} (k : Kind) (f : X → ℕ) (g : Y → ℕ) → weight k f [] ≤ weight k g []
+weight-none : {X Y : Type 0} (k : JoinKind) (f : X → ℕ) (g : Y → ℕ) → weight k f [] ≤ weight k g []
 weight-none kind.Turn f g = omega arith
 weight-none kind.One f g = omega arith
 weight-none kind.All f g = omega arith
@@ -131,17 +131,17 @@ module _ {X : Type 0} (f : X → ℕ) where
   fold-without n (x ∷ xs) = fold-without (n * 2 ^ f x) xs ∙ mul_assoc n (2 ^ f x) (multiplied (λ x. 2 ^ f x) xs)
 
 -- a list of expressions as one expression
-abbrev pub formed : Kind → List Regex → Regex
+abbrev pub formed : JoinKind → List Regex → Regex
 formed kind.Turn rs = v.Concat rs
 formed kind.One rs = v.Union rs
 formed kind.All rs = v.Inter rs
 
-pub formed-words : (k : Kind) (rs : List Regex) (w : Word) → In (formed k rs) w ≡ Together k In rs w
+pub formed-words : (k : JoinKind) (rs : List Regex) (w : Word) → In (formed k rs) w ≡ Together k In rs w
 formed-words kind.Turn rs w = In-Concat rs w
 formed-words kind.One rs w = In-Union rs w
 formed-words kind.All rs w = In-Inter rs w
 
-pub formed-size : (k : Kind) (rs : List Regex) → most_states k (weight k size rs) ≤ size (formed k rs)
+pub formed-size : (k : JoinKind) (rs : List Regex) → most_states k (weight k size rs) ≤ size (formed k rs)
 formed-size kind.Turn [] = let e = size-Concat [] in omega arith
 formed-size kind.Turn (r ∷ rs) = let e = size-Concat (r ∷ rs) in let all = fold-turn size (size r) rs in let some = size-some r in omega arith
 formed-size kind.One [] = let e = size-Union [] in omega arith
@@ -149,12 +149,12 @@ formed-size kind.One (r ∷ rs) = let e = size-Union (r ∷ rs) in let all = fol
 formed-size kind.All [] = let e = size-Inter [] in omega arith
 formed-size kind.All (r ∷ rs) = let e = size-Inter (r ∷ rs) in let all = fold-both size (size r) rs in omega arith
 
-pub inner-size : (k : Kind) (r : Regex) (rs slice : List Regex) → r ≡ formed k rs → slice ≡ rs → most_states k (weight k size slice) ≤ size r
+pub inner-size : (k : JoinKind) (r : Regex) (rs slice : List Regex) → r ≡ formed k rs → slice ≡ rs → most_states k (weight k size slice) ≤ size r
 inner-size k r rs slice is seen =
     subst (λ x. most_states k (weight k size slice) ≤ size x) (sym is) (subst (λ l. most_states k (weight k size l) ≤ size (formed k rs)) (sym seen) (formed-size k rs))
 
 -- the same the other way round, for a list within a list
-inner-weight : (k : Kind) (rs : List Regex) → weight k size rs ≤ weight k size (formed k rs ∷ [])
+inner-weight : (k : JoinKind) (rs : List Regex) → weight k size rs ≤ weight k size (formed k rs ∷ [])
 inner-weight kind.Turn rs = let h = formed-size kind.Turn rs in omega arith
 inner-weight kind.One rs = let h = formed-size kind.One rs in omega arith
 inner-weight kind.All rs = let h = formed-size kind.All rs in omega arith
@@ -162,12 +162,12 @@ inner-weight kind.All rs = let h = formed-size kind.All rs in omega arith
 cast : (A B : Type 0) → A ≡ B → A → B
 cast A B e a = subst (λ (T : Type 0). T) e a
 
-inner-out : (k : Kind) (rs : List Regex) (w : Word) → Together k In rs w → Together k In (formed k rs ∷ []) w
+inner-out : (k : JoinKind) (rs : List Regex) (w : Word) → Together k In rs w → Together k In (formed k rs ∷ []) w
 inner-out kind.Turn rs w h = (w, [], sym (append-nil w), cast (InEachInTurn In rs w) (In (v.Concat rs) w) (sym (In-Concat rs w)) h, refl)
 inner-out kind.One rs w h = inl (cast (InOneOf In rs w) (In (v.Union rs) w) (sym (In-Union rs w)) h)
 inner-out kind.All rs w h = (cast (InAllOf In rs w) (In (v.Inter rs) w) (sym (In-Inter rs w)) h, all-word In rs w h)
 
-inner-in : (k : Kind) (rs : List Regex) (w : Word) → Together k In (formed k rs ∷ []) w → Together k In rs w
+inner-in : (k : JoinKind) (rs : List Regex) (w : Word) → Together k In (formed k rs ∷ []) w → Together k In rs w
 inner-in kind.Turn rs w h =
     let whole : w ≡ h.0 = h.2 ∙ ap (λ t. h.0 ++ t) h.4 ∙ append-nil h.0 in
     subst (InEachInTurn In rs) (sym whole) (cast (In (v.Concat rs) h.0) (InEachInTurn In rs h.0) (In-Concat rs h.0) h.3)
@@ -176,10 +176,10 @@ inner-in kind.One rs w (inr h) = absurd h
 inner-in kind.All rs w h = cast (In (v.Inter rs) w) (InAllOf In rs w) (In-Inter rs w) h.0
 
 -- machines more, list by list
-pub plain-append : (ms ns : List Graph) → ArePlain ms → ArePlain ns → ArePlain (ms ++ ns)
+pub plain-append : (ms ns : List Graph) → HaveNoRegisters ms → HaveNoRegisters ns → HaveNoRegisters (ms ++ ns)
 plain-append ms ns p q m i = elim (Contains-append_cases ms ns m i) [ inl a ↦ p m a | inr b ↦ q m b ]
 
-pub adds-none : (k : Kind) (old : List Graph) → AddsParts k [] old old
+pub adds-none : (k : JoinKind) (old : List Graph) → AddsParts k [] old old
 adds-none k old = record {
   more = [];
   grown = sym (append-nil old);
@@ -188,7 +188,7 @@ adds-none k old = record {
   light = weight-none k states_of size;
 }
 
-pub adds-more : (k : Kind) (rs qs : List Regex) (old mid new : List Graph) → AddsParts k rs old mid → AddsParts k qs mid new → AddsParts k (rs ++ qs) old new
+pub adds-more : (k : JoinKind) (rs qs : List Regex) (old mid new : List Graph) → AddsParts k rs old mid → AddsParts k qs mid new → AddsParts k (rs ++ qs) old new
 adds-more k rs qs old mid new a b = record {
   more = a.more ++ b.more;
   grown = b.grown ∙ ap (λ l. l ++ b.more) a.grown ∙ append_assoc old a.more b.more;
@@ -200,7 +200,7 @@ adds-more k rs qs old mid new a b = record {
   light = weight-append k states_of size a.more b.more rs qs a.light b.light;
 }
 
-pub adds-one : (k : Kind) (r : Regex) (old new : List Graph) (m : Graph) → new ≡ old ++ m ∷ [] → Reads (In r) m → m.states ≤ size r → AddsParts k (r ∷ []) old new
+pub adds-one : (k : JoinKind) (r : Regex) (old new : List Graph) (m : Graph) → new ≡ old ++ m ∷ [] → HasWords (In r) m → m.states ≤ size r → AddsParts k (r ∷ []) old new
 adds-one k r old new m e reads few = record {
   more = m ∷ [];
   grown = e;
@@ -216,7 +216,7 @@ adds-one k r old new m e reads few = record {
     alone n (zero, lt, e) = subst (λ (x : Graph). x.registers ≡ 0) e reads.plain
     alone n (suc j, lt, e) = absurd (omega arith)
 
-pub adds-inner : (k : Kind) (r : Regex) (rs slice : List Regex) (old new : List Graph) → r ≡ formed k rs → slice ≡ rs → AddsParts k slice old new → AddsParts k (r ∷ []) old new
+pub adds-inner : (k : JoinKind) (r : Regex) (rs slice : List Regex) (old new : List Graph) → r ≡ formed k rs → slice ≡ rs → AddsParts k slice old new → AddsParts k (r ∷ []) old new
 adds-inner k r rs slice old new is seen h =
     let a = subst (λ l. AddsParts k l old new) seen h in
     subst (λ x. AddsParts k (x ∷ []) old new) (sym is) (record {
@@ -227,17 +227,17 @@ adds-inner k r rs slice old new is seen h =
       light = (let w = inner-weight k rs in let l = a.light in omega arith);
     })
 
-pub adds-plain : (k : Kind) (rs : List Regex) (parts list start : List Graph) → list ≡ parts → start ≡ [] → AddsParts k rs start parts → ArePlain list
-adds-plain k rs parts list start seen none h = subst ArePlain (sym (seen ∙ h.grown ∙ ap (λ l. l ++ h.more) none)) h.plain
+pub adds-plain : (k : JoinKind) (rs : List Regex) (parts list start : List Graph) → list ≡ parts → start ≡ [] → AddsParts k rs start parts → HaveNoRegisters list
+adds-plain k rs parts list start seen none h = subst HaveNoRegisters (sym (seen ∙ h.grown ∙ ap (λ l. l ++ h.more) none)) h.plain
 
 -- one expression of the list more
-pub adds-next : (k : Kind) (rs : List Regex) (i : ℕ) (r : Regex) (old mid new : List Graph) → i < length rs → r ≡ get_or rs i r
+pub adds-next : (k : JoinKind) (rs : List Regex) (i : ℕ) (r : Regex) (old mid new : List Graph) → i < length rs → r ≡ get_or rs i r
     → AddsParts k (take i rs) old mid → AddsParts k (r ∷ []) mid new → AddsParts k (take (i + 1) rs) old new
 adds-next k rs i r old mid new lt is a b =
     let grown : take (i + 1) rs ≡ take i rs ++ r ∷ [] = take_more rs i r lt ∙ ap (λ x. take i rs ++ x ∷ []) (sym is) in
     subst (λ l. AddsParts k l old new) (sym grown) (adds-more k (take i rs) (r ∷ []) old mid new a b)
 
-pub adds-all : (k : Kind) (rs : List Regex) (i : ℕ) (old new : List Graph) → length rs ≤ i → AddsParts k (take i rs) old new → AddsParts k rs old new
+pub adds-all : (k : JoinKind) (rs : List Regex) (i : ℕ) (old new : List Graph) → length rs ≤ i → AddsParts k (take i rs) old new → AddsParts k rs old new
 adds-all k rs i old new past h = subst (λ l. AddsParts k l old new) (take_all i rs past) h
 
 -- each expression is no greater than the whole
@@ -260,7 +260,7 @@ multiplied-least f some (y ∷ ys) x (suc n, lt, e) =
     let both : 1 * f x ≤ f y * multiplied f ys = mul-le-mul (some y) (multiplied-least f some ys x (n, omega arith, e)) in
     omega arith
 
-pub part-size : (k : Kind) (rs : List Regex) (r : Regex) → Contains rs r → size r ≤ most_states k (weight k size rs)
+pub part-size : (k : JoinKind) (rs : List Regex) (r : Regex) → Contains rs r → size r ≤ most_states k (weight k size rs)
 part-size kind.Turn rs r i = let h = summed-least size rs r i in omega arith
 part-size kind.One rs r i = let h = summed-least (λ x. size x + 1) rs r i in omega arith
 part-size kind.All rs r i = multiplied-least size size-some rs r i

@@ -8,17 +8,17 @@ use Rattle.sv_terms.specs.declared.regex.Regex.{Regex}
 use Rattle.sv_word.specs.Ranges.{in_ranges}
 use Rattle.sv_terms.specs.Bounds.{size}
 use Rattle.regex_machine.specs.Kinds.{weight, most_states, states_of}
-use Rattle.regex_machine.specs.declared.kind.Kind.TheVariants.{One}
-use Rattle.regex_machine.specs.Joined.{WordsOf, Reads, ArePlain, AreMade}
+use Rattle.regex_machine.specs.declared.kind.JoinKind.TheVariants.{One}
+use Rattle.regex_machine.specs.Joined.{WordsOf, HasWords, HaveNoRegisters, AreMade}
 use Rattle.sv_word.specs.Words.{greatest_character}
 
-pub made-push : (rs : List Regex) (ms : List Graph) (r : Regex) (m : Graph) → AreMade rs ms → Reads (In r) m → m.states ≤ size r → AreMade (rs ++ r ∷ []) (ms ++ m ∷ [])
+pub made-push : (rs : List Regex) (ms : List Graph) (r : Regex) (m : Graph) → AreMade rs ms → HasWords (In r) m → m.states ≤ size r → AreMade (rs ++ r ∷ []) (ms ++ m ∷ [])
 made-push [] [] r m h g few = (g, few, tt)
 made-push [] (n ∷ ms) r m h g few = absurd h
 made-push (q ∷ rs) [] r m h g few = absurd h
 made-push (q ∷ rs) (n ∷ ms) r m h g few = (h.0, h.1, made-push rs ms r m h.2 g few)
 
-pub made-plain : (rs : List Regex) (ms : List Graph) → AreMade rs ms → ArePlain ms
+pub made-plain : (rs : List Regex) (ms : List Graph) → AreMade rs ms → HaveNoRegisters ms
 made-plain rs [] h m (k, lt, e) = absurd (omega arith)
 made-plain [] (n ∷ ms) h m i = absurd h
 made-plain (r ∷ rs) (n ∷ ms) h m (zero, lt, e) = subst (λ (x : Graph). x.registers ≡ 0) e h.0.plain
@@ -43,7 +43,7 @@ first-made (r ∷ rs) (m ∷ ms) h w = (
 )
 
 -- the only one of a list
-pub alone-reads : (ms : List Graph) (m : Graph) → length ms ≡ 1 → m ≡ get_or ms 0 m → ArePlain ms → Reads (InOneOf WordsOf ms) m
+pub alone-reads : (ms : List Graph) (m : Graph) → length ms ≡ 1 → m ≡ get_or ms 0 m → HaveNoRegisters ms → HasWords (InOneOf WordsOf ms) m
 alone-reads [] m one is plain = absurd (omega arith)
 alone-reads (x ∷ y ∷ ms) m one is plain = absurd (omega arith)
 alone-reads (x ∷ []) m one is plain = record {
@@ -60,7 +60,7 @@ alone-states [] m one is = absurd (omega arith)
 alone-states (x ∷ y ∷ ms) m one is = absurd (omega arith)
 alone-states (x ∷ []) m one is = let same = ap states_of is in omega arith
 
-pub made-more : (rs : List Regex) (i : ℕ) (r : Regex) (ms : List Graph) (m : Graph) → i < length rs → r ≡ get_or rs i r → Reads (In r) m → m.states ≤ size r → AreMade (take i rs) ms → AreMade (take (i + 1) rs) (ms ++ m ∷ [])
+pub made-more : (rs : List Regex) (i : ℕ) (r : Regex) (ms : List Graph) (m : Graph) → i < length rs → r ≡ get_or rs i r → HasWords (In r) m → m.states ≤ size r → AreMade (take i rs) ms → AreMade (take (i + 1) rs) (ms ++ m ∷ [])
 made-more rs i r ms m lt is read few h =
     let grown : take (i + 1) rs ≡ take i rs ++ r ∷ [] = take_more rs i r lt ∙ ap (λ x. take i rs ++ x ∷ []) (sym is) in
     subst (λ l. AreMade l (ms ++ m ∷ [])) (sym grown) (made-push (take i rs) ms r m h read few)

@@ -11,7 +11,7 @@ use Rattle.machine_core.specs.Edges.{edge, ending, move_of, EndsAt, StepsBy}
 use Rattle.machine_core.specs.Moves.{Moves}
 use Rattle.machine_core.specs.Lists.{Any-none, Any-here, Any-cases, Any-push_cases, Any-append_left, Any-append_right}
 use Rattle.sv_terms.specs.Language.{Word}
-use Rattle.regex_machine.specs.Joined.{Reads}
+use Rattle.regex_machine.specs.Joined.{HasWords}
 use Rattle.regex_machine.specs.Laws.{drop-get}
 use Rattle.regex_machine.proofs.WordLemmas.{get-drop, get-within, split-last}
 
@@ -43,7 +43,7 @@ no-ends : (S : ℕ → ℕ → List ℕ → ℕ → Type 0) (w : Word) (s : ℕ)
 no-ends S [] s cost r = Any-none (λ (e : End). (e.at ≡ s) × (e.cost ≡ cost)) r
 no-ends S (c ∷ w) s cost r = no-ends S w r.1 r.2 r.4
 
-pub nothing-reads : (m : Graph) → m.registers ≡ 0 → m.ends ≡ [] → Reads (λ w. ⊥) m
+pub nothing-reads : (m : Graph) → m.registers ≡ 0 → m.ends ≡ [] → HasWords (λ w. ⊥) m
 nothing-reads m plain none = record {
   plain = plain;
   words = λ w. (λ h. no-ends (StepsBy m.edges) w 0 [] (subst (λ l. RunsFrom (EndsAt l) (StepsBy m.edges) 0 w []) none h), λ h. absurd h);
@@ -67,7 +67,7 @@ module _ (on : List (ℕ × ℕ)) (all : (c : ℕ) → in_ranges on c ≡ nat_le
   every-in [] h = end-one 0
   every-in (c ∷ w) h = ([], 0, [], step-one 0 on 0 c (in-all c h.0), every-in w h.1, refl)
 
-  pub everything-reads : (m : Graph) → m.registers ≡ 0 → m.edges ≡ edge 0 on [] 0 ∷ [] → m.ends ≡ ending 0 [] ∷ [] → Reads IsWord m
+  pub everything-reads : (m : Graph) → m.registers ≡ 0 → m.edges ≡ edge 0 on [] 0 ∷ [] → m.ends ≡ ending 0 [] ∷ [] → HasWords IsWord m
   everything-reads m plain edges ends = record {
     plain = plain;
     words = λ w. (
@@ -104,7 +104,7 @@ module _ (on : List (ℕ × ℕ)) where
   single-in : (w : Word) → OneOf w → Single 0 w []
   single-in w h = subst (λ l. Single 0 l []) (sym h.2) ([], 1, [], step-one 0 on 1 h.0 h.1, end-one 1, refl)
 
-  pub one_of-reads : (m : Graph) → m.registers ≡ 0 → m.edges ≡ edge 0 on [] 1 ∷ [] → m.ends ≡ ending 1 [] ∷ [] → Reads (λ w. (c : ℕ) × IsTrue (in_ranges on c) × (w ≡ c ∷ [])) m
+  pub one_of-reads : (m : Graph) → m.registers ≡ 0 → m.edges ≡ edge 0 on [] 1 ∷ [] → m.ends ≡ ending 1 [] ∷ [] → HasWords (λ w. (c : ℕ) × IsTrue (in_ranges on c) × (w ≡ c ∷ [])) m
   one_of-reads m plain edges ends = record {
     plain = plain;
     words = λ w. (
@@ -113,7 +113,7 @@ module _ (on : List (ℕ × ℕ)) where
     );
   }
 
-  pub none_of-reads : on ≡ [] → (m : Graph) → Reads (λ w. ⊥) m → Reads (λ w. (c : ℕ) × IsTrue (in_ranges on c) × (w ≡ c ∷ [])) m
+  pub none_of-reads : on ≡ [] → (m : Graph) → HasWords (λ w. ⊥) m → HasWords (λ w. (c : ℕ) × IsTrue (in_ranges on c) × (w ≡ c ∷ [])) m
   none_of-reads e m r = record {
     plain = r.plain;
     words = λ w. (λ h. absurd ((r.words w).0 h), λ h. absurd (no-character h.0 (subst (λ l. IsTrue (in_ranges l h.0)) e h.1)));
@@ -195,7 +195,7 @@ module _ (word : Word) (edges : List Edge) (spells : Spells word (length word) e
       let next : suc s ≡ s + 1 = omega arith in
       ([], s + 1, [], (spells s c [] (s + 1)).1 (lt, d.0, refl, refl), spelling-in w (s + 1) (omega arith) (sym d.1 ∙ ap (λ k. drop k word) next), refl)
 
-  pub text-reads : IsWord word → (m : Graph) → m.registers ≡ 0 → m.edges ≡ edges → m.ends ≡ ending (length word) [] ∷ [] → Reads (λ w. (w ≡ word) × IsWord w) m
+  pub text-reads : IsWord word → (m : Graph) → m.registers ≡ 0 → m.edges ≡ edges → m.ends ≡ ending (length word) [] ∷ [] → HasWords (λ w. (w ≡ word) × IsWord w) m
   text-reads ok m plain same ends = record {
     plain = plain;
     words = λ w. (
@@ -231,12 +231,12 @@ range-words lo hi top on cut set w = (
         grind (arith, nat_tests)
 
 -- the empty word alone
-pub only-empty : (P : Word → Type 0) → ((w : Word) → P w ↔ (w ≡ [])) → (m : Graph) → Reads (λ w. (w ≡ []) × IsWord w) m → Reads P m
+pub only-empty : (P : Word → Type 0) → ((w : Word) → P w ↔ (w ≡ [])) → (m : Graph) → HasWords (λ w. (w ≡ []) × IsWord w) m → HasWords P m
 only-empty P same m r = record {
   plain = r.plain;
   words = λ w. (λ h. (same w).1 ((r.words w).0 h).0, λ h. let e = (same w).0 h in (r.words w).1 (e, subst IsWord (sym e) tt));
 }
 
 -- no word
-pub no-words : (P : Word → Type 0) → ((w : Word) → P w → ⊥) → (m : Graph) → Reads (λ w. ⊥) m → Reads P m
+pub no-words : (P : Word → Type 0) → ((w : Word) → P w → ⊥) → (m : Graph) → HasWords (λ w. ⊥) m → HasWords P m
 no-words P none m r = record { plain = r.plain; words = λ w. (λ h. absurd ((r.words w).0 h), λ h. absurd (none w h)) }

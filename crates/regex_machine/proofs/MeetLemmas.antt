@@ -13,7 +13,7 @@ use Rattle.machine_core.specs.LanguageLaws.{runs_are_words}
 use Rattle.machine_core.specs.Lists.{Contains-here, Contains-there}
 use Rattle.machine_meet.specs.Products.{meet_width, summed, MeetEnds, MeetSteps, AllRead, MeetsAll}
 use Rattle.sv_terms.specs.Language.{Word, InAllOf}
-use Rattle.regex_machine.specs.Joined.{WordsOf, ArePlain}
+use Rattle.regex_machine.specs.Joined.{WordsOf, HaveNoRegisters}
 use Rattle.regex_machine.proofs.WordLemmas.{no-cost, run-free}
 
 plain-top : (m : Graph) → m.registers ≡ 0 → listed_top m.edges m.ends ≡ 0
@@ -22,24 +22,24 @@ plain-top m plain =
     let f = top_by-least (λ (e : End). cost_top e.cost) m.ends 0 (λ e i. subst (λ k. cost_top k ≤ 0) (sym (no-cost e.cost ((m.formed.ending e i).cost ∙ plain))) (omega arith)) in
     omega arith
 
-plain-rest : (m : Graph) (ms : List Graph) → ArePlain (m ∷ ms) → ArePlain ms
+plain-rest : (m : Graph) (ms : List Graph) → HaveNoRegisters (m ∷ ms) → HaveNoRegisters ms
 plain-rest m ms plain n i = plain n (Contains-there m ms n i)
 
-tops : (ms : List Graph) → ArePlain ms → summed (λ (m : Graph). listed_top m.edges m.ends) ms ≡ 0
+tops : (ms : List Graph) → HaveNoRegisters ms → summed (λ (m : Graph). listed_top m.edges m.ends) ms ≡ 0
 tops [] plain = refl
 tops (m ∷ ms) plain =
     let here = plain-top m (plain m (Contains-here m ms)) in
     let rest = tops ms (plain-rest m ms plain) in
     omega arith
 
-pub tops-fit : (ms : List Graph) → ArePlain ms → summed (λ (m : Graph). listed_top m.edges m.ends) ms < 2 ^ 64
+pub tops-fit : (ms : List Graph) → HaveNoRegisters ms → summed (λ (m : Graph). listed_top m.edges m.ends) ms < 2 ^ 64
 tops-fit ms plain = let e = tops ms plain in omega arith
 
-pub plain-width : (ms : List Graph) → ArePlain ms → meet_width (λ (m : Graph). m.registers) ms ≡ 0
+pub plain-width : (ms : List Graph) → HaveNoRegisters ms → meet_width (λ (m : Graph). m.registers) ms ≡ 0
 plain-width [] plain = refl
 plain-width (m ∷ ms) plain = plain m (Contains-here m ms)
 
-pub plain-agree : (ms : List Graph) → ArePlain ms → (m : Graph) → Contains ms m → m.registers ≡ meet_width (λ (m : Graph). m.registers) ms
+pub plain-agree : (ms : List Graph) → HaveNoRegisters ms → (m : Graph) → Contains ms m → m.registers ≡ meet_width (λ (m : Graph). m.registers) ms
 plain-agree ms plain m i = plain m i ∙ sym (plain-width ms plain)
 
 abbrev pub ends_of : Graph → ℕ → List ℕ → Type 0
@@ -51,7 +51,7 @@ steps_of m = StepsBy m.edges
 abbrev pub first_of_graph : Graph → ℕ
 first_of_graph m = 0
 
-all-out : (ms : List Graph) → ArePlain ms → (w : Word) (cost : List ℕ) → AllRead ends_of steps_of first_of_graph 0 ms w cost → InAllOf WordsOf ms w
+all-out : (ms : List Graph) → HaveNoRegisters ms → (w : Word) (cost : List ℕ) → AllRead ends_of steps_of first_of_graph 0 ms w cost → InAllOf WordsOf ms w
 all-out [] plain w cost h = h.0
 all-out (m ∷ ms) plain w cost h =
     let free = run-free m (plain m (Contains-here m ms)) w 0 h.0 h.2 in
@@ -61,7 +61,7 @@ all-in : (ms : List Graph) (w : Word) → InAllOf WordsOf ms w → AllRead ends_
 all-in [] w h = (h, refl)
 all-in (m ∷ ms) w h = ([], [], h.0, all-in ms w h.1, refl)
 
-pub meet-language : (ms : List Graph) → ArePlain ms → (width : ℕ) → width ≡ 0 → MeetsAll ends_of steps_of first_of_graph width ms
+pub meet-language : (ms : List Graph) → HaveNoRegisters ms → (width : ℕ) → width ≡ 0 → MeetsAll ends_of steps_of first_of_graph width ms
     → (w : Word) → RunsFrom (MeetEnds ends_of width ms) (MeetSteps steps_of width ms) (map first_of_graph ms) w [] ↔ InAllOf WordsOf ms w
 meet-language ms plain width none meets w = (
   λ r. all-out ms plain w [] (subst (λ n. AllRead ends_of steps_of first_of_graph n ms w []) none ((meets w []).0 r)),
@@ -73,7 +73,7 @@ words-only m w h = runs_are_words (λ s. s < m.states) (StepsBy m.edges) (λ s t
     (λ s t c cost ok st. step_character m.states m.registers m.edges m.ends m.formed s t c cost st) w 0 [] m.started h
 
 -- what the product of these reads
-pub meet-words : (ms : List Graph) → ArePlain ms → (ns : List Graph) → ns ≡ ms → MeetsAll ends_of steps_of first_of_graph (meet_width (λ (m : Graph). m.registers) ms) ms
+pub meet-words : (ms : List Graph) → HaveNoRegisters ms → (ns : List Graph) → ns ≡ ms → MeetsAll ends_of steps_of first_of_graph (meet_width (λ (m : Graph). m.registers) ms) ms
     → (w : Word) → RunsFrom (MeetEnds ends_of (meet_width (λ (m : Graph). m.registers) ns) ns) (MeetSteps steps_of (meet_width (λ (m : Graph). m.registers) ns) ns) (map first_of_graph ns) w []
     ↔ InAllOf WordsOf ms w
 meet-words ms plain ns same meets =

@@ -10,7 +10,7 @@ use Rattle.machine_core.specs.Moves.{Moves, IsMove}
 use Rattle.machine_core.specs.declared.machine.Move.{Move}
 use Rattle.sv_terms.specs.Language.{Word, Then}
 use Rattle.regex_machine.specs.Letters.{OneOf}
-use Rattle.regex_machine.specs.Onwards.{ReadsOn, IsOnward, AreClosed, IsRest, AreBegun, HasState, Precedes, unmade}
+use Rattle.regex_machine.specs.Onwards.{ReadsOn, IsOnward, AreClosed, IsFormedRest, AreBegun, HasState, PrecedesRest, unmade}
 use Rattle.regex_machine.specs.declared.onward.Onward.{Onward}
 use Rattle.regex_machine.specs.declared.onward.Rest.{Rest}
 
@@ -52,7 +52,7 @@ longer : {X : Type 0} (xs ys : List X) → length xs ≤ length (xs ++ ys)
 longer [] ys = omega arith
 longer (x ∷ xs) ys = let h = longer xs ys in omega arith
 
-pub rest-grown : (old new more : List Onward) (rest : Rest) → new ≡ old ++ more → IsRest old rest → IsRest new rest
+pub rest-grown : (old new more : List Onward) (rest : Rest) → new ≡ old ++ more → IsFormedRest old rest → IsFormedRest new rest
 rest-grown old new more rest e h = record {
   onward = onward-weaker (length old) (length new) rest.onward (subst (λ l. length old ≤ length l) (sym e) (longer old more)) h.onward;
   state = λ s is. subst (λ l. slice_get l s ≡ Some rest.onward) (sym e) (slice_get-append old more s rest.onward (h.state s is));
@@ -97,7 +97,7 @@ state-made old new rest now o s begun none copied pushed at same made = record {
 
 -- no character is read, and no word
 pub letter-none : (states : List Onward) (rest front : Rest) (on : List (ℕ × ℕ)) → AreBegun states rest → on ≡ [] → front.onward.moves ≡ [] → front.onward.may_end ≡ false → front.state ≡ None
-    → Precedes (OneOf on) (length states + unmade rest.state + 1) states rest states rest front
+    → PrecedesRest (OneOf on) (length states + unmade rest.state + 1) states rest states rest front
 letter-none states rest front on begun none moves never state = record {
   more = [];
   grown = sym (append-nil states);
@@ -121,7 +121,7 @@ letter-none states rest front on begun none moves never state = record {
 -- one character, and then what follows
 pub letter-made : (old new : List Onward) (rest now front : Rest) (on : List (ℕ × ℕ)) (s : ℕ) (m : Move ℕ) → AreBegun old rest → HasState old rest new now s → IsInhabited on
     → ((c : ℕ) → IsTrue (in_ranges on c) → c ≤ greatest_character) → m.on ≡ on → m.cost ≡ [] → m.to ≡ s → front.onward.moves ≡ m ∷ [] → front.onward.may_end ≡ false → front.state ≡ None
-    → Precedes (OneOf on) (length old + unmade rest.state + 1) old rest new now front
+    → PrecedesRest (OneOf on) (length old + unmade rest.state + 1) old rest new now front
 letter-made old new rest now front on s m begun has some below is free leads moves never state = record {
   more = has.more;
   grown = has.grown;
@@ -186,7 +186,7 @@ letter-made old new rest now front on s m begun has some below is free leads mov
 
 -- what follows, with nothing before it
 pub nothing-before : (old new : List Onward) (rest now : Rest) (s : ℕ) → AreBegun old rest → HasState old rest new now s
-    → Precedes (λ u. u ≡ []) (length old + unmade rest.state) old rest new now now
+    → PrecedesRest (λ u. u ≡ []) (length old + unmade rest.state) old rest new now now
 nothing-before old new rest now s begun has = record {
   more = has.more;
   grown = has.grown;
@@ -204,8 +204,8 @@ nothing-before old new rest now s begun has = record {
     same w = subst (λ o. ReadsOn new o w ↔ ReadsOn old rest.onward w) (sym has.same) (reads-grown old new has.more rest.onward w has.grown begun.formed.onward begun.closed)
 
 -- one part before another
-pub before-both : (P Q : Word → Type 0) (a b : ℕ) (old mid new : List Onward) (rest now front between first : Rest) → Precedes P a old rest mid now front → Precedes Q b mid front new between first
-    → Precedes (Then Q P) b old rest new now first
+pub before-both : (P Q : Word → Type 0) (a b : ℕ) (old mid new : List Onward) (rest now front between first : Rest) → PrecedesRest P a old rest mid now front → PrecedesRest Q b mid front new between first
+    → PrecedesRest (Then Q P) b old rest new now first
 before-both P Q a b old mid new rest now front between first p q = record {
   more = p.more ++ q.more;
   grown = q.grown ∙ ap (λ l. l ++ q.more) p.grown ∙ append_assoc old p.more q.more;
@@ -224,7 +224,7 @@ before-both P Q a b old mid new rest now front between first p q = record {
   few = q.few;
 }
 
-pub precedes-as : (P Q : Word → Type 0) (a b : ℕ) (old new : List Onward) (rest now front : Rest) → ((w : Word) → P w ↔ Q w) → a ≤ b → Precedes P a old rest new now front → Precedes Q b old rest new now front
+pub precedes-as : (P Q : Word → Type 0) (a b : ℕ) (old new : List Onward) (rest now front : Rest) → ((w : Word) → P w ↔ Q w) → a ≤ b → PrecedesRest P a old rest new now front → PrecedesRest Q b old rest new now front
 precedes-as P Q a b old new rest now front same le p = record {
   more = p.more;
   grown = p.grown;
@@ -265,18 +265,18 @@ drop-all [] (suc n) le = refl
 drop-all (x ∷ xs) zero le = absurd (omega arith)
 drop-all (x ∷ xs) (suc n) le = drop-all xs n (omega arith)
 
-pub text-none : (l : Word) (n k : ℕ) (old new : List Onward) (rest now front : Rest) → length l ≡ n → front ≡ now → Precedes (λ u. u ≡ []) k old rest new now now
-    → Precedes (λ w. w ≡ drop n l) (k + (length l - n)) old rest new now front
+pub text-none : (l : Word) (n k : ℕ) (old new : List Onward) (rest now front : Rest) → length l ≡ n → front ≡ now → PrecedesRest (λ u. u ≡ []) k old rest new now now
+    → PrecedesRest (λ w. w ≡ drop n l) (k + (length l - n)) old rest new now front
 text-none l n k old new rest now front all copied p =
     let none = drop-all l n (omega arith) in
-    subst (Precedes (λ w. w ≡ drop n l) (k + (length l - n)) old rest new now) (sym copied)
+    subst (PrecedesRest (λ w. w ≡ drop n l) (k + (length l - n)) old rest new now) (sym copied)
     (precedes-as (λ u. u ≡ []) (λ w. w ≡ drop n l) k (k + (length l - n)) old new rest now now (λ w. (λ h. h ∙ sym none, λ h. h ∙ none)) (omega arith) p)
 
 pub text-step : (l : Word) (n k d : ℕ) (on : List (ℕ × ℕ)) (old mid new : List Onward) (rest now front between first : Rest) → n < length l
     → ((c : ℕ) → in_ranges on c ≡ (nat_le (get_or l n d) c && nat_le c (get_or l n d)))
-    → Precedes (λ w. w ≡ drop (suc n) l) (k + (length l - suc n)) old rest mid now front
-    → (AreBegun mid front → Precedes (OneOf on) (length mid + unmade front.state + 1) mid front new between first)
-    → Precedes (λ w. w ≡ drop n l) (k + (length l - n)) old rest new now first
+    → PrecedesRest (λ w. w ≡ drop (suc n) l) (k + (length l - suc n)) old rest mid now front
+    → (AreBegun mid front → PrecedesRest (OneOf on) (length mid + unmade front.state + 1) mid front new between first)
+    → PrecedesRest (λ w. w ≡ drop n l) (k + (length l - n)) old rest new now first
 text-step l n k d on old mid new rest now front between first lt set p q =
     let few = p.few in
     precedes-as (Then (OneOf on) (λ w. w ≡ drop (suc n) l)) (λ w. w ≡ drop n l) (length mid + unmade front.state + 1) (k + (length l - n)) old new rest now first same (omega arith)
@@ -302,7 +302,7 @@ text-step l n k d on old mid new rest now front between first lt set p q =
     )
 
 pub text-all : (l word : Word) (n k : ℕ) (old new : List Onward) (rest now front : Rest) → l ≡ word → n ≡ 0 → IsWord word
-    → Precedes (λ w. w ≡ drop n l) (k + (length l - n)) old rest new now front → Precedes (λ w. (w ≡ word) × IsWord w) (k + length word) old rest new now front
+    → PrecedesRest (λ w. w ≡ drop n l) (k + (length l - n)) old rest new now front → PrecedesRest (λ w. (w ≡ word) × IsWord w) (k + length word) old rest new now front
 text-all l word n k old new rest now front is zero-is whole p =
     let size = ap length is in
     let all : drop n l ≡ word = ap (λ m. drop m l) zero-is ∙ is in

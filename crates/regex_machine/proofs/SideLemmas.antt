@@ -13,16 +13,16 @@ use Rattle.machine_core.specs.Language.{RunsFrom}
 use Rattle.machine_core.specs.Edges.{EndsAt, StepsBy}
 use Rattle.machine_core.specs.Moves.{Moves}
 use Rattle.machine_core.specs.Lists.{Any-map, Any-from_map, Any-weaker, Any-contains, contained}
-use Rattle.subset_machine.specs.Subsets.{IsStateSet, SubsetEnds, SubsetSteps, SubsetAccepts, HasWord}
+use Rattle.subset_machine.specs.Subsets.{IsStateSet, SubsetEnds, SubsetSteps, SubsetAccepts, HasSignedWord}
 use Rattle.machine_meet.specs.Products.{meet_width, summed, multiplied, MeetEnds, MeetSteps, AllRead, MeetsAll}
 use Rattle.sv_terms.specs.Language.{Word, InOneOf, InFirstOnly}
 use Rattle.regex_machine.specs.Joined.{WordsOf}
 use Rattle.sv_terms.specs.Bounds.{from_left, without_size}
 use Rattle.regex_machine.specs.Kinds.{states_of}
 use Rattle.regex_machine.specs.Stepped.{AreEndsIf}
-use Rattle.regex_machine.specs.Sided.{IsSideState, SideEnds, SideSteps, SideWords, SideReads, listed, IsSide}
+use Rattle.regex_machine.specs.Sided.{IsSideState, SideEnds, SideSteps, SideWords, SideReads, listed, IsMeetSide}
 use Rattle.regex_machine.specs.OtherSides.{ends_of_side, steps_of_side, first_of_side, size_of_side, AreOtherSides}
-use Rattle.regex_machine.specs.declared.sides.Side.{Side}
+use Rattle.regex_machine.specs.declared.sides.MeetSide.{MeetSide}
 use Rattle.regex_machine.proofs.WordLemmas.{From, from-step, step-from, step-free}
 use Rattle.regex_machine.proofs.KindLemmas.{fold-without}
 use Rattle.regex_machine.proofs.MeetLemmas.{words-only}
@@ -76,25 +76,25 @@ module _ (m : Graph) (plain : m.registers ≡ 0) where
         (free, s, g.0.to, is, sym g.2.2, subst (λ k. StepsBy m.edges s c k g.0.to) free st),
   )
 
-pub others-push : (ms : List Graph) (ds : List Side) (m : Graph) (d : Side) → AreOtherSides ms ds → IsSide true m d.others d.part.now → AreOtherSides (ms ++ m ∷ []) (ds ++ d ∷ [])
+pub others-push : (ms : List Graph) (ds : List MeetSide) (m : Graph) (d : MeetSide) → AreOtherSides ms ds → IsMeetSide true m d.others d.part.now → AreOtherSides (ms ++ m ∷ []) (ds ++ d ∷ [])
 others-push [] [] m d h g = (g, tt)
 others-push [] (x ∷ ds) m d h g = absurd h
 others-push (x ∷ ms) [] m d h g = absurd h
 others-push (x ∷ ms) (y ∷ ds) m d h g = (h.0, others-push ms ds m d h.1 g)
 
 -- sides together
-pub side-width : (ds : List Side) → meet_width (λ (d : Side). 0) ds ≡ 0
+pub side-width : (ds : List MeetSide) → meet_width (λ (d : MeetSide). 0) ds ≡ 0
 side-width [] = refl
 side-width (d ∷ ds) = refl
 
-pub side-tops : (ds : List Side) → summed (λ (d : Side). 0) ds ≡ 0
+pub side-tops : (ds : List MeetSide) → summed (λ (d : MeetSide). 0) ds ≡ 0
 side-tops [] = refl
 side-tops (d ∷ ds) = let e = side-tops ds in omega arith
 
-abbrev SidesRead : List Side → Word → List ℕ → Type 0
+abbrev SidesRead : List MeetSide → Word → List ℕ → Type 0
 SidesRead ds w cost = AllRead ends_of_side steps_of_side first_of_side 0 ds w cost
 
-sides-out : (ms : List Graph) (ds : List Side) (f : Graph) (d : Side) → AreOtherSides ms ds → IsSide false f d.others d.part.now → (w : Word) (cost : List ℕ)
+sides-out : (ms : List Graph) (ds : List MeetSide) (f : Graph) (d : MeetSide) → AreOtherSides ms ds → IsMeetSide false f d.others d.part.now → (w : Word) (cost : List ℕ)
     → SidesRead (ds ++ d ∷ []) w cost → WordsOf f w × (InOneOf WordsOf ms w → ⊥)
 sides-out [] [] f d h g w cost r = (((g.words w r.0).0 r.2).0, λ x. x)
 sides-out [] (e ∷ ds) f d h g w cost r = absurd h
@@ -104,14 +104,14 @@ sides-out (m ∷ ms) (e ∷ ds) f d h g w cost r =
     let here = ((h.0.words w r.0).0 r.2).0 in
     (rest.0, λ x. elim x [ inl y ↦ here.1 y | inr y ↦ rest.1 y ])
 
-sides-in : (ms : List Graph) (ds : List Side) (f : Graph) (d : Side) → AreOtherSides ms ds → IsSide false f d.others d.part.now → (w : Word)
+sides-in : (ms : List Graph) (ds : List MeetSide) (f : Graph) (d : MeetSide) → AreOtherSides ms ds → IsMeetSide false f d.others d.part.now → (w : Word)
     → WordsOf f w → (InOneOf WordsOf ms w → ⊥) → SidesRead (ds ++ d ∷ []) w []
 sides-in [] [] f d h g w a b = ([], [], (g.words w []).1 (a, refl), (words-only f w a, refl), refl)
 sides-in [] (e ∷ ds) f d h g w a b = absurd h
 sides-in (m ∷ ms) [] f d h g w a b = absurd h
 sides-in (m ∷ ms) (e ∷ ds) f d h g w a b = ([], [], (h.0.words w []).1 ((words-only f w a, λ y. b (inl y)), refl), sides-in ms ds f d h.1 g w a (λ y. b (inr y)), refl)
 
-pub sides-language : (ms : List Graph) (ds : List Side) (f : Graph) (d : Side) → AreOtherSides ms ds → IsSide false f d.others d.part.now → (width : ℕ) → width ≡ 0
+pub sides-language : (ms : List Graph) (ds : List MeetSide) (f : Graph) (d : MeetSide) → AreOtherSides ms ds → IsMeetSide false f d.others d.part.now → (width : ℕ) → width ≡ 0
     → MeetsAll ends_of_side steps_of_side first_of_side width (ds ++ d ∷ [])
     → (w : Word) → RunsFrom (MeetEnds ends_of_side width (ds ++ d ∷ [])) (MeetSteps steps_of_side width (ds ++ d ∷ [])) (map first_of_side (ds ++ d ∷ [])) w []
     ↔ InFirstOnly WordsOf (f ∷ ms) w
@@ -121,25 +121,25 @@ sides-language ms ds f d h g width none meets w = (
 )
 
 -- what the negated subset construction reads
-pub other-words : (m n : Graph) (negated : Bool) → n ≡ m → negated ≡ true → ((w : Word) (cost : List ℕ) → SubsetAccepts true m w cost ↔ (HasWord true m w × (cost ≡ [])))
+pub other-words : (m n : Graph) (negated : Bool) → n ≡ m → negated ≡ true → ((w : Word) (cost : List ℕ) → SubsetAccepts true m w cost ↔ (HasSignedWord true m w × (cost ≡ [])))
     → (w : Word) → SubsetAccepts negated n w [] ↔ (IsWord w × (WordsOf m w → ⊥))
 other-words m n negated same e says w =
     subst (λ b. SubsetAccepts b n w [] ↔ (IsWord w × (WordsOf m w → ⊥))) (sym e)
     (subst (λ (x : Graph). SubsetAccepts true x w [] ↔ (IsWord w × (WordsOf m w → ⊥))) (sym same) (λ h. ((says w []).0 h).0, λ h. (says w []).1 (h, refl)))
 
 -- and what these sides read together
-pub sides-words : (ms : List Graph) (ds : List Side) (f : Graph) (d : Side) → AreOtherSides ms ds → IsSide false f d.others d.part.now → (es fs : List Side) → es ≡ ds ++ d ∷ [] → fs ≡ es
-    → MeetsAll ends_of_side steps_of_side first_of_side (meet_width (λ (d : Side). 0) es) es
-    → (w : Word) → RunsFrom (MeetEnds ends_of_side (meet_width (λ (d : Side). 0) fs) fs) (MeetSteps steps_of_side (meet_width (λ (d : Side). 0) fs) fs) (map first_of_side fs) w []
+pub sides-words : (ms : List Graph) (ds : List MeetSide) (f : Graph) (d : MeetSide) → AreOtherSides ms ds → IsMeetSide false f d.others d.part.now → (es fs : List MeetSide) → es ≡ ds ++ d ∷ [] → fs ≡ es
+    → MeetsAll ends_of_side steps_of_side first_of_side (meet_width (λ (d : MeetSide). 0) es) es
+    → (w : Word) → RunsFrom (MeetEnds ends_of_side (meet_width (λ (d : MeetSide). 0) fs) fs) (MeetSteps steps_of_side (meet_width (λ (d : MeetSide). 0) fs) fs) (map first_of_side fs) w []
     ↔ InFirstOnly WordsOf (f ∷ ms) w
 sides-words ms ds f d others first es fs is same meets =
-    let width : List Side → ℕ = meet_width (λ (d : Side). 0) in
+    let width : List MeetSide → ℕ = meet_width (λ (d : MeetSide). 0) in
     let all = ds ++ d ∷ [] in
     subst (λ l. (w : Word) → RunsFrom (MeetEnds ends_of_side (width l) l) (MeetSteps steps_of_side (width l) l) (map first_of_side l) w [] ↔ InFirstOnly WordsOf (f ∷ ms) w) (sym (same ∙ is))
     (sides-language ms ds f d others first (width all) (side-width all) (subst (λ l. MeetsAll ends_of_side steps_of_side first_of_side (width l) l) is meets))
 
 -- and how many states they have together
-sides-multiplied : (ms : List Graph) (ds : List Side) (f : Graph) (d : Side) → AreOtherSides ms ds → IsSide false f d.others d.part.now
+sides-multiplied : (ms : List Graph) (ds : List MeetSide) (f : Graph) (d : MeetSide) → AreOtherSides ms ds → IsMeetSide false f d.others d.part.now
     → multiplied size_of_side (ds ++ d ∷ []) ≡ f.states * multiplied (λ (x : Graph). 2 ^ x.states) ms
 sides-multiplied [] [] f d h g = let size = g.size in omega arith
 sides-multiplied [] (e ∷ ds) f d h g = absurd h
@@ -150,16 +150,16 @@ sides-multiplied (m ∷ ms) (e ∷ ds) f d h g =
     let product = multiplied (λ (x : Graph). 2 ^ x.states) ms in
     ap (λ n. n * multiplied size_of_side (ds ++ d ∷ [])) size ∙ ap (λ n. 2 ^ m.states * n) rest ∙ mul_left_comm (2 ^ m.states) f.states product
 
-pub sides-size : (ms : List Graph) (ds : List Side) (f : Graph) (d : Side) → AreOtherSides ms ds → IsSide false f d.others d.part.now → (fs : List Side) → fs ≡ ds ++ d ∷ []
+pub sides-size : (ms : List Graph) (ds : List MeetSide) (f : Graph) (d : MeetSide) → AreOtherSides ms ds → IsMeetSide false f d.others d.part.now → (fs : List MeetSide) → fs ≡ ds ++ d ∷ []
     → multiplied size_of_side fs ≡ from_left without_size (map states_of (f ∷ ms))
 sides-size ms ds f d others first fs is = ap (multiplied size_of_side) is ∙ sides-multiplied ms ds f d others first ∙ sym (fold-without states_of f.states ms)
 
 -- the others of one part more
-pub others-none : (ms : List Graph) (ds : List Side) → ds ≡ [] → AreOtherSides (drop 1 (take 1 ms)) ds
+pub others-none : (ms : List Graph) (ds : List MeetSide) → ds ≡ [] → AreOtherSides (drop 1 (take 1 ms)) ds
 others-none [] ds e = subst (AreOtherSides []) (sym e) tt
 others-none (m ∷ ms) ds e = subst (AreOtherSides []) (sym e) tt
 
-pub others-more : (ms : List Graph) (n : ℕ) (m : Graph) (ds : List Side) (d : Side) → 1 ≤ n → n < length ms → m ≡ get_or ms n m → IsSide true m d.others d.part.now
+pub others-more : (ms : List Graph) (n : ℕ) (m : Graph) (ds : List MeetSide) (d : MeetSide) → 1 ≤ n → n < length ms → m ≡ get_or ms n m → IsMeetSide true m d.others d.part.now
     → AreOtherSides (drop 1 (take n ms)) ds → AreOtherSides (drop 1 (take (n + 1) ms)) (ds ++ d ∷ [])
 others-more [] n m ds d one lt is side h = absurd (omega arith)
 others-more (x ∷ xs) zero m ds d one lt is side h = absurd (omega arith)
@@ -168,7 +168,7 @@ others-more (x ∷ xs) (suc k) m ds d one lt is side h =
     let grown : take (k + 1) xs ≡ take k xs ++ m ∷ [] = take_more xs k m (omega arith) ∙ ap (λ y. take k xs ++ y ∷ []) (sym is) in
     subst (λ j. AreOtherSides (drop 1 (take j (x ∷ xs))) (ds ++ d ∷ [])) next (subst (λ l. AreOtherSides l (ds ++ d ∷ [])) (sym grown) (others-push (take k xs) ds m d h side))
 
-pub others-all : (ms : List Graph) (n : ℕ) (ds : List Side) → length ms ≤ n → AreOtherSides (drop 1 (take n ms)) ds → AreOtherSides (drop 1 ms) ds
+pub others-all : (ms : List Graph) (n : ℕ) (ds : List MeetSide) → length ms ≤ n → AreOtherSides (drop 1 (take n ms)) ds → AreOtherSides (drop 1 ms) ds
 others-all ms n ds past h = subst (λ l. AreOtherSides (drop 1 l) ds) (take_all n ms past) h
 
 -- what leaves a list of the subset construction

@@ -11,7 +11,7 @@ use Rattle.machine_core.specs.Places.{places_from, places}
 use Rattle.machine_core.specs.Moves.{Moves}
 use Rattle.machine_core.specs.Lists.{Any-none, Any-here, Any-there, Any-cases, Any-append_left, Any-append_right, Any-append_cases, Any-weaker, Any-map, Any-from_map, contained, Any-contains}
 use Rattle.machine_meet.specs.Joins.{AreInhabited}
-use Rattle.regex_machine.specs.Stepped.{LeadsTo, led, AddsSteps, AreLed, AreEndsIf}
+use Rattle.regex_machine.specs.Stepped.{LeadsToPart, led, AddsSteps, AreLed, AreEndsIf}
 use Rattle.regex_machine.proofs.WordLemmas.{step-free, end-free}
 
 pair-is : (k n : ℕ) (to : ℕ × ℕ) → to.0 ≡ k → n ≡ to.1 → ◌≡◌ {A = ℕ × ℕ} (k, n) to
@@ -19,7 +19,7 @@ pair-is k n to e f = (let P : ℕ → ℕ × ℕ = λ x. (k, x) in let Q : ℕ �
 
 module _ (m : Graph) (plain : m.registers ≡ 0) (s k : ℕ) (moves : List (Move ℕ))
     (exact : (c : ℕ) (cost : List ℕ) (to : ℕ) → StepsBy m.edges s c cost to ↔ Any (Moves c cost to) moves) where
-  led-out : (c : ℕ) (cost : List ℕ) (to : ℕ × ℕ) → Any (Moves c cost to) (map (led k) moves) → LeadsTo m s k c cost to
+  led-out : (c : ℕ) (cost : List ℕ) (to : ℕ × ℕ) → Any (Moves c cost to) (map (led k) moves) → LeadsToPart m s k c cost to
   led-out c cost to a =
       let M : Move (ℕ × ℕ) → Type 0 = Moves c cost to in
       let h = Any-from_map (led k) M moves a in
@@ -30,7 +30,7 @@ module _ (m : Graph) (plain : m.registers ≡ 0) (s k : ℕ) (moves : List (Move
       let free = step-free m plain s to.1 c cost st in
       (free, sym (ap Q g.2.2), subst (λ x. StepsBy m.edges s c x to.1) free st)
 
-  led-in : (c : ℕ) (cost : List ℕ) (to : ℕ × ℕ) → LeadsTo m s k c cost to → Any (Moves c cost to) (map (led k) moves)
+  led-in : (c : ℕ) (cost : List ℕ) (to : ℕ × ℕ) → LeadsToPart m s k c cost to → Any (Moves c cost to) (map (led k) moves)
   led-in c cost to h =
       let M : Move (ℕ × ℕ) → Type 0 = Moves c cost to in
       let st = (exact c cost to.1).0 (subst (λ x. StepsBy m.edges s c x to.1) (sym h.0) h.2) in

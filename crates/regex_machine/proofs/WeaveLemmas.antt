@@ -12,18 +12,18 @@ use Rattle.sv_terms.specs.Language.{Word, Then, In, InOneOf, InEachInTurn}
 use Rattle.sv_terms.specs.declared.regex.Regex.{Regex}
 use Rattle.trim_search.specs.declared.build_fault.BuildFault.{BuildFault}
 use Rattle.regex_machine.specs.Built.{Builds}
-use Rattle.regex_machine.specs.Onwards.{ReadsOn, AreBegun, Precedes, stateless, unmade}
+use Rattle.regex_machine.specs.Onwards.{ReadsOn, AreBegun, PrecedesRest, stateless, unmade}
 use Rattle.regex_machine.specs.declared.onward.Onward.{Onward}
 use Rattle.regex_machine.specs.declared.onward.Rest.{Rest}
 use Rattle.regex_machine.proofs.BuiltLemmas.{builds-as}
 use Rattle.regex_machine.proofs.KindLemmas.{choice-few, formed, formed-size, formed-words}
 use Rattle.regex_machine.specs.Kinds.{Together, weight, most_states}
 use Rattle.regex_machine.specs.Letters.{OneOf}
-use Rattle.regex_machine.specs.declared.kind.Kind.{Kind}
+use Rattle.regex_machine.specs.declared.kind.JoinKind.{JoinKind}
 use Rattle.regex_machine.proofs.OnwardLemmas.{reads-grown, onward-weaker, before-both, precedes-as, unmade-most}
 
 -- what follows, with nothing before it
-pub nothing-there : (states : List Onward) (rest : Rest) → AreBegun states rest → Precedes (λ u. u ≡ []) (length states + unmade rest.state) states rest states rest rest
+pub nothing-there : (states : List Onward) (rest : Rest) → AreBegun states rest → PrecedesRest (λ u. u ≡ []) (length states + unmade rest.state) states rest states rest rest
 nothing-there states rest begun = record {
   more = [];
   grown = sym (append-nil states);
@@ -51,12 +51,12 @@ drop-none (x ∷ xs) (suc n) le = drop-none xs n (omega arith)
 module _ (rs : List Regex) (old : List Onward) (rest : Rest) where
   -- the parts from the nth on are written
   abbrev pub IsWritten : ℕ → List Onward → Rest → Rest → Type 0
-  IsWritten n new now front = Precedes (InEachInTurn In (drop n rs)) (length old + summed size (drop n rs)) old rest new now front
+  IsWritten n new now front = PrecedesRest (InEachInTurn In (drop n rs)) (length old + summed size (drop n rs)) old rest new now front
 
-  pub each-last : (n : ℕ) (r : Regex) (new : List Onward) (now front : Rest) → suc n ≡ length rs → r ≡ get_or rs n r → Precedes (In r) (length old + size r) old rest new now front → IsWritten n new now front
+  pub each-last : (n : ℕ) (r : Regex) (new : List Onward) (now front : Rest) → suc n ≡ length rs → r ≡ get_or rs n r → PrecedesRest (In r) (length old + size r) old rest new now front → IsWritten n new now front
   each-last n r new now front last is p =
       let one : drop n rs ≡ r ∷ [] = drop-first rs n r (omega arith) is ∙ ap (λ l. r ∷ l) (drop-none rs (suc n) (omega arith)) in
-      subst (λ l. Precedes (InEachInTurn In l) (length old + summed size l) old rest new now front) (sym one)
+      subst (λ l. PrecedesRest (InEachInTurn In l) (length old + summed size l) old rest new now front) (sym one)
       (precedes-as (In r) (InEachInTurn In (r ∷ [])) (length old + size r) (length old + (size r + 0)) old new rest now front alone (omega arith) p)
     where
       alone : (w : Word) → In r w ↔ Then (In r) (λ v. v ≡ []) w
@@ -66,17 +66,17 @@ module _ (rs : List Regex) (old : List Onward) (rest : Rest) where
       )
 
   pub each-step : (n : ℕ) (r : Regex) (mid new : List Onward) (now front between first : Rest) → n < length rs → r ≡ get_or rs n r → IsWritten (suc n) mid now front
-      → (AreBegun mid front → Precedes (In r) (length mid + size r) mid front new between first) → IsWritten n new now first
+      → (AreBegun mid front → PrecedesRest (In r) (length mid + size r) mid front new between first) → IsWritten n new now first
   each-step n r mid new now front between first lt is p q =
       let more : drop n rs ≡ r ∷ drop (suc n) rs = drop-first rs n r lt is in
       let few = p.few in
-      subst (λ l. Precedes (InEachInTurn In l) (length old + summed size l) old rest new now first) (sym more)
+      subst (λ l. PrecedesRest (InEachInTurn In l) (length old + summed size l) old rest new now first) (sym more)
       (precedes-as (Then (In r) (InEachInTurn In (drop (suc n) rs))) (InEachInTurn In (r ∷ drop (suc n) rs)) (length mid + size r) (length old + (size r + summed size (drop (suc n) rs))) old new rest now first
       (λ w. (λ h. h, λ h. h)) (omega arith)
       (before-both (InEachInTurn In (drop (suc n) rs)) (In r) (length old + summed size (drop (suc n) rs)) (length mid + size r) old mid new rest now front between first p
       (q (record { closed = p.begun.closed; formed = p.formed }))))
 
-  pub each-all : (new : List Onward) (now front : Rest) → IsWritten 0 new now front → Precedes (InEachInTurn In rs) (length old + max 1 (summed size rs)) old rest new now front
+  pub each-all : (new : List Onward) (now front : Rest) → IsWritten 0 new now front → PrecedesRest (InEachInTurn In rs) (length old + max 1 (summed size rs)) old rest new now front
   each-all new now front p = precedes-as (InEachInTurn In rs) (InEachInTurn In rs) (length old + summed size rs) (length old + max 1 (summed size rs)) old new rest now front (λ w. (λ h. h, λ h. h)) (omega arith) p
 
 -- what one of two places reads
@@ -127,7 +127,7 @@ summed-push f (y ∷ ys) x = let e = summed-push f ys x in omega arith
 
 -- what the first n parts read, each with what follows
 abbrev pub IsChosen : List Regex → List Onward → Rest → ℕ → List Onward → Rest → List (Move ℕ) → Bool → Type 0
-IsChosen rs old rest n new now moves may_end = Precedes (InOneOf In (take n rs)) (length old + summed size (take n rs) + 1) old rest new now (stateless moves may_end)
+IsChosen rs old rest n new now moves may_end = PrecedesRest (InOneOf In (take n rs)) (length old + summed size (take n rs) + 1) old rest new now (stateless moves may_end)
 
 module _ (rs : List Regex) (old : List Onward) (rest : Rest) (begun : AreBegun old rest) where
   pub one-none : IsChosen rs old rest 0 old rest [] false
@@ -149,7 +149,7 @@ module _ (rs : List Regex) (old : List Onward) (rest : Rest) (begun : AreBegun o
       reads (c ∷ w) h = Any-none (Moves c [] h.0) h.2
 
   pub one-step : (n : ℕ) (r : Regex) (mid new : List Onward) (now later front : Rest) (moves both : List (Move ℕ)) (may_end may : Bool) → n < length rs → r ≡ get_or rs n r → IsChosen rs old rest n mid now moves may_end
-      → (AreBegun mid now → Precedes (In r) (length mid + size r) mid now new later front) → both ≡ moves ++ front.onward.moves → may ≡ (may_end || front.onward.may_end)
+      → (AreBegun mid now → PrecedesRest (In r) (length mid + size r) mid now new later front) → both ≡ moves ++ front.onward.moves → may ≡ (may_end || front.onward.may_end)
       → IsChosen rs old rest (n + 1) new later both may
   one-step n r mid new now later front moves both may_end may lt is p q' joined ends =
       let q = q' (record { closed = p.begun.closed; formed = p.begun.formed }) in
@@ -197,13 +197,13 @@ module _ (rs : List Regex) (old : List Onward) (rest : Rest) (begun : AreBegun o
       out-list u h = (one-push (take n rs) r u).1 (subst (λ l. InOneOf In l u) (take_more rs n r lt ∙ ap (λ x. take n rs ++ x ∷ []) (sym is)) h)
 
   pub one-all : (n : ℕ) (new : List Onward) (now : Rest) (moves : List (Move ℕ)) (may_end : Bool) → length rs ≤ n → (length rs ≡ 1 → ⊥) → IsChosen rs old rest n new now moves may_end
-      → Precedes (InOneOf In rs) (length old + max 1 (summed (λ q. size q + 1) rs - 1)) old rest new now (stateless moves may_end)
+      → PrecedesRest (InOneOf In rs) (length old + max 1 (summed (λ q. size q + 1) rs - 1)) old rest new now (stateless moves may_end)
   one-all n new now moves may_end le many p =
       let all = take_all n rs le in
       let few = choice-few size rs many in
       precedes-as (InOneOf In rs) (InOneOf In rs) (length old + summed size rs + 1) (length old + max 1 (summed (λ q. size q + 1) rs - 1)) old new rest now (stateless moves may_end) (λ w. (λ h. h, λ h. h))
       (omega arith)
-      (subst (λ l. Precedes (InOneOf In l) (length old + summed size l + 1) old rest new now (stateless moves may_end)) all p)
+      (subst (λ l. PrecedesRest (InOneOf In l) (length old + summed size l + 1) old rest new now (stateless moves may_end)) all p)
 
 -- the words of the whole, behind which nothing follows
 pub end-words : (P : Word → Type 0) (new : List Onward) (front : Rest) (o : Onward) → o.moves ≡ [] → o.may_end ≡ true → ((w : Word) → ReadsOn new front.onward w ↔ Then P (ReadsOn [] o) w)
@@ -219,9 +219,9 @@ end-words P new front o none may words w = (
 
 -- an expression of a known form
 pub before-form : (regex q : Regex) (P : Word → Type 0) (b : ℕ) (old new : List Onward) (rest now front : Rest) → regex ≡ q → ((w : Word) → In q w ≡ P w) → b ≤ length old + size q
-    → Precedes P b old rest new now front → Precedes (In regex) (length old + size regex) old rest new now front
+    → PrecedesRest P b old rest new now front → PrecedesRest (In regex) (length old + size regex) old rest new now front
 before-form regex q P b old new rest now front is same le p =
-    subst (λ r. Precedes (In r) (length old + size r) old rest new now front) (sym is)
+    subst (λ r. PrecedesRest (In r) (length old + size r) old rest new now front) (sym is)
     (precedes-as P (In q) b (length old + size q) old new rest now front (λ w. (subst (λ (T : Type 0). T) (sym (same w)), subst (λ (T : Type 0). T) (same w))) le p)
 
 pub begun-end : (states : List Onward) (end : Rest) → states ≡ [] → end.onward.moves ≡ [] → end.state ≡ None → AreBegun states end
@@ -238,7 +238,7 @@ begun-end states end none moves state = record {
 
 -- the words of a machine that is made of what stands before the end
 pub finished : (P : Word → Type 0) (n limit : ℕ) (old new : List Onward) (end now front : Rest) (r : Result Graph BuildFault) → old ≡ [] → end.onward.moves ≡ [] → end.onward.may_end ≡ true
-    → Precedes P (length old + n) old end new now front → Builds (ReadsOn new front.onward) (length new + unmade front.state) limit r → Builds P n limit r
+    → PrecedesRest P (length old + n) old end new now front → Builds (ReadsOn new front.onward) (length new + unmade front.state) limit r → Builds P n limit r
 finished P n limit old new end now front r none moves may p h =
     let few = p.few in
     let empty : length old ≡ 0 = ap length none in
@@ -246,18 +246,18 @@ finished P n limit old new end now front r none moves may p h =
     (end-words P new front end.onward moves may (subst (λ l. (w : Word) → ReadsOn new front.onward w ↔ Then P (ReadsOn l end.onward) w) none p.words)) (omega arith) r h
 
 pub before-letter : (regex q : Regex) (P : Word → Type 0) (on : List (ℕ × ℕ)) (old new : List Onward) (rest now front : Rest) → regex ≡ q → ((w : Word) → In q w ≡ P w) → 2 ≤ size q
-    → ((w : Word) → OneOf on w ↔ P w) → Precedes (OneOf on) (length old + unmade rest.state + 1) old rest new now front → Precedes (In regex) (length old + size regex) old rest new now front
+    → ((w : Word) → OneOf on w ↔ P w) → PrecedesRest (OneOf on) (length old + unmade rest.state + 1) old rest new now front → PrecedesRest (In regex) (length old + size regex) old rest new now front
 before-letter regex q P on old new rest now front is same le words p =
     let most = unmade-most rest.state in
     before-form regex q P (length old + 2) old new rest now front is same (omega arith)
     (precedes-as (OneOf on) P (length old + unmade rest.state + 1) (length old + 2) old new rest now front words (omega arith) p)
 
-pub before-inner : (k : Kind) (regex : Regex) (rs slice : List Regex) (old new : List Onward) (rest now front : Rest) → regex ≡ formed k rs → slice ≡ rs
-    → Precedes (Together k In slice) (length old + most_states k (weight k size slice)) old rest new now front → Precedes (In regex) (length old + size regex) old rest new now front
+pub before-inner : (k : JoinKind) (regex : Regex) (rs slice : List Regex) (old new : List Onward) (rest now front : Rest) → regex ≡ formed k rs → slice ≡ rs
+    → PrecedesRest (Together k In slice) (length old + most_states k (weight k size slice)) old rest new now front → PrecedesRest (In regex) (length old + size regex) old rest new now front
 before-inner k regex rs slice old new rest now front is seen p =
     let few = formed-size k rs in
     before-form regex (formed k rs) (Together k In rs) (length old + most_states k (weight k size rs)) old new rest now front is (formed-words k rs) (omega arith)
-    (subst (λ l. Precedes (Together k In l) (length old + most_states k (weight k size l)) old rest new now front) seen p)
+    (subst (λ l. PrecedesRest (Together k In l) (length old + most_states k (weight k size l)) old rest new now front) seen p)
 
 pub some-parts : {X : Type 0} (xs : List X) → nat_eq (length xs) 0 ≡ false → 0 < length xs
 some-parts [] e = cc

@@ -8,7 +8,7 @@ use Rattle.machine_core.specs.Edges.{EndsAt, StepsBy}
 use Rattle.machine_core.specs.EdgeLaws.{step_cost, end_cost}
 use Rattle.machine_core.specs.Lists.{slice_get-contains}
 use Rattle.sv_terms.specs.Language.{Word}
-use Rattle.regex_machine.specs.Joined.{ArePlain, Reads}
+use Rattle.regex_machine.specs.Joined.{HaveNoRegisters, HasWords}
 
 pub no-cost : (k : List ℕ) → length k ≡ 0 → k ≡ []
 no-cost [] e = refl
@@ -43,7 +43,7 @@ module _ (m : Graph) (plain : m.registers ≡ 0) where
 pub step-from : (m : Graph) (s c t : ℕ) (w : Word) → StepsBy m.edges s c [] t → From m t w → From m s (c ∷ w)
 step-from m s c t w st r = ([], t, [], st, r, refl)
 
-pub plain-at : (ms : List Graph) → ArePlain ms → (k : ℕ) (m : Graph) → slice_get ms k ≡ Some m → m.registers ≡ 0
+pub plain-at : (ms : List Graph) → HaveNoRegisters ms → (k : ℕ) (m : Graph) → slice_get ms k ≡ Some m → m.registers ≡ 0
 plain-at ms plain k m e = plain m (slice_get-contains ms k m e)
 
 pub same-at : {X : Type 0} (xs : List X) (k : ℕ) (x y : X) → slice_get xs k ≡ Some x → slice_get xs k ≡ Some y → x ≡ y
@@ -67,7 +67,7 @@ get-drop (y ∷ ys) zero x e = (let f : y ≡ x = cc in ap (λ z. z ∷ ys) f)
 get-drop (y ∷ ys) (suc k) x e = get-drop ys k x e
 
 -- a machine whose words are others that are the same
-pub reads-same : (P Q : Word → Type 0) (m : Graph) → ((w : Word) → P w ↔ Q w) → Reads P m → Reads Q m
+pub reads-same : (P Q : Word → Type 0) (m : Graph) → ((w : Word) → P w ↔ Q w) → HasWords P m → HasWords Q m
 reads-same P Q m same r = record {
   plain = r.plain;
   words = λ w. (λ h. (same w).0 ((r.words w).0 h), λ h. (r.words w).1 ((same w).1 h));

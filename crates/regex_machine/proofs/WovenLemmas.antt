@@ -15,7 +15,7 @@ use Rattle.machine_core.specs.Moves.{Moves, IsMove}
 use Rattle.sv_terms.specs.Language.{Word, Then}
 use Rattle.regex_machine.specs.Joined.{WordsOf}
 use Rattle.regex_machine.specs.Stepped.{AreEndsIf}
-use Rattle.regex_machine.specs.Onwards.{ReadsOn, AreClosed, AreBegun, Precedes, unmade}
+use Rattle.regex_machine.specs.Onwards.{ReadsOn, AreClosed, AreBegun, PrecedesRest, unmade}
 use Rattle.regex_machine.specs.Woven.{WovenEnds, WovenSteps, woven-free, IsPlaced, ArePlaced, counted}
 use Rattle.regex_machine.specs.declared.onward.Onward.{Onward}
 use Rattle.regex_machine.specs.declared.onward.Rest.{Rest}
@@ -107,7 +107,7 @@ module _ (m : Graph) (plain : m.registers ≡ 0) where
     placed-size = let count = placed.count in let whole : length new ≡ length old + length placed.more = ap length placed.grown ∙ length-append old placed.more in omega arith
 
     pub embedded : (front : Rest) → slice_get new (length old) ≡ Some front.onward → front.state ≡ Some (length old)
-        → Precedes (WordsOf m) (length old + m.states) old rest new rest front
+        → PrecedesRest (WordsOf m) (length old + m.states) old rest new rest front
     embedded front at made = record {
       more = placed.more;
       grown = placed.grown;

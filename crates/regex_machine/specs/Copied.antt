@@ -14,8 +14,8 @@ InCopies P least most again w = (n : ℕ) × (least ≤ n) × ((n ≤ most) ⊎ 
 abbrev pub NextCopy : ℕ → Bool → ℕ → ℕ → Type 0
 NextCopy most again k l = ((suc k < most) × (l ≡ suc k)) ⊎ (IsTrue again × (suc k ≡ most) × (l ≡ k))
 
-abbrev pub IsNext : ℕ → Bool → ℕ → Option ℕ → Type 0
-IsNext most again k next = MatchOption next ((l : ℕ) → NextCopy most again k l → ⊥) (λ n. (l : ℕ) → NextCopy most again k l ↔ (l ≡ n))
+abbrev pub IsNextCopy : ℕ → Bool → ℕ → Option ℕ → Type 0
+IsNextCopy most again k next = MatchOption next ((l : ℕ) → NextCopy most again k l → ⊥) (λ n. (l : ℕ) → NextCopy most again k l ↔ (l ≡ n))
 
 -- a state of a copy, or the start of its own, which there is only where no copy is needed
 abbrev pub IsCopyState : Graph → ℕ → ℕ → ℕ × ℕ → Type 0

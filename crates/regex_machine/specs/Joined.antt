@@ -12,21 +12,21 @@ abbrev pub WordsOf : Graph → Language
 WordsOf m w = Accepts m w []
 
 -- the machine has no registers, and these words
-pub record Reads (L : Word → Type 0) (m : Graph) : Type 0 where
+pub record HasWords (L : Word → Type 0) (m : Graph) : Type 0 where
   pub plain : m.registers ≡ 0
   pub words : (w : Word) → WordsOf m w ↔ L w
 
 -- none of the machines has registers
-abbrev pub ArePlain : List Graph → Type 0
-ArePlain ms = (m : Graph) → Contains ms m → m.registers ≡ 0
+abbrev pub HaveNoRegisters : List Graph → Type 0
+HaveNoRegisters ms = (m : Graph) → Contains ms m → m.registers ≡ 0
 
 -- each machine has the words of the expression at its place, and no more states
 abbrev pub AreMade : List Regex → List Graph → Type 0
 AreMade [] [] = ⊤
 AreMade [] (m ∷ ms) = ⊥
 AreMade (r ∷ rs) [] = ⊥
-AreMade (r ∷ rs) (m ∷ ms) = Reads (In r) m × (m.states ≤ size r) × AreMade rs ms
+AreMade (r ∷ rs) (m ∷ ms) = HasWords (In r) m × (m.states ≤ size r) × AreMade rs ms
 
 -- a machine with the words that aren't those of the other
 abbrev pub IsOther : Graph → Graph → Type 0
-IsOther m n = Reads (λ w. IsWord w × (WordsOf m w → ⊥)) n
+IsOther m n = HasWords (λ w. IsWord w × (WordsOf m w → ⊥)) n

@@ -1,15 +1,13 @@
 -- What machines that are put together keep: steps lead to states, read characters and cost nothing.
-use Rattle.std.specs.Prelude.{◌≡◌, ℕ, zero, suc, ◌+◌, ◌*◌, ◌<◌, ◌≤◌, ◌⊎◌, Bool, true, false, cond, ◌&&◌, not, nat_eq, List, [], ◌∷◌, length, drop, slice_get, Some, refl}
+use Rattle.std.specs.Prelude.{◌≡◌, ℕ, zero, suc, ◌+◌, ◌*◌, ◌<◌, ◌≤◌, ◌⊎◌, Bool, true, false, cond, ◌&&◌, not, nat_eq, List, [], ◌∷◌, drop, slice_get, Some, refl}
 use Rattle.std.proofs.Common.{inl, inr, sym, ap, ◌∙◌, subst, arith}
 use Rattle.std.proofs.lemmas.Bool.Decides.{nat_tests}
 use Rattle.machine_core.specs.declared.graph.Graph.{Graph}
 use Rattle.machine_core.specs.Costs.{IsCost}
 use Rattle.machine_core.specs.CostLaws.{IsCost-zeros}
-use Rattle.machine_core.specs.Counts.{AreAtMost, at_most-weaker, at_most-one, at_most-made, at_most-either, at_most-pairs, at_most-below}
+use Rattle.machine_core.specs.Counts.{AreAtMost, at_most-weaker, at_most-one, at_most-either, at_most-pairs, at_most-below}
 use Rattle.machine_core.specs.Edges.{StepsBy}
 use Rattle.machine_core.specs.EdgeLaws.{step_target, step_character}
-use Rattle.machine_meet.specs.Products.{summed}
-use Rattle.regex_machine.specs.Kinds.{states_of}
 use Rattle.regex_machine.specs.Copied.{NextCopy, IsCopyState, CopySteps, copy_start, copies_size}
 use Rattle.sv_word.specs.Words.{greatest_character}
 

@@ -23,7 +23,7 @@ abbrev pub AreClosed : List Onward → Type 0
 AreClosed states = (o : Onward) → Contains states o → IsOnward (length states) o
 
 -- what follows leads to states, and its state, where it has one, has the same moves and end
-pub record IsRest (states : List Onward) (rest : Rest) : Type 0 where
+pub record IsFormedRest (states : List Onward) (rest : Rest) : Type 0 where
   pub onward : IsOnward (length states) rest.onward
   pub state : (s : ℕ) → rest.state ≡ Some s → slice_get states s ≡ Some rest.onward
 
@@ -39,7 +39,7 @@ stateless moves may_end = record { onward = record { moves = moves; may_end = ma
 -- some states, and what follows at some place
 pub record AreBegun (states : List Onward) (rest : Rest) : Type 0 where
   pub closed : AreClosed states
-  pub formed : IsRest states rest
+  pub formed : IsFormedRest states rest
 
 -- what follows has a state now, and all that was stays
 pub record HasState (old : List Onward) (rest : Rest) (new : List Onward) (now : Rest) (s : ℕ) : Type 0 where
@@ -51,11 +51,11 @@ pub record HasState (old : List Onward) (rest : Rest) (new : List Onward) (now :
   pub few : length new ≤ length old + unmade rest.state
 
 -- what `front` reads is a word of P and then what `rest` reads; with the state that is to be made for it there are at most `bound` states, and all that was stays
-pub record Precedes (P : Word → Type 0) (bound : ℕ) (old : List Onward) (rest : Rest) (new : List Onward) (now front : Rest) : Type 0 where
+pub record PrecedesRest (P : Word → Type 0) (bound : ℕ) (old : List Onward) (rest : Rest) (new : List Onward) (now front : Rest) : Type 0 where
   pub more : List Onward
   pub grown : new ≡ old ++ more
   pub begun : AreBegun new now
   pub same : now.onward ≡ rest.onward
-  pub formed : IsRest new front
+  pub formed : IsFormedRest new front
   pub words : (w : Word) → ReadsOn new front.onward w ↔ Then P (ReadsOn old rest.onward) w
   pub few : length new + unmade front.state ≤ bound

@@ -46,7 +46,7 @@ abbrev pub listed : Move ℕ → Move (List ℕ)
 listed m = record { on = m.on; cost = m.cost; to = m.to ∷ [] }
 
 -- side `o` of machine n reads, at no cost, the words of machine m, or all others, and has as many states
-pub record IsSide (others : Bool) (m : Graph) (o : Bool) (n : Graph) : Type 0 where
+pub record IsMeetSide (others : Bool) (m : Graph) (o : Bool) (n : Graph) : Type 0 where
   pub words : (w : Word) (cost : List ℕ) → SideReads o n w cost ↔ (SideWords others m w × (cost ≡ []))
   pub size : side_size o n ≡ side_size others m
 

@@ -1,13 +1,13 @@
 -- The machine of states that are made from the end on, and states of a part that are put among them.
-use Rattle.std.specs.Prelude.{◌≡◌, ℕ, ◌+◌, ◌<◌, ◌≤◌, ◌↔◌, ◌⊎◌, IsTrue, Some, List, [], ◌∷◌, ◌++◌, length, slice_get, Any, Contains}
-use Rattle.std.proofs.Common.{refl, ap, sym, ◌∙◌, subst, arith}
+use Rattle.std.specs.Prelude.{◌≡◌, ℕ, ◌+◌, ◌<◌, ◌≤◌, ◌↔◌, ◌⊎◌, IsTrue, Some, List, [], ◌∷◌, ◌++◌, length, slice_get, Any}
+use Rattle.std.proofs.Common.{refl, sym, ◌∙◌, subst, arith}
 use Rattle.sv_word.specs.Words.{greatest_character}
 use Rattle.machine_core.specs.declared.graph.Graph.{Graph}
 use Rattle.machine_core.specs.declared.machine.Move.{Move}
 use Rattle.machine_core.specs.Costs.{IsCost}
 use Rattle.machine_core.specs.Edges.{EndsAt, StepsBy}
 use Rattle.machine_core.specs.Lists.{contained, slice_get-contains}
-use Rattle.machine_core.specs.Moves.{Moves, IsMove}
+use Rattle.machine_core.specs.Moves.{Moves}
 use Rattle.regex_machine.specs.Laws.{no-cost}
 use Rattle.regex_machine.specs.Onwards.{IsOnward, AreClosed}
 use Rattle.regex_machine.specs.declared.onward.Onward.{Onward}

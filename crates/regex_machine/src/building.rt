@@ -1,15 +1,15 @@
-ghost use Rattle.std.specs.Prelude.{◌≡◌, ℕ, ◌+◌, ◌*◌, ◌≤◌, ◌<◌, ◌^◌, ◌↔◌, [], ◌∷◌, List, length, IfOk, IsTrue, OnOk, Err, map, min};
+ghost use Rattle.std.specs.Prelude.{◌≡◌, ℕ, ◌+◌, ◌*◌, ◌≤◌, ◌<◌, ◌^◌, ◌↔◌, [], ◌∷◌, List, length, IfOk, IsTrue, OnOk, Err, map};
 ghost use Rattle.machine_core.specs.Graphs.{Accepts};
 ghost use Rattle.sv_word.specs.Words.{IsWord};
 ghost use Rattle.sv_terms.specs.Language.{In, InFirstOnly, InEachInTurn, InOneOf, Power};
 ghost use Rattle.sv_terms.specs.Bounds.{size, bound_of, from_left, without_size};
 ghost use Rattle.regex_machine.specs.Built.{Builds};
 ghost use Rattle.regex_machine.specs.Copied.{InCopies, copies_size};
-ghost use Rattle.regex_machine.specs.Joined.{Reads, AreMade};
+ghost use Rattle.regex_machine.specs.Joined.{AreMade};
 ghost use Rattle.regex_machine.specs.Kinds.{Together, weight, most_states};
-ghost use Rattle.regex_machine.specs.Onwards.{AreBegun, Precedes};
+ghost use Rattle.regex_machine.specs.Onwards.{AreBegun, PrecedesRest};
 ghost use Rattle.regex_machine.specs.Parts.{AddsParts};
-ghost use Rattle.regex_machine.specs.declared.kind.Kind.TheVariants.{Turn, One, All};
+ghost use Rattle.regex_machine.specs.declared.kind.JoinKind.TheVariants.{Turn, One, All};
 ghost use Rattle.trim_search.specs.declared.build_fault.BuildFault.TheVariants.{States};
 
 use crate::joining::{all_of, complement, difference, repeat};
@@ -18,7 +18,7 @@ use crate::letters::between;
 use crate::onward::{Onward, Rest};
 use crate::written::{alone, either, embed, finish, letter, nothing_more, text};
 use machine_core::Explicit;
-use std::alloc::{AllocError, Global};
+use std::alloc::Global;
 use sv_list::{Copied, Items};
 use sv_terms::{Regex, bound};
 use sv_word::Ranges;
@@ -104,7 +104,7 @@ fn before(
     limit: u64,
 ) -> Result<Rest, BuildFault>
     ensures ok { IfOk result (λ front. AreBegun states.old rest.old
-        → Precedes (In regex.now) (length states.old + size regex.now) states.old rest.old states.new rest.new front) }
+        → PrecedesRest (In regex.now) (length states.old + size regex.now) states.old rest.old states.new rest.new front) }
     ensures beyond { (n : ℕ) → result ≡ Err (States n) → (limit < size regex.now) × (limit < 2 ^ 32) }
 {
     match regex {
@@ -143,7 +143,7 @@ fn before_each(
     limit: u64,
 ) -> Result<Rest, BuildFault>
     ensures ok { IfOk result (λ front. AreBegun states.old rest.old
-        → Precedes (InEachInTurn In rs.now) (length states.old + most_states Turn (weight Turn size rs.now)) states.old rest.old states.new rest.new front) }
+        → PrecedesRest (InEachInTurn In rs.now) (length states.old + most_states Turn (weight Turn size rs.now)) states.old rest.old states.new rest.new front) }
     ensures beyond { (n : ℕ) → result ≡ Err (States n) → (limit < most_states Turn (weight Turn size rs.now)) × (limit < 2 ^ 32) }
 {
     if rs.is_empty() {
@@ -170,7 +170,7 @@ fn before_one(
     limit: u64,
 ) -> Result<Rest, BuildFault>
     ensures ok { IfOk result (λ front. AreBegun states.old rest.old
-        → Precedes (InOneOf In rs.now) (length states.old + most_states One (weight One size rs.now)) states.old rest.old states.new rest.new front) }
+        → PrecedesRest (InOneOf In rs.now) (length states.old + most_states One (weight One size rs.now)) states.old rest.old states.new rest.new front) }
     ensures beyond { (n : ℕ) → result ≡ Err (States n) → (limit < most_states One (weight One size rs.now)) × (limit < 2 ^ 32) }
 {
     if rs.len() == 1 {

@@ -1,9 +1,7 @@
-ghost use Rattle.std.specs.Prelude.{◌≡◌, ℕ, ◌≤◌, ◌<◌, ◌↔◌, [], IsTrue, IfOk};
-ghost use Rattle.machine_core.specs.Edges.{EndsAt};
-ghost use Rattle.machine_meet.specs.Joins.{AreInhabited};
+ghost use Rattle.std.specs.Prelude.{◌≡◌, ◌≤◌, ◌<◌, ◌↔◌, IsTrue};
 ghost use Rattle.sv_terms.specs.Language.{Word};
 ghost use Rattle.regex_machine.specs.Joined.{WordsOf};
-ghost use Rattle.regex_machine.specs.Copied.{InCopies, IsNext, AreEnough, IsCopyState, CopyEnds, CopySteps, CopiesRead, copy_start, copies_size};
+ghost use Rattle.regex_machine.specs.Copied.{InCopies, IsNextCopy, AreEnough, IsCopyState, CopyEnds, CopySteps, CopiesRead, copy_start, copies_size};
 ghost use Rattle.regex_machine.specs.Laws.{no-cost, copy-first, copy-state, copy-character, copy-states};
 
 use crate::stepping::{Place, add_steps, ends_if, may_end, steps_of};
@@ -57,7 +55,7 @@ impl<'a> Copies<'a> {
     // The copy after this one.
     fn next(&self, copy: u32) -> Option<u32>
         requires { copy < self.now.most }
-        ensures { IsNext self.now.most self.now.again copy result }
+        ensures { IsNextCopy self.now.most self.now.again copy result }
     {
         let most = self.most;
         if copy + 1 < most {

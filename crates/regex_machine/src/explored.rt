@@ -1,4 +1,4 @@
-ghost use Rattle.std.specs.Prelude.{◌≡◌, [], IfOk};
+ghost use Rattle.std.specs.Prelude.{◌≡◌, []};
 ghost use Rattle.machine_core.specs.Language.{RunsFrom};
 ghost use Rattle.regex_machine.specs.Built.{Builds};
 

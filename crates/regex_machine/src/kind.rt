@@ -1,6 +1,6 @@
 /// How the parts of a list are put together.
 #[derive(Clone, Copy)]
-pub enum Kind {
+pub enum JoinKind {
     /// One word of each, in their order.
     Turn,
     /// A word of one at least.

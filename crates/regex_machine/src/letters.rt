@@ -2,8 +2,8 @@
 ghost use Rattle.std.specs.Prelude.{◌≡◌, ℕ, ◌≤◌, ◌+◌, [], ◌∷◌, length, min, nat_le, ◌&&◌, IsTrue, IfOk};
 ghost use Rattle.sv_word.specs.Ranges.{in_ranges};
 ghost use Rattle.sv_word.specs.Words.{IsWord, greatest_character};
-ghost use Rattle.regex_machine.specs.Built.{Fits};
-ghost use Rattle.regex_machine.specs.Joined.{Reads};
+ghost use Rattle.regex_machine.specs.Built.{FitsStates};
+ghost use Rattle.regex_machine.specs.Joined.{HasWords};
 
 use machine_core::{Cost, Explicit};
 use std::alloc::{AllocError, Global};
@@ -13,7 +13,7 @@ use trim_search::BuildFault;
 /// What was made, and `States` where it has more than `limit` states.
 #[inline(never)]
 pub fn fit(made: Result<Explicit, AllocError>, limit: u64) -> Result<Explicit, BuildFault>
-    ensures { Fits limit made result }
+    ensures { FitsStates limit made result }
 {
     match made {
         Ok(machine) => {
@@ -29,7 +29,7 @@ pub fn fit(made: Result<Explicit, AllocError>, limit: u64) -> Result<Explicit, B
 /// No word.
 #[inline(never)]
 pub fn nothing(alloc: Global) -> Result<Explicit, AllocError>
-    ensures reads { IfOk result (Reads (λ w. ⊥)) }
+    ensures reads { IfOk result (HasWords (λ w. ⊥)) }
     ensures states { IfOk result (λ m. m.states ≤ 1) }
 {
     let machine = Explicit::new(alloc, 1, 0)?;
@@ -39,7 +39,7 @@ pub fn nothing(alloc: Global) -> Result<Explicit, AllocError>
 /// Every word.
 #[inline(never)]
 pub fn everything(alloc: Global) -> Result<Explicit, AllocError>
-    ensures reads { IfOk result (Reads IsWord) }
+    ensures reads { IfOk result (HasWords IsWord) }
     ensures states { IfOk result (λ m. m.states ≤ 1) }
 {
     let mut machine = Explicit::new(alloc, 1, 0)?;
@@ -53,7 +53,7 @@ pub fn everything(alloc: Global) -> Result<Explicit, AllocError>
 
 /// The words of one character of the set.
 pub fn one_of(alloc: Global, on: Ranges) -> Result<Explicit, AllocError>
-    ensures reads { IfOk result (Reads (λ w. (c : ℕ) × IsTrue (in_ranges on c) × (w ≡ c ∷ []))) }
+    ensures reads { IfOk result (HasWords (λ w. (c : ℕ) × IsTrue (in_ranges on c) × (w ≡ c ∷ []))) }
     ensures states { IfOk result (λ m. m.states ≤ 2) }
 {
     if on.is_empty() {
@@ -71,7 +71,7 @@ pub fn one_of(alloc: Global, on: Ranges) -> Result<Explicit, AllocError>
 /// The words of one character.
 #[inline(never)]
 pub fn any_character(alloc: Global) -> Result<Explicit, AllocError>
-    ensures reads { IfOk result (Reads (λ w. (c : ℕ) × (c ≤ greatest_character) × (w ≡ c ∷ []))) }
+    ensures reads { IfOk result (HasWords (λ w. (c : ℕ) × (c ≤ greatest_character) × (w ≡ c ∷ []))) }
     ensures states { IfOk result (λ m. m.states ≤ 2) }
 {
     let on = Ranges::all(alloc)?;
@@ -99,7 +99,7 @@ pub fn between(alloc: Global, lo: u32, hi: u32) -> Result<Ranges, AllocError>
 /// The words of one character between two.
 #[inline(never)]
 pub fn range(alloc: Global, lo: u32, hi: u32) -> Result<Explicit, AllocError>
-    ensures reads { IfOk result (Reads (λ w. (c : ℕ) × (lo ≤ c) × (c ≤ hi) × (c ≤ greatest_character) × (w ≡ c ∷ []))) }
+    ensures reads { IfOk result (HasWords (λ w. (c : ℕ) × (lo ≤ c) × (c ≤ hi) × (c ≤ greatest_character) × (w ≡ c ∷ []))) }
     ensures states { IfOk result (λ m. m.states ≤ 2) }
 {
     let top = cut_off_at_last(hi);
@@ -111,7 +111,7 @@ pub fn range(alloc: Global, lo: u32, hi: u32) -> Result<Explicit, AllocError>
 /// The empty word alone.
 #[inline(never)]
 pub fn empty_word(alloc: Global) -> Result<Explicit, AllocError>
-    ensures reads { IfOk result (Reads (λ w. w ≡ [])) }
+    ensures reads { IfOk result (HasWords (λ w. w ≡ [])) }
     ensures states { IfOk result (λ m. m.states ≤ 1) }
 {
     let none = Word::new(alloc);
@@ -122,7 +122,7 @@ pub fn empty_word(alloc: Global) -> Result<Explicit, AllocError>
 /// This word alone. Linear in its length.
 #[inline(never)]
 pub fn text(alloc: Global, word: &Word) -> Result<Explicit, AllocError>
-    ensures reads { IfOk result (Reads (λ w. (w ≡ word.now) × IsWord w)) }
+    ensures reads { IfOk result (HasWords (λ w. (w ≡ word.now) × IsWord w)) }
     ensures states { IfOk result (λ m. m.states ≤ length word.now + 1) }
 {
     let characters = word.as_slice();

@@ -1,5 +1,5 @@
 ghost use Rattle.std.specs.Prelude.{◌≡◌, [], ◌∷◌, true, false, map, IfOk};
-ghost use Rattle.regex_machine.specs.Sided.{IsSideState, SideEnds, SideSteps, side_size, IsSide, listed, side-first, side-state, side-character, side-cost, side-end, side-states};
+ghost use Rattle.regex_machine.specs.Sided.{IsSideState, SideEnds, SideSteps, side_size, IsMeetSide, listed, side-first, side-state, side-character, side-cost, side-end, side-states};
 
 use crate::stepping::{ends_if, may_end};
 use machine_core::{Cost, Explicit, Machine, Move};
@@ -12,20 +12,20 @@ use sv_list::Items;
 /// Its states are lists of states: of one for the words of the machine, and for the others the lists of
 /// the subset construction. So both kinds can be met with each other.
 #[derive(Drop)]
-pub struct Side<'a> {
+pub struct MeetSide<'a> {
     pub part: &'a Explicit,
     /// Whether the words are those that aren't the part's.
     pub others: bool,
     ghost plain: { part.now.registers ≡ 0 },
 }
 
-impl<'a> Side<'a> {
+impl<'a> MeetSide<'a> {
     /// The words of the part.
     pub fn within(part: &'a Explicit) -> Self
         requires { part.now.registers ≡ 0 }
-        ensures { IsSide false part.now result.others result.part.now }
+        ensures { IsMeetSide false part.now result.others result.part.now }
     {
-        Side {
+        MeetSide {
             part,
             others: false,
         }
@@ -34,11 +34,11 @@ impl<'a> Side<'a> {
     /// The words that aren't the part's.
     pub fn outside(part: &'a Explicit) -> Self
         requires { part.now.registers ≡ 0 }
-        ensures { IsSide true part.now result.others result.part.now }
+        ensures { IsMeetSide true part.now result.others result.part.now }
     {
         // Its clause says which words these are.
         let _others = Subset::of(part, true);
-        Side { part, others: true }
+        MeetSide { part, others: true }
     }
 }
 
@@ -57,7 +57,7 @@ fn to_lists(alloc: Global, moves: Items<Move<u32>>) -> Result<Items<Move<Items<u
     Ok(all)
 }
 
-impl<'a> Machine for Side<'a> {
+impl<'a> Machine for MeetSide<'a> {
     type St = Items<u32>;
 
     ghost width = { λ m. 0 };

@@ -1,5 +1,5 @@
 //! Steps of parts, put into the move lists of larger machines.
-ghost use Rattle.std.specs.Prelude.{◌≡◌, ℕ, ◌<◌, ◌↔◌, [], ◌++◌, map, IsTrue, OnOk, IfOk};
+ghost use Rattle.std.specs.Prelude.{◌≡◌, ◌<◌, ◌↔◌, [], ◌++◌, map, IsTrue, OnOk, IfOk};
 ghost use Rattle.machine_core.specs.Edges.{EndsAt};
 ghost use Rattle.machine_meet.specs.Joins.{AreInhabited};
 ghost use Rattle.regex_machine.specs.Stepped.{led, AddsSteps, AreLed, AreEndsIf};

@@ -1,4 +1,4 @@
-ghost use Rattle.std.specs.Prelude.{◌≡◌, ℕ, ◌<◌, ◌↔◌, [], length, Some, slice_get};
+ghost use Rattle.std.specs.Prelude.{◌≡◌, ◌<◌, ◌↔◌, [], length, Some, slice_get};
 ghost use Rattle.machine_core.specs.Counts.{at_most-below};
 ghost use Rattle.machine_core.specs.Language.{RunsFrom};
 ghost use Rattle.sv_terms.specs.Language.{Word};

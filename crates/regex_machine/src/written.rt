@@ -5,7 +5,7 @@ ghost use Rattle.sv_word.specs.Words.{IsWord};
 ghost use Rattle.regex_machine.specs.Built.{Builds};
 ghost use Rattle.regex_machine.specs.Joined.{WordsOf};
 ghost use Rattle.regex_machine.specs.Letters.{OneOf};
-ghost use Rattle.regex_machine.specs.Onwards.{AreBegun, HasState, Precedes, ReadsOn, stateless, unmade};
+ghost use Rattle.regex_machine.specs.Onwards.{AreBegun, HasState, PrecedesRest, ReadsOn, stateless, unmade};
 ghost use Rattle.regex_machine.specs.Woven.{IsPlaced, ArePlaced, counted};
 
 use crate::explored::list_states;
@@ -49,7 +49,7 @@ pub fn letter(
     rest: &mut Rest,
 ) -> Result<Rest, AllocError>
     ensures { IfOk result (λ front. AreBegun states.old rest.old
-        → Precedes (OneOf on) (length states.old + unmade rest.old.state + 1) states.old rest.old states.new rest.new front) }
+        → PrecedesRest (OneOf on) (length states.old + unmade rest.old.state + 1) states.old rest.old states.new rest.new front) }
 {
     let mut moves = Items::new(alloc);
     if on.is_empty() {
@@ -84,7 +84,7 @@ pub fn text(
     rest: &mut Rest,
 ) -> Result<Rest, AllocError>
     ensures { IfOk result (λ front. AreBegun states.old rest.old
-        → Precedes (λ w. (w ≡ word.now) × IsWord w) (length states.old + unmade rest.old.state + length word.now) states.old rest.old states.new rest.new front) }
+        → PrecedesRest (λ w. (w ≡ word.now) × IsWord w) (length states.old + unmade rest.old.state + length word.now) states.old rest.old states.new rest.new front) }
 {
     let characters = word.as_slice();
     word.is_word();
@@ -111,7 +111,7 @@ pub fn embed(
 ) -> Result<Rest, AllocError>
     requires { part.now.registers ≡ 0 }
     ensures { IfOk result (λ front. AreBegun states.old rest.now
-        → Precedes (WordsOf part.now) (length states.old + part.now.states) states.old rest.now states.new rest.now front) }
+        → PrecedesRest (WordsOf part.now) (length states.old + part.now.states) states.old rest.now states.new rest.now front) }
 {
     let base = states.len();
     if base > (u32::MAX - part.states()) as usize {

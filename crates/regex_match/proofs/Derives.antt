@@ -1,5 +1,5 @@
 -- The steps of the derivative in code.
-use Rattle.std.proofs.Common.{◌≡◌, refl, sym, ap, ◌∙◌, subst, ℕ, zero, suc, ◌≤◌, ◌<◌, ◌+◌, ◌-◌, List, [], ◌∷◌, ◌++◌, length, get_or, take, drop, ◌⊎◌, inl, inr, ⊎_elim, arith, length-drop}
+use Rattle.std.proofs.Common.{◌≡◌, sym, ap, ◌∙◌, subst, ℕ, ◌≤◌, ◌<◌, ◌+◌, ◌-◌, List, [], ◌∷◌, ◌++◌, length, get_or, take, drop, ◌⊎◌, inl, inr, ⊎_elim, arith, length-drop}
 use Rattle.std.proofs.lemmas.Grind.{common_steps}
 use Rattle.sv_terms.specs.declared.regex.Regex.{Regex}
 use Rattle.sv_terms.specs.declared.regex.Regex.TheVariants as v

@@ -10,7 +10,7 @@ use Rattle.sv_terms.specs.declared.regex.Regex.TheVariants as v
 use Rattle.sv_terms.specs.Language.{Word, In, InEachInTurn, Then}
 use Rattle.sv_terms.specs.Opened.{In-Empty, In-Concat, In-Text}
 use Rattle.regex_match.specs.Derivative.{IsDerivative}
-use Rattle.regex_match.specs.Advances.{Advances, Goes, IsLeft}
+use Rattle.regex_match.specs.Advances.{Advances, AdvancesOrFails, IsRegexLeft}
 use Rattle.regex_match.proofs.Builds.{turn-one}
 
 -- the texts
@@ -87,7 +87,7 @@ goes-one left rest w at c l e d =
 pub goes-Empty : (u : Word) → In v.Empty u → ⊥
 goes-Empty u k = rw In-Empty at k
 
-pub goes-alone : (t w : Word) (at : ℕ) (found : Option (Regex × ℕ)) → Goes (v.Concat (v.Text t ∷ [])) w at found → Goes (v.Text t) w at found
+pub goes-alone : (t w : Word) (at : ℕ) (found : Option (Regex × ℕ)) → AdvancesOrFails (v.Concat (v.Text t ∷ [])) w at found → AdvancesOrFails (v.Text t) w at found
 goes-alone t w at None h = λ k. h ((turn-one (v.Text t)).all (drop at w) k)
 goes-alone t w at (Some found) h = record {
   further = h.further;
@@ -96,16 +96,16 @@ goes-alone t w at (Some found) h = record {
   all = λ k. h.all ((turn-one (v.Text t)).all (drop at w) k);
 }
 
-pub left-start : (r left : Regex) (w : Word) → left ≡ r → IsLeft r left w 0
+pub left-start : (r left : Regex) (w : Word) → left ≡ r → IsRegexLeft r left w 0
 left-start r left w e = record { inside = omega arith; only = λ k. subst (λ z. In z w) e k; all = λ k. subst (λ z. In z w) (sym e) k }
 
-pub left-more : (r left rest : Regex) (w : Word) (at next : ℕ) → IsLeft r left w at → Advances left rest w at next → IsLeft r rest w next
+pub left-more : (r left rest : Regex) (w : Word) (at next : ℕ) → IsRegexLeft r left w at → Advances left rest w at next → IsRegexLeft r rest w next
 left-more r left rest w at next h a = record { inside = a.inside; only = λ k. h.only (a.only k); all = λ k. a.all (h.all k) }
 
-pub left-never : (r left : Regex) (w : Word) (at : ℕ) → IsLeft r left w at → (In left (drop at w) → ⊥) → In r w → ⊥
+pub left-never : (r left : Regex) (w : Word) (at : ℕ) → IsRegexLeft r left w at → (In left (drop at w) → ⊥) → In r w → ⊥
 left-never r left w at h n k = n (h.all k)
 
-pub left-end : (r left : Regex) (w : Word) (at : ℕ) (b : Bool) → IsLeft r left w at → length w ≤ at → (IsTrue b ↔ In left []) → IsTrue b ↔ In r w
+pub left-end : (r left : Regex) (w : Word) (at : ℕ) (b : Bool) → IsRegexLeft r left w at → length w ≤ at → (IsTrue b ↔ In left []) → IsTrue b ↔ In r w
 left-end r left w at b h l e =
     let d = drop_all at w l in
     (λ k. h.only (subst (In left) (sym d) (e.0 k)), λ k. e.1 (subst (In left) d (h.all k)))

@@ -11,12 +11,12 @@ pub record Advances (left rest : Regex) (w : Word) (at next : ℕ) : Type 0 wher
   pub all : In left (drop at w) → In rest (drop next w)
 
 -- what is left further on, or nothing, where the rest of the word isn't in it
-abbrev pub Goes : Regex → Word → ℕ → Option (Regex × ℕ) → Type 0
-Goes left w at None = In left (drop at w) → ⊥
-Goes left w at (Some found) = Advances left found.0 w at found.1
+abbrev pub AdvancesOrFails : Regex → Word → ℕ → Option (Regex × ℕ) → Type 0
+AdvancesOrFails left w at None = In left (drop at w) → ⊥
+AdvancesOrFails left w at (Some found) = Advances left found.0 w at found.1
 
 -- the word is in r exactly where what follows `at` is in `left`
-pub record IsLeft (r left : Regex) (w : Word) (at : ℕ) : Type 0 where
+pub record IsRegexLeft (r left : Regex) (w : Word) (at : ℕ) : Type 0 where
   pub inside : at ≤ length w
   pub only : In left (drop at w) → In r w
   pub all : In r w → In left (drop at w)

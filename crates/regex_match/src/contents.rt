@@ -1,8 +1,8 @@
 //! Whether a word is in a regular expression.
-ghost use Rattle.std.specs.Prelude.{◌≡◌, ◌∷◌, ◌++◌, ◌+◌, ◌<◌, ◌≤◌, List, ℕ, Some, drop, length, slice_get, IfNone, IfOk, IfSome, IsTrue, ◌↔◌};
+ghost use Rattle.std.specs.Prelude.{◌≡◌, ◌++◌, ◌+◌, ◌<◌, ◌≤◌, List, ℕ, Some, drop, length, slice_get, IfNone, IfOk, IfSome, IsTrue, ◌↔◌};
 ghost use Rattle.sv_terms.specs.Language.{In};
 ghost use Rattle.sv_terms.specs.declared.regex.Regex.TheVariants.{Concat, Text};
-ghost use Rattle.regex_match.specs.Advances.{Goes};
+ghost use Rattle.regex_match.specs.Advances.{AdvancesOrFails};
 
 use crate::derivative::derive;
 use crate::nullable::is_nullable;
@@ -44,7 +44,7 @@ fn step(
     at: usize,
 ) -> Result<Option<(Regex, usize)>, AllocError>
     requires { at < length word.now }
-    ensures { IfOk result (Goes left word.now at) }
+    ensures { IfOk result (AdvancesOrFails left word.now at) }
 {
     match left {
         Regex::Empty => Ok(None),
@@ -66,7 +66,7 @@ fn read_one(
     at: usize,
 ) -> Result<Option<(Regex, usize)>, AllocError>
     requires { at < length word.now }
-    ensures { IfOk result (Goes left word.now at) }
+    ensures { IfOk result (AdvancesOrFails left word.now at) }
 {
     let end = word.len();
     prove!(at < end);
@@ -123,7 +123,7 @@ fn read_front(
     at: usize,
 ) -> Result<Option<(Regex, usize)>, AllocError>
     requires { at < length word.now }
-    ensures { IfOk result (Goes (Concat parts) word.now at) }
+    ensures { IfOk result (AdvancesOrFails (Concat parts) word.now at) }
 {
     match front(parts.as_slice()) {
         Some(text) => {

@@ -4,7 +4,7 @@ use Rattle.std.specs.Prelude.{nat_le, nat_lt}
 use Rattle.std.proofs.lemmas.List.Elements.{Contains-append_left, Contains-append_right, Contains-append_cases}
 use Rattle.sv_terms.specs.declared.transducer.TransEdge.{TransEdge}
 use Rattle.replace_machines.specs.Borders.{IsNext}
-use Rattle.replace_machines.specs.Rows.{at, target, Ascends, IsRow}
+use Rattle.replace_machines.specs.Rows.{at, target, Ascends, IsMatchRow}
 use Rattle.replace_machines.specs.Edges.{edge_for, edges_of, AreEdges, AreEnds}
 use Rattle.replace_machines.proofs.RowLemmas.{less_or_not, target-here, target-later, target-below}
 use Rattle.sv_word.specs.Words.{greatest_character}
@@ -120,7 +120,7 @@ IsHeld pattern by after count e = (e.from < count) × (e.lo ≤ e.hi) × (e.hi �
 below_or_last : (q n : ℕ) → q < suc n → (q < n) ⊎ (q ≡ n)
 below_or_last q n h = ⊎_elim (λ l. inl l.0) (λ m. inr (let k = m.0 in omega (arith, h, k))) (less_or_not q n)
 
-pub edges_more : (pattern by : List ℕ) (after n : ℕ) (row : List (ℕ × ℕ)) (edges new : List TransEdge) → IsRow pattern n row → AreEdges pattern by after n edges
+pub edges_more : (pattern by : List ℕ) (after n : ℕ) (row : List (ℕ × ℕ)) (edges new : List TransEdge) → IsMatchRow pattern n row → AreEdges pattern by after n edges
     → new ≡ edges ++ edges_of (edge_for pattern by after n) 0 row → AreEdges pattern by after (suc n) new
 edges_more pattern by after n row edges new r h e = subst (AreEdges pattern by after (suc n)) (sym e) (record { edge = each; some = covers })
   where

@@ -5,7 +5,7 @@ use Rattle.std.proofs.lemmas.Bool.{eqb-true, eq-eqb}
 use Rattle.std.proofs.lemmas.List.{drop_more}
 use Rattle.sv_word.specs.Words.{IsWord, greatest_character}
 use Rattle.replace_machines.specs.Borders.{IsNext, IsFailure}
-use Rattle.replace_machines.specs.Rows.{at, target, put, Ascends, IsRow, AreRows, IsBorderOf}
+use Rattle.replace_machines.specs.Rows.{at, target, put, Ascends, IsMatchRow, AreMatchRows, IsBorderOf}
 use Rattle.replace_machines.proofs.BorderLemmas.{next-match, next-none, next-back, failure-first, failure-more}
 
 pub same_or_not : (a b : ℕ) → ((a ≡ b) × (nat_eq a b ≡ true)) ⊎ ((a ≡ b → ⊥) × (nat_eq a b ≡ false))
@@ -94,7 +94,7 @@ ascends-put (p ∷ row) low c to h l t = by (put_cases c to p row) (λ l. ascend
     by (before g s) rest = subst (Ascends low) (sym s) (l, t, ((let x = g in omega (arith, x)), h.1, h.2))
 
 -- the row of a state from that of its longest shorter border
-pub row-first : (pattern : List ℕ) (new : List (ℕ × ℕ)) → at pattern 0 ≤ greatest_character → new ≡ put (at pattern 0) 1 [] → IsRow pattern 0 new
+pub row-first : (pattern : List ℕ) (new : List (ℕ × ℕ)) → at pattern 0 ≤ greatest_character → new ≡ put (at pattern 0) 1 [] → IsMatchRow pattern 0 new
 row-first pattern new top e = record {
   ascends = subst (Ascends 0) (sym e) (ascends-put [] 0 (at pattern 0) 1 tt (omega arith) top);
   next = λ c. ⊎_elim
@@ -103,7 +103,7 @@ row-first pattern new top e = record {
       (same_or_not (at pattern 0) c);
 }
 
-pub row-back : (pattern : List ℕ) (q m : ℕ) (row new : List (ℕ × ℕ)) → IsFailure (at pattern) q m → IsRow pattern m row → at pattern q ≤ greatest_character → new ≡ put (at pattern q) (suc q) row → IsRow pattern q new
+pub row-back : (pattern : List ℕ) (q m : ℕ) (row new : List (ℕ × ℕ)) → IsFailure (at pattern) q m → IsMatchRow pattern m row → at pattern q ≤ greatest_character → new ≡ put (at pattern q) (suc q) row → IsMatchRow pattern q new
 row-back pattern q m row new f r top e = record {
   ascends = subst (Ascends 0) (sym e) (ascends-put row 0 (at pattern q) (suc q) r.ascends (omega arith) top);
   next = λ c. ⊎_elim
@@ -126,16 +126,16 @@ slice_get_pushed [] y r (suc q) e = absurd (cc)
 slice_get_pushed (x ∷ xs) y r zero e = inl e
 slice_get_pushed (x ∷ xs) y r (suc q) e = ⊎_elim inl (λ k. inr (ap suc k.0, k.1)) (slice_get_pushed xs y r q e)
 
-pub rows_none : (pattern : List ℕ) → AreRows pattern []
+pub rows_none : (pattern : List ℕ) → AreMatchRows pattern []
 rows_none pattern = record { row = none }
   where
-    none : (q : ℕ) (r : List (ℕ × ℕ)) → slice_get [] q ≡ Some r → IsRow pattern q r
+    none : (q : ℕ) (r : List (ℕ × ℕ)) → slice_get [] q ≡ Some r → IsMatchRow pattern q r
     none zero r e = absurd (cc)
     none (suc q) r e = absurd (cc)
 
-pub rows_more : (pattern : List ℕ) (rows new : List (List (ℕ × ℕ))) (r : List (ℕ × ℕ)) → AreRows pattern rows → IsRow pattern (length rows) r → new ≡ rows ++ r ∷ [] → AreRows pattern new
-rows_more pattern rows new r h is e = subst (AreRows pattern) (sym e) (record {
-  row = λ q s g. ⊎_elim (λ a. h.row q s a) (λ k. subst (IsRow pattern q) k.1 (subst (λ n. IsRow pattern n r) (sym k.0) is)) (slice_get_pushed rows r s q g);
+pub rows_more : (pattern : List ℕ) (rows new : List (List (ℕ × ℕ))) (r : List (ℕ × ℕ)) → AreMatchRows pattern rows → IsMatchRow pattern (length rows) r → new ≡ rows ++ r ∷ [] → AreMatchRows pattern new
+rows_more pattern rows new r h is e = subst (AreMatchRows pattern) (sym e) (record {
+  row = λ q s g. ⊎_elim (λ a. h.row q s a) (λ k. subst (IsMatchRow pattern q) k.1 (subst (λ n. IsMatchRow pattern n r) (sym k.0) is)) (slice_get_pushed rows r s q g);
 })
 
 pub word_at : (w : List ℕ) (i : ℕ) → IsWord w → at w i ≤ greatest_character
@@ -149,11 +149,11 @@ word_at (c ∷ w) (suc i) h = word_at w i h.1
 
 -- the row of the next state, and the longest border behind it
 pub row_added_first : (pattern : List ℕ) (rows new : List (List (ℕ × ℕ))) (row : List (ℕ × ℕ)) (c : ℕ) → length rows ≡ 0 → IsWord pattern → c ≡ at pattern (length rows)
-    → row ≡ put c 1 [] → AreRows pattern rows → new ≡ rows ++ row ∷ [] → AreRows pattern new
+    → row ≡ put c 1 [] → AreMatchRows pattern rows → new ≡ rows ++ row ∷ [] → AreMatchRows pattern new
 row_added_first pattern rows new row c z h e r are is =
     let first : c ≡ at pattern 0 = e ∙ ap (at pattern) z in
     let made = row-first pattern row (word_at pattern 0 h) (r ∙ ap (λ d. put d 1 []) first) in
-    rows_more pattern rows new row are (subst (λ n. IsRow pattern n row) (sym z) made) is
+    rows_more pattern rows new row are (subst (λ n. IsMatchRow pattern n row) (sym z) made) is
 
 pub border_first : (pattern : List ℕ) (n : ℕ) → n ≡ 0 → IsBorderOf pattern (suc n) 0
 border_first pattern n z = subst (λ k. IsBorderOf pattern (suc k) 0) (sym z) (inr (failure-first (at pattern)))
@@ -162,14 +162,14 @@ failure_of : (pattern : List ℕ) (q m : ℕ) → (q ≡ 0 → ⊥) → IsBorder
 failure_of pattern q m n b = ⊎_elim (λ k. absurd (n k.0)) (λ f. f) b
 
 pub row_added : (pattern : List ℕ) (rows new : List (List (ℕ × ℕ))) (back row : List (ℕ × ℕ)) (m c to : ℕ) → (length rows ≡ 0 → ⊥) → IsWord pattern → c ≡ at pattern (length rows)
-    → IsBorderOf pattern (length rows) m → slice_get rows m ≡ Some back → to ≡ suc (length rows) → row ≡ put c to back → AreRows pattern rows → new ≡ rows ++ row ∷ [] → AreRows pattern new
+    → IsBorderOf pattern (length rows) m → slice_get rows m ≡ Some back → to ≡ suc (length rows) → row ≡ put c to back → AreMatchRows pattern rows → new ≡ rows ++ row ∷ [] → AreMatchRows pattern new
 row_added pattern rows new back row m c to n h e b g t r are is =
     let q = length rows in
     let made = row-back pattern q m back row (failure_of pattern q m n b) (are.row m back g) (word_at pattern q h) (r ∙ ap (λ d. put d to back) e ∙ ap (λ k. put (at pattern q) k back) t) in
     rows_more pattern rows new row are made is
 
 pub border_added : (pattern : List ℕ) (rows : List (List (ℕ × ℕ))) (back : List (ℕ × ℕ)) (m c next : ℕ) → (length rows ≡ 0 → ⊥) → c ≡ at pattern (length rows)
-    → IsBorderOf pattern (length rows) m → slice_get rows m ≡ Some back → AreRows pattern rows → next ≡ target back c → IsBorderOf pattern (suc (length rows)) next
+    → IsBorderOf pattern (length rows) m → slice_get rows m ≡ Some back → AreMatchRows pattern rows → next ≡ target back c → IsBorderOf pattern (suc (length rows)) next
 border_added pattern rows back m c next n e b g are t =
     let q = length rows in
     let k = (are.row m back g).next (at pattern q) in

@@ -23,13 +23,13 @@ Ascends low [] = Unit {0}
 Ascends low (p ∷ row) = (low ≤ p.0) × (p.0 ≤ greatest_character) × Ascends (suc p.0) row
 
 -- the row of the state that holds the first q characters of the pattern
-pub record IsRow (pattern : List ℕ) (q : ℕ) (row : List (ℕ × ℕ)) : Type 0 where
+pub record IsMatchRow (pattern : List ℕ) (q : ℕ) (row : List (ℕ × ℕ)) : Type 0 where
   pub ascends : Ascends 0 row
   pub next : (c : ℕ) → IsNext (at pattern) q c (target row c)
 
 -- one row for each proper beginning of the pattern
-pub record AreRows (pattern : List ℕ) (rows : List (List (ℕ × ℕ))) : Type 0 where
-  pub row : (q : ℕ) (r : List (ℕ × ℕ)) → slice_get rows q ≡ Some r → IsRow pattern q r
+pub record AreMatchRows (pattern : List ℕ) (rows : List (List (ℕ × ℕ))) : Type 0 where
+  pub row : (q : ℕ) (r : List (ℕ × ℕ)) → slice_get rows q ≡ Some r → IsMatchRow pattern q r
 
 -- the length of the longest shorter border of the first q characters; 0 where there are none
 abbrev pub IsBorderOf : List ℕ → ℕ → ℕ → Type 0

@@ -1,9 +1,9 @@
 //! Edges and ends of the states that hold a part of the pattern.
-ghost use Rattle.std.specs.Prelude.{◌≡◌, ◌<◌, ◌≤◌, ◌^◌, ◌+◌, ◌-◌, ℕ, List, [], ◌∷◌, ◌++◌, length, take, slice_get, Some, IfOk, OnOk, Contains};
-ghost use Rattle.replace_machines.specs.Rows.{AreRows, IsRow, Ascends};
-ghost use Rattle.replace_machines.specs.Edges.{AreEdges, AreEnds, edge_for, edges_of, items_for, to_for};
+ghost use Rattle.std.specs.Prelude.{◌≡◌, ◌<◌, ◌^◌, ◌+◌, ◌-◌, ◌++◌, length, take, Some, IfOk, OnOk};
+ghost use Rattle.replace_machines.specs.Rows.{AreMatchRows, Ascends};
+ghost use Rattle.replace_machines.specs.Edges.{AreEdges, AreEnds, edge_for, edges_of, items_for};
 
-use crate::rows::{Row, row_at};
+use crate::rows::{MatchRow, row_at};
 use std::alloc::{AllocError, Global};
 use sv_list::{Copied, Items};
 use sv_terms::{Item, TransEdge};
@@ -111,11 +111,11 @@ pub fn held_edges(
     pattern: &Word,
     by: &Word,
     after: u32,
-    rows: &[Row],
+    rows: &[MatchRow],
 ) -> Result<Items<TransEdge>, AllocError>
     requires size { length pattern.now < 2 ^ 32 }
     requires length { length rows.now ≡ length pattern.now }
-    requires rows { AreRows pattern.now rows.now }
+    requires rows { AreMatchRows pattern.now rows.now }
     ensures { IfOk result (AreEdges pattern.now by.now after (length pattern.now)) }
 {
     let mut edges = Items::new(alloc);

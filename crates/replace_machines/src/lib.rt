@@ -21,4 +21,4 @@ mod replacing;
 mod rows;
 
 pub use replacing::{replace_all, replace_first};
-pub use rows::{FailureAutomaton, Row, failure_automaton, row_at};
+pub use rows::{FailureAutomaton, MatchRow, failure_automaton, row_at};

@@ -1,14 +1,12 @@
 -- Terms of the tests, built up.
-use Rattle.std.proofs.Common.{◌≡◌, ◌≢◌, refl, sym, ap, ◌∙◌, subst, ℕ, map, Bool, true, false, ◌&&◌, IsTrue, List, [], ◌∷◌, Some, nat_eq, All, arith}
+use Rattle.std.proofs.Common.{◌≡◌, ap, ◌∙◌, ℕ, Bool, true, ◌&&◌, IsTrue, List, [], ◌∷◌, Some, nat_eq}
 use Rattle.std.specs.Map.{lookup}
 use Rattle.std.specs.Cmp.Lexicographic.{pointwise}
-use Rattle.std.specs.List.{list_all, AllByRecursion}
+use Rattle.std.specs.List.{AllByRecursion}
 use Rattle.sv_terms.specs.Language.{Word}
-use Rattle.sv_terms.specs.Meaning.{Named, all_of}
-use Rattle.sv_terms.specs.Sorting.{applied_sort_if, is_of, is_valued, sort_of, sort_step, tested_sort, valued_step}
+use Rattle.sv_terms.specs.Meaning.{all_of}
+use Rattle.sv_terms.specs.Sorting.{applied_sort_if, is_of, is_valued, sort_of, sort_step, tested_sort}
 use Rattle.sv_terms.specs.TransducerSizes.{is_formed}
-use Rattle.sv_terms.specs.Truth.{AreValued}
-use Rattle.sv_terms.specs.declared.op.Op.TheVariants as op
 use Rattle.sv_terms.specs.declared.op.Op.{Op}
 use Rattle.sv_terms.specs.declared.regex.Regex.{Regex}
 use Rattle.sv_terms.specs.declared.sort.Sort.{Sort}

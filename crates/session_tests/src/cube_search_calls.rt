@@ -2,10 +2,11 @@
 ghost use Rattle.std.specs.Prelude.{◌≡◌, ◌∷◌, [], IfOk};
 ghost use Rattle.straight_line.specs.Straight.{AreNamesApart, HasFormed, IsStraight};
 
-use cube_search::{CubeAnswer, Reason, cube_answer};
+use cube_bounds::numbers;
+use cube_search::{CubeAnswer, OpenReason, cube_answer};
 use part_machines::Machines;
 use std::alloc::{AllocError, Global};
-use straight_line::{Flat, Own, Variable, numbers};
+use straight_line::{Flat, Own, Variable};
 use sv_list::{Boxed, Items};
 use sv_terms::{Name, Regex, Value};
 use sv_word::Word;
@@ -16,7 +17,7 @@ fn letter(alloc: Global) -> Result<Word, AllocError> {
     Ok(word)
 }
 
-fn named(alloc: Global) -> Result<Items<Name>, AllocError>
+fn names(alloc: Global) -> Result<Items<Name>, AllocError>
     ensures { IfOk result (λ names. names ≡ (120 ∷ []) ∷ []) }
 {
     let mut names = Items::new(alloc);
@@ -30,7 +31,7 @@ fn member(alloc: Global, regex: Regex) -> Result<Variable, AllocError>
 {
     let mut parts = Items::new(alloc);
     parts.push((Own::InRe(regex), true))?;
-    let names = named(alloc)?;
+    let names = names(alloc)?;
     Ok(Variable { names, parts })
 }
 
@@ -93,7 +94,7 @@ fn is_refuted(alloc: Global, regex: Regex) -> Result<bool, AllocError> {
 fn has_many_states(alloc: Global, count: u32) -> Result<bool, AllocError> {
     let any = Boxed::new(alloc, Regex::AnyChar)?;
     let found = answer(alloc, Regex::Loop(any, count, count))?;
-    Ok(matches!(found, CubeAnswer::Open(Reason::States(_))))
+    Ok(matches!(found, CubeAnswer::Open(OpenReason::States(_))))
 }
 
 #[test]

@@ -1,8 +1,8 @@
 -- A run is a token of one kind.
 use Rattle.std.proofs.Common.{◌≡◌, ℕ, ◌==◌, ◌&&◌, not, List, [], ◌∷◌, ◌++◌, Bool, true, false, IsTrue, if◌then◌else◌, get_or, refl, sym, ap, ◌∙◌, subst, arith, rules}
 use Rattle.std.specs.List.{list_all}
-use Rattle.sexpr_reader.specs.declared.kind.Kind.{Kind}
-use Rattle.sexpr_reader.specs.declared.kind.Kind.TheVariants.{Numeral, Decimal, Hexadecimal, Binary, Symbol, Quoted, Keyword, Literal}
+use Rattle.sexpr_reader.specs.declared.kind.TokenKind.{TokenKind}
+use Rattle.sexpr_reader.specs.declared.kind.TokenKind.TheVariants.{Numeral, Decimal, Hexadecimal, Binary, Symbol, Quoted, Keyword, Literal}
 use Rattle.sexpr_reader.specs.Bytes.{is_digit, is_symbol_byte}
 use Rattle.sexpr_reader.specs.Tokens.{is_numeral, is_symbol, is_keyword, are_some, IsPlain}
 use Rattle.sexpr_reader.proofs.Blanks.{and_left, and_right}
@@ -14,7 +14,7 @@ use Rattle.std.proofs.lemmas.List.{take-append-drop}
 class : ℕ → ℕ
 class b = if is_digit b then 0 else if b == 58 then 2 else if b == 35 then 3 else 1
 
-kind_class : Kind → ℕ
+kind_class : TokenKind → ℕ
 kind_class Numeral = 0
 kind_class Decimal = 0
 kind_class Symbol = 1
@@ -71,7 +71,7 @@ keyword_first : (bs : List ℕ) → IsTrue (is_keyword bs) → class (get_or bs 
 keyword_first [] h = cc
 keyword_first (b ∷ bs) h = class-at b 58 2 (is_number b 58 (and_left (b == 58) _ h)) class-58
 
-plain_first : (k : Kind) (bs : List ℕ) → IsPlain k bs → class (get_or bs 0 0) ≡ kind_class k
+plain_first : (k : TokenKind) (bs : List ℕ) → IsPlain k bs → class (get_or bs 0 0) ≡ kind_class k
 unfolding kind_class
 plain_first Numeral bs h = subst (λ (l : List ℕ). class (get_or l 0 0) ≡ 0) (append_none bs) (numeral_first bs [] h)
   where
@@ -99,7 +99,7 @@ second_byte a b d xs ys e = cc
 x_or_b : (bs : List ℕ) → IsPlain Hexadecimal bs → IsPlain Binary bs → ⊥
 x_or_b bs h g = let e : 35 ∷ 120 ∷ h.0 ≡ 35 ∷ 98 ∷ g.0 = sym h.1 ∙ g.1 in let k : 120 ≡ 98 = second_byte 35 120 98 h.0 g.0 e in absurd (omega (arith, k))
 
-pub kinds_apart : (k l : Kind) (bs : List ℕ) → IsPlain k bs → IsPlain l bs → k ≡ l
+pub kinds_apart : (k l : TokenKind) (bs : List ℕ) → IsPlain k bs → IsPlain l bs → k ≡ l
 unfolding kind_class
 kinds_apart Quoted l bs h g = absurd h
 kinds_apart Literal l bs h g = absurd h

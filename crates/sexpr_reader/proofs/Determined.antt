@@ -1,11 +1,11 @@
 -- Bytes are lexed in one way.
 use Rattle.std.proofs.Common.{◌≡◌, ℕ, ◌==◌, ◌||◌, not, List, [], ◌∷◌, ◌++◌, Bool, true, false, IsTrue, if◌then◌else◌, refl, sym, ap, ◌∙◌, subst, append_assoc}
 use Rattle.std.specs.List.{list_all}
-use Rattle.sexpr_reader.specs.declared.kind.Kind.{Kind}
-use Rattle.sexpr_reader.specs.declared.kind.Kind.TheVariants.{Numeral, Decimal, Hexadecimal, Binary, Symbol, Quoted, Keyword, Literal}
+use Rattle.sexpr_reader.specs.declared.kind.TokenKind.{TokenKind}
+use Rattle.sexpr_reader.specs.declared.kind.TokenKind.TheVariants.{Numeral, Decimal, Hexadecimal, Binary, Symbol, Quoted, Keyword, Literal}
 use Rattle.sexpr_reader.specs.Bytes.{is_white, is_line_end, is_border}
-use Rattle.sexpr_reader.specs.Tokens.{doubled, is_barred, is_readable, IsRun, IsPlain, Token, Open, Close, Atomic, text, IsToken}
-use Rattle.sexpr_reader.specs.Lexes.{IsBlank, none, white, comment, is_comment, EndsAt, IsEnded}
+use Rattle.sexpr_reader.specs.Tokens.{doubled, is_barred, is_readable, IsTokenRun, IsPlain, Token, Open, Close, Atomic, text, IsToken}
+use Rattle.sexpr_reader.specs.Lexes.{IsBlank, none, white, comment, is_comment, EndsOrPasses, IsEnded}
 use Rattle.sexpr_reader.proofs.Blanks.{and_left, and_right}
 
 -- the bytes behind white space and comments, from inside a comment or not
@@ -43,12 +43,12 @@ of_not true k = cc
 of_not false k = refl
 
 -- runs
-pub run_first : (bs : List ℕ) → IsRun bs → (b : ℕ) × (rest : List ℕ) × (bs ≡ b ∷ rest) × (is_border b ≡ false) × IsTrue (list_all (λ x. not (is_border x)) rest)
+pub run_first : (bs : List ℕ) → IsTokenRun bs → (b : ℕ) × (rest : List ℕ) × (bs ≡ b ∷ rest) × (is_border b ≡ false) × IsTrue (list_all (λ x. not (is_border x)) rest)
 run_first [] h = cc
 run_first (b ∷ rest) h = (b, rest, refl, of_not (is_border b) (and_left (not (is_border b)) _ h), and_right (not (is_border b)) _ h)
 
 -- two fronts that pass, each up to what doesn't pass
-pub same_front : (q : ℕ → Bool) (ended : Bool) (xs ys a b : List ℕ) → IsTrue (list_all (λ x. not (q x)) xs) → IsTrue (list_all (λ x. not (q x)) ys) → EndsAt q ended a → EndsAt q ended b → xs ++ a ≡ ys ++ b → (xs ≡ ys) × (a ≡ b)
+pub same_front : (q : ℕ → Bool) (ended : Bool) (xs ys a b : List ℕ) → IsTrue (list_all (λ x. not (q x)) xs) → IsTrue (list_all (λ x. not (q x)) ys) → EndsOrPasses q ended a → EndsOrPasses q ended b → xs ++ a ≡ ys ++ b → (xs ≡ ys) × (a ≡ b)
 same_front q ended [] [] a b h g d e k = (refl, k)
 same_front q ended [] (y ∷ ys) [] b h g d e k = cc
 same_front q ended [] (y ∷ ys) (x ∷ a) b h g d e k =
@@ -74,8 +74,8 @@ pub data View (ended : Bool) : Token → List ℕ → Type 0 where
   opens : (after : List ℕ) → View ended Open after
   closes : (after : List ℕ) → View ended Close after
   bars : (body after : List ℕ) → IsTrue (is_barred body) → View ended (Atomic Quoted (124 ∷ body ++ 124 ∷ [])) after
-  quotes : (content after : List ℕ) → IsTrue (is_readable (doubled content)) → EndsAt (λ b. not (b == 34)) ended after → View ended (Atomic Literal (34 ∷ doubled content ++ 34 ∷ [])) after
-  plain : (kind : Kind) (bs after : List ℕ) → IsRun bs → IsPlain kind bs → EndsAt is_border ended after → View ended (Atomic kind bs) after
+  quotes : (content after : List ℕ) → IsTrue (is_readable (doubled content)) → EndsOrPasses (λ b. not (b == 34)) ended after → View ended (Atomic Literal (34 ∷ doubled content ++ 34 ∷ [])) after
+  plain : (kind : TokenKind) (bs after : List ℕ) → IsTokenRun bs → IsPlain kind bs → EndsOrPasses is_border ended after → View ended (Atomic kind bs) after
 
 pub view : (ended : Bool) (t : Token) (after : List ℕ) → IsToken t → IsEnded t ended after → View ended t after
 view ended Open after h e = opens after

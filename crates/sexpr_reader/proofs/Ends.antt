@@ -12,7 +12,7 @@ use Rattle.sexpr_reader.specs.Items.{tokens_of_all, open_tokens}
 use Rattle.sexpr_reader.specs.Parts.{IsPart, IsGap}
 use Rattle.sexpr_reader.specs.Reads.{Reads, Ends, IsOpenEnd, FaultAfter}
 use Rattle.sexpr_reader.specs.Stepping.{is_idle}
-use Rattle.sexpr_reader.specs.Standing.{At, Stands, Steps, Closes, IsLeft}
+use Rattle.sexpr_reader.specs.Standing.{At, HasGiven, AnswersStep, AnswersEnd, IsOpenToken}
 use Rattle.sexpr_reader.proofs.Fronts.{Stuck}
 use Rattle.sexpr_reader.proofs.Lasts.{reads}
 use Rattle.sexpr_reader.proofs.Nexts.{none_left}
@@ -37,11 +37,11 @@ one_rest ended (t ∷ ts) bytes rest after h g =
     one_rest ended ts h.1 rest after h.6 (subst (λ (l : List ℕ). Lexes ended l ts after) (sym r.1) g.6)
 
 -- what stands still stands where the input has ended
-pub stands_ended : (ended : Bool) (r : Reader) (bytes : List ℕ) (given : List Sexpr) → Stands ended r bytes given → Stands true r bytes given
+pub stands_ended : (ended : Bool) (r : Reader) (bytes : List ℕ) (given : List Sexpr) → HasGiven ended r bytes given → HasGiven true r bytes given
 stands_ended ended r bytes given s = record { at = at_close ended r.mode r.nest.lists.items r.place _ _ bytes given s.at }
 
 -- a fault, or want of memory, that left the reader as it was
-pub closes_err : (ended : Bool) (new : Reader) (bytes : List ℕ) (given : List Sexpr) (fault : SyntaxFault) → Stands ended new bytes given → Steps true new bytes given (Err fault) → Closes ended new bytes given (Err fault)
+pub closes_err : (ended : Bool) (new : Reader) (bytes : List ℕ) (given : List Sexpr) (fault : SyntaxFault) → HasGiven ended new bytes given → AnswersStep true new bytes given (Err fault) → AnswersEnd ended new bytes given (Err fault)
 closes_err ended new bytes given (f.Token p) w s = s
 closes_err ended new bytes given (f.Close p) w s = s
 closes_err ended new bytes given (f.Depth p) w s = s
@@ -49,7 +49,7 @@ closes_err ended new bytes given (f.Literal p) w s = s
 closes_err ended new bytes given f.Incomplete w s = s
 closes_err ended new bytes given (f.Memory e) w s = w
 
-stands_err : (ended : Bool) (new : Reader) (bytes : List ℕ) (given : List Sexpr) (fault : SyntaxFault) → Steps ended new bytes given (Err fault) → Stands ended new bytes given
+stands_err : (ended : Bool) (new : Reader) (bytes : List ℕ) (given : List Sexpr) (fault : SyntaxFault) → AnswersStep ended new bytes given (Err fault) → HasGiven ended new bytes given
 stands_err ended new bytes given (f.Token p) s = s.0
 stands_err ended new bytes given (f.Close p) s = s.0
 stands_err ended new bytes given (f.Depth p) s = s.0
@@ -57,7 +57,7 @@ stands_err ended new bytes given (f.Literal p) s = s.0
 stands_err ended new bytes given f.Incomplete s = s.0
 stands_err ended new bytes given (f.Memory e) s = s
 
-pub closes_step : (ended : Bool) (new : Reader) (bytes : List ℕ) (given : List Sexpr) (fault : SyntaxFault) → Steps ended new bytes given (Err fault) → Steps true new bytes given (Err fault) → Closes ended new bytes given (Err fault)
+pub closes_step : (ended : Bool) (new : Reader) (bytes : List ℕ) (given : List Sexpr) (fault : SyntaxFault) → AnswersStep ended new bytes given (Err fault) → AnswersStep true new bytes given (Err fault) → AnswersEnd ended new bytes given (Err fault)
 closes_step ended new bytes given fault w s = closes_err ended new bytes given fault (stands_err ended new bytes given fault w) s
 
 idle_end : (mode : Mode) (blank part : List ℕ) → is_idle mode ≡ true → IsGap mode blank → IsPart mode part → IsBlankEnd (blank ++ part)
@@ -69,7 +69,7 @@ idle_end m.Quotes blank part i gap is = cc
 idle_end m.Quote blank part i gap is = cc
 
 -- an unfinished token that the end doesn't end
-open_end : (mode : Mode) (n : ℕ) (part : List ℕ) → IsLeft mode → is_idle mode ≡ false → IsPart mode part → IsOpenEnd n part
+open_end : (mode : Mode) (n : ℕ) (part : List ℕ) → IsOpenToken mode → is_idle mode ≡ false → IsPart mode part → IsOpenEnd n part
 open_end m.Blank n part left i is = cc
 open_end m.Comment n part left i is = cc
 open_end m.Bars n part left i is = inr (inl is)
@@ -85,7 +85,7 @@ open_gap m.Bars blank i gap = gap
 open_gap m.Quotes blank i gap = gap
 open_gap m.Quote blank i gap = gap
 
-module _ (r : Reader) (bytes : List ℕ) (given : List Sexpr) (all : length r.pending.items ≡ r.at) (left : IsLeft r.mode) (s : Stands true r bytes given) where
+module _ (r : Reader) (bytes : List ℕ) (given : List Sexpr) (all : length r.pending.items ≡ r.at) (left : IsOpenToken r.mode) (s : HasGiven true r bytes given) where
   whole : drop r.start r.pending.items ≡ s.at.part
   whole =
       let ahead : drop r.at r.pending.items ≡ [] = none_left _ (omega (arith, length-drop r.at r.pending.items)) in

@@ -5,7 +5,7 @@ use Rattle.sexpr_reader.specs.declared.mode.Mode.TheVariants as m
 use Rattle.sexpr_reader.specs.declared.syntax_fault.SyntaxFault.{SyntaxFault}
 use Rattle.sexpr_reader.specs.declared.syntax_fault.SyntaxFault.TheVariants as f
 use Rattle.sexpr_reader.specs.Bytes.{is_border}
-use Rattle.sexpr_reader.specs.Tokens.{Token, Open, Close, text, doubled, is_barred, is_readable, IsRun, IsPlain}
+use Rattle.sexpr_reader.specs.Tokens.{Token, Open, Close, text, doubled, is_barred, is_readable, IsTokenRun, IsPlain}
 use Rattle.sexpr_reader.specs.Lexes.{IsBlank, IsBlankEnd, Lexes}
 use Rattle.sexpr_reader.specs.Items.{levels, most_open_lists}
 use Rattle.sexpr_reader.specs.Parts.{IsPart, IsGap}
@@ -142,7 +142,7 @@ module _ (ended : Bool) (n : ℕ) (bytes : List ℕ) where
 
 -- no fault stands at an unfinished token
 module _ (n : ℕ) (part : List ℕ) where
-  bad_run : (c : Cause) → Bad false n part c → IsRun part → ⊥
+  bad_run : (c : Cause) → Bad false n part c → IsTokenRun part → ⊥
   bad_run c (odd r) run =
       let k = more_bytes is_border true r.1 r.4 in
       let s = same_front is_border true part r.0 [] r.1 (run_all part run) (run_all r.0 r.3) refl k.1 (append-nil part ∙ r.2) in

@@ -1,7 +1,7 @@
 -- What was read, and what was wrong, stays so when more bytes come.
 use Rattle.std.proofs.Common.{◌≡◌, ℕ, List, [], ◌∷◌, ◌++◌, inl, inr, ⊎_elim, Bool, false, length, refl, sym, ap, ◌∙◌, subst, append_assoc, append-nil, arith, length-append}
 use Rattle.std.proofs.lemmas.List.Concat.{flat_map-append}
-use Rattle.sexpr_reader.specs.declared.kind.Kind.TheVariants.{Numeral, Decimal, Hexadecimal, Binary, Symbol, Quoted, Keyword, Literal}
+use Rattle.sexpr_reader.specs.declared.kind.TokenKind.TheVariants.{Numeral, Decimal, Hexadecimal, Binary, Symbol, Quoted, Keyword, Literal}
 use Rattle.sexpr_reader.specs.declared.sexpr.Sexpr.{Sexpr}
 use Rattle.sexpr_reader.specs.declared.sexpr.Sexpr.TheVariants as s
 use Rattle.sexpr_reader.specs.declared.syntax_fault.SyntaxFault.{SyntaxFault}

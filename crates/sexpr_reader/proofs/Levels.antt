@@ -2,7 +2,7 @@
 use Rattle.std.proofs.Common.{◌≡◌, ℕ, zero, suc, ◌<◌, ◌≤◌, List, [], ◌∷◌, ◌++◌, Bool, true, false, Option, None, Some, if◌then◌else◌, refl, ap, ◌∙◌, arith, rules}
 use Rattle.std.specs.Prelude.{nat_lt}
 use borrow.Author.Tests.{ltb-true}
-use Rattle.sexpr_reader.specs.declared.kind.Kind.{Kind}
+use Rattle.sexpr_reader.specs.declared.kind.TokenKind.{TokenKind}
 use Rattle.sexpr_reader.specs.Tokens.{Token, Open, Close, Atomic}
 use Rattle.sexpr_reader.specs.Items.{levels, most_open_lists}
 
@@ -22,7 +22,7 @@ levels-append zero n (Close ∷ ts) us e = cc
 levels-append (suc k) n (Close ∷ ts) us e = levels-append k n ts us e
 levels-append k n (Atomic kind bs ∷ ts) us e = levels-append k n ts us e
 
-pub levels-word : (n : ℕ) (ts : List Token) (kind : Kind) (bs : List ℕ) → levels 0 ts ≡ Some n → levels 0 (ts ++ Atomic kind bs ∷ []) ≡ Some n
+pub levels-word : (n : ℕ) (ts : List Token) (kind : TokenKind) (bs : List ℕ) → levels 0 ts ≡ Some n → levels 0 (ts ++ Atomic kind bs ∷ []) ≡ Some n
 levels-word n ts kind bs e = levels-append 0 n ts (Atomic kind bs ∷ []) e
 
 pub levels-open : (n : ℕ) (ts : List Token) → levels 0 ts ≡ Some n → n < most_open_lists → levels 0 (ts ++ Open ∷ []) ≡ Some (suc n)

@@ -1,8 +1,8 @@
 -- One token more, and more bytes behind.
 use Rattle.std.proofs.Common.{◌≡◌, ℕ, List, [], ◌∷◌, ◌++◌, Bool, false, refl, ap, ◌∙◌, append_assoc}
-use Rattle.sexpr_reader.specs.declared.kind.Kind.TheVariants.{Numeral, Decimal, Hexadecimal, Binary, Symbol, Quoted, Keyword, Literal}
+use Rattle.sexpr_reader.specs.declared.kind.TokenKind.TheVariants.{Numeral, Decimal, Hexadecimal, Binary, Symbol, Quoted, Keyword, Literal}
 use Rattle.sexpr_reader.specs.Tokens.{Token, Open, Close, Atomic, text, IsToken}
-use Rattle.sexpr_reader.specs.Lexes.{IsBlank, EndsAt, IsEnded, Lexes}
+use Rattle.sexpr_reader.specs.Lexes.{IsBlank, EndsOrPasses, IsEnded, Lexes}
 
 pub Lexes-push : (ended : Bool) (bytes : List ℕ) (ts : List Token) (blank : List ℕ) (t : Token) (after : List ℕ) →
     Lexes ended bytes ts (blank ++ (text t ++ after)) → IsBlank blank → IsToken t → IsEnded t ended after → Lexes ended bytes (ts ++ t ∷ []) after
@@ -10,7 +10,7 @@ Lexes-push ended bytes [] blank t after e gap is ends = (blank, after, gap, e, i
 Lexes-push ended bytes (u ∷ ts) blank t after h gap is ends =
     (h.0, h.1, h.2, h.3, h.4, h.5, Lexes-push ended h.1 ts blank t after h.6 gap is ends)
 
-pub EndsAt-more : (p : ℕ → Bool) (ended : Bool) (after more : List ℕ) → EndsAt p false after → EndsAt p ended (after ++ more)
+pub EndsAt-more : (p : ℕ → Bool) (ended : Bool) (after more : List ℕ) → EndsOrPasses p false after → EndsOrPasses p ended (after ++ more)
 EndsAt-more p ended [] more h = cc
 EndsAt-more p ended (b ∷ after) more h = h
 

@@ -4,7 +4,7 @@ use Rattle.sexpr_reader.specs.declared.mode.Mode.{Mode}
 use Rattle.sexpr_reader.specs.declared.mode.Mode.TheVariants as m
 use Rattle.sexpr_reader.specs.declared.action.Action.TheVariants as v
 use Rattle.sexpr_reader.specs.Bytes.{is_white, is_line_end, is_border}
-use Rattle.sexpr_reader.specs.Tokens.{doubled, IsRun, IsQuoted}
+use Rattle.sexpr_reader.specs.Tokens.{doubled, IsTokenRun, IsQuoted}
 use Rattle.sexpr_reader.specs.Lexes.{IsBlank, none, white, comment}
 use Rattle.sexpr_reader.specs.Lexes.{InComment}
 use Rattle.sexpr_reader.specs.Parts.{IsPart, IsGap}
@@ -42,12 +42,12 @@ skips m.Comment m.Blank b blank part h gap is = (comment_ends blank b gap h, ref
 skips m.Comment m.Comment b blank part h gap is = (comment_more blank b gap h, refl, is)
 skips mode next b blank part h gap is = absurd h
 
-run_more : (part : List ℕ) (b : ℕ) → IsRun part → is_border b ≡ false → IsRun (part ++ b ∷ [])
+run_more : (part : List ℕ) (b : ℕ) → IsTokenRun part → is_border b ≡ false → IsTokenRun (part ++ b ∷ [])
 run_more [] b h e = cc
 run_more (x ∷ xs) b h e = and_both _ _ (and_left (not (is_border x)) _ h) (list_all-push _ xs b (and_right (not (is_border x)) _ h) (not_false _ e))
 
-run_first : (part : List ℕ) (b : ℕ) → part ≡ [] → is_border b ≡ false → IsRun (part ++ b ∷ [])
-run_first part b empty e = subst (λ (l : List ℕ). IsRun (l ++ b ∷ [])) (sym empty) (and_both _ true (not_false _ e) refl)
+run_first : (part : List ℕ) (b : ℕ) → part ≡ [] → is_border b ≡ false → IsTokenRun (part ++ b ∷ [])
+run_first part b empty e = subst (λ (l : List ℕ). IsTokenRun (l ++ b ∷ [])) (sym empty) (and_both _ true (not_false _ e) refl)
 
 doubled_other : (content : List ℕ) (b : ℕ) → (b == 34) ≡ false → doubled (content ++ b ∷ []) ≡ doubled content ++ b ∷ []
 doubled_other content b e = doubled-append content (b ∷ []) ∙ ap (λ (c : Bool). doubled content ++ (if c then 34 ∷ 34 ∷ [] else b ∷ [])) e

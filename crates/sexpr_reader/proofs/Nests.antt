@@ -4,7 +4,7 @@ use Rattle.std.proofs.Math.ListN.{set}
 use Rattle.std.proofs.lemmas.List.{length-set}
 use Rattle.std.specs.List.{flat_map}
 use Rattle.std.proofs.lemmas.List.Concat.{flat_map-append}
-use Rattle.sexpr_reader.specs.declared.kind.Kind.{Kind}
+use Rattle.sexpr_reader.specs.declared.kind.TokenKind.{TokenKind}
 use Rattle.sexpr_reader.specs.declared.sexpr.Sexpr.{Sexpr, roll-Sexpr}
 use Rattle.sexpr_reader.specs.declared.sexpr.Sexpr.TheFolds.{fold-roll-Sexpr}
 use Rattle.sexpr_reader.specs.declared.sexpr.Sexpr.TheOpen.{Sexpr-F}
@@ -16,7 +16,7 @@ joined : (items : List Sexpr) → flat_map (λ (ts : List Token). ts) (map token
 joined [] = refl
 joined (x ∷ items) = ap (λ (l : List Token). tokens_of x ++ l) (joined items)
 
-pub tokens_of-Atom : (kind : Kind) (bs : List ℕ) → tokens_of (s.Atom kind bs) ≡ Atomic kind bs ∷ []
+pub tokens_of-Atom : (kind : TokenKind) (bs : List ℕ) → tokens_of (s.Atom kind bs) ≡ Atomic kind bs ∷ []
 unfolding tokens_of
 tokens_of-Atom kind bs = ap tokens_of (sym (s.rolls-Atom kind bs)) ∙ fold-roll-Sexpr (List Token) tokens_layer (Sexpr-F.Atom kind bs)
 

@@ -2,7 +2,7 @@
 use Rattle.std.proofs.Common.{◌≡◌, ℕ, suc, List, [], ◌∷◌, ◌++◌, Bool, true, false, Option, Some, None, if◌then◌else◌, refl, sym, ap, ◌∙◌, append_assoc, map}
 use Rattle.std.specs.Prelude.{nat_lt}
 use Rattle.std.specs.List.{flat_map}
-use Rattle.sexpr_reader.specs.declared.kind.Kind.{Kind}
+use Rattle.sexpr_reader.specs.declared.kind.TokenKind.{TokenKind}
 use Rattle.sexpr_reader.specs.declared.sexpr.Sexpr.{Sexpr, roll-Sexpr}
 use Rattle.sexpr_reader.specs.declared.sexpr.Sexpr.TheFolds.{ind-Sexpr, map-Sexpr}
 use Rattle.sexpr_reader.specs.declared.sexpr.Sexpr.TheOpen.{Sexpr-F}
@@ -48,7 +48,7 @@ same_layer (Sexpr-F.Atom kind bs) (Sexpr-F.Atom k2 cs) us vs e =
     let head : Atomic kind bs ≡ Atomic k2 cs = cc in
     let kinds : kind ≡ k2 = cc in
     let bytes : bs ≡ cs = cc in
-    (ap (λ (k : Kind). Sexpr-F.Atom k bs) kinds ∙ ap (λ (l : List ℕ). Sexpr-F.Atom k2 l) bytes, cc)
+    (ap (λ (k : TokenKind). Sexpr-F.Atom k bs) kinds ∙ ap (λ (l : List ℕ). Sexpr-F.Atom k2 l) bytes, cc)
 same_layer (Sexpr-F.Atom kind bs) (Sexpr-F.List zs) us vs e = cc
 same_layer (Sexpr-F.List ys) (Sexpr-F.Atom kind bs) us vs e = cc
 same_layer (Sexpr-F.List ys) (Sexpr-F.List zs) us vs e =

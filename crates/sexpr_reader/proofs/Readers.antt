@@ -10,7 +10,7 @@ use Rattle.sexpr_reader.specs.Tokens.{Token, text, IsToken}
 use Rattle.sexpr_reader.specs.Lexes.{IsBlank, IsEnded}
 use Rattle.sexpr_reader.specs.Items.{tokens_of_all, open_tokens, levels, Feeds}
 use Rattle.sexpr_reader.specs.Reads.{FaultAt, FaultAfter}
-use Rattle.sexpr_reader.specs.Standing.{At, Stands, IsSame, IsSettled}
+use Rattle.sexpr_reader.specs.Standing.{At, HasGiven, IsSame, IsSettled}
 use Rattle.sexpr_reader.proofs.Lasts.{fault_after}
 use Rattle.sexpr_reader.proofs.Places.{at_token}
 use Rattle.sexpr_reader.proofs.Shapes.{split_at}
@@ -27,15 +27,15 @@ at_same ended mode mode_then lists lists_then place place_then kept kept_then ah
 pub drops : (n k : ℕ) (p q : List ℕ) → n ≡ k → p ≡ q → drop n p ≡ drop k q
 drops n k p q a b = ap (λ (x : ℕ). drop x p) a ∙ ap (drop k) b
 
-module _ (ended : Bool) (old new : Reader) (bytes : List ℕ) (given : List Sexpr) (s : Stands ended old bytes given) where
-  pub stands_same : IsSame old new → Stands ended new bytes given
+module _ (ended : Bool) (old new : Reader) (bytes : List ℕ) (given : List Sexpr) (s : HasGiven ended old bytes given) where
+  pub stands_same : IsSame old new → HasGiven ended new bytes given
   stands_same k = record {
     at = at_same ended old.mode new.mode old.nest.lists.items new.nest.lists.items old.place new.place _ _ _ _ bytes given s.at k.mode k.lists k.place (drops new.start old.start new.pending.items old.pending.items k.start k.pending) (drops new.at old.at new.pending.items old.pending.items k.at k.pending);
   }
 
   -- a whole token
   pub stands_token : (t : Token) (end : ℕ) (item : Option Sexpr) → old.start ≤ end → end ≤ length old.pending.items → IsBlank s.at.blank → text t ≡ take (end - old.start) (drop old.start old.pending.items) → IsToken t → IsEnded t ended (drop end old.pending.items)
-      → Feeds old.nest.lists.items (t ∷ []) item new.nest.lists.items → levels 0 ((tokens_of_all given ++ open_tokens old.nest.lists.items) ++ t ∷ []) ≡ Some (length new.nest.lists.items) → IsSettled old new end → Stands ended new bytes (given ++ option_to_list item)
+      → Feeds old.nest.lists.items (t ∷ []) item new.nest.lists.items → levels 0 ((tokens_of_all given ++ open_tokens old.nest.lists.items) ++ t ∷ []) ≡ Some (length new.nest.lists.items) → IsSettled old new end → HasGiven ended new bytes (given ++ option_to_list item)
   stands_token t end item low high gap is token ends feeds level k =
       let p = old.pending.items in
       let kept = drop old.start p in
@@ -46,5 +46,5 @@ module _ (ended : Bool) (old new : Reader) (bytes : List ℕ) (given : List Sexp
       }
 
 -- a fault at the unfinished token
-pub fault_here : (ended : Bool) (r : Reader) (bytes : List ℕ) (given : List Sexpr) (s : Stands ended r bytes given) (fault : SyntaxFault) → IsBlank s.at.blank → FaultAt ended (length r.nest.lists.items) r.place (drop r.start r.pending.items) fault → FaultAfter ended bytes given fault
+pub fault_here : (ended : Bool) (r : Reader) (bytes : List ℕ) (given : List Sexpr) (s : HasGiven ended r bytes given) (fault : SyntaxFault) → IsBlank s.at.blank → FaultAt ended (length r.nest.lists.items) r.place (drop r.start r.pending.items) fault → FaultAfter ended bytes given fault
 fault_here ended r bytes given s fault gap h = fault_after ended r.mode r.nest.lists.items r.place (drop r.start r.pending.items) (drop r.at r.pending.items) bytes given s.at fault gap h

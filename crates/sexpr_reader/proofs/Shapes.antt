@@ -5,11 +5,11 @@ use Rattle.std.proofs.lemmas.List.{take-append-drop, drop-drop}
 use Rattle.sexpr_reader.specs.declared.mode.Mode.{Mode}
 use Rattle.sexpr_reader.specs.declared.mode.Mode.TheVariants as m
 use Rattle.sexpr_reader.specs.declared.action.Action.TheVariants as v
-use Rattle.sexpr_reader.specs.declared.kind.Kind.{Kind}
-use Rattle.sexpr_reader.specs.declared.kind.Kind.TheVariants.{Numeral, Decimal, Hexadecimal, Binary, Symbol, Quoted, Keyword, Literal}
+use Rattle.sexpr_reader.specs.declared.kind.TokenKind.{TokenKind}
+use Rattle.sexpr_reader.specs.declared.kind.TokenKind.TheVariants.{Numeral, Decimal, Hexadecimal, Binary, Symbol, Quoted, Keyword, Literal}
 use Rattle.sexpr_reader.specs.Bytes.{is_border}
-use Rattle.sexpr_reader.specs.Tokens.{doubled, is_barred, IsRun, IsPlain, IsOf, Atomic}
-use Rattle.sexpr_reader.specs.Lexes.{IsBlank, EndsAt, IsEnded}
+use Rattle.sexpr_reader.specs.Tokens.{doubled, is_barred, IsTokenRun, IsPlain, IsOfKind, Atomic}
+use Rattle.sexpr_reader.specs.Lexes.{IsBlank, EndsOrPasses, IsEnded}
 use Rattle.sexpr_reader.specs.Parts.{IsPart, IsGap}
 use Rattle.sexpr_reader.specs.Stepping.{Acts}
 
@@ -45,7 +45,7 @@ pub literal_ends : (mode : Mode) (b : ℕ) → Acts mode b v.EndLiteral → (mod
 literal_ends m.Quote b h = (refl, h)
 literal_ends mode b h = absurd h
 
-pub run_part : (mode : Mode) (blank part : List ℕ) → mode ≡ m.Run → IsGap mode blank → IsPart mode part → IsBlank blank × IsRun part
+pub run_part : (mode : Mode) (blank part : List ℕ) → mode ≡ m.Run → IsGap mode blank → IsPart mode part → IsBlank blank × IsTokenRun part
 run_part mode blank part e gap is = (subst (λ (x : Mode). IsGap x blank) e gap, subst (λ (x : Mode). IsPart x part) e is)
 
 pub literal_part : (mode : Mode) (blank part : List ℕ) → mode ≡ m.Quote → IsGap mode blank → IsPart mode part → IsBlank blank × ((content : List ℕ) × (part ≡ 34 ∷ doubled content ++ 34 ∷ []))
@@ -76,12 +76,12 @@ kept_is p part start i b front e h is byte =
     let ahead : drop i p ≡ get_or p i 0 ∷ drop (i + 1) p = rw (add-one, drop-cons p i 0) in
     e ∙ ap (λ (l : List ℕ). l ++ drop i p) is ∙ ap (λ (l : List ℕ). front ++ l) (ahead ∙ ap (λ (x : ℕ). x ∷ drop (i + 1) p) byte)
 
-pub ends_by : (ended : Bool) (q : ℕ → Bool) (p : List ℕ) (i b : ℕ) → i < length p → b ≡ get_or p i b → IsTrue (q b) → EndsAt q ended (drop i p)
+pub ends_by : (ended : Bool) (q : ℕ → Bool) (p : List ℕ) (i b : ℕ) → i < length p → b ≡ get_or p i b → IsTrue (q b) → EndsOrPasses q ended (drop i p)
 ends_by ended q p i b h e t =
     let ahead : drop i p ≡ get_or p i b ∷ drop (i + 1) p = rw (add-one, drop-cons p i b) in
-    subst (EndsAt q ended) (sym (ahead ∙ ap (λ (x : ℕ). x ∷ drop (i + 1) p) (sym e))) t
+    subst (EndsOrPasses q ended) (sym (ahead ∙ ap (λ (x : ℕ). x ∷ drop (i + 1) p) (sym e))) t
 
-pub plain_token : (kind : Kind) (bs : List ℕ) → IsRun bs → IsPlain kind bs → IsOf kind bs
+pub plain_token : (kind : TokenKind) (bs : List ℕ) → IsTokenRun bs → IsPlain kind bs → IsOfKind kind bs
 plain_token Numeral bs run h = (run, h)
 plain_token Decimal bs run h = (run, h)
 plain_token Hexadecimal bs run h = (run, h)
@@ -91,7 +91,7 @@ plain_token Keyword bs run h = (run, h)
 plain_token Quoted bs run h = absurd h
 plain_token Literal bs run h = absurd h
 
-pub plain_ends : (kind : Kind) (bs : List ℕ) (ended : Bool) (after : List ℕ) → IsPlain kind bs → EndsAt is_border ended after → IsEnded (Atomic kind bs) ended after
+pub plain_ends : (kind : TokenKind) (bs : List ℕ) (ended : Bool) (after : List ℕ) → IsPlain kind bs → EndsOrPasses is_border ended after → IsEnded (Atomic kind bs) ended after
 plain_ends Numeral bs ended after h e = e
 plain_ends Decimal bs ended after h e = e
 plain_ends Hexadecimal bs ended after h e = e

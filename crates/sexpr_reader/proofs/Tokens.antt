@@ -1,11 +1,11 @@
 -- At one place stands one token.
 use Rattle.std.proofs.Common.{◌≡◌, ℕ, ◌==◌, ◌||◌, not, List, [], ◌∷◌, ◌++◌, Bool, true, false, IsTrue, if◌then◌else◌, refl, sym, ap, ◌∙◌, subst, append_assoc, rules}
 use Rattle.std.specs.List.{list_all}
-use Rattle.sexpr_reader.specs.declared.kind.Kind.{Kind}
-use Rattle.sexpr_reader.specs.declared.kind.Kind.TheVariants.{Quoted, Literal}
+use Rattle.sexpr_reader.specs.declared.kind.TokenKind.{TokenKind}
+use Rattle.sexpr_reader.specs.declared.kind.TokenKind.TheVariants.{Quoted, Literal}
 use Rattle.sexpr_reader.specs.Bytes.{is_border}
-use Rattle.sexpr_reader.specs.Tokens.{doubled, is_barred, IsRun, IsPlain, Token, Atomic, text, IsToken}
-use Rattle.sexpr_reader.specs.Lexes.{IsBlank, EndsAt, IsEnded, Lexes}
+use Rattle.sexpr_reader.specs.Tokens.{doubled, is_barred, IsTokenRun, IsPlain, Token, Atomic, text, IsToken}
+use Rattle.sexpr_reader.specs.Lexes.{IsBlank, EndsOrPasses, IsEnded, Lexes}
 use Rattle.sexpr_reader.proofs.Blanks.{and_left}
 use Rattle.sexpr_reader.proofs.Classes.{kinds_apart}
 use Rattle.sexpr_reader.proofs.Determined.{skip, skip-blank, skip-token, View, view, opens, closes, bars, quotes, plain, of_not, same_front}
@@ -29,17 +29,17 @@ literal_step false false x y c d a b e f back k =
     let r = back later in
     let c_is : c ≡ d = r.0 in (cc, r.1)
 
-literal_end : (ended q : Bool) (y : ℕ) (d a b : List ℕ) → (y == 34) ≡ q → EndsAt (λ x. not (x == 34)) ended a → 34 ∷ a ≡ (if q then 34 ∷ 34 ∷ doubled d else y ∷ doubled d) ++ 34 ∷ b → ⊥
-literal_end ended true y d a b f h k = let a_is : a ≡ 34 ∷ (doubled d ++ 34 ∷ b) = cc in let g : false ≡ true = subst (EndsAt (λ x. not (x == 34)) ended) a_is h in cc
+literal_end : (ended q : Bool) (y : ℕ) (d a b : List ℕ) → (y == 34) ≡ q → EndsOrPasses (λ x. not (x == 34)) ended a → 34 ∷ a ≡ (if q then 34 ∷ 34 ∷ doubled d else y ∷ doubled d) ++ 34 ∷ b → ⊥
+literal_end ended true y d a b f h k = let a_is : a ≡ 34 ∷ (doubled d ++ 34 ∷ b) = cc in let g : false ≡ true = subst (EndsOrPasses (λ x. not (x == 34)) ended) a_is h in cc
 literal_end ended false y d a b f h k = let h : 34 ≡ y = cc in let g : true ≡ (y == 34) = ap (λ (n : ℕ). n == 34) h in cc
 
-pub same_literal : (ended : Bool) (c d a b : List ℕ) → EndsAt (λ x. not (x == 34)) ended a → EndsAt (λ x. not (x == 34)) ended b → doubled c ++ 34 ∷ a ≡ doubled d ++ 34 ∷ b → (c ≡ d) × (a ≡ b)
+pub same_literal : (ended : Bool) (c d a b : List ℕ) → EndsOrPasses (λ x. not (x == 34)) ended a → EndsOrPasses (λ x. not (x == 34)) ended b → doubled c ++ 34 ∷ a ≡ doubled d ++ 34 ∷ b → (c ≡ d) × (a ≡ b)
 same_literal ended [] [] a b h g k = (refl, cc)
 same_literal ended [] (y ∷ d) a b h g k = absurd (literal_end ended (y == 34) y d a b refl h k)
 same_literal ended (x ∷ c) [] a b h g k = absurd (literal_end ended (x == 34) x c b a refl g (sym k))
 same_literal ended (x ∷ c) (y ∷ d) a b h g k = literal_step (x == 34) (y == 34) x y c d a b refl refl (λ e. same_literal ended c d a b h g e) k
 
-bar_ends : (b : ℕ) (rest : List ℕ) (ended : Bool) → b ≡ 124 → EndsAt (λ x. x == 124 || x == 92) ended (b ∷ rest)
+bar_ends : (b : ℕ) (rest : List ℕ) (ended : Bool) → b ≡ 124 → EndsOrPasses (λ x. x == 124 || x == 92) ended (b ∷ rest)
 bar_ends b rest ended e = ap (λ (n : ℕ). n == 124 || n == 92) e
 
 same_bars : (ended : Bool) (c d a b : List ℕ) → IsTrue (is_barred c) → IsTrue (is_barred d) → c ++ 124 ∷ a ≡ d ++ 124 ∷ b → (c ≡ d) × (a ≡ b)
@@ -47,14 +47,14 @@ same_bars ended c d a b h g k =
     let r = same_front (λ x. x == 124 || x == 92) ended c d (124 ∷ a) (124 ∷ b) h g refl refl k in
     let e : 124 ∷ a ≡ 124 ∷ b = r.1 in (r.0, cc)
 
-pub run_not : (bs after rest : List ℕ) (c : ℕ) → IsRun bs → is_border c ≡ true → bs ++ after ≡ c ∷ rest → ⊥
+pub run_not : (bs after rest : List ℕ) (c : ℕ) → IsTokenRun bs → is_border c ≡ true → bs ++ after ≡ c ∷ rest → ⊥
 run_not [] after rest c h e k = cc
 run_not (b ∷ bs) after rest c h e k =
     let same : b ≡ c = cc in
     let here : is_border b ≡ false = of_not (is_border b) (and_left (not (is_border b)) _ h) in
     let there : is_border b ≡ true = ap is_border same ∙ e in cc
 
-pub run_all : (bs : List ℕ) → IsRun bs → IsTrue (list_all (λ x. not (is_border x)) bs)
+pub run_all : (bs : List ℕ) → IsTokenRun bs → IsTrue (list_all (λ x. not (is_border x)) bs)
 run_all [] h = cc
 run_all (b ∷ bs) h = h
 
@@ -73,7 +73,7 @@ same_token ended t u a b (quotes c x lit_c h) (quotes d y lit_d g) k =
 same_token ended t u a b (plain k1 bs x h i e) (plain k2 cs y g j f) k =
     let r = same_front is_border ended bs cs a b (run_all bs h) (run_all cs g) e f k in
     let kind : k1 ≡ k2 = kinds_apart k1 k2 bs i (subst (IsPlain k2) (sym r.0) j) in
-    (ap (λ (z : Kind). Atomic z bs) kind ∙ ap (λ (l : List ℕ). Atomic k2 l) r.0, r.1)
+    (ap (λ (z : TokenKind). Atomic z bs) kind ∙ ap (λ (l : List ℕ). Atomic k2 l) r.0, r.1)
 same_token ended t u a b (plain k1 bs x h i e) (opens y) k = absurd (run_not bs a b 40 h refl k)
 same_token ended t u a b (plain k1 bs x h i e) (closes y) k = absurd (run_not bs a b 41 h refl k)
 same_token ended t u a b (plain k1 bs x h i e) (bars d y g) k = absurd (run_not bs a _ 124 h refl k)

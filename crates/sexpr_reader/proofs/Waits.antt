@@ -3,10 +3,10 @@ use Rattle.std.proofs.Common.{◌≡◌, ℕ, ◌==◌, ◌||◌, not, List, [],
 use Rattle.sexpr_reader.specs.declared.mode.Mode.{Mode}
 use Rattle.sexpr_reader.specs.declared.mode.Mode.TheVariants as m
 use Rattle.sexpr_reader.specs.Bytes.{is_line_end, is_border}
-use Rattle.sexpr_reader.specs.Tokens.{doubled, is_barred, IsRun, Token, text}
-use Rattle.sexpr_reader.specs.Lexes.{EndsAt, Lexes, is_comment}
+use Rattle.sexpr_reader.specs.Tokens.{doubled, is_barred, IsTokenRun, Token, text}
+use Rattle.sexpr_reader.specs.Lexes.{EndsOrPasses, Lexes, is_comment}
 use Rattle.sexpr_reader.specs.Parts.{IsPart, IsGap}
-use Rattle.sexpr_reader.specs.Standing.{IsLeft}
+use Rattle.sexpr_reader.specs.Standing.{IsOpenToken}
 use Rattle.sexpr_reader.proofs.Fronts.{Stuck}
 use Rattle.sexpr_reader.proofs.Blanks.{and_left, and_right}
 use Rattle.sexpr_reader.proofs.Determined.{skip, skip-blank, skip-token, skip-stays, View, view, opens, closes, bars, quotes, plain, run_first, of_not, same_front, border_parts}
@@ -16,7 +16,7 @@ pub skip-inside : (body : List ℕ) → IsTrue (is_comment body) → skip true b
 skip-inside [] h = refl
 skip-inside (b ∷ body) h = ap (λ (c : Bool). if c then skip false body else skip true body) (of_not (is_line_end b) (and_left (not (is_line_end b)) _ h)) ∙ skip-inside body (and_right (not (is_line_end b)) _ h)
 
-skip-run : (part : List ℕ) → IsRun part → skip false part ≡ part
+skip-run : (part : List ℕ) → IsTokenRun part → skip false part ≡ part
 skip-run part run = let f = run_first part run in let parts = border_parts f.0 f.3 in ap (skip false) f.2 ∙ skip-stays f.0 f.1 parts.0 parts.1 ∙ sym f.2
 
 -- what is skipped in front of an unfinished token
@@ -30,11 +30,11 @@ skip-part m.Bars blank part gap is = skip-blank blank part gap ∙ ap (skip fals
 skip-part m.Quotes blank part gap is = skip-blank blank part gap ∙ ap (skip false) is.1 ∙ sym is.1
 skip-part m.Quote blank part gap is = skip-blank blank part gap ∙ ap (skip false) is.1 ∙ sym is.1
 
-pub more_bytes : (q : ℕ → Bool) (ended : Bool) (after : List ℕ) → EndsAt q false after → (after ≡ [] → ⊥) × EndsAt q ended after
+pub more_bytes : (q : ℕ → Bool) (ended : Bool) (after : List ℕ) → EndsOrPasses q false after → (after ≡ [] → ⊥) × EndsOrPasses q ended after
 more_bytes q ended [] h = cc
 more_bytes q ended (b ∷ after) h = ((λ e. cc), h)
 
-pub no_run : (part : List ℕ) (t : Token) (after : List ℕ) → IsRun part → View false t after → part ≡ text t ++ after → ⊥
+pub no_run : (part : List ℕ) (t : Token) (after : List ℕ) → IsTokenRun part → View false t after → part ≡ text t ++ after → ⊥
 no_run part t after run (opens a) e = run_not part [] after 40 run refl (append-nil part ∙ e)
 no_run part t after run (closes a) e = run_not part [] after 41 run refl (append-nil part ∙ e)
 no_run part t after run (bars body a h) e = run_not part [] _ 124 run refl (append-nil part ∙ e)
@@ -58,17 +58,17 @@ no_bars ended body t after barred (plain kind bs a r h ends) e = run_not bs afte
 not_quote : (x : ℕ) → (x == 34) ≡ false → x ≡ 34 → ⊥
 not_quote x e k = let g : (x == 34) ≡ true = ap (λ (n : ℕ). n == 34) k in cc
 
-quote_goes_on : (ended : Bool) (xs ys : List ℕ) → EndsAt (λ x. not (x == 34)) ended xs → xs ≡ 34 ∷ ys → ⊥
-quote_goes_on ended xs ys h e = let g : false ≡ true = subst (EndsAt (λ x. not (x == 34)) ended) e h in cc
+quote_goes_on : (ended : Bool) (xs ys : List ℕ) → EndsOrPasses (λ x. not (x == 34)) ended xs → xs ≡ 34 ∷ ys → ⊥
+quote_goes_on ended xs ys h e = let g : false ≡ true = subst (EndsOrPasses (λ x. not (x == 34)) ended) e h in cc
 
-half_step : (ended p q : Bool) (x y : ℕ) (c d a : List ℕ) → (x == 34) ≡ p → (y == 34) ≡ q → EndsAt (λ x. not (x == 34)) ended a → (doubled c ≡ doubled d ++ 34 ∷ a → ⊥)
+half_step : (ended p q : Bool) (x y : ℕ) (c d a : List ℕ) → (x == 34) ≡ p → (y == 34) ≡ q → EndsOrPasses (λ x. not (x == 34)) ended a → (doubled c ≡ doubled d ++ 34 ∷ a → ⊥)
     → (if p then 34 ∷ 34 ∷ doubled c else x ∷ doubled c) ≡ (if q then 34 ∷ 34 ∷ doubled d else y ∷ doubled d) ++ 34 ∷ a → ⊥
 half_step ended true true x y c d a e f h back k = let later : doubled c ≡ doubled d ++ 34 ∷ a = cc in back later
 half_step ended true false x y c d a e f h back k = let same : y ≡ 34 = cc in not_quote y f same
 half_step ended false true x y c d a e f h back k = let same : x ≡ 34 = cc in not_quote x e same
 half_step ended false false x y c d a e f h back k = let later : doubled c ≡ doubled d ++ 34 ∷ a = cc in back later
 
-half_last : (ended p : Bool) (x : ℕ) (c a : List ℕ) → (x == 34) ≡ p → EndsAt (λ x. not (x == 34)) ended a → (if p then 34 ∷ 34 ∷ doubled c else x ∷ doubled c) ≡ 34 ∷ a → ⊥
+half_last : (ended p : Bool) (x : ℕ) (c a : List ℕ) → (x == 34) ≡ p → EndsOrPasses (λ x. not (x == 34)) ended a → (if p then 34 ∷ 34 ∷ doubled c else x ∷ doubled c) ≡ 34 ∷ a → ⊥
 half_last ended true x c a e h k = let more : a ≡ 34 ∷ doubled c = cc in quote_goes_on ended a (doubled c) h more
 half_last ended false x c a e h k = let same : x ≡ 34 = cc in not_quote x e same
 
@@ -77,7 +77,7 @@ half_first true y d a k = cc
 half_first false y d a k = cc
 
 -- a text whose quotes are all doubled holds no quote that ends it
-pub no_half : (ended : Bool) (c d a : List ℕ) → EndsAt (λ x. not (x == 34)) ended a → doubled c ≡ doubled d ++ 34 ∷ a → ⊥
+pub no_half : (ended : Bool) (c d a : List ℕ) → EndsOrPasses (λ x. not (x == 34)) ended a → doubled c ≡ doubled d ++ 34 ∷ a → ⊥
 no_half ended [] [] a h k = cc
 no_half ended [] (y ∷ d) a h k = half_first (y == 34) y d a k
 no_half ended (x ∷ c) [] a h k = half_last ended (x == 34) x c a refl h k
@@ -121,7 +121,7 @@ no_part m.Quotes part t after is v e = no_quotes false is.0 t after v (sym is.1 
 no_part m.Quote part t after is v e = no_quote is.0 t after v (sym is.1 ∙ e)
 
 -- where the input has ended
-no_left : (mode : Mode) (part : List ℕ) (t : Token) (after : List ℕ) → IsLeft mode → IsPart mode part → View true t after → part ≡ text t ++ after → ⊥
+no_left : (mode : Mode) (part : List ℕ) (t : Token) (after : List ℕ) → IsOpenToken mode → IsPart mode part → View true t after → part ≡ text t ++ after → ⊥
 no_left m.Blank part t after left is v e = no_text true t after v (sym is ∙ e)
 no_left m.Comment part t after left is v e = no_text true t after v (sym is ∙ e)
 no_left m.Bars part t after left is v e = no_bars true is.0 t after is.2 v (sym is.1 ∙ e)
@@ -137,5 +137,5 @@ token_front ended bytes t ts rest h = let v = view ended t h.1 h.4 h.5 in (v, ap
 pub part_stuck : (mode : Mode) (n : ℕ) (blank part : List ℕ) → IsGap mode blank → IsPart mode part → Stuck false n (blank ++ part)
 part_stuck mode n blank part gap is = record { none = λ t ts after k h e. let f = token_front false (blank ++ part) t ts after h in no_part mode part t h.1 is f.0 (sym (skip-part mode blank part gap is) ∙ f.1) }
 
-pub left_stuck : (mode : Mode) (n : ℕ) (blank part : List ℕ) → IsLeft mode → IsGap mode blank → IsPart mode part → Stuck true n (blank ++ part)
+pub left_stuck : (mode : Mode) (n : ℕ) (blank part : List ℕ) → IsOpenToken mode → IsGap mode blank → IsPart mode part → Stuck true n (blank ++ part)
 left_stuck mode n blank part left gap is = record { none = λ t ts after k h e. let f = token_front true (blank ++ part) t ts after h in no_left mode part t h.1 left is f.0 (sym (skip-part mode blank part gap is) ∙ f.1) }

@@ -24,13 +24,13 @@ AreTokens [] = Unit {0}
 AreTokens (t ∷ ts) = IsToken t × AreTokens ts
 
 -- the bytes of each atom are a token of its kind
-abbrev pub IsFormed : Sexpr → Type 0
-IsFormed item = AreTokens (tokens_of item)
+abbrev pub HasFormedAtoms : Sexpr → Type 0
+HasFormedAtoms item = AreTokens (tokens_of item)
 
 -- the same of each
 abbrev pub AreFormed : List Sexpr → Type 0
 AreFormed [] = Unit {0}
-AreFormed (item ∷ items) = IsFormed item × AreFormed items
+AreFormed (item ∷ items) = HasFormedAtoms item × AreFormed items
 
 -- the most lists that may be open inside one another
 abbrev pub most_open_lists : ℕ

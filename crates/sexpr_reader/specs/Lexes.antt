@@ -1,7 +1,7 @@
 -- Bytes as tokens, with white space and comments before each (SMT-LIB 2.6, section 3.1).
 use Rattle.std.specs.Prelude.{◌≡◌, ℕ, ◌==◌, not, List, [], ◌∷◌, ◌++◌, ◌⊎◌, Bool, IsTrue}
 use Rattle.std.specs.List.{list_all}
-use Rattle.sexpr_reader.specs.declared.kind.Kind.TheVariants.{Quoted, Literal}
+use Rattle.sexpr_reader.specs.declared.kind.TokenKind.TheVariants.{Quoted, Literal}
 use Rattle.sexpr_reader.specs.Bytes.{is_white, is_line_end, is_border}
 use Rattle.sexpr_reader.specs.Tokens.{Token, Open, Close, Atomic, text, IsToken}
 
@@ -24,17 +24,17 @@ abbrev pub IsBlankEnd : List ℕ → Type 0
 IsBlankEnd bytes = IsBlank bytes ⊎ InComment bytes
 
 -- the end of the input stands there, or a byte that passes
-abbrev pub EndsAt : (ℕ → Bool) → Bool → List ℕ → Type 0
-EndsAt p ended [] = IsTrue ended
-EndsAt p ended (b ∷ bs) = IsTrue (p b)
+abbrev pub EndsOrPasses : (ℕ → Bool) → Bool → List ℕ → Type 0
+EndsOrPasses p ended [] = IsTrue ended
+EndsOrPasses p ended (b ∷ bs) = IsTrue (p b)
 
 -- what has to come behind a token: a literal ends at a quote that no quote follows, a run in front of a border; the others end by themselves
 abbrev pub IsEnded : Token → Bool → List ℕ → Type 0
 IsEnded Open ended after = Unit {0}
 IsEnded Close ended after = Unit {0}
 IsEnded (Atomic Quoted bs) ended after = Unit {0}
-IsEnded (Atomic Literal bs) ended after = EndsAt (λ b. not (b == 34)) ended after
-IsEnded (Atomic kind bs) ended after = EndsAt is_border ended after
+IsEnded (Atomic Literal bs) ended after = EndsOrPasses (λ b. not (b == 34)) ended after
+IsEnded (Atomic kind bs) ended after = EndsOrPasses is_border ended after
 
 -- the bytes are these tokens, each whole and with white space and comments before it, and then the rest; `ended` says whether the input has ended behind the bytes
 abbrev pub Lexes : Bool → List ℕ → List Token → List ℕ → Type 0

@@ -1,12 +1,12 @@
 -- What is read, and the first syntax fault.
 use Rattle.std.specs.Prelude.{◌≡◌, ◌+◌, ℕ, List, [], ◌∷◌, ◌++◌, ◌⊎◌, ◌==◌, not, Bool, true, false, IsTrue, Some, length}
-use Rattle.sexpr_reader.specs.declared.kind.Kind.{Kind}
+use Rattle.sexpr_reader.specs.declared.kind.TokenKind.{TokenKind}
 use Rattle.sexpr_reader.specs.declared.sexpr.Sexpr.{Sexpr}
 use Rattle.sexpr_reader.specs.declared.syntax_fault.SyntaxFault.{SyntaxFault}
 use Rattle.sexpr_reader.specs.declared.syntax_fault.SyntaxFault.TheVariants as f
 use Rattle.sexpr_reader.specs.Bytes.{is_border}
-use Rattle.sexpr_reader.specs.Tokens.{Token, doubled, is_barred, is_readable, IsRun, IsPlain}
-use Rattle.sexpr_reader.specs.Lexes.{IsBlank, IsBlankEnd, EndsAt, Lexes}
+use Rattle.sexpr_reader.specs.Tokens.{Token, doubled, is_barred, is_readable, IsTokenRun, IsPlain}
+use Rattle.sexpr_reader.specs.Lexes.{IsBlank, IsBlankEnd, EndsOrPasses, Lexes}
 use Rattle.sexpr_reader.specs.Items.{tokens_of_all, levels, most_open_lists}
 
 -- the bytes are the tokens of these items, of which none has more than 1,000 lists inside one another, and then the rest
@@ -21,7 +21,7 @@ pub record Reads (ended : Bool) (bytes : List ℕ) (items : List Sexpr) (rest : 
 
 -- a run that is no token of any kind
 abbrev pub IsOddRun : Bool → List ℕ → Type 0
-IsOddRun ended bytes = (run after : List ℕ) × (bytes ≡ run ++ after) × IsRun run × EndsAt is_border ended after × ((kind : Kind) → IsPlain kind run → ⊥)
+IsOddRun ended bytes = (run after : List ℕ) × (bytes ≡ run ++ after) × IsTokenRun run × EndsOrPasses is_border ended after × ((kind : TokenKind) → IsPlain kind run → ⊥)
 
 -- a `\` between bars
 abbrev pub IsBarredBackslash : List ℕ → Type 0
@@ -29,7 +29,7 @@ IsBarredBackslash bytes = (body after : List ℕ) × (bytes ≡ 124 ∷ body ++ 
 
 -- a whole literal whose content is the text of no word
 abbrev pub IsOddLiteral : Bool → List ℕ → Type 0
-IsOddLiteral ended bytes = (content after : List ℕ) × (bytes ≡ 34 ∷ doubled content ++ 34 ∷ after) × EndsAt (λ b. not (b == 34)) ended after × (is_readable (doubled content) ≡ false)
+IsOddLiteral ended bytes = (content after : List ℕ) × (bytes ≡ 34 ∷ doubled content ++ 34 ∷ after) × EndsOrPasses (λ b. not (b == 34)) ended after × (is_readable (doubled content) ≡ false)
 
 -- a literal or a quoted symbol that nothing ends, or, with n lists open, one of them
 abbrev pub IsOpenEnd : ℕ → List ℕ → Type 0
@@ -83,7 +83,7 @@ pub record Ends (bytes : List ℕ) (items : List Sexpr) : Type 0 where
 
 -- an unfinished token: a run that no border has ended, a quoted symbol without its last bar, a literal without its last quote or one that a further quote would go on
 abbrev pub IsUnfinished : List ℕ → Type 0
-IsUnfinished part = IsRun part
+IsUnfinished part = IsTokenRun part
     ⊎ (((body : List ℕ) × (part ≡ 124 ∷ body) × IsTrue (is_barred body))
     ⊎ (((content : List ℕ) × (part ≡ 34 ∷ doubled content))
     ⊎ ((content : List ℕ) × (part ≡ 34 ∷ doubled content ++ 34 ∷ []))))

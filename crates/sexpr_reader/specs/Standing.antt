@@ -9,7 +9,7 @@ use Rattle.sexpr_reader.specs.declared.syntax_fault.SyntaxFault.TheVariants as f
 use Rattle.sexpr_reader.specs.declared.sexpr.Sexpr.{Sexpr}
 use Rattle.sexpr_reader.specs.Tokens.{Token}
 use Rattle.sexpr_reader.specs.Lexes.{Lexes}
-use Rattle.sexpr_reader.specs.Items.{tokens_of_all, open_tokens, levels, IsFormed}
+use Rattle.sexpr_reader.specs.Items.{tokens_of_all, open_tokens, levels, HasFormedAtoms}
 use Rattle.sexpr_reader.specs.Parts.{IsPart, IsGap}
 use Rattle.sexpr_reader.specs.Reads.{Begins, FaultAfter, Waits, Ends, EndsWith}
 
@@ -27,7 +27,7 @@ pub record At (ended : Bool) (mode : Mode) (lists : List (List Sexpr)) (place : 
   pub apart : (us vs : List Token) → us ++ vs ≡ open_tokens lists → levels 0 us ≡ Some 0 → us ≡ []
 
 -- the reader was fed these bytes and gave these items; `ended` says whether it was told that the input has ended behind the bytes
-pub record Stands (ended : Bool) (r : Reader) (bytes : List ℕ) (given : List Sexpr) : Type 0 where
+pub record HasGiven (ended : Bool) (r : Reader) (bytes : List ℕ) (given : List Sexpr) : Type 0 where
   pub at : At ended r.mode r.nest.lists.items r.place (drop r.start r.pending.items) (drop r.at r.pending.items) bytes given
 
 -- the raw bytes that the reader keeps
@@ -35,31 +35,31 @@ abbrev pub kept : Reader → List ℕ
 kept r = r.pending.items
 
 -- one item more was given
-pub record Gives (ended : Bool) (new : Reader) (bytes : List ℕ) (given : List Sexpr) (item : Sexpr) : Type 0 where
-  pub stands : Stands ended new bytes (given ++ item ∷ [])
+pub record GivesItem (ended : Bool) (new : Reader) (bytes : List ℕ) (given : List Sexpr) (item : Sexpr) : Type 0 where
+  pub stands : HasGiven ended new bytes (given ++ item ∷ [])
   pub rest : List ℕ
   pub begins : Begins ended bytes (given ++ item ∷ []) rest
-  pub formed : IsFormed item
+  pub formed : HasFormedAtoms item
 
 -- what `next` answers: one item more, nothing where no further item is whole and no fault stands there, the first fault behind the last item, or want of memory
-abbrev pub Answers : Reader → List ℕ → List Sexpr → Result (Option Sexpr) SyntaxFault → Type 0
-Answers new bytes given (Ok (Some item)) = Gives false new bytes given item
-Answers new bytes given (Ok None) = Stands false new bytes given × Waits bytes given × EndsWith bytes (kept new)
-Answers new bytes given (Err (f.Memory _)) = Stands false new bytes given
-Answers new bytes given (Err fault) = Stands false new bytes given × FaultAfter false bytes given fault
+abbrev pub AnswersNext : Reader → List ℕ → List Sexpr → Result (Option Sexpr) SyntaxFault → Type 0
+AnswersNext new bytes given (Ok (Some item)) = GivesItem false new bytes given item
+AnswersNext new bytes given (Ok None) = HasGiven false new bytes given × Waits bytes given × EndsWith bytes (kept new)
+AnswersNext new bytes given (Err (f.Memory _)) = HasGiven false new bytes given
+AnswersNext new bytes given (Err fault) = HasGiven false new bytes given × FaultAfter false bytes given fault
 
 -- what `end` answers: the same where no byte follows, and nothing where all items were given and no list, literal or quoted symbol is open
-abbrev pub Closes : Bool → Reader → List ℕ → List Sexpr → Result (Option Sexpr) SyntaxFault → Type 0
-Closes ended new bytes given (Ok (Some item)) = Gives true new bytes given item
-Closes ended new bytes given (Ok None) = Stands true new bytes given × Ends bytes given
-Closes ended new bytes given (Err (f.Memory _)) = Stands ended new bytes given
-Closes ended new bytes given (Err fault) = Stands true new bytes given × FaultAfter true bytes given fault
+abbrev pub AnswersEnd : Bool → Reader → List ℕ → List Sexpr → Result (Option Sexpr) SyntaxFault → Type 0
+AnswersEnd ended new bytes given (Ok (Some item)) = GivesItem true new bytes given item
+AnswersEnd ended new bytes given (Ok None) = HasGiven true new bytes given × Ends bytes given
+AnswersEnd ended new bytes given (Err (f.Memory _)) = HasGiven ended new bytes given
+AnswersEnd ended new bytes given (Err fault) = HasGiven true new bytes given × FaultAfter true bytes given fault
 
 -- what one step answers: nothing or an item, the first fault, or want of memory
-abbrev pub Steps : Bool → Reader → List ℕ → List Sexpr → Result (Option Sexpr) SyntaxFault → Type 0
-Steps ended new bytes given (Ok item) = Stands ended new bytes (given ++ option_to_list item)
-Steps ended new bytes given (Err (f.Memory _)) = Stands ended new bytes given
-Steps ended new bytes given (Err fault) = Stands ended new bytes given × FaultAfter ended bytes given fault
+abbrev pub AnswersStep : Bool → Reader → List ℕ → List Sexpr → Result (Option Sexpr) SyntaxFault → Type 0
+AnswersStep ended new bytes given (Ok item) = HasGiven ended new bytes (given ++ option_to_list item)
+AnswersStep ended new bytes given (Err (f.Memory _)) = HasGiven ended new bytes given
+AnswersStep ended new bytes given (Err fault) = HasGiven ended new bytes given × FaultAfter ended bytes given fault
 
 -- the same, as contracts see it
 pub record IsSame (old new : Reader) : Type 0 where
@@ -88,7 +88,7 @@ abbrev pub work : Reader → ℕ
 work r = 2 * (length r.pending.items - r.at) + busy r.mode
 
 -- a token that only more bytes could end, or none
-abbrev pub IsLeft : Mode → Type 0
-IsLeft m.Run = ⊥
-IsLeft m.Quote = ⊥
-IsLeft _ = Unit {0}
+abbrev pub IsOpenToken : Mode → Type 0
+IsOpenToken m.Run = ⊥
+IsOpenToken m.Quote = ⊥
+IsOpenToken _ = Unit {0}

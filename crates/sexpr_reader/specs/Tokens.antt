@@ -1,8 +1,8 @@
 -- The tokens of a script (SMT-LIB 2.6, section 3.1).
 use Rattle.std.specs.Prelude.{◌≡◌, ℕ, ◌==◌, ◌||◌, ◌&&◌, not, List, [], ◌∷◌, ◌++◌, Bool, true, false, if◌then◌else◌, IsTrue, Result, Ok, Err}
 use Rattle.std.specs.List.{list_all}
-use Rattle.sexpr_reader.specs.declared.kind.Kind.{Kind}
-use Rattle.sexpr_reader.specs.declared.kind.Kind.TheVariants.{Numeral, Decimal, Hexadecimal, Binary, Symbol, Quoted, Keyword, Literal}
+use Rattle.sexpr_reader.specs.declared.kind.TokenKind.{TokenKind}
+use Rattle.sexpr_reader.specs.declared.kind.TokenKind.TheVariants.{Numeral, Decimal, Hexadecimal, Binary, Symbol, Quoted, Keyword, Literal}
 use Rattle.sv_word.specs.declared.literal_fault.LiteralFault.{LiteralFault}
 use Rattle.sv_word.specs.Literals.{lit}
 use Rattle.sexpr_reader.specs.Bytes.{is_border, is_digit, is_hexadecimal, is_bit, is_symbol_byte}
@@ -47,11 +47,11 @@ abbrev pub is_readable : List ℕ → Bool
 is_readable bs = is_word (lit bs)
 
 -- one or more bytes of which none ends a token
-abbrev pub IsRun : List ℕ → Type 0
-IsRun bs = IsTrue (are_some (λ b. not (is_border b)) bs)
+abbrev pub IsTokenRun : List ℕ → Type 0
+IsTokenRun bs = IsTrue (are_some (λ b. not (is_border b)) bs)
 
 -- the runs that are tokens, by their kind
-abbrev pub IsPlain : Kind → List ℕ → Type 0
+abbrev pub IsPlain : TokenKind → List ℕ → Type 0
 IsPlain Numeral bs = IsTrue (is_numeral bs)
 IsPlain Decimal bs = (whole part : List ℕ) × (bs ≡ whole ++ 46 ∷ part) × IsTrue (is_numeral whole) × IsTrue (are_some is_digit part)
 IsPlain Hexadecimal bs = (digits : List ℕ) × (bs ≡ 35 ∷ 120 ∷ digits) × IsTrue (are_some is_hexadecimal digits)
@@ -70,16 +70,16 @@ abbrev pub IsLiteral : List ℕ → Type 0
 IsLiteral bs = (content : List ℕ) × (bs ≡ 34 ∷ doubled content ++ 34 ∷ []) × IsTrue (is_readable (doubled content))
 
 -- the bytes of a token of this kind
-abbrev pub IsOf : Kind → List ℕ → Type 0
-IsOf Quoted bs = IsQuoted bs
-IsOf Literal bs = IsLiteral bs
-IsOf kind bs = IsRun bs × IsPlain kind bs
+abbrev pub IsOfKind : TokenKind → List ℕ → Type 0
+IsOfKind Quoted bs = IsQuoted bs
+IsOfKind Literal bs = IsLiteral bs
+IsOfKind kind bs = IsTokenRun bs × IsPlain kind bs
 
 -- a parenthesis, or a token of a kind with its bytes
 pub data Token : Type 0 where
   Open : Token
   Close : Token
-  Atomic : Kind → List ℕ → Token
+  Atomic : TokenKind → List ℕ → Token
 
 abbrev pub text : Token → List ℕ
 text Open = 40 ∷ []
@@ -90,4 +90,4 @@ text (Atomic kind bs) = bs
 abbrev pub IsToken : Token → Type 0
 IsToken Open = Unit {0}
 IsToken Close = Unit {0}
-IsToken (Atomic kind bs) = IsOf kind bs
+IsToken (Atomic kind bs) = IsOfKind kind bs

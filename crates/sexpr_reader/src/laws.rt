@@ -1,14 +1,14 @@
 // What the definitions of a reading imply.
 ghost use Rattle.std.specs.Prelude.{◌≡◌, ◌++◌, ◌∷◌, [], ◌↔◌, List, ℕ, Bool, true, false};
-ghost use Rattle.sexpr_reader.specs.declared.kind.Kind.{Kind as AnyKind};
+ghost use Rattle.sexpr_reader.specs.declared.kind.TokenKind.{TokenKind as AnyKind};
 ghost use Rattle.sexpr_reader.specs.declared.reader.Reader.{Reader as AnyReader};
 ghost use Rattle.sexpr_reader.specs.declared.sexpr.Sexpr.{Sexpr as AnySexpr};
 ghost use Rattle.sexpr_reader.specs.declared.sexpr.Sexpr.TheVariants.{Atom, List as Listed};
 ghost use Rattle.sexpr_reader.specs.declared.syntax_fault.SyntaxFault.{SyntaxFault as AnyFault};
-ghost use Rattle.sexpr_reader.specs.Items.{IsFormed, AreFormed};
+ghost use Rattle.sexpr_reader.specs.Items.{HasFormedAtoms, AreFormed};
 ghost use Rattle.sexpr_reader.specs.Reads.{Begins, Reads, SyntaxAt, FaultAfter, Ends};
-ghost use Rattle.sexpr_reader.specs.Standing.{Stands};
-ghost use Rattle.sexpr_reader.specs.Tokens.{IsOf};
+ghost use Rattle.sexpr_reader.specs.Standing.{HasGiven};
+ghost use Rattle.sexpr_reader.specs.Tokens.{IsOfKind};
 
 /// Bytes have one reading and at most one first fault, and none where they are read to their end.
 pub fn reading_is_unique()
@@ -30,11 +30,11 @@ pub fn lists_are_whole()
 
 /// Two pieces fed one after the other are one piece.
 pub fn pieces_join()
-    ensures { (reader : AnyReader) (bytes first second : List ℕ) (given : List AnySexpr) → Stands false reader ((bytes ++ first) ++ second) given → Stands false reader (bytes ++ (first ++ second)) given }
+    ensures { (reader : AnyReader) (bytes first second : List ℕ) (given : List AnySexpr) → HasGiven false reader ((bytes ++ first) ++ second) given → HasGiven false reader (bytes ++ (first ++ second)) given }
 {}
 
 /// The parts of an s-expression whose atoms are tokens.
 pub fn parts_are_formed()
-    ensures atom { (kind : AnyKind) (bytes : List ℕ) → IsFormed (Atom kind bytes) ↔ IsOf kind bytes }
-    ensures list { (items : List AnySexpr) → IsFormed (Listed items) ↔ AreFormed items }
+    ensures atom { (kind : AnyKind) (bytes : List ℕ) → HasFormedAtoms (Atom kind bytes) ↔ IsOfKind kind bytes }
+    ensures list { (items : List AnySexpr) → HasFormedAtoms (Listed items) ↔ AreFormed items }
 {}

@@ -31,7 +31,7 @@ mod sexpr;
 mod syntax_fault;
 mod token_kind;
 
-pub use kind::Kind;
+pub use kind::TokenKind;
 pub use laws::{
     lists_are_whole, more_bytes_may_follow, parts_are_formed, pieces_join, reading_is_unique,
 };

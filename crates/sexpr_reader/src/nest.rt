@@ -1,5 +1,5 @@
-ghost use Rattle.std.specs.Prelude.{◌≡◌, ◌<◌, ◌≤◌, ◌+◌, ◌∷◌, ◌++◌, [], List, length, true, false, OnOk, OnErr, IfOk, IfSome};
-ghost use Rattle.sexpr_reader.specs.Items.{tokens_of, open_tokens, most_open_lists, Feeds};
+ghost use Rattle.std.specs.Prelude.{◌≡◌, ◌<◌, ◌≤◌, ◌+◌, ◌∷◌, ◌++◌, [], List, length, true, false, OnOk, OnErr, IfOk};
+ghost use Rattle.sexpr_reader.specs.Items.{tokens_of, most_open_lists, Feeds};
 ghost use Rattle.sexpr_reader.specs.Tokens.{Close};
 
 use crate::sexpr::Sexpr;

@@ -1,7 +1,7 @@
 ghost use Rattle.std.specs.Prelude.{◌≡◌, ◌≤◌, ◌<◌, ◌+◌, ◌^◌, length};
 
 use crate::action::Action;
-use crate::kind::Kind;
+use crate::kind::TokenKind;
 use crate::mode::Mode;
 use crate::nest::Nest;
 use crate::sexpr::Sexpr;
@@ -32,20 +32,20 @@ pub struct Reader {
 }
 
 impl Reader {
-    ghost use Rattle.std.specs.Prelude.{◌∷◌, ◌++◌, [], List, ℕ, Bool, true, false, IfOk, OnOk, OnErr, Ok, Err, None, Some, take, drop, slice_index, not, ◌-◌, ◌*◌, ◌==◌};
+    ghost use Rattle.std.specs.Prelude.{◌∷◌, ◌++◌, [], List, ℕ, Bool, true, false, IfOk, OnOk, OnErr, Ok, Err, None, Some, take, drop, slice_index, not, ◌-◌, ◌==◌};
     ghost use Rattle.sexpr_reader.specs.declared.sexpr.Sexpr.{Sexpr};
     ghost use Rattle.sexpr_reader.specs.declared.syntax_fault.SyntaxFault.TheVariants.{Incomplete};
     ghost use Rattle.sexpr_reader.specs.Bytes.{is_border};
     ghost use Rattle.sexpr_reader.specs.Items.{Feeds};
-    ghost use Rattle.sexpr_reader.specs.Lexes.{EndsAt};
+    ghost use Rattle.sexpr_reader.specs.Lexes.{EndsOrPasses};
     ghost use Rattle.sexpr_reader.specs.Reads.{Ends, FaultAfter};
-    ghost use Rattle.sexpr_reader.specs.Standing.{Stands, Steps, IsSame, IsSettled, IsLeft, Answers, Closes, kept, busy, work};
+    ghost use Rattle.sexpr_reader.specs.Standing.{HasGiven, AnswersStep, IsSame, IsSettled, IsOpenToken, AnswersNext, AnswersEnd, kept, work};
     ghost use Rattle.sexpr_reader.specs.Stepping.{Acts};
     ghost use Rattle.sexpr_reader.specs.Tokens.{Open, Close, Atomic};
 
     /// A reader that was fed nothing. It takes no memory.
     pub fn new(alloc: Global) -> Reader
-        ensures stands { Stands false result [] [] }
+        ensures stands { HasGiven false result [] [] }
     {
         Reader {
             pending: Vec::new(alloc),
@@ -72,8 +72,8 @@ impl Reader {
     /// promises anything of bytes that are fed then. More than 2^64 - 1 bytes are answered as want
     /// of memory.
     pub fn feed(&mut self, piece: &[u8]) -> Result<(), AllocError>
-        ensures fed { OnOk result ((bytes : List ℕ) (given : List Sexpr) → Stands false self.old bytes given → Stands false self.new (bytes ++ piece.now) given) }
-        ensures refused { OnErr result ((ended : Bool) (bytes : List ℕ) (given : List Sexpr) → Stands ended self.old bytes given → Stands ended self.new bytes given) }
+        ensures fed { OnOk result ((bytes : List ℕ) (given : List Sexpr) → HasGiven false self.old bytes given → HasGiven false self.new (bytes ++ piece.now) given) }
+        ensures refused { OnErr result ((ended : Bool) (bytes : List ℕ) (given : List Sexpr) → HasGiven ended self.old bytes given → HasGiven ended self.new bytes given) }
     {
         let kept = (self.pending.len() - self.start) as u64;
         if piece.len() as u64 > u64::MAX - (self.place + kept) {
@@ -89,7 +89,7 @@ impl Reader {
     /// that none looked at before, and once more at the token that they end; it takes memory for
     /// the item and for the lists that are open.
     pub fn next(&mut self) -> Result<Option<Sexpr>, SyntaxFault>
-        ensures answers { (bytes : List ℕ) (given : List Sexpr) → Stands false self.old bytes given → Answers self.new bytes given result }
+        ensures answers { (bytes : List ℕ) (given : List Sexpr) → HasGiven false self.old bytes given → AnswersNext self.new bytes given result }
     {
         self.read_on()
     }
@@ -97,7 +97,7 @@ impl Reader {
     /// The next item where no byte follows, so that a last atom is whole. It is called until it
     /// answers `None` or a fault, and costs what `next` does.
     pub fn end(&mut self) -> Result<Option<Sexpr>, SyntaxFault>
-        ensures answers { (ended : Bool) (bytes : List ℕ) (given : List Sexpr) → Stands ended self.old bytes given → Closes ended self.new bytes given result }
+        ensures answers { (ended : Bool) (bytes : List ℕ) (given : List Sexpr) → HasGiven ended self.old bytes given → AnswersEnd ended self.new bytes given result }
     {
         match self.read_on() {
             Ok(None) => self.read_last(),
@@ -108,7 +108,7 @@ impl Reader {
 
     /// Goes on to the next item, to a fault, or to the end of the bytes.
     fn read_on(&mut self) -> Result<Option<Sexpr>, SyntaxFault>
-        ensures steps { (ended : Bool) (bytes : List ℕ) (given : List Sexpr) → Stands ended self.old bytes given → Steps ended self.new bytes given result }
+        ensures steps { (ended : Bool) (bytes : List ℕ) (given : List Sexpr) → HasGiven ended self.old bytes given → AnswersStep ended self.new bytes given result }
         ensures all { result ≡ Ok None → length self.new.pending.items ≡ self.new.at }
         ensures start { result ≡ Ok None → self.new.start ≡ 0 }
     {
@@ -126,7 +126,7 @@ impl Reader {
     /// What is left where all bytes were looked at and none follows.
     fn read_last(&mut self) -> Result<Option<Sexpr>, SyntaxFault>
         requires { length self.old.pending.items ≡ self.old.at }
-        ensures { (ended : Bool) (bytes : List ℕ) (given : List Sexpr) → Stands ended self.old bytes given → Closes ended self.new bytes given result }
+        ensures { (ended : Bool) (bytes : List ℕ) (given : List Sexpr) → HasGiven ended self.old bytes given → AnswersEnd ended self.new bytes given result }
     {
         match self.last_atom() {
             Ok(None) => {}
@@ -142,9 +142,9 @@ impl Reader {
     /// The atom that the end of the input ends, if there is one.
     fn last_atom(&mut self) -> Result<Option<Sexpr>, SyntaxFault>
         requires { length self.old.pending.items ≡ self.old.at }
-        ensures steps { (bytes : List ℕ) (given : List Sexpr) → Stands true self.old bytes given → Steps true self.new bytes given result }
+        ensures steps { (bytes : List ℕ) (given : List Sexpr) → HasGiven true self.old bytes given → AnswersStep true self.new bytes given result }
         ensures refused { OnErr result (IsSame self.old self.new) }
-        ensures left { OnOk result (IsLeft self.new.mode) }
+        ensures left { OnOk result (IsOpenToken self.new.mode) }
         ensures all { OnOk result (length self.new.pending.items ≡ self.new.at) }
     {
         match self.mode {
@@ -157,9 +157,9 @@ impl Reader {
     /// Whether no list, literal or quoted symbol is open at the end.
     fn is_done(&self) -> bool
         requires all { length self.now.pending.items ≡ self.now.at }
-        requires left { IsLeft self.now.mode }
-        ensures done { result ≡ true → (bytes : List ℕ) (given : List Sexpr) → Stands true self.now bytes given → Ends bytes given }
-        ensures open { result ≡ false → (bytes : List ℕ) (given : List Sexpr) → Stands true self.now bytes given → FaultAfter true bytes given Incomplete }
+        requires left { IsOpenToken self.now.mode }
+        ensures done { result ≡ true → (bytes : List ℕ) (given : List Sexpr) → HasGiven true self.now bytes given → Ends bytes given }
+        ensures open { result ≡ false → (bytes : List ℕ) (given : List Sexpr) → HasGiven true self.now bytes given → FaultAfter true bytes given Incomplete }
     {
         if !self.mode.is_idle() {
             return false;
@@ -170,7 +170,7 @@ impl Reader {
     /// Looks at the next byte.
     fn advance(&mut self) -> Result<Option<Sexpr>, SyntaxFault>
         requires { self.old.at < length self.old.pending.items }
-        ensures steps { (ended : Bool) (bytes : List ℕ) (given : List Sexpr) → Stands ended self.old bytes given → Steps ended self.new bytes given result }
+        ensures steps { (ended : Bool) (bytes : List ℕ) (given : List Sexpr) → HasGiven ended self.old bytes given → AnswersStep ended self.new bytes given result }
         ensures work { OnOk result ((self.new.pending.items ≡ self.old.pending.items) × (work self.new < work self.old)) }
     {
         match self.mode.action(self.pending[self.at]) {
@@ -195,7 +195,7 @@ impl Reader {
     fn skip(&mut self, mode: Mode)
         requires within { self.old.at < length self.old.pending.items }
         requires acts { Acts self.old.mode (slice_index self.old.pending.items self.old.at) (Action.Skip mode) }
-        ensures stands { (ended : Bool) (bytes : List ℕ) (given : List Sexpr) → Stands ended self.old bytes given → Stands ended self.new bytes given }
+        ensures stands { (ended : Bool) (bytes : List ℕ) (given : List Sexpr) → HasGiven ended self.old bytes given → HasGiven ended self.new bytes given }
         ensures work { (self.new.pending.items ≡ self.old.pending.items) × (work self.new < work self.old) }
     {
         self.settle(self.at + 1);
@@ -206,7 +206,7 @@ impl Reader {
     fn take(&mut self, mode: Mode)
         requires within { self.old.at < length self.old.pending.items }
         requires acts { Acts self.old.mode (slice_index self.old.pending.items self.old.at) (Action.Take mode) }
-        ensures stands { (ended : Bool) (bytes : List ℕ) (given : List Sexpr) → Stands ended self.old bytes given → Stands ended self.new bytes given }
+        ensures stands { (ended : Bool) (bytes : List ℕ) (given : List Sexpr) → HasGiven ended self.old bytes given → HasGiven ended self.new bytes given }
         ensures work { (self.new.pending.items ≡ self.old.pending.items) × (work self.new < work self.old) }
     {
         self.at += 1;
@@ -217,7 +217,7 @@ impl Reader {
     fn open(&mut self) -> Result<Option<Sexpr>, SyntaxFault>
         requires within { self.old.at < length self.old.pending.items }
         requires acts { Acts self.old.mode (slice_index self.old.pending.items self.old.at) Action.Open }
-        ensures steps { (ended : Bool) (bytes : List ℕ) (given : List Sexpr) → Stands ended self.old bytes given → Steps ended self.new bytes given result }
+        ensures steps { (ended : Bool) (bytes : List ℕ) (given : List Sexpr) → HasGiven ended self.old bytes given → AnswersStep ended self.new bytes given result }
         ensures work { OnOk result ((self.new.pending.items ≡ self.old.pending.items) × (work self.new < work self.old)) }
     {
         if self.nest.is_full() {
@@ -232,7 +232,7 @@ impl Reader {
     fn close(&mut self) -> Result<Option<Sexpr>, SyntaxFault>
         requires within { self.old.at < length self.old.pending.items }
         requires acts { Acts self.old.mode (slice_index self.old.pending.items self.old.at) Action.Close }
-        ensures steps { (ended : Bool) (bytes : List ℕ) (given : List Sexpr) → Stands ended self.old bytes given → Steps ended self.new bytes given result }
+        ensures steps { (ended : Bool) (bytes : List ℕ) (given : List Sexpr) → HasGiven ended self.old bytes given → AnswersStep ended self.new bytes given result }
         ensures work { OnOk result ((self.new.pending.items ≡ self.old.pending.items) × (work self.new < work self.old)) }
     {
         if self.nest.is_empty() {
@@ -247,16 +247,16 @@ impl Reader {
     fn close_quote(&mut self) -> Result<Option<Sexpr>, SyntaxFault>
         requires within { self.old.at < length self.old.pending.items }
         requires acts { Acts self.old.mode (slice_index self.old.pending.items self.old.at) Action.EndQuoted }
-        ensures steps { (ended : Bool) (bytes : List ℕ) (given : List Sexpr) → Stands ended self.old bytes given → Steps ended self.new bytes given result }
+        ensures steps { (ended : Bool) (bytes : List ℕ) (given : List Sexpr) → HasGiven ended self.old bytes given → AnswersStep ended self.new bytes given result }
         ensures work { OnOk result ((self.new.pending.items ≡ self.old.pending.items) × (work self.new < work self.old)) }
     {
-        Ok(self.finish(Kind::Quoted, self.at + 1)?)
+        Ok(self.finish(TokenKind::Quoted, self.at + 1)?)
     }
 
     /// The run is whole.
     fn run(&mut self) -> Result<Option<Sexpr>, SyntaxFault>
         requires { self.old.mode ≡ Mode.Run }
-        ensures steps { (ended : Bool) (bytes : List ℕ) (given : List Sexpr) → EndsAt is_border ended (drop self.old.at self.old.pending.items) → Stands ended self.old bytes given → Steps ended self.new bytes given result }
+        ensures steps { (ended : Bool) (bytes : List ℕ) (given : List Sexpr) → EndsOrPasses is_border ended (drop self.old.at self.old.pending.items) → HasGiven ended self.old bytes given → AnswersStep ended self.new bytes given result }
         ensures work { OnOk result ((self.new.pending.items ≡ self.old.pending.items) × (work self.new < work self.old)) }
         ensures at { OnOk result ((self.new.mode ≡ Mode.Blank) × (self.new.at ≡ self.old.at)) }
         ensures refused { OnErr result (IsSame self.old self.new) }
@@ -270,7 +270,7 @@ impl Reader {
     /// The literal is whole.
     fn literal(&mut self) -> Result<Option<Sexpr>, SyntaxFault>
         requires { self.old.mode ≡ Mode.Quote }
-        ensures steps { (ended : Bool) (bytes : List ℕ) (given : List Sexpr) → EndsAt (λ b. not (b == 34)) ended (drop self.old.at self.old.pending.items) → Stands ended self.old bytes given → Steps ended self.new bytes given result }
+        ensures steps { (ended : Bool) (bytes : List ℕ) (given : List Sexpr) → EndsOrPasses (λ b. not (b == 34)) ended (drop self.old.at self.old.pending.items) → HasGiven ended self.old bytes given → AnswersStep ended self.new bytes given result }
         ensures work { OnOk result ((self.new.pending.items ≡ self.old.pending.items) × (work self.new < work self.old)) }
         ensures at { OnOk result ((self.new.mode ≡ Mode.Blank) × (self.new.at ≡ self.old.at)) }
         ensures refused { OnErr result (IsSame self.old self.new) }
@@ -279,20 +279,20 @@ impl Reader {
         if !is_text {
             return Err(SyntaxFault::Literal(self.place));
         }
-        Ok(self.finish(Kind::Literal, self.at)?)
+        Ok(self.finish(TokenKind::Literal, self.at)?)
     }
 
     /// A `\` stands between bars.
     fn refuse(&self) -> SyntaxFault
         requires within { self.now.at < length self.now.pending.items }
         requires acts { Acts self.now.mode (slice_index self.now.pending.items self.now.at) Action.Refuse }
-        ensures { (ended : Bool) (bytes : List ℕ) (given : List Sexpr) → Stands ended self.now bytes given → Steps ended self.now bytes given (Err result) }
+        ensures { (ended : Bool) (bytes : List ℕ) (given : List Sexpr) → HasGiven ended self.now bytes given → AnswersStep ended self.now bytes given (Err result) }
     {
         SyntaxFault::Token(self.place)
     }
 
     /// The token of this kind ends in front of `end`.
-    fn finish(&mut self, kind: Kind, end: usize) -> Result<Option<Sexpr>, AllocError>
+    fn finish(&mut self, kind: TokenKind, end: usize) -> Result<Option<Sexpr>, AllocError>
         requires order { self.old.start ≤ end }
         requires within { end ≤ length self.old.pending.items }
         ensures ok { IfOk result (λ item. Feeds self.old.nest.lists.items (Atomic kind (take (end - self.old.start) (drop self.old.start self.old.pending.items)) ∷ []) item self.new.nest.lists.items) }
@@ -321,7 +321,7 @@ impl Reader {
 
     /// Lets go of the bytes in front of the unfinished token.
     fn compact(&mut self)
-        ensures stands { (ended : Bool) (bytes : List ℕ) (given : List Sexpr) → Stands ended self.old bytes given → Stands ended self.new bytes given }
+        ensures stands { (ended : Bool) (bytes : List ℕ) (given : List Sexpr) → HasGiven ended self.old bytes given → HasGiven ended self.new bytes given }
         ensures kept { self.new.pending.items ≡ drop self.old.start self.old.pending.items }
         ensures start { self.new.start ≡ 0 }
         ensures at { self.new.at + self.old.start ≡ self.old.at }

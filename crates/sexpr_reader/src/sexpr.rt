@@ -1,6 +1,6 @@
 ghost use Rattle.std.specs.Prelude.{◌≡◌, IfOk};
 
-use crate::kind::Kind;
+use crate::kind::TokenKind;
 use std::alloc::{AllocError, Global};
 use sv_list::{Copied, Items};
 
@@ -8,7 +8,7 @@ use sv_list::{Copied, Items};
 #[derive(Debug, Drop)]
 pub enum Sexpr {
     /// A token with its bytes as they stood, quotes and bars included.
-    Atom(Kind, Items<u8>),
+    Atom(TokenKind, Items<u8>),
     /// The items between two parentheses, in their order.
     List(Items<Sexpr>),
 }

@@ -3,10 +3,10 @@ ghost use Rattle.std.specs.Prelude.{◌≡◌, ◌∷◌, ◌++◌, [], List, �
 ghost use Rattle.std.specs.List.{list_all};
 ghost use Rattle.sexpr_reader.specs.Bytes.{is_digit, is_hexadecimal, is_bit, is_symbol_byte};
 ghost use Rattle.sexpr_reader.specs.Tokens.{IsPlain, is_readable, is_numeral, is_symbol, is_keyword, are_some};
-ghost use Rattle.sexpr_reader.specs.declared.kind.Kind.{Kind};
+ghost use Rattle.sexpr_reader.specs.declared.kind.TokenKind.{TokenKind};
 
 use crate::bytes::{is_bit, is_digit, is_hexadecimal, is_symbol_byte};
-use crate::kind::Kind;
+use crate::kind::TokenKind;
 use std::alloc::{AllocError, Global};
 use sv_word::{LiteralFault, read_literal};
 
@@ -117,8 +117,8 @@ fn is_keyword(bytes: &[u8]) -> bool
 }
 
 fn is_decimal(bytes: &[u8]) -> bool
-    ensures yes { result ≡ true → IsPlain Kind.Decimal bytes.now }
-    ensures no { result ≡ false → IsPlain Kind.Decimal bytes.now → ⊥ }
+    ensures yes { result ≡ true → IsPlain TokenKind.Decimal bytes.now }
+    ensures no { result ≡ false → IsPlain TokenKind.Decimal bytes.now → ⊥ }
 {
     for (i, b) in bytes.iter().enumerate() {
         if *b == b'.' {
@@ -128,33 +128,33 @@ fn is_decimal(bytes: &[u8]) -> bool
     false
 }
 
-fn is_hash(bytes: &[u8]) -> Option<Kind>
+fn is_hash(bytes: &[u8]) -> Option<TokenKind>
     ensures some { IfSome result (λ kind. IsPlain kind bytes.now) }
-    ensures none { IfNone result ((IsPlain Kind.Hexadecimal bytes.now → ⊥) × (IsPlain Kind.Binary bytes.now → ⊥)) }
+    ensures none { IfNone result ((IsPlain TokenKind.Hexadecimal bytes.now → ⊥) × (IsPlain TokenKind.Binary bytes.now → ⊥)) }
 {
     match bytes {
-        [b'#', b'x', digits @ ..] if are_some_hexadecimal(digits) => Some(Kind::Hexadecimal),
-        [b'#', b'b', digits @ ..] if are_some_bits(digits) => Some(Kind::Binary),
+        [b'#', b'x', digits @ ..] if are_some_hexadecimal(digits) => Some(TokenKind::Hexadecimal),
+        [b'#', b'b', digits @ ..] if are_some_bits(digits) => Some(TokenKind::Binary),
         _ => None,
     }
 }
 
 /// The kind of a run, where it is a token.
-pub fn plain_kind(bytes: &[u8]) -> Option<Kind>
+pub fn plain_kind(bytes: &[u8]) -> Option<TokenKind>
     ensures some { IfSome result (λ kind. IsPlain kind bytes.now) }
-    ensures none { IfNone result ((kind : Kind) → IsPlain kind bytes.now → ⊥) }
+    ensures none { IfNone result ((kind : TokenKind) → IsPlain kind bytes.now → ⊥) }
 {
     if is_symbol(bytes) {
-        return Some(Kind::Symbol);
+        return Some(TokenKind::Symbol);
     }
     if is_numeral(bytes) {
-        return Some(Kind::Numeral);
+        return Some(TokenKind::Numeral);
     }
     if is_keyword(bytes) {
-        return Some(Kind::Keyword);
+        return Some(TokenKind::Keyword);
     }
     if is_decimal(bytes) {
-        return Some(Kind::Decimal);
+        return Some(TokenKind::Decimal);
     }
     is_hash(bytes)
 }

@@ -1,6 +1,6 @@
 -- S-expressions as the definitions take them apart: each is a token or a group, and a group is a list of forms. The two types mirror `Sexpr`, so that a definition may go by cases on what stands inside a list.
 use Rattle.std.specs.Prelude.{ℕ, suc, Bool, true, ◌&&◌, List, [], ◌∷◌, Option, Some, None}
-use Rattle.sexpr_reader.specs.declared.kind.Kind.{Kind}
+use Rattle.sexpr_reader.specs.declared.kind.TokenKind.{TokenKind}
 use Rattle.sexpr_reader.specs.declared.sexpr.Sexpr.{Sexpr}
 use Rattle.sexpr_reader.specs.declared.sexpr.Sexpr.TheOpen.{Sexpr-F}
 use Rattle.sexpr_reader.specs.declared.sexpr.Sexpr.TheFolds.{fold-Sexpr}
@@ -10,7 +10,7 @@ infixr 5 ◌⨾◌
 mutual
   -- a token with its bytes, or a list in parentheses
   pub data Form : Type 0 where
-    token : Kind → List ℕ → Form
+    token : TokenKind → List ℕ → Form
     group : Forms → Form
 
   pub data Forms : Type 0 where

@@ -1,13 +1,13 @@
 -- What is seen of an s-expression.
 use Rattle.std.proofs.Common.{◌≡◌, refl, sym, ap, ◌∙◌, ℕ, zero, suc, ◌+◌, ◌<◌, ◌≤◌, Bool, true, false, ◌&&◌, List, [], ◌∷◌, length, map, get_or, drop, Some, None, arith, add-one}
-use Rattle.sexpr_reader.specs.declared.kind.Kind.{Kind}
+use Rattle.sexpr_reader.specs.declared.kind.TokenKind.{TokenKind}
 use Rattle.sexpr_reader.specs.declared.sexpr.Sexpr.{Sexpr}
 use Rattle.sexpr_reader.specs.declared.sexpr.Sexpr.TheVariants as v
 use Rattle.sexpr_reader.specs.declared.sexpr.Sexpr.TheOpen.{Sexpr-F}
 use Rattle.sexpr_reader.specs.declared.sexpr.Sexpr.TheFolds.{fold-roll-Sexpr}
 use Rattle.smt_names.specs.Form.{Form, forms, form_layer, seen, token, group, end, ◌⨾◌, two, are_all}
 
-pub seen-Atom : (k : Kind) (text : List ℕ) → seen (v.Atom k text) ≡ token k text
+pub seen-Atom : (k : TokenKind) (text : List ℕ) → seen (v.Atom k text) ≡ token k text
 seen-Atom k text = ap seen (sym (v.rolls-Atom k text)) ∙ fold-roll-Sexpr Form form_layer (Sexpr-F.Atom k text)
 
 pub seen-List : (xs : List Sexpr) → seen (v.List xs) ≡ group (forms (map seen xs))

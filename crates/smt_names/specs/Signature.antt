@@ -7,10 +7,10 @@ use Rattle.sv_terms.specs.declared.op.Op.TheVariants as op
 use Rattle.sv_terms.specs.declared.sort.Sort.{Sort}
 use Rattle.sv_terms.specs.declared.sort.Sort.TheVariants.{Bool as B, Int as I, String as S, RegLan as R}
 use Rattle.smt_names.specs.declared.function.Function.{Function}
-use Rattle.smt_names.specs.declared.function.Takes.{Takes}
-use Rattle.smt_names.specs.declared.function.Takes.TheVariants.{Nothing, One, Two, Three, Each, Many, Alike, Choice}
-use Rattle.smt_names.specs.declared.function.Sense.{Sense}
-use Rattle.smt_names.specs.declared.function.Sense.TheVariants as is
+use Rattle.smt_names.specs.declared.function.ArgumentSorts.{ArgumentSorts}
+use Rattle.smt_names.specs.declared.function.ArgumentSorts.TheVariants.{Nothing, One, Two, Three, Each, Many, Alike, Choice}
+use Rattle.smt_names.specs.declared.function.Interpretation.{Interpretation}
+use Rattle.smt_names.specs.declared.function.Interpretation.TheVariants as is
 
 abbrev pub Name : Type 0
 Name = List ℕ
@@ -19,7 +19,7 @@ abbrev pub same_name : Name → Name → Bool
 same_name = pointwise nat_eq
 
 -- a function that takes such arguments, gives this sort, and has this sense
-abbrev pub function : Takes → Sort → Sense → Function
+abbrev pub function : ArgumentSorts → Sort → Interpretation → Function
 function takes gives sense = record { takes = takes; gives = gives; sense = sense }
 
 abbrev pub Rows : Type 0

@@ -2,7 +2,7 @@ use sv_terms::{Op, Sort};
 
 /// Which arguments a function takes.
 #[derive(Clone, Copy, Debug, PartialEq, Eq)]
-pub enum Takes {
+pub enum ArgumentSorts {
     /// None: a constant.
     Nothing,
     /// One of this sort.
@@ -23,7 +23,7 @@ pub enum Takes {
 
 /// What a function is at arguments that it takes.
 #[derive(Clone, Copy, Debug, PartialEq, Eq)]
-pub enum Sense {
+pub enum Interpretation {
     /// This truth value.
     Truth(bool),
     /// This function of terms.
@@ -70,7 +70,7 @@ pub enum Sense {
 /// gives (of `ite` the sort of the second argument), and what it is.
 #[derive(Clone, Copy, Debug, PartialEq, Eq)]
 pub struct Function {
-    pub takes: Takes,
+    pub takes: ArgumentSorts,
     pub gives: Sort,
-    pub sense: Sense,
+    pub sense: Interpretation,
 }

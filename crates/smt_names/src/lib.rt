@@ -18,6 +18,6 @@ pub mod token;
 mod verb;
 
 pub use check_fault::CheckFault;
-pub use function::{Function, Sense, Takes};
+pub use function::{ArgumentSorts, Function, Interpretation};
 pub use opening::Opening;
-pub use verb::Verb;
+pub use verb::CommandName;

@@ -1,20 +1,20 @@
 // The names of the functions, sorts and commands, each found by its length and bytes.
 ghost use Rattle.std.specs.Prelude.{◌≡◌, ◌++◌, Some};
 ghost use Rattle.sv_terms.specs.declared.sort.Sort.TheVariants.{Bool, RegLan};
-ghost use Rattle.smt_names.specs.declared.function.Sense.TheVariants.{Meaning, Opaque};
+ghost use Rattle.smt_names.specs.declared.function.Interpretation.TheVariants.{Meaning, Opaque};
 ghost use Rattle.std.specs.Map.{lookup};
 ghost use Rattle.smt_names.specs.Form.{seen};
 ghost use Rattle.smt_names.specs.Tokens as t;
 ghost use Rattle.smt_names.specs.Signature as s;
 ghost use Rattle.smt_names.specs.Verbs as v;
 
-use crate::function::{Function, Sense, Takes};
+use crate::function::{ArgumentSorts, Function, Interpretation};
 use crate::token::{bare_name, symbol};
-use crate::verb::Verb;
+use crate::verb::CommandName;
 use sexpr_reader::Sexpr;
 use sv_terms::{Op, Sort};
 
-fn rank(takes: Takes, gives: Sort, sense: Sense) -> Option<Function>
+fn rank(takes: ArgumentSorts, gives: Sort, sense: Interpretation) -> Option<Function>
     ensures { result ≡ Some (s.function takes gives sense) }
 {
     Some(Function {
@@ -24,19 +24,19 @@ fn rank(takes: Takes, gives: Sort, sense: Sense) -> Option<Function>
     })
 }
 
-fn relation(takes: Takes, op: Op) -> Option<Function>
+fn relation(takes: ArgumentSorts, op: Op) -> Option<Function>
     ensures { result ≡ Some (s.function takes Bool (Meaning op)) }
 {
-    rank(takes, Sort::Bool, Sense::Meaning(op))
+    rank(takes, Sort::Bool, Interpretation::Meaning(op))
 }
 
-fn opaque(takes: Takes, gives: Sort) -> Option<Function>
+fn opaque(takes: ArgumentSorts, gives: Sort) -> Option<Function>
     ensures { result ≡ Some (s.function takes gives Opaque) }
 {
-    rank(takes, gives, Sense::Opaque)
+    rank(takes, gives, Interpretation::Opaque)
 }
 
-fn language(takes: Takes, sense: Sense) -> Option<Function>
+fn language(takes: ArgumentSorts, sense: Interpretation) -> Option<Function>
     ensures { result ≡ Some (s.function takes RegLan sense) }
 {
     rank(takes, Sort::RegLan, sense)
@@ -47,16 +47,32 @@ fn core(name: &[u8]) -> Option<Function>
     ensures { result ≡ lookup (s.same_name name.now) s.core }
 {
     match name {
-        b"true" => rank(Takes::Nothing, Sort::Bool, Sense::Truth(true)),
-        b"false" => rank(Takes::Nothing, Sort::Bool, Sense::Truth(false)),
-        b"not" => relation(Takes::One(Sort::Bool), Op::Not),
-        b"and" => relation(Takes::Each(Sort::Bool), Op::And),
-        b"or" => relation(Takes::Each(Sort::Bool), Op::Or),
-        b"xor" => relation(Takes::Many(Sort::Bool), Op::Xor),
-        b"=>" => relation(Takes::Many(Sort::Bool), Op::Implies),
-        b"=" => rank(Takes::Alike, Sort::Bool, Sense::Equality(Op::Equal)),
-        b"distinct" => rank(Takes::Alike, Sort::Bool, Sense::Equality(Op::Distinct)),
-        b"ite" => rank(Takes::Choice, Sort::Bool, Sense::Choice),
+        b"true" => rank(
+            ArgumentSorts::Nothing,
+            Sort::Bool,
+            Interpretation::Truth(true),
+        ),
+        b"false" => rank(
+            ArgumentSorts::Nothing,
+            Sort::Bool,
+            Interpretation::Truth(false),
+        ),
+        b"not" => relation(ArgumentSorts::One(Sort::Bool), Op::Not),
+        b"and" => relation(ArgumentSorts::Each(Sort::Bool), Op::And),
+        b"or" => relation(ArgumentSorts::Each(Sort::Bool), Op::Or),
+        b"xor" => relation(ArgumentSorts::Many(Sort::Bool), Op::Xor),
+        b"=>" => relation(ArgumentSorts::Many(Sort::Bool), Op::Implies),
+        b"=" => rank(
+            ArgumentSorts::Alike,
+            Sort::Bool,
+            Interpretation::Equality(Op::Equal),
+        ),
+        b"distinct" => rank(
+            ArgumentSorts::Alike,
+            Sort::Bool,
+            Interpretation::Equality(Op::Distinct),
+        ),
+        b"ite" => rank(ArgumentSorts::Choice, Sort::Bool, Interpretation::Choice),
         _ => None,
     }
 }
@@ -65,19 +81,19 @@ fn core(name: &[u8]) -> Option<Function>
 fn integers(name: &[u8]) -> Option<Function>
     ensures { result ≡ lookup (s.same_name name.now) s.integers }
 {
-    let each = Takes::Each(Sort::Int);
-    let many = Takes::Many(Sort::Int);
+    let each = ArgumentSorts::Each(Sort::Int);
+    let many = ArgumentSorts::Many(Sort::Int);
     match name {
         b"<=" => relation(many, Op::LessEqual),
         b"<" => relation(many, Op::Less),
         b">=" => relation(many, Op::GreaterEqual),
         b">" => relation(many, Op::Greater),
-        b"+" => rank(each, Sort::Int, Sense::Meaning(Op::Add)),
-        b"-" => rank(each, Sort::Int, Sense::Meaning(Op::Subtract)),
-        b"*" => rank(each, Sort::Int, Sense::Product),
+        b"+" => rank(each, Sort::Int, Interpretation::Meaning(Op::Add)),
+        b"-" => rank(each, Sort::Int, Interpretation::Meaning(Op::Subtract)),
+        b"*" => rank(each, Sort::Int, Interpretation::Product),
         b"div" => opaque(many, Sort::Int),
-        b"mod" => opaque(Takes::Two(Sort::Int, Sort::Int), Sort::Int),
-        b"abs" => opaque(Takes::One(Sort::Int), Sort::Int),
+        b"mod" => opaque(ArgumentSorts::Two(Sort::Int, Sort::Int), Sort::Int),
+        b"abs" => opaque(ArgumentSorts::One(Sort::Int), Sort::Int),
         _ => None,
     }
 }
@@ -86,14 +102,14 @@ fn integers(name: &[u8]) -> Option<Function>
 fn words(name: &[u8]) -> Option<Function>
     ensures { result ≡ lookup (s.same_name name.now) s.words }
 {
-    let one = Takes::One(Sort::String);
-    let each = Takes::Each(Sort::String);
-    let member = Takes::Two(Sort::String, Sort::RegLan);
+    let one = ArgumentSorts::One(Sort::String);
+    let each = ArgumentSorts::Each(Sort::String);
+    let member = ArgumentSorts::Two(Sort::String, Sort::RegLan);
     match name {
-        b"str.len" => rank(one, Sort::Int, Sense::Meaning(Op::Length)),
-        b"str.++" => rank(each, Sort::String, Sense::Meaning(Op::Concat)),
+        b"str.len" => rank(one, Sort::Int, Interpretation::Meaning(Op::Length)),
+        b"str.++" => rank(each, Sort::String, Interpretation::Meaning(Op::Concat)),
         b"str.is_digit" => relation(one, Op::IsDigit),
-        b"str.in_re" => rank(member, Sort::Bool, Sense::Membership),
+        b"str.in_re" => rank(member, Sort::Bool, Interpretation::Membership),
         _ => None,
     }
 }
@@ -102,7 +118,7 @@ fn words(name: &[u8]) -> Option<Function>
 fn relations(name: &[u8]) -> Option<Function>
     ensures { result ≡ lookup (s.same_name name.now) s.relations }
 {
-    let two = Takes::Two(Sort::String, Sort::String);
+    let two = ArgumentSorts::Two(Sort::String, Sort::String);
     if name == b"str.prefixof".as_slice() {
         return relation(two, Op::PrefixOf);
     }
@@ -119,11 +135,19 @@ fn relations(name: &[u8]) -> Option<Function>
 fn replacements(name: &[u8]) -> Option<Function>
     ensures { result ≡ lookup (s.same_name name.now) s.replacements }
 {
-    let words = Takes::Three(Sort::String, Sort::String, Sort::String);
-    let language = Takes::Three(Sort::String, Sort::RegLan, Sort::String);
+    let words = ArgumentSorts::Three(Sort::String, Sort::String, Sort::String);
+    let language = ArgumentSorts::Three(Sort::String, Sort::RegLan, Sort::String);
     match name {
-        b"str.replace" => rank(words, Sort::String, Sense::Replacement(Op::Replace)),
-        b"str.replace_all" => rank(words, Sort::String, Sense::Replacement(Op::ReplaceAll)),
+        b"str.replace" => rank(
+            words,
+            Sort::String,
+            Interpretation::Replacement(Op::Replace),
+        ),
+        b"str.replace_all" => rank(
+            words,
+            Sort::String,
+            Interpretation::Replacement(Op::ReplaceAll),
+        ),
         b"str.replace_re" => opaque(language, Sort::String),
         b"str.replace_re_all" => opaque(language, Sort::String),
         _ => None,
@@ -135,17 +159,17 @@ fn places(name: &[u8]) -> Option<Function>
     ensures { result ≡ lookup (s.same_name name.now) s.places }
 {
     if name == b"str.at".as_slice() {
-        return opaque(Takes::Two(Sort::String, Sort::Int), Sort::String);
+        return opaque(ArgumentSorts::Two(Sort::String, Sort::Int), Sort::String);
     }
     if name == b"str.substr".as_slice() {
         return opaque(
-            Takes::Three(Sort::String, Sort::Int, Sort::Int),
+            ArgumentSorts::Three(Sort::String, Sort::Int, Sort::Int),
             Sort::String,
         );
     }
     if name == b"str.indexof".as_slice() {
         return opaque(
-            Takes::Three(Sort::String, Sort::String, Sort::Int),
+            ArgumentSorts::Three(Sort::String, Sort::String, Sort::Int),
             Sort::Int,
         );
     }
@@ -157,13 +181,13 @@ fn conversions(name: &[u8]) -> Option<Function>
     ensures { result ≡ lookup (s.same_name name.now) s.conversions }
 {
     if name == b"str.<".as_slice() || name == b"str.<=".as_slice() {
-        return opaque(Takes::Many(Sort::String), Sort::Bool);
+        return opaque(ArgumentSorts::Many(Sort::String), Sort::Bool);
     }
     if name == b"str.to_code".as_slice() || name == b"str.to_int".as_slice() {
-        return opaque(Takes::One(Sort::String), Sort::Int);
+        return opaque(ArgumentSorts::One(Sort::String), Sort::Int);
     }
     if name == b"str.from_code".as_slice() || name == b"str.from_int".as_slice() {
-        return opaque(Takes::One(Sort::Int), Sort::String);
+        return opaque(ArgumentSorts::One(Sort::Int), Sort::String);
     }
     None
 }
@@ -172,22 +196,25 @@ fn conversions(name: &[u8]) -> Option<Function>
 fn languages(name: &[u8]) -> Option<Function>
     ensures { result ≡ lookup (s.same_name name.now) s.languages }
 {
-    let one = Takes::One(Sort::RegLan);
-    let each = Takes::Each(Sort::RegLan);
+    let one = ArgumentSorts::One(Sort::RegLan);
+    let each = ArgumentSorts::Each(Sort::RegLan);
     match name {
-        b"str.to_re" => language(Takes::One(Sort::String), Sense::TextOf),
-        b"re.none" => language(Takes::Nothing, Sense::Empty),
-        b"re.all" => language(Takes::Nothing, Sense::All),
-        b"re.allchar" => language(Takes::Nothing, Sense::AnyChar),
-        b"re.++" => language(each, Sense::Concat),
-        b"re.union" => language(each, Sense::Union),
-        b"re.inter" => language(each, Sense::Inter),
-        b"re.*" => language(one, Sense::Star),
-        b"re.+" => language(one, Sense::Plus),
-        b"re.opt" => language(one, Sense::Opt),
-        b"re.comp" => language(one, Sense::Comp),
-        b"re.diff" => language(Takes::Many(Sort::RegLan), Sense::Diff),
-        b"re.range" => language(Takes::Two(Sort::String, Sort::String), Sense::Range),
+        b"str.to_re" => language(ArgumentSorts::One(Sort::String), Interpretation::TextOf),
+        b"re.none" => language(ArgumentSorts::Nothing, Interpretation::Empty),
+        b"re.all" => language(ArgumentSorts::Nothing, Interpretation::All),
+        b"re.allchar" => language(ArgumentSorts::Nothing, Interpretation::AnyChar),
+        b"re.++" => language(each, Interpretation::Concat),
+        b"re.union" => language(each, Interpretation::Union),
+        b"re.inter" => language(each, Interpretation::Inter),
+        b"re.*" => language(one, Interpretation::Star),
+        b"re.+" => language(one, Interpretation::Plus),
+        b"re.opt" => language(one, Interpretation::Opt),
+        b"re.comp" => language(one, Interpretation::Comp),
+        b"re.diff" => language(ArgumentSorts::Many(Sort::RegLan), Interpretation::Diff),
+        b"re.range" => language(
+            ArgumentSorts::Two(Sort::String, Sort::String),
+            Interpretation::Range,
+        ),
         _ => None,
     }
 }
@@ -242,9 +269,9 @@ pub fn loop_from(i: u32, j: u32) -> Function
     ensures { result ≡ s.loop i j }
 {
     Function {
-        takes: Takes::One(Sort::RegLan),
+        takes: ArgumentSorts::One(Sort::RegLan),
         gives: Sort::RegLan,
-        sense: Sense::Loop(i, j),
+        sense: Interpretation::Loop(i, j),
     }
 }
 
@@ -253,9 +280,9 @@ pub fn character(c: u32) -> Function
     ensures { result ≡ s.character c }
 {
     Function {
-        takes: Takes::Nothing,
+        takes: ArgumentSorts::Nothing,
         gives: Sort::String,
-        sense: Sense::Character(c),
+        sense: Interpretation::Character(c),
     }
 }
 
@@ -336,43 +363,43 @@ pub fn truth(item: &Sexpr) -> Option<bool>
     }
 }
 
-fn session_verb(word: &[u8]) -> Option<Verb>
+fn session_verb(word: &[u8]) -> Option<CommandName>
     ensures { result ≡ lookup (s.same_name word.now) v.session_verbs }
 {
     match word {
-        b"push" => Some(Verb::Push),
-        b"pop" => Some(Verb::Pop),
-        b"check-sat" => Some(Verb::CheckSat),
-        b"get-model" => Some(Verb::GetModel),
-        b"get-info" => Some(Verb::GetInfo),
-        b"echo" => Some(Verb::Echo),
-        b"reset" => Some(Verb::Reset),
-        b"reset-assertions" => Some(Verb::ResetAssertions),
-        b"exit" => Some(Verb::Exit),
+        b"push" => Some(CommandName::Push),
+        b"pop" => Some(CommandName::Pop),
+        b"check-sat" => Some(CommandName::CheckSat),
+        b"get-model" => Some(CommandName::GetModel),
+        b"get-info" => Some(CommandName::GetInfo),
+        b"echo" => Some(CommandName::Echo),
+        b"reset" => Some(CommandName::Reset),
+        b"reset-assertions" => Some(CommandName::ResetAssertions),
+        b"exit" => Some(CommandName::Exit),
         _ => None,
     }
 }
 
-fn script_verb(word: &[u8]) -> Option<Verb>
+fn script_verb(word: &[u8]) -> Option<CommandName>
     ensures { result ≡ lookup (s.same_name word.now) v.script_verbs }
 {
     match word {
-        b"set-logic" => Some(Verb::SetLogic),
-        b"set-info" => Some(Verb::SetInfo),
-        b"set-option" => Some(Verb::SetOption),
-        b"declare-const" => Some(Verb::DeclareConst),
-        b"declare-fun" => Some(Verb::DeclareFun),
-        b"define-fun" => Some(Verb::DefineFun),
-        b"define-transducer" => Some(Verb::DefineTransducer),
-        b"assert" => Some(Verb::Assert),
-        b"get-value" => Some(Verb::GetValue),
+        b"set-logic" => Some(CommandName::SetLogic),
+        b"set-info" => Some(CommandName::SetInfo),
+        b"set-option" => Some(CommandName::SetOption),
+        b"declare-const" => Some(CommandName::DeclareConst),
+        b"declare-fun" => Some(CommandName::DeclareFun),
+        b"define-fun" => Some(CommandName::DefineFun),
+        b"define-transducer" => Some(CommandName::DefineTransducer),
+        b"assert" => Some(CommandName::Assert),
+        b"get-value" => Some(CommandName::GetValue),
         _ => None,
     }
 }
 
 /// The command of this word.
 #[tactic(auto, using(crate::specs::Lookups::lookups))]
-pub fn verb(word: &[u8]) -> Option<Verb>
+pub fn verb(word: &[u8]) -> Option<CommandName>
     ensures { result ≡ lookup (s.same_name word.now) v.verbs }
 {
     match script_verb(word) {

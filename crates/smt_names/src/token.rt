@@ -11,7 +11,7 @@ ghost use Rattle.smt_names.specs.Signature.{same_name};
 ghost use Rattle.smt_names.specs.Tokens as t;
 
 use crate::opening::Opening;
-use sexpr_reader::{Kind, Sexpr};
+use sexpr_reader::{Sexpr, TokenKind};
 use std::alloc::{AllocError, Global};
 use sv_word::{GREATEST_CHARACTER, LiteralFault, Word, read_literal};
 
@@ -30,8 +30,8 @@ pub fn symbol(item: &Sexpr) -> Option<&[u8]>
     ensures { option_map (λ text. symbol_name text.now) result ≡ t.symbol (seen item.now) }
 {
     match item {
-        Sexpr::Atom(Kind::Symbol, text) => Some(text.as_slice()),
-        Sexpr::Atom(Kind::Quoted, text) => Some(text.as_slice()),
+        Sexpr::Atom(TokenKind::Symbol, text) => Some(text.as_slice()),
+        Sexpr::Atom(TokenKind::Quoted, text) => Some(text.as_slice()),
         _ => None,
     }
 }
@@ -41,7 +41,7 @@ pub fn word(item: &Sexpr) -> Option<&[u8]>
     ensures { option_copied result ≡ t.word (seen item.now) }
 {
     match item {
-        Sexpr::Atom(Kind::Symbol, text) => Some(text.as_slice()),
+        Sexpr::Atom(TokenKind::Symbol, text) => Some(text.as_slice()),
         _ => None,
     }
 }
@@ -51,7 +51,7 @@ pub fn digits(item: &Sexpr) -> Option<&[u8]>
     ensures { option_copied result ≡ t.digits (seen item.now) }
 {
     match item {
-        Sexpr::Atom(Kind::Numeral, text) => Some(text.as_slice()),
+        Sexpr::Atom(TokenKind::Numeral, text) => Some(text.as_slice()),
         _ => None,
     }
 }
@@ -61,7 +61,7 @@ pub fn keyword(item: &Sexpr) -> Option<&[u8]>
     ensures { option_copied result ≡ t.keyword (seen item.now) }
 {
     match item {
-        Sexpr::Atom(Kind::Keyword, text) => Some(text.as_slice()),
+        Sexpr::Atom(TokenKind::Keyword, text) => Some(text.as_slice()),
         _ => None,
     }
 }
@@ -71,7 +71,7 @@ pub fn literal_text(item: &Sexpr) -> Option<&[u8]>
     ensures { option_copied result ≡ t.literal_text (seen item.now) }
 {
     match item {
-        Sexpr::Atom(Kind::Literal, text) => Some(text.as_slice()),
+        Sexpr::Atom(TokenKind::Literal, text) => Some(text.as_slice()),
         _ => None,
     }
 }
@@ -201,7 +201,7 @@ pub fn character_token(item: &Sexpr) -> Option<u32>
     ensures { result ≡ t.character_token (seen item.now) }
 {
     match item {
-        Sexpr::Atom(Kind::Hexadecimal, text) => match text.as_slice() {
+        Sexpr::Atom(TokenKind::Hexadecimal, text) => match text.as_slice() {
             [_, _, digits @ ..] => character_of(digits),
             _ => character_of(b""),
         },
@@ -237,8 +237,8 @@ pub fn is_sort_form(item: &Sexpr) -> bool
     ensures { result ≡ t.is_sort_form (seen item.now) }
 {
     match item {
-        Sexpr::Atom(Kind::Symbol, _) => true,
-        Sexpr::Atom(Kind::Quoted, _) => true,
+        Sexpr::Atom(TokenKind::Symbol, _) => true,
+        Sexpr::Atom(TokenKind::Quoted, _) => true,
         Sexpr::Atom(_, _) => false,
         Sexpr::List(_) => true,
     }

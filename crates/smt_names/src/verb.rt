@@ -1,6 +1,6 @@
 /// The word of a command whose parts are looked at.
 #[derive(Clone, Copy, Debug, PartialEq, Eq)]
-pub enum Verb {
+pub enum CommandName {
     SetLogic,
     SetInfo,
     SetOption,

@@ -13,8 +13,8 @@ use Rattle.sv_terms.specs.Sorting.{is_valued, sort_of}
 use Rattle.sv_terms.specs.declared.entry.Entry.TheVariants as entry
 use Rattle.sv_terms.specs.declared.sort.Sort.TheVariants as sort
 use Rattle.sv_terms.specs.declared.term.Term.{Term}
-use Rattle.smt_session.specs.declared.session.Kept.{Kept}
-use Rattle.smt_session.specs.declared.session.Kept.TheVariants as kept
+use Rattle.smt_session.specs.declared.session.LastVerdict.{LastVerdict}
+use Rattle.smt_session.specs.declared.session.LastVerdict.TheVariants as kept
 
 -- from each level outward the names are well formed, and each assertion is a term of sort Bool over them
 abbrev pub AreSound : List Level → Type 0
@@ -22,25 +22,25 @@ AreSound [] = ⊤
 AreSound (level ∷ outer) = IsTrue (is_well_formed (symbols_of (level ∷ outer))) × AllByRecursion (IsTermOf (symbols_of (level ∷ outer)) sort.Bool) level.1 × AreSound outer
 
 -- a kept model has a value for each declared constant
-abbrev pub IsKeptOf : List Level → Option Kept → Type 0
+abbrev pub IsKeptOf : List Level → Option LastVerdict → Type 0
 IsKeptOf levels (Some (kept.Sat values)) = AreGiven values (symbols_of levels)
 IsKeptOf levels (Some kept.Unsat) = ⊤
 IsKeptOf levels (Some (kept.Unknown c)) = ⊤
 IsKeptOf levels None = ⊤
 
 -- what is known of a command under these levels
-abbrev pub Fits : List Level → Command → Type 0
-Fits levels (command.Declare name s) = IsAdded (symbols_of levels) name (entry.Constant s)
-Fits levels (command.Define name e) = IsAdded (symbols_of levels) name e
-Fits levels (command.Assert term) = IsTermOf (symbols_of levels) sort.Bool term
-Fits levels (command.GetValue items) = All (IsAskable (symbols_of levels)) items
-Fits levels _ = ⊤
+abbrev pub FitsLevels : List Level → Command → Type 0
+FitsLevels levels (command.Declare name s) = IsAdded (symbols_of levels) name (entry.Constant s)
+FitsLevels levels (command.Define name e) = IsAdded (symbols_of levels) name e
+FitsLevels levels (command.Assert term) = IsTermOf (symbols_of levels) sort.Bool term
+FitsLevels levels (command.GetValue items) = All (IsAskable (symbols_of levels)) items
+FitsLevels levels _ = ⊤
 
 -- a term that may be evaluated
-pub record IsAsked (values : Named) (term : Term) : Type 0 where
+pub record IsEvaluable (values : Named) (term : Term) : Type 0 where
   pub sorted : IsSome (sort_of term)
   pub valued : IsTrue (is_valued values term)
 
 -- an s-expression of such a term under these declarations
 abbrev pub IsAskedAt : List Symbol → Named → Sexpr → Type 0
-IsAskedAt symbols values item = (t : Term) × (asked_term symbols (seen item) ≡ Ok t) × IsAsked values t
+IsAskedAt symbols values item = (t : Term) × (asked_term symbols (seen item) ≡ Ok t) × IsEvaluable values t

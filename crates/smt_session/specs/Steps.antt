@@ -22,24 +22,24 @@ use Rattle.smt_session.specs.declared.error_kind.ErrorKind.TheVariants as error
 use Rattle.smt_session.specs.declared.info.Info.TheVariants as info
 use Rattle.smt_session.specs.declared.reply.Reply.{Reply}
 use Rattle.smt_session.specs.declared.reply.Reply.TheVariants as reply
-use Rattle.smt_session.specs.declared.session.Kept.{Kept}
-use Rattle.smt_session.specs.declared.session.Kept.TheVariants as kept
+use Rattle.smt_session.specs.declared.session.LastVerdict.{LastVerdict}
+use Rattle.smt_session.specs.declared.session.LastVerdict.TheVariants as kept
 use Rattle.cube_search.specs.declared.answer.Refutation.{Refutation}
 use Rattle.decide.specs.Completeness.{MustDecide, IsComplete}
 use Rattle.decide.specs.Verdicts.{RightVerdict}
 use Rattle.decide.specs.declared.verdict.Verdict.{Verdict}
 use Rattle.decide.specs.declared.verdict.Verdict.TheVariants as verdict_by
 use Rattle.smt_session.specs.Refusals.{of_check, of_value}
-use Rattle.smt_session.specs.Verdicts.{Covers, cause_of}
+use Rattle.smt_session.specs.Verdicts.{IsVerdictFor, cause_of}
 
 -- the levels, the innermost first; the verdict that is kept, if one is; whether successes are printed; whether `exit` was answered
 pub record State : Type 0 where
   pub levels : List Level
-  pub verdict : Option Kept
+  pub verdict : Option LastVerdict
   pub prints : Bool
   pub ended : Bool
 
-abbrev pub state : List Level → Option Kept → Bool → Bool → State
+abbrev pub state : List Level → Option LastVerdict → Bool → Bool → State
 state ls k p e = record { levels = ls; verdict = k; prints = p; ended = e }
 
 -- a session at its start
@@ -50,7 +50,7 @@ opened = state (empty ∷ []) None false false
 abbrev pub changed : List Level → State → State
 changed ls s = state ls None s.prints s.ended
 
-abbrev pub with_verdict : Kept → State → State
+abbrev pub with_verdict : LastVerdict → State → State
 with_verdict k s = state s.levels (Some k) s.prints s.ended
 
 abbrev pub printing : Bool → State → State
@@ -64,8 +64,8 @@ abbrev pub Outcome : Type 0
 Outcome = Reply × State
 
 -- this reply, and this session behind it
-abbrev pub Gives : Outcome → Reply → State → Type 0
-Gives outcome r t = (r ≡ outcome.0) × (t ≡ outcome.1)
+abbrev pub GivesReply : Outcome → Reply → State → Type 0
+GivesReply outcome r t = (r ≡ outcome.0) × (t ≡ outcome.1)
 
 -- a success, printed where the session behind it prints successes
 abbrev pub succeeds : State → Outcome
@@ -85,7 +85,7 @@ pops n s = if nat_lt n (length s.levels) then succeeds (changed (drop n s.levels
 abbrev pub definitions_of : Named → List (List ℕ × Sort × Value)
 definitions_of values = map (λ v. (v.0, kind v.1, v.1)) values
 
-abbrev pub model_reply : Option Kept → Reply
+abbrev pub model_reply : Option LastVerdict → Reply
 model_reply (Some (kept.Sat values)) = reply.Definitions (definitions_of values)
 model_reply (Some kept.Unsat) = reply.Error error.NoModel
 model_reply (Some (kept.Unknown c)) = reply.Error error.NoModel
@@ -95,7 +95,7 @@ abbrev pub same_keyword : List ℕ → List ℕ → Bool
 same_keyword k other = pointwise nat_eq k other
 
 -- the reason needs a kept `unknown`
-abbrev pub reason_reply : Option Kept → Reply
+abbrev pub reason_reply : Option LastVerdict → Reply
 reason_reply (Some (kept.Sat values)) = reply.Error error.NoReason
 reason_reply (Some kept.Unsat) = reply.Error error.NoReason
 reason_reply (Some (kept.Unknown c)) = reply.Info (info.ReasonUnknown c)
@@ -111,9 +111,9 @@ info_reply s k =
     if same_keyword k (codes ":reason-unknown") then reason_reply s.verdict else reply.Unsupported
 
 -- the terms' values under these declarations, each beside the s-expression as it was read
-abbrev pub AreValued : List Symbol → Named → List Sexpr → List (Sexpr × Value) → Type 0
-AreValued symbols values [] vs = vs ≡ []
-AreValued symbols values (item ∷ items) vs = (t : Term) × (v : Value) × (rest : List (Sexpr × Value)) × (asked_term symbols (seen item) ≡ Ok t) × (value_or_fault values t ≡ Ok v) × AreValued symbols values items rest × (vs ≡ (item, v) ∷ rest)
+abbrev pub AreAskedValues : List Symbol → Named → List Sexpr → List (Sexpr × Value) → Type 0
+AreAskedValues symbols values [] vs = vs ≡ []
+AreAskedValues symbols values (item ∷ items) vs = (t : Term) × (v : Value) × (rest : List (Sexpr × Value)) × (asked_term symbols (seen item) ≡ Ok t) × (value_or_fault values t ≡ Ok v) × AreAskedValues symbols values items rest × (vs ≡ (item, v) ∷ rest)
 
 -- the first term from the left that has no value, and why
 pub record IsFirstFault (symbols : List Symbol) (values : Named) (items : List Sexpr) (kind : ErrorKind) : Type 0 where
@@ -122,7 +122,7 @@ pub record IsFirstFault (symbols : List Symbol) (values : Named) (items : List S
   pub after : List Sexpr
   pub parts : items ≡ before ++ item ∷ after
   pub earlier : List (Sexpr × Value)
-  pub valued : AreValued symbols values before earlier
+  pub valued : AreAskedValues symbols values before earlier
   pub asked : Term
   pub asks : asked_term symbols (seen item) ≡ Ok asked
   pub fault : EvalFault
@@ -130,12 +130,12 @@ pub record IsFirstFault (symbols : List Symbol) (values : Named) (items : List S
   pub told : of_value fault ≡ Some kind
 
 abbrev pub AnswersValues : List Symbol → Named → List Sexpr → Reply → Type 0
-AnswersValues symbols values items (reply.Values vs) = AreValued symbols values items vs
+AnswersValues symbols values items (reply.Values vs) = AreAskedValues symbols values items vs
 AnswersValues symbols values items (reply.Error kind) = IsFirstFault symbols values items kind
 AnswersValues symbols values items _ = ⊥
 
 -- the values need a kept `sat`
-abbrev pub AnswersTerms : List Symbol → Option Kept → List Sexpr → Reply → Type 0
+abbrev pub AnswersTerms : List Symbol → Option LastVerdict → List Sexpr → Reply → Type 0
 AnswersTerms symbols (Some (kept.Sat values)) items r = AnswersValues symbols values items r
 AnswersTerms symbols (Some kept.Unsat) items r = r ≡ reply.Error error.NoModel
 AnswersTerms symbols (Some (kept.Unknown c)) items r = r ≡ reply.Error error.NoModel
@@ -149,7 +149,7 @@ Tells (reply.Unknown why) v = v ≡ verdict_by.Unknown why
 Tells _ v = ⊥
 
 -- what a session keeps of a verdict
-abbrev pub kept_of : Verdict → Kept
+abbrev pub kept_of : Verdict → LastVerdict
 kept_of (verdict_by.Sat values) = kept.Sat values
 kept_of (verdict_by.Unsat refutation) = kept.Unsat
 kept_of (verdict_by.Unknown why) = kept.Unknown (cause_of why)
@@ -160,32 +160,32 @@ pub record Checks (s : State) (r : Reply) (t : State) : Type 0 where
   pub told : Tells r answer
   pub right : RightVerdict (live s.levels) answer
   pub complete : MustDecide (live s.levels) → IsComplete (live s.levels) answer
-  pub covers : Covers (symbols_of s.levels) (live s.levels) answer
+  pub covers : IsVerdictFor (symbols_of s.levels) (live s.levels) answer
   pub after : t ≡ with_verdict (kept_of answer) s
 
 -- the reply to a command, and the session behind it
 abbrev pub Does : State → Command → Reply → State → Type 0
-Does s command.Inform r t = Gives (succeeds s) r t
-Does s (command.PrintSuccess b) r t = Gives (succeeds (printing b s)) r t
-Does s (command.Produce what b) r t = Gives (succeeds s) r t
-Does s (command.Declare name sort) r t = Gives (succeeds (changed (declared name (entry.Constant sort) s.levels) s)) r t
-Does s (command.Define name e) r t = Gives (succeeds (changed (declared name e s.levels) s)) r t
-Does s (command.Assert term) r t = Gives (succeeds (changed (asserted term s.levels) s)) r t
-Does s (command.Push n) r t = Gives (pushes n s) r t
-Does s (command.Pop n) r t = Gives (pops n s) r t
+Does s command.Inform r t = GivesReply (succeeds s) r t
+Does s (command.PrintSuccess b) r t = GivesReply (succeeds (printing b s)) r t
+Does s (command.Produce what b) r t = GivesReply (succeeds s) r t
+Does s (command.Declare name sort) r t = GivesReply (succeeds (changed (declared name (entry.Constant sort) s.levels) s)) r t
+Does s (command.Define name e) r t = GivesReply (succeeds (changed (declared name e s.levels) s)) r t
+Does s (command.Assert term) r t = GivesReply (succeeds (changed (asserted term s.levels) s)) r t
+Does s (command.Push n) r t = GivesReply (pushes n s) r t
+Does s (command.Pop n) r t = GivesReply (pops n s) r t
 Does s command.CheckSat r t = Checks s r t
-Does s command.GetModel r t = Gives (model_reply s.verdict, s) r t
+Does s command.GetModel r t = GivesReply (model_reply s.verdict, s) r t
 Does s (command.GetValue items) r t = AnswersTerms (symbols_of s.levels) s.verdict items r × (t ≡ s)
-Does s (command.GetInfo k) r t = Gives (info_reply s k, s) r t
-Does s (command.Echo text) r t = Gives (reply.Echo text, s) r t
-Does s command.Reset r t = Gives (succeeds opened) r t
-Does s command.ResetAssertions r t = Gives (succeeds (changed (empty ∷ []) s)) r t
-Does s command.Exit r t = Gives (succeeds (after_exit s)) r t
-Does s command.Unsupported r t = Gives (reply.Unsupported, s) r t
+Does s (command.GetInfo k) r t = GivesReply (info_reply s k, s) r t
+Does s (command.Echo text) r t = GivesReply (reply.Echo text, s) r t
+Does s command.Reset r t = GivesReply (succeeds opened) r t
+Does s command.ResetAssertions r t = GivesReply (succeeds (changed (empty ∷ []) s)) r t
+Does s command.Exit r t = GivesReply (succeeds (after_exit s)) r t
+Does s command.Unsupported r t = GivesReply (reply.Unsupported, s) r t
 
 abbrev pub Performs : State → Result Command CheckFault → Reply → State → Type 0
 Performs s (Ok c) r t = Does s c r t
-Performs s (Err fault) r t = (kind : ErrorKind) × (of_check fault ≡ Some kind) × Gives (refuses kind s) r t
+Performs s (Err fault) r t = (kind : ErrorKind) × (of_check fault ≡ Some kind) × GivesReply (refuses kind s) r t
 
 -- the command that an item is is done; an item with a fault is refused
 abbrev pub Steps : State → Sexpr → Reply → State → Type 0

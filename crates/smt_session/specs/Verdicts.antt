@@ -3,8 +3,8 @@ use Rattle.std.specs.Prelude.{◌≡◌, ℕ, false, nat_eq, List, [], ◌∷◌
 use Rattle.std.specs.Map.{lookup}
 use Rattle.std.specs.Cmp.Lexicographic.{pointwise}
 use Rattle.assert_stack.specs.Levels.{Symbol}
-use Rattle.cube_search.specs.declared.reason.Reason.{Reason}
-use Rattle.cube_search.specs.declared.reason.Reason.TheVariants as reason
+use Rattle.cube_search.specs.declared.reason.OpenReason.{OpenReason}
+use Rattle.cube_search.specs.declared.reason.OpenReason.TheVariants as reason
 use Rattle.decide.specs.Constants.{is_mentioned}
 use Rattle.decide.specs.Filling.{default}
 use Rattle.decide.specs.declared.verdict.Open.{Open}
@@ -43,10 +43,10 @@ pub record IsModelFor (symbols : List Symbol) (live : List Term) (values : Named
   pub defaults : (name : Name) (s : Sort) → lookup (pointwise nat_eq name) (constants_of symbols) ≡ Some s → is_mentioned name live ≡ false → lookup (pointwise nat_eq name) values ≡ Some (default s)
 
 -- a model is one for the declared constants
-abbrev pub Covers : List Symbol → List Term → Verdict → Type 0
-Covers symbols live (verdict.Sat values) = IsModelFor symbols live values
-Covers symbols live (verdict.Unsat refutation) = ⊤
-Covers symbols live (verdict.Unknown reason) = ⊤
+abbrev pub IsVerdictFor : List Symbol → List Term → Verdict → Type 0
+IsVerdictFor symbols live (verdict.Sat values) = IsModelFor symbols live values
+IsVerdictFor symbols live (verdict.Unsat refutation) = ⊤
+IsVerdictFor symbols live (verdict.Unknown reason) = ⊤
 
 -- why the solver gave up, in a word
 abbrev pub of_evidence : Evidence → CubeCause
@@ -55,7 +55,7 @@ of_evidence (evidence.PastRow tree first second unknown column) = cube_cause.Num
 of_evidence (evidence.PastSum tree column) = cube_cause.NumberSum
 
 -- why a cube is open, in a word
-abbrev pub of_reason : Reason → CubeCause
+abbrev pub of_reason : OpenReason → CubeCause
 of_reason (reason.Fragment what) = cube_cause.Fragment
 of_reason (reason.Wide n) = cube_cause.Wide
 of_reason (reason.States n) = cube_cause.States

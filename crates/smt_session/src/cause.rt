@@ -2,7 +2,7 @@
 ghost use Rattle.std.specs.Prelude.{◌≡◌};
 ghost use Rattle.smt_session.specs.Verdicts.{cause_of, of_evidence, of_reason};
 
-use cube_search::Reason;
+use cube_search::OpenReason;
 use decide::Open;
 use lia_branch::Evidence;
 
@@ -48,17 +48,17 @@ fn of_evidence(evidence: &Evidence) -> CubeCause
     }
 }
 
-fn of_reason(reason: &Reason) -> CubeCause
+fn of_reason(reason: &OpenReason) -> CubeCause
     ensures { result ≡ of_reason reason.now }
 {
     match reason {
-        Reason::Fragment(_) => CubeCause::Fragment,
-        Reason::Wide(_) => CubeCause::Wide,
-        Reason::States(_) => CubeCause::States,
-        Reason::Splits(_) => CubeCause::Splits,
-        Reason::Growth(_) => CubeCause::Length,
-        Reason::Length(_, _) => CubeCause::Length,
-        Reason::Arithmetic(_, _, evidence) => of_evidence(evidence),
+        OpenReason::Fragment(_) => CubeCause::Fragment,
+        OpenReason::Wide(_) => CubeCause::Wide,
+        OpenReason::States(_) => CubeCause::States,
+        OpenReason::Splits(_) => CubeCause::Splits,
+        OpenReason::Growth(_) => CubeCause::Length,
+        OpenReason::Length(_, _) => CubeCause::Length,
+        OpenReason::Arithmetic(_, _, evidence) => of_evidence(evidence),
     }
 }
 

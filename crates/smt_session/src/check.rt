@@ -8,7 +8,7 @@ ghost use Rattle.decide.specs.Verdicts.{RightVerdict};
 ghost use Rattle.sort_check.specs.WellFormed.{IsTermOf, is_well_formed};
 ghost use Rattle.sv_terms.specs.declared.sort.Sort.TheVariants as sort;
 ghost use Rattle.smt_session.specs.Models.{model_of};
-ghost use Rattle.smt_session.specs.Verdicts.{Covers};
+ghost use Rattle.smt_session.specs.Verdicts.{IsVerdictFor};
 
 use decide::{Verdict, check, value_for};
 use par_phase::Free;
@@ -66,7 +66,7 @@ pub fn verdict_of<R: Threads + Sync>(
     requires terms { AllByRecursion (IsTermOf symbols.now sort.Bool) live.now }
     ensures right { IfOk result (RightVerdict live.now) }
     ensures complete { MustDecide live.now → IfOk result (IsComplete live.now) }
-    ensures covers { IfOk result (Covers symbols.now live.now) }
+    ensures covers { IfOk result (IsVerdictFor symbols.now live.now) }
 {
     constants_have_values();
     entries_are_well_formed();

@@ -4,8 +4,8 @@ ghost use Rattle.sort_check.specs.Checking.{IsAskable};
 ghost use Rattle.sort_check.specs.WellFormed.{IsAdded, IsTermOf};
 ghost use Rattle.assert_stack.specs.Levels.{asserted, declared, empty, symbols_of};
 ghost use Rattle.sv_terms.specs.declared.sort.Sort.TheVariants as sort;
-ghost use Rattle.smt_session.specs.Standing.{Fits};
-ghost use Rattle.smt_session.specs.Steps.{AnswersTerms, Checks, Does, Gives, Steps, after_exit, changed, info_reply, model_reply, opened, pops, printing, pushes, reason_reply, succeeds};
+ghost use Rattle.smt_session.specs.Standing.{FitsLevels};
+ghost use Rattle.smt_session.specs.Steps.{AnswersTerms, Checks, Does, GivesReply, Steps, after_exit, changed, info_reply, model_reply, opened, pops, printing, pushes, reason_reply, succeeds};
 ghost use Rattle.smt_session.specs.declared.reply.Reply.TheVariants.{Success};
 
 use crate::cause::Cause;
@@ -28,7 +28,7 @@ use sv_terms::{Entry, Model, Name, Term};
 
 /// The verdict of the last `check-sat`, until something changes what it was on.
 #[derive(Drop)]
-pub enum Kept {
+pub enum LastVerdict {
     Sat(Model),
     Unsat,
     Unknown(Cause),
@@ -41,7 +41,7 @@ pub enum Kept {
 #[derive(Drop)]
 pub struct Session {
     stack: Stack,
-    verdict: Option<Kept>,
+    verdict: Option<LastVerdict>,
     prints: bool,
     ended: bool,
     /// How many threads do the cubes of a check.
@@ -119,7 +119,7 @@ impl Session {
         alloc: Global,
         command: Command,
     ) -> Result<Reply, AllocError>
-        requires fits { Fits self.old.levels command }
+        requires fits { FitsLevels self.old.levels command }
         ensures ok { IfOk result (λ reply. Does self.old command reply self.new) }
         ensures err { OnErr result (self.new ≡ self.old) }
     {
@@ -153,7 +153,7 @@ impl Session {
     }
 
     fn print_success(&mut self, prints: bool) -> Reply
-        ensures { Gives (succeeds (printing prints self.old)) result self.new }
+        ensures { GivesReply (succeeds (printing prints self.old)) result self.new }
     {
         self.prints = prints;
         self.success()
@@ -161,7 +161,7 @@ impl Session {
 
     fn declare(&mut self, name: Name, entry: Entry) -> Result<Reply, AllocError>
         requires { IsAdded (symbols_of self.old.levels) name entry }
-        ensures ok { IfOk result (λ reply. Gives (succeeds (changed (declared name entry self.old.levels) self.old)) reply self.new) }
+        ensures ok { IfOk result (λ reply. GivesReply (succeeds (changed (declared name entry self.old.levels) self.old)) reply self.new) }
         ensures err { OnErr result (self.new ≡ self.old) }
     {
         constants_have_values();
@@ -172,7 +172,7 @@ impl Session {
 
     fn assert(&mut self, term: Term) -> Result<Reply, AllocError>
         requires { IsTermOf (symbols_of self.old.levels) sort.Bool term }
-        ensures ok { IfOk result (λ reply. Gives (succeeds (changed (asserted term self.old.levels) self.old)) reply self.new) }
+        ensures ok { IfOk result (λ reply. GivesReply (succeeds (changed (asserted term self.old.levels) self.old)) reply self.new) }
         ensures err { OnErr result (self.new ≡ self.old) }
     {
         self.stack.assert(term)?;
@@ -181,7 +181,7 @@ impl Session {
     }
 
     fn push(&mut self, n: u32) -> Result<Reply, AllocError>
-        ensures ok { IfOk result (λ reply. Gives (pushes n self.old) reply self.new) }
+        ensures ok { IfOk result (λ reply. GivesReply (pushes n self.old) reply self.new) }
         ensures err { OnErr result (self.new ≡ self.old) }
     {
         match self.stack.push(n) {
@@ -195,7 +195,7 @@ impl Session {
     }
 
     fn pop(&mut self, n: u32) -> Reply
-        ensures { Gives (pops n self.old) result self.new }
+        ensures { GivesReply (pops n self.old) result self.new }
     {
         match self.stack.pop(n) {
             Ok(()) => {
@@ -221,15 +221,15 @@ impl Session {
         )? {
             Verdict::Sat(model) => {
                 let copy = model.copy(alloc)?;
-                self.verdict = Some(Kept::Sat(model));
+                self.verdict = Some(LastVerdict::Sat(model));
                 Ok(Reply::Sat(copy))
             }
             Verdict::Unsat(_) => {
-                self.verdict = Some(Kept::Unsat);
+                self.verdict = Some(LastVerdict::Unsat);
                 Ok(Reply::Unsat)
             }
             Verdict::Unknown(open) => {
-                self.verdict = Some(Kept::Unknown(Cause::of(&open)));
+                self.verdict = Some(LastVerdict::Unknown(Cause::of(&open)));
                 Ok(Reply::Unknown(open))
             }
         }
@@ -239,7 +239,7 @@ impl Session {
         ensures { IfOk result (λ reply. reply ≡ model_reply self.now.verdict) }
     {
         match &self.verdict {
-            Some(Kept::Sat(model)) => Ok(Reply::Definitions(definitions(alloc, model)?)),
+            Some(LastVerdict::Sat(model)) => Ok(Reply::Definitions(definitions(alloc, model)?)),
             _ => Ok(Reply::Error(ErrorKind::NoModel)),
         }
     }
@@ -254,9 +254,9 @@ impl Session {
             return Ok(Reply::Error(ErrorKind::NoModel));
         };
         match kept {
-            Kept::Sat(model) => values(alloc, self.stack.symbols(), model, items),
-            Kept::Unsat => Ok(Reply::Error(ErrorKind::NoModel)),
-            Kept::Unknown(_) => Ok(Reply::Error(ErrorKind::NoModel)),
+            LastVerdict::Sat(model) => values(alloc, self.stack.symbols(), model, items),
+            LastVerdict::Unsat => Ok(Reply::Error(ErrorKind::NoModel)),
+            LastVerdict::Unknown(_) => Ok(Reply::Error(ErrorKind::NoModel)),
         }
     }
 
@@ -282,14 +282,14 @@ impl Session {
         ensures { result ≡ reason_reply self.now.verdict }
     {
         match &self.verdict {
-            Some(Kept::Unknown(cause)) => Reply::Info(Info::ReasonUnknown(*cause)),
+            Some(LastVerdict::Unknown(cause)) => Reply::Info(Info::ReasonUnknown(*cause)),
             _ => Reply::Error(ErrorKind::NoReason),
         }
     }
 
     // Back to the start. `:print-success` is off again, so that this success isn't printed.
     fn reset(&mut self) -> Reply
-        ensures { Gives (succeeds opened) result self.new }
+        ensures { GivesReply (succeeds opened) result self.new }
     {
         self.verdict = None;
         self.stack.reset();
@@ -299,7 +299,7 @@ impl Session {
     }
 
     fn reset_assertions(&mut self) -> Reply
-        ensures { Gives (succeeds (changed (empty ∷ []) self.old)) result self.new }
+        ensures { GivesReply (succeeds (changed (empty ∷ []) self.old)) result self.new }
     {
         self.verdict = None;
         self.stack.reset_assertions();
@@ -307,7 +307,7 @@ impl Session {
     }
 
     fn exit(&mut self) -> Reply
-        ensures { Gives (succeeds (after_exit self.old)) result self.new }
+        ensures { GivesReply (succeeds (after_exit self.old)) result self.new }
     {
         self.ended = true;
         self.success()

@@ -17,10 +17,10 @@ use Rattle.sv_terms.specs.declared.term.Term.TheVariants as v
 use Rattle.sv_terms.specs.Language.{Word}
 use Rattle.sv_terms.specs.Sorting.{same_sort, sort_if, some_of, more_of, alike, applied_sort}
 use Rattle.smt_names.specs.declared.function.Function.{Function}
-use Rattle.smt_names.specs.declared.function.Takes.{Takes}
-use Rattle.smt_names.specs.declared.function.Takes.TheVariants.{Nothing, One, Two, Three, Each as Each_of, Many, Alike, Choice}
-use Rattle.smt_names.specs.declared.function.Sense.{Sense}
-use Rattle.smt_names.specs.declared.function.Sense.TheVariants as is
+use Rattle.smt_names.specs.declared.function.ArgumentSorts.{ArgumentSorts}
+use Rattle.smt_names.specs.declared.function.ArgumentSorts.TheVariants.{Nothing, One, Two, Three, Each as Each_of, Many, Alike, Choice}
+use Rattle.smt_names.specs.declared.function.Interpretation.{Interpretation}
+use Rattle.smt_names.specs.declared.function.Interpretation.TheVariants as is
 use Rattle.term_weight.specs.Bodies.{op_sort, body_sort, literal, term_of, is_language, regex_of, opaque}
 use Rattle.term_weight.specs.Ranks.{takes_count, takes_sorts, apply, equality, choice, unknowns, product, replacement, membership, text_of, characters, range_of, combined, of_one, applied_as, applied}
 use Rattle.smt_names.specs.Signature.{Name, Rows, signature, is_some}
@@ -40,7 +40,7 @@ same-self sort.String = refl
 same-self sort.RegLan = refl
 
 -- the function with a meaning gives its sort at all arguments that are taken
-abbrev pub Suits : Takes → Op → Type 0
+abbrev pub Suits : ArgumentSorts → Op → Type 0
 Suits takes o = (ss : List Sort) → IsTrue (takes_count takes (length ss)) → IsTrue (takes_sorts takes ss) → applied_sort o ss ≡ Some (op_sort o)
 
 one-is : (s : Sort) (ss : List Sort) → IsTrue (takes_sorts (One s) ss) → ss ≡ s ∷ []
@@ -93,7 +93,7 @@ alike-gives [] c h = absurd (cc)
 alike-gives (s ∷ ss) c h = more-gives s sort.Bool (s ∷ ss) c (both-make (same_sort s s) (list_all (same_sort s) ss) (same-self s) h)
 
 -- the arguments that a function with a meaning takes
-abbrev rank : Op → Takes
+abbrev rank : Op → ArgumentSorts
 rank op.Not = One sort.Bool
 rank op.And = Each_of sort.Bool
 rank op.Or = Each_of sort.Bool
@@ -143,7 +143,7 @@ rank-suits op.SuffixOf = suits-two op.SuffixOf sort.String sort.String refl
 rank-suits op.Contains = suits-two op.Contains sort.String sort.String refl
 rank-suits op.IsDigit = suits-one op.IsDigit sort.String refl
 
-abbrev same_takes : Takes → Takes → Bool
+abbrev same_takes : ArgumentSorts → ArgumentSorts → Bool
 same_takes Nothing Nothing = true
 same_takes (One s) (One a) = same_sort s a
 same_takes (Two s t) (Two a b) = same_sort s a && same_sort t b
@@ -154,7 +154,7 @@ same_takes Alike Alike = true
 same_takes Choice Choice = true
 same_takes _ _ = false
 
-takes-is : (t u : Takes) → IsTrue (same_takes t u) → u ≡ t
+takes-is : (t u : ArgumentSorts) → IsTrue (same_takes t u) → u ≡ t
 takes-is Nothing Nothing h = refl
 takes-is (One s) (One a) h = ap One (same-is s a h)
 takes-is (Two s t) (Two a b) h = let k = both (same_sort s a) (same_sort t b) h in λ i. Two (same-is s a k.0 i) (same-is t b k.1 i)
@@ -169,7 +169,7 @@ takes-is Choice Choice h = refl
 takes-is _ _ h = absurd (cc)
 
 -- the arguments at which an application of this sense has its sort; none where it has at all arguments
-abbrev wanted : Sense → Option Takes
+abbrev wanted : Interpretation → Option ArgumentSorts
 wanted (is.Meaning o) = Some (rank o)
 wanted (is.Equality o) = Some (rank o)
 wanted is.Choice = Some Choice
@@ -178,7 +178,7 @@ wanted (is.Replacement o) = Some (rank o)
 wanted is.Membership = Some (Two sort.String sort.RegLan)
 wanted _ = None
 
-abbrev takes_wanted : Takes → Option Takes → Bool
+abbrev takes_wanted : ArgumentSorts → Option ArgumentSorts → Bool
 takes_wanted t None = true
 takes_wanted t (Some u) = same_takes t u
 
@@ -280,10 +280,10 @@ module _ (known : Name → Sort → Bool) where
   well-combined make bs = well-if (list_all is_language bs) (body.Language (make (map regex_of bs))) (opaque sort.RegLan) (λ _. well-language (make (map regex_of bs))) (well-opaque sort.RegLan)
 
   -- at arguments that are taken a function with a meaning gives its sort
-  suited : (takes : Takes) (o : Op) → IsTrue (same_takes takes (rank o)) → Suits takes o
+  suited : (takes : ArgumentSorts) (o : Op) → IsTrue (same_takes takes (rank o)) → Suits takes o
   suited takes o s = subst (λ t. Suits t o) (takes-is takes (rank o) s) (rank-suits o)
 
-  well-as : (gives : Sort) (takes : Takes) (sense : Sense) (bs : List Body) → IsTrue (takes_wanted takes (wanted sense)) → Each IsWell bs → IsTrue (takes_count takes (length (map body_sort bs))) → IsTrue (takes_sorts takes (map body_sort bs)) → IsWell (applied_as gives sense bs)
+  well-as : (gives : Sort) (takes : ArgumentSorts) (sense : Interpretation) (bs : List Body) → IsTrue (takes_wanted takes (wanted sense)) → Each IsWell bs → IsTrue (takes_count takes (length (map body_sort bs))) → IsTrue (takes_sorts takes (map body_sort bs)) → IsWell (applied_as gives sense bs)
   well-as gives takes (is.Truth b) bs s h c g = well-term sort.Bool (v.Truth b) (fit-truth known b)
   well-as gives takes (is.Meaning o) bs s h c g = well-apply o bs h (suited takes o s (map body_sort bs) c g)
   well-as gives takes (is.Equality o) bs s h c g = well-equality o bs h (suited takes o s (map body_sort bs) c g)

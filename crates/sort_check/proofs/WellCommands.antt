@@ -15,8 +15,8 @@ use Rattle.smt_names.specs.declared.check_fault.CheckFault.{CheckFault}
 use Rattle.smt_names.specs.declared.check_fault.CheckFault.TheVariants as fault
 use Rattle.sort_check.specs.declared.commands.Command.{Command}
 use Rattle.sort_check.specs.declared.commands.Command.TheVariants as command
-use Rattle.smt_names.specs.declared.verb.Verb.{Verb}
-use Rattle.smt_names.specs.declared.verb.Verb.TheVariants as verb
+use Rattle.smt_names.specs.declared.verb.CommandName.{CommandName}
+use Rattle.smt_names.specs.declared.verb.CommandName.TheVariants as verb
 use Rattle.item_passes.specs.Binders.{is_variable, bound_name, bound_names, repeats, variable_of, variable_sort, variables}
 use Rattle.smt_names.specs.Form.{are_all}
 use Rattle.term_weight.specs.Bodies.{body_sort, term_of, parameter_name, is_escaped}
@@ -29,7 +29,7 @@ use Rattle.term_walk.specs.Meant.{Scope, Names, meant_all, any_size, parameters_
 use Rattle.smt_names.specs.Signature.{Name, same_name, is_reserved, is_some}
 use Rattle.term_weight.specs.Sizes.{fits}
 use Rattle.smt_names.specs.Tokens as t
-use Rattle.sort_check.specs.WellFormed.{is_constant_of, is_declared, IsTermOf, IsWritten, hidden_by, is_bound, is_sort, constants_are, has_formed, is_entry, is_well_formed, IsAdded}
+use Rattle.sort_check.specs.WellFormed.{is_constant_of, is_declared, IsTermOf, IsOfWrittenSort, hidden_by, is_bound, is_sort, constants_are, has_formed, is_entry, is_well_formed, IsAdded}
 use Rattle.sort_check.proofs.Asked.{all-asked}
 use Rattle.sort_check.proofs.WellApplied.{same-is, same-self, IsWell}
 use Rattle.sort_check.proofs.WellMeant.{Knows, AreWell, Scoped, Any, any-gives, constants-well, all-well}
@@ -175,14 +175,14 @@ module _ (symbols : Names) (wf : IsTrue (is_well_formed symbols)) where
   assertion-sound (u ⨾ w ⨾ fs) = tt
 
   -- terms whose values are asked for
-  asked-well : (bs : List Body) → Each (IsWell (is_declared symbols)) bs → Gives (IsWritten symbols) (c.asked bs)
+  asked-well : (bs : List Body) → Each (IsWell (is_declared symbols)) bs → Gives (IsOfWrittenSort symbols) (c.asked bs)
   asked-well [] w = tt
-  asked-well (b ∷ []) w = need-gives (IsWritten symbols) (c.has_values (body_sort b)) fault.Sort _ (λ h. (body_sort b, written (body_sort b) b w.0 refl, not-true (same_sort sort.RegLan (body_sort b)) h))
+  asked-well (b ∷ []) w = need-gives (IsOfWrittenSort symbols) (c.has_values (body_sort b)) fault.Sort _ (λ h. (body_sort b, written (body_sort b) b w.0 refl, not-true (same_sort sort.RegLan (body_sort b)) h))
   asked-well (b ∷ d ∷ bs) w = tt
 
-  pub asked-sound : (f : Form) → Gives (IsWritten symbols) (c.asked_term symbols f)
-  asked-sound f = after-gives (IsWritten symbols) (c.passed_term f) _
-      (then-gives (AreWell (is_declared symbols) 1) (IsWritten symbols) c.asked (m.settled symbols [] (f ⨾ end)) (settled-well (is_declared symbols) declared-knows [] tt (f ⨾ end)) (λ bs a. asked-well bs a.well))
+  pub asked-sound : (f : Form) → Gives (IsOfWrittenSort symbols) (c.asked_term symbols f)
+  asked-sound f = after-gives (IsOfWrittenSort symbols) (c.passed_term f) _
+      (then-gives (AreWell (is_declared symbols) 1) (IsOfWrittenSort symbols) c.asked (m.settled symbols [] (f ⨾ end)) (settled-well (is_declared symbols) declared-knows [] tt (f ⨾ end)) (λ bs a. asked-well bs a.well))
 
   values-sound : (ts : Forms) → Gives Sound (c.values symbols ts)
   values-sound end = tt
@@ -332,7 +332,7 @@ module _ (symbols : Names) (wf : IsTrue (is_well_formed symbols)) where
   echo-sound (k ⨾ end) = then-gives Any Sound _ (or_fault fault.Shape (t.literal_text k)) (any-gives (or_fault fault.Shape (t.literal_text k))) (λ _ _. tt)
   echo-sound (k ⨾ m ⨾ fs) = tt
 
-  commanded-sound : (w : Option Verb) (fs : Forms) → Gives Sound (c.commanded symbols w fs)
+  commanded-sound : (w : Option CommandName) (fs : Forms) → Gives Sound (c.commanded symbols w fs)
   commanded-sound None fs = tt
   commanded-sound (Some verb.SetLogic) fs = logic-sound fs
   commanded-sound (Some verb.SetInfo) fs = inform-sound fs

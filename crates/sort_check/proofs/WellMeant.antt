@@ -2,8 +2,8 @@
 use Rattle.std.proofs.Common.{◌≡◌, refl, sym, ap, ◌∙◌, subst, map, length, Bool, true, false, ◌&&◌, IsTrue, nat_le, ℕ, suc, pos, List, [], ◌∷◌, ◌++◌, Option, Some, None, Result, Ok, Err, codes, if◌then◌else◌}
 use Rattle.std.specs.Map.{lookup}
 use mathlib.Core.Bool.{cond}
-use Rattle.sexpr_reader.specs.declared.kind.Kind.{Kind}
-use Rattle.sexpr_reader.specs.declared.kind.Kind.TheVariants.{Numeral, Decimal, Hexadecimal, Binary, Symbol, Quoted, Keyword, Literal}
+use Rattle.sexpr_reader.specs.declared.kind.TokenKind.{TokenKind}
+use Rattle.sexpr_reader.specs.declared.kind.TokenKind.TheVariants.{Numeral, Decimal, Hexadecimal, Binary, Symbol, Quoted, Keyword, Literal}
 use Rattle.sv_terms.specs.Names.{symbol_name}
 use Rattle.sv_terms.specs.Sorting.{same_sort, sort_of}
 use Rattle.sv_terms.specs.declared.entry.Body.{Body}
@@ -206,7 +206,7 @@ module _ (fits : Body → Bool) (symbols : Names) (wf : IsTrue (is_well_formed s
   if-named known k (Some n) = named-sound symbols wf known k n
   if-named known k None = tt
 
-  token-well : (known : Name → Sort → Bool) → Knows symbols known → (scope : Scope) → Scoped known scope → (kind : Kind) (text : List ℕ) → Gives (IsWell known) (meant_token symbols scope kind text)
+  token-well : (known : Name → Sort → Bool) → Knows symbols known → (scope : Scope) → Scoped known scope → (kind : TokenKind) (text : List ℕ) → Gives (IsWell known) (meant_token symbols scope kind text)
   token-well known k scope w Numeral ds = refuse-gives (IsWell known) (is_too_large ds) fault.Number _ (λ _. well-term known sort.Int (term.Number (pos (value ds))) (fit-number known (pos (value ds))))
   token-well known k scope w Literal text = or-gives (IsWell known) fault.Shape _ (mapped-maybe Any (IsWell known) (λ w. body.Term (term.Text w)) (literal_word text) (any-maybe (literal_word text)) (λ w _. well-term known sort.String (term.Text w) (fit-text known w)))
   token-well known k scope w Symbol text = name-well known k scope w (symbol_name text)

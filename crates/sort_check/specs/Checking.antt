@@ -15,8 +15,8 @@ use Rattle.sort_check.specs.declared.commands.Command.{Command}
 use Rattle.sort_check.specs.declared.commands.Command.TheVariants as command
 use Rattle.sort_check.specs.declared.commands.Product.TheVariants as product
 use Rattle.item_passes.specs.declared.pass.Pass.TheVariants as pass
-use Rattle.smt_names.specs.declared.verb.Verb.{Verb}
-use Rattle.smt_names.specs.declared.verb.Verb.TheVariants as verb
+use Rattle.smt_names.specs.declared.verb.CommandName.{CommandName}
+use Rattle.smt_names.specs.declared.verb.CommandName.TheVariants as verb
 use Rattle.item_passes.specs.Binders.{is_variable, bound_names, repeats, variables}
 use Rattle.smt_names.specs.Form.{are_all}
 use Rattle.term_weight.specs.Bodies.{body_sort, term_of, parameter_name, is_escaped}
@@ -180,7 +180,7 @@ echo (l ⨾ end) = and_then (λ l. Ok (command.Echo l)) (or_fault fault.Shape (l
 echo _ = Err fault.Shape
 
 -- a command by its word
-abbrev pub commanded : Names → Option Verb → Forms → Result Command CheckFault
+abbrev pub commanded : Names → Option CommandName → Forms → Result Command CheckFault
 commanded symbols None parts = Ok command.Unsupported
 commanded symbols (Some verb.SetLogic) parts = set_logic parts
 commanded symbols (Some verb.SetInfo) parts = set_info parts

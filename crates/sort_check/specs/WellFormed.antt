@@ -52,8 +52,8 @@ pub record IsTermOf (symbols : Names) (s : Sort) (t : Term) : Type 0 where
   pub formed : IsTrue (has_formed t)
 
 -- the same, where the sort is any one of which values are written
-abbrev pub IsWritten : Names → Term → Type 0
-IsWritten symbols t = (s : Sort) × IsTermOf symbols s t × (same_sort sort.RegLan s ≡ false)
+abbrev pub IsOfWrittenSort : Names → Term → Type 0
+IsOfWrittenSort symbols t = (s : Sort) × IsTermOf symbols s t × (same_sort sort.RegLan s ≡ false)
 
 -- a parameter hides a constant of its name
 abbrev pub hidden_by : Option Sort → Bool → Sort → Bool

@@ -19,7 +19,7 @@ use smt_names::signature::{is_reserved, sort_of, truth, verb};
 use smt_names::token::{
     bare_name, digits, is_sort_form, keyword, level, list_items, literal_text, symbol, word,
 };
-use smt_names::{CheckFault, Verb};
+use smt_names::{CheckFault, CommandName};
 use std::alloc::{AllocError, Global};
 use sv_list::{Copied, Items};
 use sv_terms::{Body, Entry, Name, Sort, Term};
@@ -564,30 +564,30 @@ fn echo(alloc: Global, parts: &[Sexpr]) -> Result<Command, CheckFault>
 fn command_of(
     alloc: Global,
     symbols: &Declarations,
-    verb: Verb,
+    verb: CommandName,
     parts: &[Sexpr],
 ) -> Result<Command, CheckFault>
     ensures { Answers (commands.commanded symbols.now (Some verb) (forms (map seen parts.now))) result }
 {
     match verb {
-        Verb::SetLogic => set_logic(parts),
-        Verb::SetInfo => set_info(parts),
-        Verb::SetOption => set_option(parts),
-        Verb::DeclareConst => declare_const(alloc, symbols, parts),
-        Verb::DeclareFun => declare_fun(alloc, symbols, parts),
-        Verb::DefineFun => define_fun(alloc, symbols, parts),
-        Verb::DefineTransducer => define_transducer(alloc, symbols, parts),
-        Verb::Assert => assertion(alloc, symbols, parts),
-        Verb::Push => Ok(Command::Push(level_count(parts)?)),
-        Verb::Pop => Ok(Command::Pop(level_count(parts)?)),
-        Verb::CheckSat => plain(Command::CheckSat, parts),
-        Verb::GetModel => plain(Command::GetModel, parts),
-        Verb::GetValue => get_value(alloc, symbols, parts),
-        Verb::GetInfo => get_info(alloc, parts),
-        Verb::Echo => echo(alloc, parts),
-        Verb::Reset => plain(Command::Reset, parts),
-        Verb::ResetAssertions => plain(Command::ResetAssertions, parts),
-        Verb::Exit => plain(Command::Exit, parts),
+        CommandName::SetLogic => set_logic(parts),
+        CommandName::SetInfo => set_info(parts),
+        CommandName::SetOption => set_option(parts),
+        CommandName::DeclareConst => declare_const(alloc, symbols, parts),
+        CommandName::DeclareFun => declare_fun(alloc, symbols, parts),
+        CommandName::DefineFun => define_fun(alloc, symbols, parts),
+        CommandName::DefineTransducer => define_transducer(alloc, symbols, parts),
+        CommandName::Assert => assertion(alloc, symbols, parts),
+        CommandName::Push => Ok(Command::Push(level_count(parts)?)),
+        CommandName::Pop => Ok(Command::Pop(level_count(parts)?)),
+        CommandName::CheckSat => plain(Command::CheckSat, parts),
+        CommandName::GetModel => plain(Command::GetModel, parts),
+        CommandName::GetValue => get_value(alloc, symbols, parts),
+        CommandName::GetInfo => get_info(alloc, parts),
+        CommandName::Echo => echo(alloc, parts),
+        CommandName::Reset => plain(Command::Reset, parts),
+        CommandName::ResetAssertions => plain(Command::ResetAssertions, parts),
+        CommandName::Exit => plain(Command::Exit, parts),
     }
 }
 
@@ -613,7 +613,7 @@ fn parse_command(
     }
 }
 
-fn verb_of(first: &Sexpr) -> Option<Verb>
+fn verb_of(first: &Sexpr) -> Option<CommandName>
     ensures { result ≡ verb_is (tokens.word (seen first.now)) }
 {
     match word(first) {

@@ -46,6 +46,6 @@ pub enum Command {
     Reset,
     ResetAssertions,
     Exit,
-    /// Any other list that begins with a symbol.
+    /// Any other list that begins with a symbol, and `set-option` of any other keyword.
     Unsupported,
 }

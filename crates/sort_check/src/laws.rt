@@ -14,7 +14,7 @@ ghost use Rattle.sort_check.specs.Checking.{checked, asked_term, IsAskable};
 ghost use Rattle.smt_names.specs.Form.{Form};
 ghost use Rattle.term_walk.specs.Meant.{Names};
 ghost use Rattle.smt_names.specs.Signature.{Name, same_name};
-ghost use Rattle.sort_check.specs.WellFormed.{is_well_formed, constants_known, is_entry, AreGiven, IsTermOf, IsWritten, IsAdded};
+ghost use Rattle.sort_check.specs.WellFormed.{is_well_formed, constants_known, is_entry, AreGiven, IsTermOf, IsOfWrittenSort, IsAdded};
 
 /// No names are well formed, and so are the first ones of those that are.
 pub fn fronts_are_well_formed()
@@ -34,7 +34,7 @@ pub fn entries_are_well_formed()
 /// has a sort other than RegLan; its constants are declared, and its transducers are formed.
 pub fn terms_are_sorted()
     ensures asserted { (symbols : Names) (item : Form) (term : AnyTerm) → IsTrue (is_well_formed symbols) → checked symbols item ≡ Ok (command.Assert term) → IsTermOf symbols sort.Bool term }
-    ensures asked { (symbols : Names) (item : Form) (term : AnyTerm) → IsTrue (is_well_formed symbols) → asked_term symbols item ≡ Ok term → IsWritten symbols term }
+    ensures asked { (symbols : Names) (item : Form) (term : AnyTerm) → IsTrue (is_well_formed symbols) → asked_term symbols item ≡ Ok term → IsOfWrittenSort symbols term }
 {}
 
 /// The terms that a `get-value` takes together under well formed names are taken one by one.

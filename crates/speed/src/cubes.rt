@@ -1,14 +1,15 @@
 //! Cubes: all those of many choices, and the flat form of a long one.
 ghost use Rattle.std.specs.Prelude.{◌≡◌, ◌∷◌, [], IfOk, IfSome};
 ghost use Rattle.std.specs.List.{AllByRecursion};
-ghost use Rattle.bool_cubes.specs.Laws.{IsFittingCube, IsSorted};
+ghost use Rattle.bool_cubes.specs.Laws.{IsFittingCube, IsClearBool};
 ghost use Rattle.straight_line.specs.Straight.{IsStraight};
 
 use crate::stopwatch::Stopwatch;
 use crate::texts::word;
 use bool_cubes::{Cube, CubeFault, Cubes, literals_fit};
+use cube_bounds::numbers;
 use std::alloc::{AllocError, Global};
-use straight_line::{Flat, flatten, numbers};
+use straight_line::{Flat, flatten};
 use sv_list::{Boxed, Items};
 use sv_terms::{Name, Op, Regex, Sort, Term};
 
@@ -36,7 +37,7 @@ fn pair(alloc: Global, left: Term, right: Term) -> Result<Items<Term>, AllocErro
 
 // One of two Bool constants.
 fn choice(alloc: Global, number: u32) -> Result<Term, AllocError>
-    ensures { IfOk result IsSorted }
+    ensures { IfOk result IsClearBool }
 {
     let left = Term::Constant(name(alloc, b'p', number)?, Sort::Bool);
     let right = Term::Constant(name(alloc, b'q', number)?, Sort::Bool);
@@ -45,7 +46,7 @@ fn choice(alloc: Global, number: u32) -> Result<Term, AllocError>
 
 // A word of one character.
 fn membership(alloc: Global, number: u32) -> Result<Term, AllocError>
-    ensures { IfOk result IsSorted }
+    ensures { IfOk result IsClearBool }
 {
     let text = Term::Constant(name(alloc, b'x', number)?, Sort::String);
     Ok(Term::InRe(Boxed::new(alloc, text)?, Regex::AnyChar))
@@ -53,7 +54,7 @@ fn membership(alloc: Global, number: u32) -> Result<Term, AllocError>
 
 // A word is the one four before it, and an `a`.
 fn definition(alloc: Global, number: u32) -> Result<Term, AllocError>
-    ensures { IfOk result IsSorted }
+    ensures { IfOk result IsClearBool }
 {
     let before = Term::Constant(name(alloc, b'x', number.saturating_sub(4))?, Sort::String);
     let joined = Term::Apply(
@@ -66,7 +67,7 @@ fn definition(alloc: Global, number: u32) -> Result<Term, AllocError>
 
 // One of fifty words has at most so many characters.
 fn length(alloc: Global, number: u32) -> Result<Term, AllocError>
-    ensures { IfOk result IsSorted }
+    ensures { IfOk result IsClearBool }
 {
     let mut terms = Items::new(alloc);
     terms.push(Term::Constant(name(alloc, b'x', number % 50)?, Sort::String))?;
@@ -78,7 +79,7 @@ fn length(alloc: Global, number: u32) -> Result<Term, AllocError>
 }
 
 fn literal(alloc: Global, number: u32) -> Result<Term, AllocError>
-    ensures { IfOk result IsSorted }
+    ensures { IfOk result IsClearBool }
 {
     match number % 4 {
         0 => membership(alloc, number),
@@ -90,7 +91,7 @@ fn literal(alloc: Global, number: u32) -> Result<Term, AllocError>
 
 #[tactic(auto, using(crate::proofs::Sorted::sorted_none, crate::proofs::Sorted::sorted_more))]
 fn choices(alloc: Global) -> Result<Items<Term>, AllocError>
-    ensures { IfOk result (λ ts. AllByRecursion IsSorted ts) }
+    ensures { IfOk result (λ ts. AllByRecursion IsClearBool ts) }
 {
     let mut terms = Items::new(alloc);
     for number in 0..CHOICES {
@@ -101,7 +102,7 @@ fn choices(alloc: Global) -> Result<Items<Term>, AllocError>
 
 #[tactic(auto, using(crate::proofs::Sorted::sorted_none, crate::proofs::Sorted::sorted_more))]
 fn literals(alloc: Global) -> Result<Items<Term>, AllocError>
-    ensures { IfOk result (λ ts. AllByRecursion IsSorted ts) }
+    ensures { IfOk result (λ ts. AllByRecursion IsClearBool ts) }
 {
     let mut terms = Items::new(alloc);
     for number in 0..LITERALS {

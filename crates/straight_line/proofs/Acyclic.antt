@@ -1,9 +1,9 @@
 -- Definitions that stand in order are on no cycle: a variable that a definition uses is defined in fewer ends of the list.
-use Rattle.std.proofs.Common.{◌≡◌, refl, sym, ap, ◌∙◌, subst, Bool, true, false, ◌||◌, ℕ, zero, suc, ◌+◌, ◌<◌, ◌≤◌, List, [], ◌∷◌, length, arith}
+use Rattle.std.proofs.Common.{◌≡◌, refl, sym, ap, ◌∙◌, subst, Bool, true, false, ◌||◌, ℕ, ◌+◌, ◌<◌, ◌≤◌, List, [], ◌∷◌, length, arith}
 use Rattle.std.specs.Prelude.{nat_eq, Contains}
 use Rattle.std.specs.List.{AllByRecursion}
 use Rattle.std.proofs.lemmas.Bool.{eq-eqb}
-use Rattle.straight_line.specs.Bounds.{is_defined, used}
+use Rattle.straight_line.specs.Using.{is_defined, used}
 use Rattle.straight_line.specs.Flattening.{IsCycle, NoCycle, Uses, UsesInTurn, ordered}
 use Rattle.straight_line.specs.Straight.{InOrder}
 use Rattle.straight_line.specs.declared.definition.Definition.{Definition}

@@ -13,7 +13,7 @@ use Rattle.sv_terms.specs.Transduction.{Pairs}
 use Rattle.bool_cubes.specs.Shapes.{Shape, Shapes, number, text, constant, apply, end, ◌⨾◌}
 use Rattle.bool_cubes.specs.Codes.{same}
 use Rattle.bool_cubes.specs.Linear.{is_string, is_linear, are_linear, written, is_product, linears}
-use Rattle.straight_line.specs.Met.{Comparison, Draft, Found, meet, with_integer, registered, with_register, meet_unknowns, meet_all_unknowns, with_comparison, with_value, part_met, equal_met, through_met, add}
+use Rattle.straight_line.specs.Met.{Comparison, DraftView, Found, meet, with_integer, registered, with_register, meet_unknowns, meet_all_unknowns, with_comparison, with_value, part_met, equal_met, through_met, add}
 use Rattle.straight_line.specs.Said.{Said, value_is, compares, holds, has_part, are_one, written_by, outside}
 use Rattle.straight_line.specs.Satisfying.{MeetsPart, HasValue}
 use Rattle.straight_line.specs.declared.variable.Own.{Own}
@@ -24,22 +24,22 @@ use Rattle.straight_line.proofs.Meetings.{all_push, all_popped, all_last, Compar
 
 module _ (values : Named) (ws : ℕ → Word) where
   -- what is met of a term of sort Int: its lengths and its constants
-  pub record IsKept (d e : Draft) : Type 0 where
+  pub record IsKept (d e : DraftView) : Type 0 where
     pub earlier : Fits values ws e → Fits values ws d
     pub keeps : Fits values ws e → Holds values ws d → Holds values ws e
     pub back : Holds values ws e → Holds values ws d
 
-  kept_same : (d : Draft) → IsKept d d
+  kept_same : (d : DraftView) → IsKept d d
   kept_same d = record { earlier = λ f. f; keeps = λ f h. h; back = λ h. h }
 
-  kept_then : (d e f : Draft) → IsKept d e → IsKept e f → IsKept d f
+  kept_then : (d e f : DraftView) → IsKept d e → IsKept e f → IsKept d f
   kept_then d e f k l = record { earlier = λ x. k.earlier (l.earlier x); keeps = λ x h. l.keeps x (k.keeps (l.earlier x) h); back = λ h. k.back (l.back h) }
 
   -- a term that was met, with its word
-  met_written : (s : Shape) (d : Draft) → is_string s ≡ true → IsMet values ws d (written s) (meet (written s) d)
+  met_written : (s : Shape) (d : DraftView) → is_string s ≡ true → IsMet values ws d (written s) (meet (written s) d)
   met_written s d e = is_met values ws (written s) d (string_written s e)
 
-  integer_kept : (n : List ℕ) (d : Draft) → IsKept d (with_integer n d)
+  integer_kept : (n : List ℕ) (d : DraftView) → IsKept d (with_integer n d)
   integer_kept n d = by_test (list_any (pointwise nat_eq n) d.integers)
     where
       by_test : (b : Bool) → IsKept d (if b then d else record d { integers = d.integers ++ n ∷ [] })
@@ -50,14 +50,14 @@ module _ (values : Named) (ws : ℕ → Word) where
         back = λ h. record { parts = h.parts; definitions = h.definitions; equalities = h.equalities; comparisons = h.comparisons; truths = h.truths; whole = h.whole };
       }
 
-  registered_kept : (s : Shape) (d : Draft) (r : Found) → IsMet values ws d s r → IsKept d (registered s r)
+  registered_kept : (s : Shape) (d : DraftView) (r : Found) → IsMet values ws d s r → IsKept d (registered s r)
   registered_kept s d r m = record {
     earlier = λ f. m.earlier f;
     keeps = λ f h. let k = m.keeps f h in record { parts = k.parts; definitions = k.definitions; equalities = k.equalities; comparisons = k.comparisons; truths = k.truths; whole = k.whole };
     back = λ h. m.back (record { parts = h.parts; definitions = h.definitions; equalities = h.equalities; comparisons = h.comparisons; truths = h.truths; whole = h.whole });
   }
 
-  register_kept : (s : Shape) (d : Draft) → is_string s ≡ true → IsKept d (with_register (written s) d)
+  register_kept : (s : Shape) (d : DraftView) → is_string s ≡ true → IsKept d (with_register (written s) d)
   register_kept s d e = by_test (list_any (λ (r : Shape × ℕ). same (written s) r.0) d.registers)
     where
       by_test : (b : Bool) → IsKept d (if b then d else registered (written s) (meet (written s) d))
@@ -65,7 +65,7 @@ module _ (values : Named) (ws : ℕ → Word) where
       by_test false = registered_kept (written s) d (meet (written s) d) (met_written s d e)
 
   mutual
-    pub unknowns_kept : (s : Shape) (d : Draft) → is_linear s ≡ true → IsKept d (meet_unknowns s d)
+    pub unknowns_kept : (s : Shape) (d : DraftView) → is_linear s ≡ true → IsKept d (meet_unknowns s d)
     unknowns_kept (number n) d e = kept_same d
     unknowns_kept (constant n s) d e = integer_kept n d
     unknowns_kept (apply op.Length (text w ⨾ end)) d e = kept_same d
@@ -78,7 +78,7 @@ module _ (values : Named) (ws : ℕ → Word) where
     unknowns_kept (apply op.Length (s ⨾ end)) d e = absurd (never e)
     unknowns_kept _ d e = absurd (never e)
 
-    all_unknowns_kept : (ss : Shapes) (d : Draft) → are_linear ss ≡ true → IsKept d (meet_all_unknowns ss d)
+    all_unknowns_kept : (ss : Shapes) (d : DraftView) → are_linear ss ≡ true → IsKept d (meet_all_unknowns ss d)
     all_unknowns_kept end d e = kept_same d
     all_unknowns_kept (s ⨾ ss) d e =
         let h = and_parts (is_linear s) (are_linear ss) e in
@@ -104,13 +104,13 @@ module _ (values : Named) (ws : ℕ → Word) where
   Formed (written_by m s t) = (is_string s ≡ true) × (is_string t ≡ true)
   Formed outside = ⊥
 
-  pub record IsAdded (x : Said) (d e : Draft) : Type 0 where
+  pub record IsAdded (x : Said) (d e : DraftView) : Type 0 where
     pub earlier : Fits values ws e → Fits values ws d
     pub keeps : Fits values ws e → Truth x → Holds values ws d → Holds values ws e
     pub tells : Fits values ws e → Holds values ws e → Truth x
     pub back : Holds values ws e → Holds values ws d
 
-  part_added : (s : Shape) (o : Own) (b : Bool) (d : Draft) (r : Found) → IsMet values ws d (written s) r → IsAdded (has_part s o b) d (part_met (o, b) r)
+  part_added : (s : Shape) (o : Own) (b : Bool) (d : DraftView) (r : Found) → IsMet values ws d (written s) r → IsAdded (has_part s o b) d (part_met (o, b) r)
   part_added s o b d r m =
       let same : Fits values ws r.1 → ws r.0 ≡ word values s = λ f. m.at f ∙ word_written values s in
       record {
@@ -120,7 +120,7 @@ module _ (values : Named) (ws : ℕ → Word) where
         back = λ h. m.back (with_part_back values ws r.0 (o, b) r.1 h);
       }
 
-  one_added : (s t : Shape) (d : Draft) (q r : Found) → IsMet values ws d (written s) q → IsMet values ws q.1 (written t) r → IsAdded (are_one s t) d (equal_met q.0 r)
+  one_added : (s t : Shape) (d : DraftView) (q r : Found) → IsMet values ws d (written s) q → IsMet values ws q.1 (written t) r → IsAdded (are_one s t) d (equal_met q.0 r)
   one_added s t d q r m n =
       let left : Fits values ws r.1 → ws q.0 ≡ word values s = λ f. m.at (n.earlier f) ∙ word_written values s in
       let right : Fits values ws r.1 → ws r.0 ≡ word values t = λ f. n.at f ∙ word_written values t in
@@ -131,7 +131,7 @@ module _ (values : Named) (ws : ℕ → Word) where
         back = λ h. m.back (n.back (record { parts = h.parts; definitions = h.definitions; equalities = all_popped (EqualityHolds values ws) r.1.equalities (q.0, r.0) h.equalities; comparisons = h.comparisons; truths = h.truths; whole = h.whole }));
       }
 
-  pair_added : (t : Transducer) (s u : Shape) (d : Draft) (q r : Found) → IsMet values ws d (written s) q → IsMet values ws q.1 (written u) r → IsAdded (written_by t s u) d (through_met (by.Through t q.0) r)
+  pair_added : (t : Transducer) (s u : Shape) (d : DraftView) (q r : Found) → IsMet values ws d (written s) q → IsMet values ws q.1 (written u) r → IsAdded (written_by t s u) d (through_met (by.Through t q.0) r)
   pair_added t s u d q r m n =
       let left : Fits values ws r.1 → ws q.0 ≡ word values s = λ f. m.at (n.earlier f) ∙ word_written values s in
       let right : Fits values ws r.1 → ws r.0 ≡ word values u = λ f. n.at f ∙ word_written values u in
@@ -144,7 +144,7 @@ module _ (values : Named) (ws : ℕ → Word) where
         back = λ h. m.back (n.back (record { parts = h.parts; definitions = all_popped (DefinitionHolds values ws) r.1.definitions (r.0, by.Through t q.0) h.definitions; equalities = h.equalities; comparisons = h.comparisons; truths = h.truths; whole = h.whole }));
       }
 
-  comparison_added : (c : Comparison) (d e : Draft) → IsKept d e → IsAdded (compares c.op c.left c.right c.positive) d (with_comparison c e)
+  comparison_added : (c : Comparison) (d e : DraftView) → IsKept d e → IsAdded (compares c.op c.left c.right c.positive) d (with_comparison c e)
   comparison_added c d e k = record {
     earlier = k.earlier;
     keeps = λ f t h. let l = k.keeps f h in record { parts = l.parts; definitions = l.definitions; equalities = l.equalities; comparisons = all_push (ComparisonTrue values) e.comparisons c l.comparisons t; truths = l.truths; whole = l.whole };
@@ -186,13 +186,13 @@ module _ (values : Named) (ws : ℕ → Word) where
   or_false false false e = absurd (cc)
 
   -- the same cube with this fact beside it
-  broken_holds : (d : Draft) (b : Bool) → Holds values ws d → b ≡ true → Holds values ws (record d { broken = d.broken || not b })
+  broken_holds : (d : DraftView) (b : Bool) → Holds values ws d → b ≡ true → Holds values ws (record d { broken = d.broken || not b })
   broken_holds d b h e = record { parts = h.parts; definitions = h.definitions; equalities = h.equalities; comparisons = h.comparisons; truths = h.truths; whole = (λ i. h.whole i || not (e i)) }
 
-  broken_back : (d : Draft) (b : Bool) → Holds values ws (record d { broken = d.broken || not b }) → Holds values ws d
+  broken_back : (d : DraftView) (b : Bool) → Holds values ws (record d { broken = d.broken || not b }) → Holds values ws d
   broken_back d b h = record { parts = h.parts; definitions = h.definitions; equalities = h.equalities; comparisons = h.comparisons; truths = h.truths; whole = (or_false d.broken b h.whole).0 }
 
-  truth_added : (n : List ℕ) (b : Bool) (d : Draft) (o : Option Bool) → lookup (pointwise nat_eq n) d.truths ≡ o → IsAdded (value_is n b) d (with_value o n b d)
+  truth_added : (n : List ℕ) (b : Bool) (d : DraftView) (o : Option Bool) → lookup (pointwise nat_eq n) d.truths ≡ o → IsAdded (value_is n b) d (with_value o n b d)
   truth_added n b d None e = record {
     earlier = λ f. f;
     keeps = λ f t h. record { parts = h.parts; definitions = h.definitions; equalities = h.equalities; comparisons = h.comparisons; truths = all_push (TruthHolds values ws) d.truths (n, b) h.truths t; whole = h.whole };
@@ -206,7 +206,7 @@ module _ (values : Named) (ws : ℕ → Word) where
     back = broken_back d (same_truth b c);
   }
 
-  fact_added : (b : Bool) (d : Draft) → IsAdded (holds b) d (record d { broken = d.broken || not b })
+  fact_added : (b : Bool) (d : DraftView) → IsAdded (holds b) d (record d { broken = d.broken || not b })
   fact_added b d = record {
     earlier = λ f. f;
     keeps = λ f t h. broken_holds d b h t;
@@ -215,7 +215,7 @@ module _ (values : Named) (ws : ℕ → Word) where
   }
 
   -- one more literal
-  pub is_added : (x : Said) (d : Draft) → Formed x → IsAdded x d (add x d)
+  pub is_added : (x : Said) (d : DraftView) → Formed x → IsAdded x d (add x d)
   is_added (value_is n b) d e = truth_added n b d (lookup (pointwise nat_eq n) d.truths) refl
   is_added (compares o s t b) d e = comparison_added (record { op = o; left = s; right = t; positive = b }) d (meet_unknowns t (meet_unknowns s d)) (kept_then d (meet_unknowns s d) (meet_unknowns t (meet_unknowns s d)) (unknowns_kept s d e.0) (unknowns_kept t (meet_unknowns s d) e.1))
   is_added (holds b) d e = fact_added b d

@@ -19,7 +19,7 @@ use Rattle.bool_cubes.specs.Shapes.{Shape, Shapes, number, text, constant, apply
 use Rattle.bool_cubes.specs.declared.literal.Literal.{Literal}
 use Rattle.straight_line.specs.FormLaws.{AreNamesSorted, NamesAreApart, NamesAreSorted}
 use Rattle.straight_line.specs.Flattening.{AreSortedBy, IsFlatOf, IsSortedBy, all_bounded, firsts_of, has_column, integers_of, name_of, roots_of, variable_at}
-use Rattle.straight_line.specs.Met.{Draft, Found, add, add_all, all_met, concat_met, first_met, known_or, meet, meet_all, meet_all_unknowns, meet_unknowns, met, nothing_met, place_of, registered, with_term, with_value}
+use Rattle.straight_line.specs.Met.{DraftView, Found, add, add_all, all_met, concat_met, first_met, known_or, meet, meet_all, meet_all_unknowns, meet_unknowns, met, nothing_met, place_of, registered, with_term, with_value}
 use Rattle.straight_line.specs.Said.{Said, are_one, atom_said, compares, constant_said, equality_said, has_part, holds, one_said, outside, pair_said, part_said, row_said, said, string_said, value_is, where_true, written_by}
 use Rattle.straight_line.specs.Straight.{string_names}
 use Rattle.straight_line.specs.declared.flat.Flat.{Flat}
@@ -76,10 +76,10 @@ module _ (sorts : List ℕ → Sort) where
   abbrev truth_names : List (List ℕ × Bool) → List (List ℕ)
   truth_names ts = map (λ (t : List ℕ × Bool). t.0) ts
 
-  abbrev Fits : Draft → Type 0
+  abbrev Fits : DraftView → Type 0
   Fits d = (AllByRecursion HasText d.terms × Differ (names_in d.terms)) × (AreOf sort.Int d.integers × AreOf sort.Bool (truth_names d.truths))
 
-  known_fits : (o : Option ℕ) (d : Draft) (new : Found) → Fits d → Fits new.1 → Fits (known_or o d new).1
+  known_fits : (o : Option ℕ) (d : DraftView) (new : Found) → Fits d → Fits new.1 → Fits (known_or o d new).1
   known_fits None d new f g = g
   known_fits (Some i) d new f g = f
 
@@ -100,15 +100,15 @@ module _ (sorts : List ℕ → Sort) where
       by_test true q e k = absurd (cc)
       by_test false q e k = none_named n s (names_in ts) i t q a.0 (k (map_none (place_of (constant n s) ts) e))
 
-  constant_fits : (n : List ℕ) (s : Sort) (d : Draft) → s ≡ sort.String → sorts n ≡ s → Fits d → (o : Option ℕ) → place_of (constant n s) d.terms ≡ o → Fits (known_or o d (length d.terms, with_term (constant n s) d)).1
+  constant_fits : (n : List ℕ) (s : Sort) (d : DraftView) → s ≡ sort.String → sorts n ≡ s → Fits d → (o : Option ℕ) → place_of (constant n s) d.terms ≡ o → Fits (known_or o d (length d.terms, with_term (constant n s) d)).1
   constant_fits n s d i e f (Some k) q = f
   constant_fits n s d i e f None q = ((all_push HasText d.terms (constant n s) f.0.0 (e, i), subst Differ (sym (names_push d.terms (constant n s))) (differ_push (names_in d.terms) n f.0.1 (none_placed n s i d.terms f.0.0 q))), f.1)
 
-  pushed_fits : (t : Shape) (d : Draft) → one_name (name_of t) [] ≡ [] → HasText t → Fits d → Fits (with_term t d)
+  pushed_fits : (t : Shape) (d : DraftView) → one_name (name_of t) [] ≡ [] → HasText t → Fits d → Fits (with_term t d)
   pushed_fits t d e h f = ((all_push HasText d.terms t f.0.0 h, subst Differ (sym (append-nil (names_in d.terms)) ∙ ap (λ z. names_in d.terms ++ z) (sym e) ∙ sym (names_push d.terms t)) f.0.1), f.1)
 
   mutual
-    term_fits : (s : Shape) (d : Draft) → is_string s ≡ true → IsSortedBy sorts s → Fits d → Fits (meet s d).1
+    term_fits : (s : Shape) (d : DraftView) → is_string s ≡ true → IsSortedBy sorts s → Fits d → Fits (meet s d).1
     term_fits (text w) d e o f = pushed_fits (text w) d refl tt f
     term_fits (constant n s) d e o f = constant_fits n s d (is_text_sort s e) o f (place_of (constant n s) d.terms) refl
     term_fits (apply op.Concat (s ⨾ ss)) d e o f =
@@ -122,29 +122,29 @@ module _ (sorts : List ℕ → Sort) where
         known_fits (place_of t d.terms) d (all_met (length d.terms) p u (meet s (with_term t d))) f (term_fits s (with_term t d) e o.0 (pushed_fits t d refl tt f))
     term_fits _ d e o f = absurd (never e)
 
-    terms_fit : (ss : Shapes) (d : Draft) → are_strings ss ≡ true → AreSortedBy sorts ss → Fits d → Fits (meet_all ss d).1
+    terms_fit : (ss : Shapes) (d : DraftView) → are_strings ss ≡ true → AreSortedBy sorts ss → Fits d → Fits (meet_all ss d).1
     terms_fit end d e o f = f
     terms_fit (s ⨾ ss) d e o f =
         let h = and_parts (is_string s) (are_strings ss) e in
         terms_fit ss (meet s d).1 h.1 o.1 (term_fits s d h.0 o.0 f)
 
   -- a string term with nested concatenations written as one
-  written_fits : (s : Shape) (d : Draft) → is_string s ≡ true → IsSortedBy sorts s → Fits d → Fits (meet (written s) d).1
+  written_fits : (s : Shape) (d : DraftView) → is_string s ≡ true → IsSortedBy sorts s → Fits d → Fits (meet (written s) d).1
   written_fits s d e o f = term_fits (written s) d (string_written s e) (sorted_written s o) f
 
-  integer_fits : (n : List ℕ) (d : Draft) → sorts n ≡ sort.Int → Fits d → (b : Bool) → list_any (pointwise nat_eq n) d.integers ≡ b → Fits (if b then d else record d { integers = d.integers ++ n ∷ [] })
+  integer_fits : (n : List ℕ) (d : DraftView) → sorts n ≡ sort.Int → Fits d → (b : Bool) → list_any (pointwise nat_eq n) d.integers ≡ b → Fits (if b then d else record d { integers = d.integers ++ n ∷ [] })
   integer_fits n d e f true q = f
   integer_fits n d e f false q = (f.0, ((all_push (λ m. sorts m ≡ sort.Int) d.integers n f.1.0.0 e, differ_push d.integers n f.1.0.1 (none_found n d.integers q)), f.1.1))
 
-  length_fits : (s : Shape) (d : Draft) → is_string s ≡ true → IsSortedBy sorts s → Fits d → (b : Bool) → Fits (if b then d else registered (written s) (meet (written s) d))
+  length_fits : (s : Shape) (d : DraftView) → is_string s ≡ true → IsSortedBy sorts s → Fits d → (b : Bool) → Fits (if b then d else registered (written s) (meet (written s) d))
   length_fits s d e o f true = f
   length_fits s d e o f false = written_fits s d e o f
 
-  register_fits : (s : Shape) (d : Draft) → is_string s ≡ true → IsSortedBy sorts s → Fits d → Fits (if list_any (λ (r : Shape × ℕ). same (written s) r.0) d.registers then d else registered (written s) (meet (written s) d))
+  register_fits : (s : Shape) (d : DraftView) → is_string s ≡ true → IsSortedBy sorts s → Fits d → Fits (if list_any (λ (r : Shape × ℕ). same (written s) r.0) d.registers then d else registered (written s) (meet (written s) d))
   register_fits s d e o f = length_fits s d e o f (list_any (λ (r : Shape × ℕ). same (written s) r.0) d.registers)
 
   mutual
-    unknowns_fit : (s : Shape) (d : Draft) → is_linear s ≡ true → IsSortedBy sorts s → Fits d → Fits (meet_unknowns s d)
+    unknowns_fit : (s : Shape) (d : DraftView) → is_linear s ≡ true → IsSortedBy sorts s → Fits d → Fits (meet_unknowns s d)
     unknowns_fit (number n) d e o f = f
     unknowns_fit (constant n s) d e o f = integer_fits n d (o ∙ is_int_sort s e) f (list_any (pointwise nat_eq n) d.integers) refl
     unknowns_fit (apply op.Length (text w ⨾ end)) d e o f = f
@@ -157,7 +157,7 @@ module _ (sorts : List ℕ → Sort) where
     unknowns_fit (apply op.Length (s ⨾ end)) d e o f = absurd (never e)
     unknowns_fit _ d e o f = absurd (never e)
 
-    all_unknowns_fit : (ss : Shapes) (d : Draft) → are_linear ss ≡ true → AreSortedBy sorts ss → Fits d → Fits (meet_all_unknowns ss d)
+    all_unknowns_fit : (ss : Shapes) (d : DraftView) → are_linear ss ≡ true → AreSortedBy sorts ss → Fits d → Fits (meet_all_unknowns ss d)
     all_unknowns_fit end d e o f = f
     all_unknowns_fit (s ⨾ ss) d e o f =
         let h = and_parts (is_linear s) (are_linear ss) e in
@@ -174,7 +174,7 @@ module _ (sorts : List ℕ → Sort) where
   truths_push [] t = refl
   truths_push (x ∷ ts) t = ap (λ z. x.0 ∷ z) (truths_push ts t)
 
-  value_fits : (n : List ℕ) (b : Bool) (d : Draft) → sorts n ≡ sort.Bool → Fits d → (o : Option Bool) → lookup (pointwise nat_eq n) d.truths ≡ o → Fits (with_value o n b d)
+  value_fits : (n : List ℕ) (b : Bool) (d : DraftView) → sorts n ≡ sort.Bool → Fits d → (o : Option Bool) → lookup (pointwise nat_eq n) d.truths ≡ o → Fits (with_value o n b d)
   value_fits n b d e f (Some c) q = f
   value_fits n b d e f None q = (f.0, (f.1.0, subst (AreOf sort.Bool) (sym (truths_push d.truths (n, b))) (all_push (λ m. sorts m ≡ sort.Bool) (truth_names d.truths) n f.1.1.0 e, differ_push (truth_names d.truths) n f.1.1.1 (none_valued n d.truths q))))
 
@@ -194,7 +194,7 @@ module _ (sorts : List ℕ → Sort) where
   SaidFits (written_by m s t) = IsString s × IsString t
   SaidFits outside = ⊤
 
-  added_fits : (x : Said) (d : Draft) → SaidFits x → Fits d → Fits (add x d)
+  added_fits : (x : Said) (d : DraftView) → SaidFits x → Fits d → Fits (add x d)
   added_fits (value_is n b) d h f = value_fits n b d h f (lookup (pointwise nat_eq n) d.truths) refl
   added_fits (compares o s t b) d h f = unknowns_fit t (meet_unknowns s d) h.1.0 h.1.1 (unknowns_fit s d h.0.0 h.0.1 f)
   added_fits (holds b) d h f = f
@@ -258,7 +258,7 @@ module _ (sorts : List ℕ → Sort) where
   atom_fits (apply op.IsDigit (s ⨾ end)) b o = part_fits s own.Digit b o.0
   atom_fits _ b o = tt
 
-  all_fit : (ls : List Literal) (d : Draft) → AllByRecursion (λ (l : Literal). IsSortedBy sorts (seen l.atom)) ls → Fits d → Fits (add_all ls d)
+  all_fit : (ls : List Literal) (d : DraftView) → AllByRecursion (λ (l : Literal). IsSortedBy sorts (seen l.atom)) ls → Fits d → Fits (add_all ls d)
   all_fit [] d o f = f
   all_fit (l ∷ ls) d o f = all_fit ls (add (said l) d) o.1 (added_fits (said l) d (atom_fits (seen l.atom) l.positive o.0) f)
 
@@ -271,11 +271,11 @@ module _ (sorts : List ℕ → Sort) where
       one (constant n k) h r = (h.0 ∙ h.1, r)
       one _ h r = r
 
-  names_met : (d : Draft) (rs : List ℕ) → string_names (map (variable_at d) rs) ≡ names_of_all d.terms (firsts_of d) rs
+  names_met : (d : DraftView) (rs : List ℕ) → string_names (map (variable_at d) rs) ≡ names_of_all d.terms (firsts_of d) rs
   names_met d [] = refl
   names_met d (r ∷ rs) = ap (λ z. (variable_at d r).names ++ z) (names_met d rs)
 
-  apart : (d : Draft) (flat : Flat) → Fits d → IsFlatOf d flat → Differ (string_names flat.variables ++ flat.integers ++ truth_names flat.truths)
+  apart : (d : DraftView) (flat : Flat) → Fits d → IsFlatOf d flat → Differ (string_names flat.variables ++ flat.integers ++ truth_names flat.truths)
   apart d flat f g =
       let p : List ℕ → Bool = λ name. has_column (all_bounded d) (integer name) in
       let texts = names_of_all d.terms (firsts_of d) (roots_of d) in
@@ -291,7 +291,7 @@ module _ (sorts : List ℕ → Sort) where
       (subst (λ z. Differ (texts ++ z ++ truth_names flat.truths)) (sym g.integers)
       (subst (λ z. Differ (texts ++ integers_of d ++ truth_names z)) (sym g.truths) (subst Differ (sym (append_assoc texts (integers_of d) (truth_names d.truths))) whole)))
 
-  sorted : (d : Draft) (flat : Flat) → Fits d → IsFlatOf d flat → AreNamesSorted sorts flat
+  sorted : (d : DraftView) (flat : Flat) → Fits d → IsFlatOf d flat → AreNamesSorted sorts flat
   sorted d flat f g =
       let p : List ℕ → Bool = λ name. has_column (all_bounded d) (integer name) in
       let is_text = all_within d.terms (firsts_of d) (λ n. sorts n ≡ sort.String) (roots_of d) (texts_sorted d.terms f.0.0) in

@@ -13,7 +13,7 @@ use Rattle.bool_cubes.specs.Alike.{code_is}
 use Rattle.bool_cubes.specs.Flats.{flat}
 use Rattle.bool_cubes.specs.Linear.{Linear, Place, Step, Unknown, addition, added, at_constant, at_unknown, entry_at, less, linear, minus_one, multiple_of, same_unknown, scaled, scaling, steps, unknown_code}
 use Rattle.bool_cubes.specs.Marked.{AreDifferences}
-use Rattle.bool_cubes.specs.Numbered.{AreNumbered, IsMadeBy, IsNumbered, place_in, place_of}
+use Rattle.bool_cubes.specs.Numbered.{AreNumbered, IsFormOrPast, IsNumbered, place_in, place_of}
 use Rattle.bool_cubes.specs.Past.{ArePlain, IsPast, IsPlainExactly, equality_steps}
 use Rattle.bool_cubes.specs.Shapes.{Shape}
 use Rattle.bool_cubes.specs.declared.past.Differences.{Differences}
@@ -26,13 +26,13 @@ use Rattle.sv_linear.specs.declared.form.Form.{Form}
 use Rattle.sv_linear.specs.declared.row.RowKind.{RowKind}
 use Rattle.sv_terms.specs.declared.op.Op.{Op}
 use Rattle.sv_terms.specs.declared.op.Op.TheVariants as op
-use Rattle.straight_line.specs.Comparing.{CanBound, CanRenumber, IsBoundBy, IsComparable, IsRenumbered, RowFits, at_number, bound_by, form_by, kind_by, number_of, one, steps_by, sum_at}
+use Rattle.straight_line.specs.Comparing.{CanBound, CanRenumber, IsBoundBy, IsComparable, IsRenumbered, ComparisonFits, at_number, bound_by, form_by, kind_by, number_of, one, steps_by, sum_at}
 use Rattle.straight_line.specs.Flattening.{Bounded, bounded_of, compared, opposite}
 use Rattle.straight_line.specs.Gathered.{Becomes, Gathers, IsRowAmong, Knows, coefficient_where, index_of, number_at, unknowns_at}
-use Rattle.straight_line.specs.Met.{Draft, with_comparison}
-use Rattle.straight_line.specs.declared.comparison.Bound.{Bound}
-use Rattle.straight_line.specs.declared.comparison.Bound.TheVariants as bound
-use Rattle.straight_line.specs.declared.meeting.Meeting.{Meeting}
+use Rattle.straight_line.specs.Met.{DraftView, with_comparison}
+use Rattle.straight_line.specs.declared.comparison.RowReading.{RowReading}
+use Rattle.straight_line.specs.declared.comparison.RowReading.TheVariants as bound
+use Rattle.straight_line.specs.declared.meeting.DraftBuilder.{DraftBuilder}
 use Rattle.straight_line.proofs.Fine.{fine_added, fine_less, fine_scaled}
 use Rattle.straight_line.proofs.Gathering.{gathers_row}
 use Rattle.straight_line.proofs.Inserted.{before_none, item_of, not_equal}
@@ -40,7 +40,7 @@ use Rattle.bool_cubes.specs.declared.fault.CubeFault.{CubeFault}
 use Rattle.bool_cubes.specs.declared.fault.CubeFault.TheVariants as fault
 
 -- where no step is past 128 bits only memory can lack
-pub fault_memory : (us : List (List ℤ)) (a : Linear) (steps : List Step) (f : CubeFault) → ArePlain steps → IsMadeBy us a steps (Err f) → (e : AllocError) × (f ≡ fault.Memory e)
+pub fault_memory : (us : List (List ℤ)) (a : Linear) (steps : List Step) (f : CubeFault) → ArePlain steps → IsFormOrPast us a steps (Err f) → (e : AllocError) × (f ≡ fault.Memory e)
 fault_memory us a steps (fault.Past l r) p h = absurd (p l r h)
 fault_memory us a steps (fault.TooMany n) p h = absurd h
 fault_memory us a steps (fault.Memory e) p h = (e, refl)
@@ -70,28 +70,28 @@ module _ (s t : Shape) where
   abbrev difference : Linear
   difference = less (linear s) (linear t)
 
-  pub equality_plain : (b : Bound) → ArePlain (steps_by b s t) → ArePlain (equality_steps s t)
+  pub equality_plain : (b : RowReading) → ArePlain (steps_by b s t) → ArePlain (equality_steps s t)
   equality_plain bound.Zero p = p
   equality_plain bound.AtMost p = plain_left (equality_steps s t) _ p
   equality_plain bound.Below p = plain_left (equality_steps s t) _ p
   equality_plain bound.AtLeast p = plain_left (equality_steps s t) _ p
   equality_plain bound.Above p = plain_left (equality_steps s t) _ p
 
-  below_plain : (b : Bound) → ArePlain (steps_by b s t) → b ≡ bound.Below → ArePlain (addition difference one ∷ [])
+  below_plain : (b : RowReading) → ArePlain (steps_by b s t) → b ≡ bound.Below → ArePlain (addition difference one ∷ [])
   below_plain bound.Below p e = plain_left (addition difference one ∷ []) (addition (scaled difference minus_one) one ∷ []) (plain_right (equality_steps s t) _ p)
   below_plain bound.Zero p e = absurd (cc)
   below_plain bound.AtMost p e = absurd (cc)
   below_plain bound.AtLeast p e = absurd (cc)
   below_plain bound.Above p e = absurd (cc)
 
-  above_plain : (b : Bound) → ArePlain (steps_by b s t) → b ≡ bound.Above → ArePlain (addition (scaled difference minus_one) one ∷ [])
+  above_plain : (b : RowReading) → ArePlain (steps_by b s t) → b ≡ bound.Above → ArePlain (addition (scaled difference minus_one) one ∷ [])
   above_plain bound.Above p e = plain_right (addition difference one ∷ []) (addition (scaled difference minus_one) one ∷ []) (plain_right (equality_steps s t) _ p)
   above_plain bound.Zero p e = absurd (cc)
   above_plain bound.AtMost p e = absurd (cc)
   above_plain bound.Below p e = absurd (cc)
   above_plain bound.AtLeast p e = absurd (cc)
 
-  pub can_bound : (us : List (List ℤ)) (d : Differences) (o : Op) (p : Bool) (b : Bound) → AreDifferences us (linear s) (linear t) d → RowFits o s t p → b ≡ bound_by o p → CanBound d b
+  pub can_bound : (us : List (List ℤ)) (d : Differences) (o : Op) (p : Bool) (b : RowReading) → AreDifferences us (linear s) (linear t) d → ComparisonFits o s t p → b ≡ bound_by o p → CanBound d b
   can_bound us d o p b h f e = record {
     codes = us;
     left = linear s;
@@ -101,7 +101,7 @@ module _ (s t : Shape) where
     above = λ g. above_plain (bound_by o p) f.plain (sym e ∙ g);
   }
 
-pub subtract_memory : (X : Type 0) (s t : Shape) (o : Op) (b : Bool) (f : CubeFault) → RowFits o s t b → IsPlainExactly {X = X} (equality_steps s t) (Err f) → (e : AllocError) × (f ≡ fault.Memory e)
+pub subtract_memory : (X : Type 0) (s t : Shape) (o : Op) (b : Bool) (f : CubeFault) → ComparisonFits o s t b → IsPlainExactly {X = X} (equality_steps s t) (Err f) → (e : AllocError) × (f ≡ fault.Memory e)
 subtract_memory X s t o b f p h = plain_memory X (equality_steps s t) f (equality_plain s t (bound_by o b) p.plain) h
 
 -- the entries of the form
@@ -170,7 +170,7 @@ module _ (s t : Shape) where
       let first = plain_right (scaling (linear t) minus_one ∷ []) (addition (linear s) (scaled (linear t) minus_one) ∷ []) both in
       symmetric_product (entry_at c less_of) (subst (FitsSigned w128) (sym (entry_added c (linear s) (scaled (linear t) minus_one))) (addition_fits (linear s) (scaled (linear t) minus_one) c first)) (scaling_fits less_of minus_one c last)
 
-  form_symmetric : (b : Bound) → ArePlain (steps_by b s t) → (c : Place) → IsSymmetric (entry_at c (form_by b less_of))
+  form_symmetric : (b : RowReading) → ArePlain (steps_by b s t) → (c : Place) → IsSymmetric (entry_at c (form_by b less_of))
   form_symmetric bound.Zero p c = less_symmetric p c
   form_symmetric bound.AtMost p c = less_symmetric (equality_plain s t bound.AtMost p) c
   form_symmetric bound.Below p c = one_more less_of c (less_symmetric (equality_plain s t bound.Below p) c) (below_plain s t bound.Below p refl)
@@ -232,7 +232,7 @@ found_multiple ns v (t ∷ ts) a = multiple_by ns v t ts a.0 (found_multiple ns 
 nonzero : (z : ℤ) → 0 < unsigned_abs z → z ≡ pos 0 → ⊥
 nonzero z h e = let k : 0 < unsigned_abs (pos 0) = subst (λ y. 0 < unsigned_abs y) e h in omega arith
 
-module _ (m : Meeting) (d : Draft) (g : Gathers m d) (us : List (List ℤ)) (a : Linear) (f : TermForm) (coded : AreNumbered us) (is : IsNumbered us a f) (known : Knows m.numbers a) where
+module _ (m : DraftBuilder) (d : DraftView) (g : Gathers m d) (us : List (List ℤ)) (a : Linear) (f : TermForm) (coded : AreNumbered us) (is : IsNumbered us a f) (known : Knows m.numbers a) where
   abbrev all : List Unknown
   all = unknowns_at d.terms m.quantities
 
@@ -359,25 +359,25 @@ module _ (m : Meeting) (d : Draft) (g : Gathers m d) (us : List (List ℤ)) (a :
     ]
 
 -- the comparison as a whole
-module _ (m : Meeting) (s t : Shape) (o : Op) (p : Bool) where
+module _ (m : DraftBuilder) (s t : Shape) (o : Op) (p : Bool) where
   abbrev Known : Unknown → Type 0
   Known u = (k : ℕ) × (number_at (flat (unknown_code u)) m.numbers ≡ Some k)
 
-  known_form : (b : Bound) → Knows m.numbers (linear s) → Knows m.numbers (linear t) → Knows m.numbers (form_by b (less (linear s) (linear t)))
+  known_form : (b : RowReading) → Knows m.numbers (linear s) → Knows m.numbers (linear t) → Knows m.numbers (form_by b (less (linear s) (linear t)))
   known_form bound.Zero h k = fine_less Known (linear s) (linear t) h k
   known_form bound.AtMost h k = fine_less Known (linear s) (linear t) h k
   known_form bound.Below h k = fine_added Known (less (linear s) (linear t)) one (fine_less Known (linear s) (linear t) h k) tt
   known_form bound.AtLeast h k = fine_scaled Known (less (linear s) (linear t)) minus_one (fine_less Known (linear s) (linear t) h k)
   known_form bound.Above h k = fine_added Known (scaled (less (linear s) (linear t)) minus_one) one (fine_scaled Known (less (linear s) (linear t)) minus_one (fine_less Known (linear s) (linear t) h k)) tt
 
-  module _ (c : IsComparable m o s t p) (us : List (List ℤ)) (ds : Differences) (b : Bound) (f : TermForm) (forms : AreDifferences us (linear s) (linear t) ds) (bound_is : b ≡ bound_by o p) (of : IsBoundBy ds b f) where
+  module _ (c : IsComparable m o s t p) (us : List (List ℤ)) (ds : Differences) (b : RowReading) (f : TermForm) (forms : AreDifferences us (linear s) (linear t) ds) (bound_is : b ≡ bound_by o p) (of : IsBoundBy ds b f) where
     abbrev form_of : Linear
     form_of = form_by b (less (linear s) (linear t))
 
     pub compared_renumber : CanRenumber m.numbers us f.form
     compared_renumber = can_renumber m c.gathered.draft c.gathered.gathers us form_of f forms.numbered (of.each us (linear s) (linear t) forms) (known_form b c.left c.right)
 
-    pub compared_row : (n : Meeting) (r : Form) (k : RowKind) → IsRenumbered m.numbers us f.form r → k ≡ kind_by b → n ≡ record m { rows = m.rows ++ (record { form = r; kind = k }) ∷ [] } → Becomes m n (with_comparison (record { op = o; left = s; right = t; positive = p }))
+    pub compared_row : (n : DraftBuilder) (r : Form) (k : RowKind) → IsRenumbered m.numbers us f.form r → k ≡ kind_by b → n ≡ record m { rows = m.rows ++ (record { form = r; kind = k }) ∷ [] } → Becomes m n (with_comparison (record { op = o; left = s; right = t; positive = p }))
     compared_row n r k e q h = record {
       each = λ d g.
           let numbered = of.each us (linear s) (linear t) forms in

@@ -6,26 +6,26 @@ use Rattle.std.proofs.lemmas.List.{length-map}
 use Rattle.sv_linear.specs.declared.row.Row.{Row}
 use Rattle.bool_cubes.specs.Linear.{integer, length_of}
 use Rattle.bool_cubes.specs.Shapes.{Shape}
-use Rattle.straight_line.specs.Drafted.{Holds, registers_among, unknown_at}
+use Rattle.straight_line.specs.Drafted.{HoldsDraft, registers_among, unknown_at}
 use Rattle.straight_line.specs.Filling.{variable_from}
 use Rattle.straight_line.specs.Flattening.{IsFinished, IsFlatOf, IsRowFor, NoCycle, NoneTwice, all_bounded, definitions_of, firsts_of, has_column, integers_of, ordered, registers_of, variable_of}
 use Rattle.straight_line.specs.Keeping.{AreQuantitiesBelow}
 use Rattle.straight_line.specs.Leading.{ordinal, roots_in}
-use Rattle.straight_line.specs.Met.{Draft}
+use Rattle.straight_line.specs.Met.{DraftView}
 use Rattle.straight_line.specs.Readiness.{IsReady}
 use Rattle.straight_line.specs.Rowing.{AreRows, AreRowsExactly, integers_for, registers_for}
-use Rattle.straight_line.specs.Straight.{AreBelow, InOrder, IsRowOf, IsStraight}
+use Rattle.straight_line.specs.Straight.{AreBelow, InOrder, IsRowBelow, IsStraight}
 use Rattle.straight_line.specs.Tracing.{IsStraightened}
 use Rattle.straight_line.specs.Wording.{IsWording, definitions_by, least_of}
 use Rattle.straight_line.specs.declared.definition.Definition.{Definition}
-use Rattle.straight_line.specs.declared.draft.Draft.{Draft as Held}
+use Rattle.straight_line.specs.declared.draft.FlatDraft.{FlatDraft as Held}
 use Rattle.straight_line.specs.declared.draft.Quantity.{Quantity}
 use Rattle.straight_line.specs.declared.draft.Quantity.TheVariants.{Integer, Length}
 use Rattle.straight_line.specs.declared.fault.FlatFault.{FlatFault}
 use Rattle.straight_line.specs.declared.fault.FlatFault.TheVariants.{Outside, Twice, Cycle, Wide, Memory}
 use Rattle.straight_line.specs.declared.flat.Flat.{Flat}
 use Rattle.straight_line.specs.declared.rowing.Rows.{Rows}
-use Rattle.straight_line.specs.declared.wording.Words.{Words}
+use Rattle.straight_line.specs.declared.wording.NumberedDefinitions.{NumberedDefinitions}
 use Rattle.straight_line.proofs.Acyclic.{acyclic}
 use Rattle.straight_line.proofs.Differing.{filter_within}
 use Rattle.straight_line.proofs.Finished.{all_sound, definitions_met, in_order, least_are, place_count, variables_met}
@@ -48,21 +48,21 @@ registers_below n ts [] a = tt
 registers_below n ts (Integer name ∷ qs) a = registers_below n ts qs a.1
 registers_below n ts (Length i ∷ qs) a = (a.0, registers_below n ts qs a.1)
 
-straightened_finished : (d : Draft) (e : FlatFault) → IsStraightened (definitions_of d) (Err e) → IsFinished d (Err e)
+straightened_finished : (d : DraftView) (e : FlatFault) → IsStraightened (definitions_of d) (Err e) → IsFinished d (Err e)
 straightened_finished d (Outside l) s = s
 straightened_finished d (Twice v) s = s
 straightened_finished d (Cycle vs) s = s
 straightened_finished d (Wide n) s = absurd s
 straightened_finished d (Memory e) s = s
 
-wide_finished : (of : List ℕ) (qs : List Quantity) (d : Draft) (e : FlatFault) → NoneTwice (definitions_of d) → NoCycle (definitions_of d) → registers_for d.terms (all_bounded d) qs ≡ registers_of d → integers_for (all_bounded d) qs ≡ integers_of d → AreRowsExactly of d.terms (all_bounded d) qs (Err e) → IsFinished d (Err e)
+wide_finished : (of : List ℕ) (qs : List Quantity) (d : DraftView) (e : FlatFault) → NoneTwice (definitions_of d) → NoCycle (definitions_of d) → registers_for d.terms (all_bounded d) qs ≡ registers_of d → integers_for (all_bounded d) qs ≡ integers_of d → AreRowsExactly of d.terms (all_bounded d) qs (Err e) → IsFinished d (Err e)
 wide_finished of qs d (Outside l) once none r i s = s
 wide_finished of qs d (Twice v) once none r i s = absurd s
 wide_finished of qs d (Cycle vs) once none r i s = absurd s
 wide_finished of qs d (Wide n) once none r i s = (once, none, (elim s.0 [ inl e ↦ inl (e ∙ ap length r) | inr e ↦ inr (e ∙ ap length i) ], s.1))
 wide_finished of qs d (Memory e) once none r i s = s
 
-module _ (held : Held) (d : Draft) (h : Holds held d) where
+module _ (held : Held) (d : DraftView) (h : HoldsDraft held d) where
   abbrev places : ℕ
   places = length held.names
 
@@ -82,7 +82,7 @@ module _ (held : Held) (d : Draft) (h : Holds held d) where
   pub rows_between : (rows : List Row) → rows ≡ held.rows → AllZip (IsRowFor (map (unknown_at d.terms) held.quantities)) (all_bounded d) rows
   rows_between rows e = subst (AllZip (IsRowFor (map (unknown_at d.terms) held.quantities)) (all_bounded d)) (sym e) h.rows
 
-  module _ (ready : IsReady held) (w : Words) (is : IsWording held.names held.parts held.definitions held.equalities w) where
+  module _ (ready : IsReady held) (w : NumberedDefinitions) (is : IsWording held.names held.parts held.definitions held.equalities w) where
     abbrev count : ℕ
     count = length w.variables
 
@@ -104,7 +104,7 @@ module _ (held : Held) (d : Draft) (h : Holds held d) where
     number_below : (i : ℕ) → i < places → get_or w.of.items i 0 < count
     number_below i l = subst (λ z. z < count) (sym (is.numbers i l)) (subst (λ z. ordinal places (least_of places held.equalities) i < z) (sym count_is) (ordinal_within places held.equalities ready.met.equalities_in i l))
 
-    module _ (s : Rows) (are : AreRows w.of.items d.terms (all_bounded d) held.quantities s) (numbered : AllByRecursion (IsRowOf (length s.integers + length s.registers)) s.rows) where
+    module _ (s : Rows) (are : AreRows w.of.items d.terms (all_bounded d) held.quantities s) (numbered : AllByRecursion (IsRowBelow (length s.integers + length s.registers)) s.rows) where
       abbrev flat : Flat
       flat = record { variables = w.variables; definitions = w.definitions; rows = s.rows; registers = s.registers; integers = s.integers; truths = held.truths; broken = held.broken }
 

@@ -17,7 +17,7 @@ use Rattle.bool_cubes.specs.Linear as form
 use Rattle.straight_line.specs.Flattening.{Bounded, IsRowFor, all_bounded, bounded_of, compared, has_column, opposite, unknowns_of}
 use Rattle.straight_line.specs.Waiting.{Among}
 use Rattle.straight_line.proofs.Members.{neither}
-use Rattle.straight_line.specs.Met.{Comparison, Draft}
+use Rattle.straight_line.specs.Met.{Comparison, DraftView}
 use Rattle.sv_linear.specs.Rows.{Compares, MeetsRow}
 use Rattle.straight_line.proofs.Amounts.{amount, linear_value, number_of_term, val_number}
 use Rattle.straight_line.proofs.Apart.{Stands, stands_once}
@@ -93,7 +93,7 @@ module _ (values : Named) where
   is_test : (o : Op) (b : Bool) (l r : Shape) → HasRow o b → IsNumeric values l → IsNumeric values r → val values (term.Apply o (raw l ∷ raw r ∷ [])) ≡ Some (value.Truth (test o (number_of_term values l) (number_of_term values r)))
   is_test o b l r h p q = val_apply values o (raw l ∷ raw r ∷ []) ∙ (λ i. applied_if o (all_of (val_number values l p.0 p.1.0 i ∷ val_number values r q.0 q.1.0 i ∷ []))) ∙ applied_is o b (number_of_term values l) (number_of_term values r) h
 
-  module _ (d : Draft) (counted : AreCounted values d.terms (rest d)) where
+  module _ (d : DraftView) (counted : AreCounted values d.terms (rest d)) where
     abbrev pub amounts : ℕ → ℤ
     amounts u = get_or (map (amount values) (unknowns_of d)) u (pos 0)
 

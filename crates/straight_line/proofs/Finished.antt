@@ -7,24 +7,24 @@ use Rattle.std.proofs.lemmas.List.{length-map}
 use Rattle.sv_linear.specs.declared.row.Row.{Row}
 use Rattle.bool_cubes.specs.Linear.{Unknown, integer, length_of, multiple_of}
 use Rattle.bool_cubes.specs.Shapes.{Shape}
-use Rattle.straight_line.specs.Bounds.{used}
+use Rattle.straight_line.specs.Using.{used}
 use Rattle.straight_line.specs.Columns.{has_entry}
-use Rattle.straight_line.specs.Drafted.{Holds, integers_among, registers_among, term_at, unknown_at}
+use Rattle.straight_line.specs.Drafted.{HoldsDraft, integers_among, registers_among, term_at, unknown_at}
 use Rattle.straight_line.specs.Filling.{names_from, parts_from, variable_from}
 use Rattle.straight_line.specs.Flattening.{Bounded, IsRowFor, coefficient_at, definitions_of, firsts_of, has_column, name_of, names_at, ordered, variable_at, variables_of, with_name}
 use Rattle.straight_line.specs.Keeping.{kept, kept_all}
 use Rattle.straight_line.specs.Leading.{definition_by, roots_in}
-use Rattle.straight_line.specs.Met.{Draft}
+use Rattle.straight_line.specs.Met.{DraftView}
 use Rattle.straight_line.specs.Readiness.{UsesSome}
-use Rattle.straight_line.specs.Straight.{AreWithin, InOrder}
+use Rattle.straight_line.specs.Straight.{HaveVariablesBelow, InOrder}
 use Rattle.straight_line.specs.Wording.{definitions_by, least_of}
 use Rattle.straight_line.specs.declared.definition.By.{By}
 use Rattle.straight_line.specs.declared.definition.By.TheVariants as by
 use Rattle.straight_line.specs.declared.definition.Definition.{Definition}
-use Rattle.straight_line.specs.declared.draft.Draft.{Draft as Held}
+use Rattle.straight_line.specs.declared.draft.FlatDraft.{FlatDraft as Held}
 use Rattle.straight_line.specs.declared.draft.Quantity.{Quantity}
 use Rattle.straight_line.specs.declared.draft.Quantity.TheVariants.{Integer, Length}
-use Rattle.straight_line.specs.declared.keeping.Kept.{Kept}
+use Rattle.straight_line.specs.declared.keeping.KeptUnknowns.{KeptUnknowns}
 use Rattle.straight_line.proofs.Taking.{IsSound, defines, taken_in_order}
 use Rattle.straight_line.proofs.Traced.{passing}
 
@@ -34,7 +34,7 @@ names_are [] fs r = refl
 names_are (t ∷ ts) [] r = refl
 names_are (t ∷ ts) (f ∷ fs) r = ap (with_name _ (name_of t)) (names_are ts fs r)
 
-module _ (held : Held) (d : Draft) (h : Holds held d) where
+module _ (held : Held) (d : DraftView) (h : HoldsDraft held d) where
   pub place_count : length held.names ≡ length d.terms
   place_count = ap length h.names ∙ length-map d.terms name_of
 
@@ -66,7 +66,7 @@ renamed_count f (i, by.First p u v) l = l
 renamed_count f (i, by.All p u v) l = l
 renamed_count f (i, by.Through t v) l = l
 
-pub all_sound : (n : ℕ) (f : ℕ → ℕ) (es : List (ℕ × By)) → AllByRecursion UsesSome es → AreWithin n (map (definition_by f) es) → AllByRecursion (IsSound n) (map (definition_by f) es)
+pub all_sound : (n : ℕ) (f : ℕ → ℕ) (es : List (ℕ × By)) → AllByRecursion UsesSome es → HaveVariablesBelow n (map (definition_by f) es) → AllByRecursion (IsSound n) (map (definition_by f) es)
 all_sound n f [] s w = tt
 all_sound n f (e ∷ es) s w = ((w.0, renamed_count f e s.0), all_sound n f es s.1 w.1)
 
@@ -91,15 +91,15 @@ module _ (f : ℕ → ℕ) (ts : List Shape) (bs : List Bounded) where
   cons_end xs x ys true = append_assoc xs (x ∷ []) ys
   cons_end xs x ys false = refl
 
-  integers_one : (name : List ℕ) (b : Bool) (k : Kept) → (kept f (Integer name) b k).integers ≡ cond b (k.integers ++ name ∷ []) k.integers
+  integers_one : (name : List ℕ) (b : Bool) (k : KeptUnknowns) → (kept f (Integer name) b k).integers ≡ cond b (k.integers ++ name ∷ []) k.integers
   integers_one name true k = refl
   integers_one name false k = refl
 
-  integers_other : (i : ℕ) (b : Bool) (k : Kept) → (kept f (Length i) b k).integers ≡ k.integers
+  integers_other : (i : ℕ) (b : Bool) (k : KeptUnknowns) → (kept f (Length i) b k).integers ≡ k.integers
   integers_other i true k = refl
   integers_other i false k = refl
 
-  pub integers_kept : (qs : List Quantity) (k : Kept) → (kept_all f qs (map is_kept qs) k).integers ≡ k.integers ++ filter (λ (name : List ℕ). has_column bs (integer name)) (integers_among qs)
+  pub integers_kept : (qs : List Quantity) (k : KeptUnknowns) → (kept_all f qs (map is_kept qs) k).integers ≡ k.integers ++ filter (λ (name : List ℕ). has_column bs (integer name)) (integers_among qs)
   integers_kept [] k = append_none k.integers
     where
       append_none : {X : Type 0} (xs : List X) → xs ≡ xs ++ []
@@ -113,11 +113,11 @@ module _ (f : ℕ → ℕ) (ts : List Shape) (bs : List Bounded) where
       integers_kept qs (kept f (Length i) (has_column bs (length_of (term_at ts i))) k)
       ∙ ap (λ z. z ++ filter (λ (n : List ℕ). has_column bs (integer n)) (integers_among qs)) (integers_other i (has_column bs (length_of (term_at ts i))) k)
 
-  registers_one : (i : ℕ) (b : Bool) (k : Kept) → (kept f (Length i) b k).registers ≡ cond b (k.registers ++ f i ∷ []) k.registers
+  registers_one : (i : ℕ) (b : Bool) (k : KeptUnknowns) → (kept f (Length i) b k).registers ≡ cond b (k.registers ++ f i ∷ []) k.registers
   registers_one i true k = refl
   registers_one i false k = refl
 
-  registers_other : (name : List ℕ) (b : Bool) (k : Kept) → (kept f (Integer name) b k).registers ≡ k.registers
+  registers_other : (name : List ℕ) (b : Bool) (k : KeptUnknowns) → (kept f (Integer name) b k).registers ≡ k.registers
   registers_other name true k = refl
   registers_other name false k = refl
 
@@ -128,7 +128,7 @@ module _ (f : ℕ → ℕ) (ts : List Shape) (bs : List Bounded) where
   map_cond i rest true = refl
   map_cond i rest false = refl
 
-  pub registers_kept : (qs : List Quantity) (k : Kept) → (kept_all f qs (map is_kept qs) k).registers ≡ k.registers ++ map (λ (r : Shape × ℕ). f r.1) (filter (λ (r : Shape × ℕ). has_column bs (length_of r.0)) (registers_among ts qs))
+  pub registers_kept : (qs : List Quantity) (k : KeptUnknowns) → (kept_all f qs (map is_kept qs) k).registers ≡ k.registers ++ map (λ (r : Shape × ℕ). f r.1) (filter (λ (r : Shape × ℕ). has_column bs (length_of r.0)) (registers_among ts qs))
   registers_kept [] k = append_none k.registers
     where
       append_none : {X : Type 0} (xs : List X) → xs ≡ xs ++ []

@@ -4,17 +4,17 @@ use Rattle.std.proofs.lemmas.List.{length-map}
 use Rattle.std.specs.List.{AllByRecursion}
 use Rattle.bool_cubes.specs.Shapes.{Shape}
 use Rattle.bool_cubes.specs.declared.literal.Literal.{Literal}
-use Rattle.straight_line.specs.Drafted.{Holds, registers_among}
+use Rattle.straight_line.specs.Drafted.{HoldsDraft, registers_among}
 use Rattle.straight_line.specs.Filling.{ArePartsBelow}
 use Rattle.straight_line.specs.Flattening.{IsFinished, IsFlattened, IsFlattening, name_of}
 use Rattle.straight_line.proofs.Called.{names_apart}
 use Rattle.straight_line.specs.Gathered.{IsDraftOf}
 use Rattle.straight_line.specs.Keeping.{AreQuantitiesBelow}
 use Rattle.straight_line.specs.Leading.{AreDefinitionsBelow, ArePairsBelow}
-use Rattle.straight_line.specs.Met.{Draft, met}
+use Rattle.straight_line.specs.Met.{DraftView, met}
 use Rattle.straight_line.specs.Readiness.{IsReady, UsesSome}
 use Rattle.straight_line.specs.Said.{first_outside}
-use Rattle.straight_line.specs.declared.draft.Draft.{Draft as Held}
+use Rattle.straight_line.specs.declared.draft.FlatDraft.{FlatDraft as Held}
 use Rattle.straight_line.specs.declared.draft.Quantity.{Quantity}
 use Rattle.straight_line.specs.declared.draft.Quantity.TheVariants.{Integer, Length}
 use Rattle.straight_line.specs.declared.fault.FlatFault.{FlatFault}
@@ -23,7 +23,7 @@ use Rattle.straight_line.specs.declared.flat.Flat.{Flat}
 use Rattle.straight_line.proofs.Proper.{proper}
 use Rattle.straight_line.proofs.Ranges.{RegisterIn}
 
-as_long : (held : Held) (d : Draft) → Holds held d → length d.terms ≡ length held.names
+as_long : (held : Held) (d : DraftView) → HoldsDraft held d → length d.terms ≡ length held.names
 as_long held d h = sym (ap length h.names ∙ length-map d.terms name_of)
 
 lengths_below : (n : ℕ) (ts : List Shape) (qs : List Quantity) → AllByRecursion (RegisterIn n) (registers_among ts qs) → AreQuantitiesBelow n qs
@@ -31,7 +31,7 @@ lengths_below n ts [] a = tt
 lengths_below n ts (Integer name ∷ qs) a = (tt, lengths_below n ts qs a)
 lengths_below n ts (Length i ∷ qs) a = (a.0, lengths_below n ts qs a.1)
 
-pub ready : (ls : List Literal) (held : Held) → first_outside ls ≡ None → Holds held (met ls) → IsReady held
+pub ready : (ls : List Literal) (held : Held) → first_outside ls ≡ None → HoldsDraft held (met ls) → IsReady held
 ready ls held o h =
     let d = met ls in
     let p = proper ls o in

@@ -17,7 +17,7 @@ use Rattle.bool_cubes.specs.declared.literal.Literal.{Literal}
 use Rattle.straight_line.specs.FormLaws.{TransducersAreFormed}
 use Rattle.straight_line.specs.Flattening.{definition_of, definitions_of, renamed}
 use Rattle.straight_line.specs.Laws.{IsSpelled}
-use Rattle.straight_line.specs.Met.{Draft, Found, add, add_all, all_met, concat_met, first_met, known_or, meet, meet_all, meet_all_unknowns, meet_unknowns, met, nothing_met, place_of, registered, with_term, with_value}
+use Rattle.straight_line.specs.Met.{DraftView, Found, add, add_all, all_met, concat_met, first_met, known_or, meet, meet_all, meet_all_unknowns, meet_unknowns, met, nothing_met, place_of, registered, with_term, with_value}
 use Rattle.straight_line.specs.Said.{Said, are_one, atom_said, compares, constant_said, equality_said, has_part, holds, one_said, outside, pair_said, part_said, row_said, said, string_said, value_is, where_true, written_by}
 use Rattle.straight_line.specs.Straight.{IsFormedBy}
 use Rattle.straight_line.specs.declared.definition.By.{By}
@@ -31,16 +31,16 @@ use Rattle.straight_line.proofs.Ordered.{ordered_all}
 abbrev IsFormedAt : ℕ × By → Type 0
 IsFormedAt e = IsFormedBy e.1
 
-abbrev AreFormed : Draft → Type 0
+abbrev AreFormed : DraftView → Type 0
 AreFormed d = AllByRecursion IsFormedAt d.definitions
 
 -- meeting a string term adds no transducer
-known_formed : (o : Option ℕ) (d : Draft) (new : Found) → AreFormed d → AreFormed new.1 → AreFormed (known_or o d new).1
+known_formed : (o : Option ℕ) (d : DraftView) (new : Found) → AreFormed d → AreFormed new.1 → AreFormed (known_or o d new).1
 known_formed None d new h n = n
 known_formed (Some i) d new h n = h
 
 mutual
-  term_formed : (s : Shape) (d : Draft) → AreFormed d → AreFormed (meet s d).1
+  term_formed : (s : Shape) (d : DraftView) → AreFormed d → AreFormed (meet s d).1
   term_formed (text w) d h = h
   term_formed (constant n s) d h = known_formed (place_of (constant n s) d.terms) d (length d.terms, with_term (constant n s) d) h h
   term_formed (apply op.Concat ss) d h =
@@ -57,31 +57,31 @@ mutual
       known_formed (place_of t d.terms) d (all_met (length d.terms) p u r) h (all_push IsFormedAt r.1.definitions (length d.terms, by.All p u r.0) (term_formed s (with_term t d) h) tt)
   term_formed _ d h = h
 
-  terms_formed : (ss : Shapes) (d : Draft) → AreFormed d → AreFormed (meet_all ss d).1
+  terms_formed : (ss : Shapes) (d : DraftView) → AreFormed d → AreFormed (meet_all ss d).1
   terms_formed end d h = h
   terms_formed (s ⨾ ss) d h = terms_formed ss (meet s d).1 (term_formed s d h)
 
-integer_formed : (n : List ℕ) (d : Draft) (b : Bool) → AreFormed d → AreFormed (if b then d else record d { integers = d.integers ++ n ∷ [] })
+integer_formed : (n : List ℕ) (d : DraftView) (b : Bool) → AreFormed d → AreFormed (if b then d else record d { integers = d.integers ++ n ∷ [] })
 integer_formed n d true h = h
 integer_formed n d false h = h
 
-register_formed : (s : Shape) (d : Draft) (b : Bool) → AreFormed d → AreFormed (if b then d else registered s (meet s d))
+register_formed : (s : Shape) (d : DraftView) (b : Bool) → AreFormed d → AreFormed (if b then d else registered s (meet s d))
 register_formed s d true h = h
 register_formed s d false h = term_formed s d h
 
 mutual
-  unknowns_formed : (s : Shape) (d : Draft) → AreFormed d → AreFormed (meet_unknowns s d)
+  unknowns_formed : (s : Shape) (d : DraftView) → AreFormed d → AreFormed (meet_unknowns s d)
   unknowns_formed (constant n s) d h = integer_formed n d (list_any (pointwise nat_eq n) d.integers) h
   unknowns_formed (apply op.Length (text w ⨾ end)) d h = h
   unknowns_formed (apply op.Length (s ⨾ end)) d h = register_formed (written s) d (list_any (λ (r : Shape × ℕ). same (written s) r.0) d.registers) h
   unknowns_formed (apply o ss) d h = all_unknowns_formed ss d h
   unknowns_formed _ d h = h
 
-  all_unknowns_formed : (ss : Shapes) (d : Draft) → AreFormed d → AreFormed (meet_all_unknowns ss d)
+  all_unknowns_formed : (ss : Shapes) (d : DraftView) → AreFormed d → AreFormed (meet_all_unknowns ss d)
   all_unknowns_formed end d h = h
   all_unknowns_formed (s ⨾ ss) d h = all_unknowns_formed ss (meet_unknowns s d) (unknowns_formed s d h)
 
-value_formed : (o : Option Bool) (n : List ℕ) (b : Bool) (d : Draft) → AreFormed d → AreFormed (with_value o n b d)
+value_formed : (o : Option Bool) (n : List ℕ) (b : Bool) (d : DraftView) → AreFormed d → AreFormed (with_value o n b d)
 value_formed None n b d h = h
 value_formed (Some c) n b d h = h
 
@@ -95,7 +95,7 @@ HasOne (are_one s t) = ⊤
 HasOne (written_by m s t) = IsFormed m
 HasOne outside = ⊤
 
-added_formed : (x : Said) (d : Draft) → HasOne x → AreFormed d → AreFormed (add x d)
+added_formed : (x : Said) (d : DraftView) → HasOne x → AreFormed d → AreFormed (add x d)
 added_formed (value_is n b) d f h = value_formed (lookup (pointwise nat_eq n) d.truths) n b d h
 added_formed (compares o s t b) d f h = unknowns_formed t (meet_unknowns s d) (unknowns_formed s d h)
 added_formed (holds b) d f h = h
@@ -159,7 +159,7 @@ atom_has (apply op.Contains (s ⨾ text p ⨾ end)) b w = part_has s (own.Contai
 atom_has (apply op.IsDigit (s ⨾ end)) b w = part_has s own.Digit b
 atom_has _ b w = tt
 
-all_formed : (ls : List Literal) (d : Draft) → AllByRecursion (λ (l : Literal). IsSpelled (seen l.atom)) ls → AreFormed d → AreFormed (add_all ls d)
+all_formed : (ls : List Literal) (d : DraftView) → AllByRecursion (λ (l : Literal). IsSpelled (seen l.atom)) ls → AreFormed d → AreFormed (add_all ls d)
 all_formed [] d w h = h
 all_formed (l ∷ ls) d w h = all_formed ls (add (said l) d) w.1 (added_formed (said l) d (atom_has (seen l.atom) l.positive w.0) h)
 
@@ -169,7 +169,7 @@ renamed_formed f (by.First p u v) h = tt
 renamed_formed f (by.All p u v) h = tt
 renamed_formed f (by.Through t v) h = h
 
-definitions_formed : (d : Draft) (es : List (ℕ × By)) → AllByRecursion IsFormedAt es → AllByRecursion (λ (e : Definition). IsFormedBy e.by) (map (definition_of d) es)
+definitions_formed : (d : DraftView) (es : List (ℕ × By)) → AllByRecursion IsFormedAt es → AllByRecursion (λ (e : Definition). IsFormedBy e.by) (map (definition_of d) es)
 definitions_formed d [] h = tt
 definitions_formed d ((i, b) ∷ es) h = (renamed_formed _ b h.0, definitions_formed d es h.1)
 

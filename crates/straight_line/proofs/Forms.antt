@@ -9,7 +9,7 @@ use Rattle.bool_cubes.specs.Linear.{Linear, Unknown, added, are_linear, are_stri
 use Rattle.bool_cubes.specs.Mirrors.{seen-Apply}
 use Rattle.bool_cubes.specs.Shapes.{Shape, Shapes, text, apply, end, ◌⨾◌, seen, shapes}
 use Rattle.straight_line.specs.Kinds.{build_of, is_replaced, is_text, joined_from, joined_of, joined_on, joint_of, kind_of, linearity_of, one_of, product_of, read_of, sum_of}
-use Rattle.straight_line.specs.declared.kind.Build.TheVariants as build
+use Rattle.straight_line.specs.declared.kind.PlaceBuild.TheVariants as build
 use Rattle.straight_line.specs.declared.kind.Joining.{Joining}
 use Rattle.straight_line.specs.declared.kind.Joining.TheVariants as joining
 use Rattle.straight_line.specs.declared.kind.Linearity.{Linearity}

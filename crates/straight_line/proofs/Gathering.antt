@@ -14,16 +14,16 @@ use Rattle.bool_cubes.specs.Codes.{code, same}
 use Rattle.bool_cubes.specs.Flats.{flat}
 use Rattle.bool_cubes.specs.Linear.{Unknown, integer, length_of, same_unknown, unknown_code}
 use Rattle.bool_cubes.specs.Shapes.{Shape, truth, number, text, constant, apply, member, related, opaque}
-use Rattle.straight_line.specs.Drafted.{Holds, integers_among, registers_among, term_at, unknown_at}
+use Rattle.straight_line.specs.Drafted.{HoldsDraft, integers_among, registers_among, term_at, unknown_at}
 use Rattle.straight_line.specs.Flattening.{Bounded, IsRowFor, bounded_of, coefficient_at, name_of}
 use Rattle.straight_line.specs.Gathered.{Gathers, IsInside, IsRowAmong, coefficient_where, index_of, number_at, unknowns_at}
 use Rattle.straight_line.specs.Kinds.{is_text}
-use Rattle.straight_line.specs.Met.{Comparison, Draft, place_of, with_comparison, with_definition, with_equality, with_part, with_term}
+use Rattle.straight_line.specs.Met.{Comparison, DraftView, place_of, with_comparison, with_definition, with_equality, with_part, with_term}
 use Rattle.straight_line.specs.declared.definition.By.{By}
 use Rattle.straight_line.specs.declared.variable.Own.{Own}
 use Rattle.straight_line.specs.declared.draft.Quantity.{Quantity}
 use Rattle.straight_line.specs.declared.draft.Quantity.TheVariants.{Integer, Length}
-use Rattle.straight_line.specs.declared.meeting.Meeting.{Meeting}
+use Rattle.straight_line.specs.declared.meeting.DraftBuilder.{DraftBuilder}
 
 -- the first, and where there is none the second
 abbrev pub or_else : {X : Type 0} → Option X → Option X → Option X
@@ -131,7 +131,7 @@ module _ (ts : List Shape) (t : Shape) where
 abbrev pub FindsAll : List (List ℤ × ℕ) → List Shape → Type 0
 FindsAll ns ts = (s : Shape) → is_text s ≡ false → number_at (flat (code s)) ns ≡ place_of s ts
 
-pub gathers_term : (m : Meeting) (d : Draft) (t : Shape) (ns : List (List ℤ × ℕ)) → Gathers m d → FindsAll ns (d.terms ++ t ∷ [])
+pub gathers_term : (m : DraftBuilder) (d : DraftView) (t : Shape) (ns : List (List ℤ × ℕ)) → Gathers m d → FindsAll ns (d.terms ++ t ∷ [])
     → Gathers (record m { names = m.names ++ name_of t ∷ []; places = ns }) (with_term t d)
 gathers_term m d t ns g f =
     let same_unknowns = unknowns_more d.terms t m.quantities g.inside in
@@ -165,22 +165,22 @@ finds_new ns ts t f s e =
     number_push (flat (code s)) (flat (code t)) (length ts) ns ∙ (λ i. or_else (f s e i) (if flat_same (code s) (code t) i then Some (length ts) else None)) ∙ sym (place_push s t ts)
 
 -- what is said, defined and equated
-pub gathers_part : (m : Meeting) (d : Draft) (i : ℕ) (p : Own × Bool) → Gathers m d → Gathers (record m { parts = m.parts ++ (i, p) ∷ [] }) (with_part i p d)
+pub gathers_part : (m : DraftBuilder) (d : DraftView) (i : ℕ) (p : Own × Bool) → Gathers m d → Gathers (record m { parts = m.parts ++ (i, p) ∷ [] }) (with_part i p d)
 gathers_part m d i p g = record { names = g.names; places = g.places; parts = ap (λ l. l ++ (i, p) ∷ []) g.parts; definitions = g.definitions; equalities = g.equalities; integers = g.integers; registers = g.registers; inside = g.inside; numbers = g.numbers; apart = g.apart; rows = g.rows; symmetric = g.symmetric; truths = g.truths; broken = g.broken }
 
-pub gathers_definition : (m : Meeting) (d : Draft) (i : ℕ) (b : By) → Gathers m d → Gathers (record m { definitions = m.definitions ++ (i, b) ∷ [] }) (with_definition i b d)
+pub gathers_definition : (m : DraftBuilder) (d : DraftView) (i : ℕ) (b : By) → Gathers m d → Gathers (record m { definitions = m.definitions ++ (i, b) ∷ [] }) (with_definition i b d)
 gathers_definition m d i b g = record { names = g.names; places = g.places; parts = g.parts; definitions = ap (λ l. l ++ (i, b) ∷ []) g.definitions; equalities = g.equalities; integers = g.integers; registers = g.registers; inside = g.inside; numbers = g.numbers; apart = g.apart; rows = g.rows; symmetric = g.symmetric; truths = g.truths; broken = g.broken }
 
-pub gathers_equality : (m : Meeting) (d : Draft) (i j : ℕ) → Gathers m d → Gathers (record m { equalities = m.equalities ++ (i, j) ∷ [] }) (with_equality i j d)
+pub gathers_equality : (m : DraftBuilder) (d : DraftView) (i j : ℕ) → Gathers m d → Gathers (record m { equalities = m.equalities ++ (i, j) ∷ [] }) (with_equality i j d)
 gathers_equality m d i j g = record { names = g.names; places = g.places; parts = g.parts; definitions = g.definitions; equalities = ap (λ l. l ++ (i, j) ∷ []) g.equalities; integers = g.integers; registers = g.registers; inside = g.inside; numbers = g.numbers; apart = g.apart; rows = g.rows; symmetric = g.symmetric; truths = g.truths; broken = g.broken }
 
-pub gathers_broken : (m : Meeting) (d : Draft) (b : Bool) → Gathers m d → Gathers (record m { broken = m.broken || b }) (record d { broken = d.broken || b })
+pub gathers_broken : (m : DraftBuilder) (d : DraftView) (b : Bool) → Gathers m d → Gathers (record m { broken = m.broken || b }) (record d { broken = d.broken || b })
 gathers_broken m d b g = record { names = g.names; places = g.places; parts = g.parts; definitions = g.definitions; equalities = g.equalities; integers = g.integers; registers = g.registers; inside = g.inside; numbers = g.numbers; apart = g.apart; rows = g.rows; symmetric = g.symmetric; truths = g.truths; broken = ap (λ c. c || b) g.broken }
 
-pub gathers_truths : (m : Meeting) (d : Draft) (ts : List (List ℕ × Bool)) → Gathers m d → Gathers (record m { truths = m.truths ++ ts }) (record d { truths = d.truths ++ ts })
+pub gathers_truths : (m : DraftBuilder) (d : DraftView) (ts : List (List ℕ × Bool)) → Gathers m d → Gathers (record m { truths = m.truths ++ ts }) (record d { truths = d.truths ++ ts })
 gathers_truths m d ts g = record { names = g.names; places = g.places; parts = g.parts; definitions = g.definitions; equalities = g.equalities; integers = g.integers; registers = g.registers; inside = g.inside; numbers = g.numbers; apart = g.apart; rows = g.rows; symmetric = g.symmetric; truths = ap (λ l. l ++ ts) g.truths; broken = g.broken }
 
-pub gathers_row : (m : Meeting) (d : Draft) (c : Comparison) (r : Row) → Gathers m d → IsRowAmong (unknowns_at d.terms m.quantities) (bounded_of c) r → HasSymmetricEntries r.form
+pub gathers_row : (m : DraftBuilder) (d : DraftView) (c : Comparison) (r : Row) → Gathers m d → IsRowAmong (unknowns_at d.terms m.quantities) (bounded_of c) r → HasSymmetricEntries r.form
     → Gathers (record m { rows = m.rows ++ r ∷ [] }) (with_comparison c d)
 gathers_row m d c r g h k = record {
   names = g.names;
@@ -266,7 +266,7 @@ among_push us u b r a = record {
 unknown_self : (u : Unknown) → same_unknown u u ≡ true
 unknown_self u = code_self (unknown_code u)
 
-module _ (m : Meeting) (d : Draft) (q : Quantity) (g : Gathers m d) (none : number_at (flat (unknown_code (unknown_at d.terms q))) m.numbers ≡ None) (inside : IsInside (length d.terms) q) where
+module _ (m : DraftBuilder) (d : DraftView) (q : Quantity) (g : Gathers m d) (none : number_at (flat (unknown_code (unknown_at d.terms q))) m.numbers ≡ None) (inside : IsInside (length d.terms) q) where
   abbrev us : List Unknown
   us = unknowns_at d.terms m.quantities
 
@@ -325,7 +325,7 @@ row_for us apart b r a = record { kind = a.kind; constant = a.constant; coeffici
     by_place k None e = a.beyond k (none_past us k e)
     by_place k (Some u) e = sym (a.coefficients u ∙ ap (λ o. coefficient_where o r.form.coefficients) (apart k u e))
 
-pub holds_of : (m : Meeting) (d : Draft) (ts : List (List ℕ × Bool)) → ts ≡ m.truths → Gathers m d → Holds (record { names = m.names; parts = m.parts; definitions = m.definitions; equalities = m.equalities; quantities = m.quantities; rows = m.rows; truths = ts; broken = m.broken }) d
+pub holds_of : (m : DraftBuilder) (d : DraftView) (ts : List (List ℕ × Bool)) → ts ≡ m.truths → Gathers m d → HoldsDraft (record { names = m.names; parts = m.parts; definitions = m.definitions; equalities = m.equalities; quantities = m.quantities; rows = m.rows; truths = ts; broken = m.broken }) d
 holds_of m d ts e g = record {
   names = g.names;
   parts = g.parts;

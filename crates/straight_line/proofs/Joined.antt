@@ -20,11 +20,11 @@ use Rattle.sv_terms.specs.Replacement.{replace_first, replace_all}
 use Rattle.sv_terms.specs.Transduction.{Pairs, writes}
 use Rattle.bool_cubes.specs.Linear.{integer, length_of}
 use Rattle.bool_cubes.specs.Shapes.{Shape, text, constant}
-use Rattle.straight_line.specs.Bounds.{used}
+use Rattle.straight_line.specs.Using.{used}
 use Rattle.straight_line.specs.Flattening.{IsFlatOf, all_bounded, definition_of, definitions_of, firsts_of, has_column, name_of, integers_of, names_at, registers_of, roots_of, unknowns_of, variable_at, variable_of, with_name}
 use Rattle.straight_line.specs.Laws.{FlatIsExact}
-use Rattle.straight_line.specs.Met.{Draft, met}
-use Rattle.straight_line.specs.Satisfying.{ComesBy, Defines, Extends, HasValue, Meets, MeetsPart, NamesHave, word_at}
+use Rattle.straight_line.specs.Met.{DraftView, met}
+use Rattle.straight_line.specs.Satisfying.{ComesBy, Defines, Extends, HasValue, MeetsParts, MeetsPart, NamesHave, word_at}
 use Rattle.straight_line.specs.Satisfying as flat
 use Rattle.sv_linear.specs.Rows as row
 use Rattle.sv_linear.specs.Rows.{MeetsRow}
@@ -98,7 +98,7 @@ all_kept P p (x ∷ xs) a = by_test (p x) (all_kept P p xs a.1)
     by_test false c = c
 
 -- places and their variables
-module _ (values : Named) (d : Draft) (h : IsSettled values d) where
+module _ (values : Named) (d : DraftView) (h : IsSettled values d) where
   abbrev places : ℕ
   places = length d.terms
 
@@ -257,7 +257,7 @@ module _ (values : Named) (d : Draft) (h : IsSettled values d) where
       };
       satisfied = record {
         strings = record {
-          parts = subst (λ vs. AllZip Meets vs made) (sym f.variables) (zip_maps Meets (variable_at d) ws (roots_of d) (all_weaker (λ r. (r < places) × (least r ≡ r)) (λ r. Meets (variable_at d r) (ws r)) (λ r q. (is_word r q.0, parts_meet r)) (roots_of d) roots));
+          parts = subst (λ vs. AllZip MeetsParts vs made) (sym f.variables) (zip_maps MeetsParts (variable_at d) ws (roots_of d) (all_weaker (λ r. (r < places) × (least r ≡ r)) (λ r. MeetsParts (variable_at d r) (ws r)) (λ r q. (is_word r q.0, parts_meet r)) (roots_of d) roots));
           definitions = subst (AllByRecursion (Defines made)) (sym f.definitions) (ordered_all (Defines made) (definitions_of d) (map_all (Defines made) (definition_of d) d.definitions (all_weaker (λ e. DefinitionIn places e × DefinitionHolds values ws e) (λ e. Defines made (definition_of d e)) (λ e a. definition_made e a.0 a.1) d.definitions (all_two (DefinitionIn places) (DefinitionHolds values ws) d.definitions h.inside.definitions holds.definitions))));
         };
         rows = record {
@@ -284,7 +284,7 @@ module _ (values : Named) (d : Draft) (h : IsSettled values d) where
     part_back : (p : ℕ × (Own × Bool)) → Among p d.parts → MeetsPart (vs p.0) p.1
     part_back p a =
         let l : p.0 < places = among_all (PartIn places) d.parts p h.inside.parts a in
-        let m = variable_has Meets x.satisfied.strings.parts p.0 l in
+        let m = variable_has MeetsParts x.satisfied.strings.parts p.0 l in
         filtered_among (MeetsPart (vs p.0)) (λ (q : ℕ × (Own × Bool)). nat_eq (get_or (firsts_of d) q.0 q.0) (least p.0)) (λ (q : ℕ × (Own × Bool)). q.1) d.parts p m.1 a (eq-eqb (least p.0) (least p.0) refl)
 
     all_defined : AllByRecursion (Defines x.words) (definitions_of d)

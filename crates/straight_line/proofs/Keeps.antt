@@ -7,15 +7,15 @@ use Rattle.straight_line.specs.Columns.{AreNumbersWithin, Rises}
 use Rattle.straight_line.specs.Keeping.{kept, kept_all, nothing_kept}
 use Rattle.straight_line.specs.declared.draft.Quantity.{Quantity}
 use Rattle.straight_line.specs.declared.draft.Quantity.TheVariants.{Integer, Length}
-use Rattle.straight_line.specs.declared.keeping.Kept.{Kept}
+use Rattle.straight_line.specs.declared.keeping.KeptUnknowns.{KeptUnknowns}
 
-kept_end : (f : ℕ → ℕ) (qs : List Quantity) (q : Quantity) (bs : List Bool) (b : Bool) (k : Kept) → length bs ≡ length qs → kept_all f (qs ++ q ∷ []) (bs ++ b ∷ []) k ≡ kept f q b (kept_all f qs bs k)
+kept_end : (f : ℕ → ℕ) (qs : List Quantity) (q : Quantity) (bs : List Bool) (b : Bool) (k : KeptUnknowns) → length bs ≡ length qs → kept_all f (qs ++ q ∷ []) (bs ++ b ∷ []) k ≡ kept f q b (kept_all f qs bs k)
 kept_end f [] q [] b k e = refl
 kept_end f [] q (c ∷ bs) b k e = absurd (omega arith)
 kept_end f (p ∷ qs) q [] b k e = absurd (omega arith)
 kept_end f (p ∷ qs) q (c ∷ bs) b k e = kept_end f qs q bs b (kept f p c k) (omega arith)
 
-pub kept_more : (f : ℕ → ℕ) (qs : List Quantity) (q : Quantity) (used : List Bool) (i : ℕ) (k : Kept) → i ≡ length qs → i < length used → kept_all f (qs ++ q ∷ []) (take (i + 1) used) k ≡ kept f q (get_or used i false) (kept_all f qs (take i used) k)
+pub kept_more : (f : ℕ → ℕ) (qs : List Quantity) (q : Quantity) (used : List Bool) (i : ℕ) (k : KeptUnknowns) → i ≡ length qs → i < length used → kept_all f (qs ++ q ∷ []) (take (i + 1) used) k ≡ kept f q (get_or used i false) (kept_all f qs (take i used) k)
 kept_more f qs q used i k e l =
     let s : i + 1 ≡ suc i = omega arith in
     ap (λ m. kept_all f (qs ++ q ∷ []) (take m used) k) s ∙ ap (λ z. kept_all f (qs ++ q ∷ []) z k) (take-suc used i false l) ∙ kept_end f qs q (take i used) (get_or used i false) k (length-take-le i used (omega arith) ∙ e)
@@ -59,15 +59,15 @@ counted_next n xs c = record {
   within = λ u k e. elim (at_push xs (Some n) u k e) [ inl g ↦ let b = c.within u k g in omega arith | inr g ↦ let q = some_is n k g.1 in omega arith ];
 }
 
-abbrev pub IsCounted : Kept → Type 0
+abbrev pub IsCounted : KeptUnknowns → Type 0
 IsCounted k = AreCounted (length k.integers) k.integer_numbers × AreCounted (length k.registers) k.register_numbers
 
-pub kept_counted : (f : ℕ → ℕ) (q : Quantity) (b : Bool) (k : Kept) → IsCounted k → IsCounted (kept f q b k)
+pub kept_counted : (f : ℕ → ℕ) (q : Quantity) (b : Bool) (k : KeptUnknowns) → IsCounted k → IsCounted (kept f q b k)
 kept_counted f q false k c = (counted_skip (length k.integers) k.integer_numbers c.0, counted_skip (length k.registers) k.register_numbers c.1)
 kept_counted f (Integer name) true k c = (subst (λ n. AreCounted n (k.integer_numbers ++ Some (length k.integers) ∷ [])) (sym (length-append k.integers (name ∷ []))) (counted_next (length k.integers) k.integer_numbers c.0), counted_skip (length k.registers) k.register_numbers c.1)
 kept_counted f (Length i) true k c = (counted_skip (length k.integers) k.integer_numbers c.0, subst (λ n. AreCounted n (k.register_numbers ++ Some (length k.registers) ∷ [])) (sym (length-append k.registers (f i ∷ []))) (counted_next (length k.registers) k.register_numbers c.1))
 
-all_counted : (f : ℕ → ℕ) (qs : List Quantity) (bs : List Bool) (k : Kept) → IsCounted k → IsCounted (kept_all f qs bs k)
+all_counted : (f : ℕ → ℕ) (qs : List Quantity) (bs : List Bool) (k : KeptUnknowns) → IsCounted k → IsCounted (kept_all f qs bs k)
 all_counted f [] bs k c = c
 all_counted f (q ∷ qs) [] k c = c
 all_counted f (q ∷ qs) (b ∷ bs) k c = all_counted f qs bs (kept f q b k) (kept_counted f q b k c)

@@ -7,13 +7,10 @@ pub mod Told
 pub mod Identified
 pub mod Compared
 pub mod Rows
-pub mod Samples
-pub mod Multiplied
 pub mod Ordinals
 pub mod Ranges
 pub mod Entries
 pub mod Determined
-pub mod Filed
 pub mod Parted
 pub mod Spelling
 pub mod Ordered
@@ -26,16 +23,6 @@ pub mod Counted
 pub mod Joined
 pub mod Unique
 pub mod Refused
-pub mod Owned
-pub mod Grown
-pub mod Splits
-pub mod Rounded
-pub mod Boxed
-pub mod Few
-pub mod Solved
-pub mod Lengths
-pub mod Sourced
-pub mod Grows
 mod Declaring
 pub mod Sames
 pub mod Gathering

@@ -5,10 +5,10 @@ use Rattle.std.specs.List.{AllByRecursion, range_with_len}
 use Rattle.std.proofs.lemmas.Bool.{cases_eq, eq-eqb, eqb-true}
 use Rattle.std.proofs.lemmas.List.{get_or_default, length-map}
 use Rattle.std.proofs.lemmas.List.FromFn.{get_or-map-range_with_len, get_or-range_with_len, length-range_with_len}
-use Rattle.straight_line.specs.Bounds.{used}
+use Rattle.straight_line.specs.Using.{used}
 use Rattle.straight_line.specs.Flattening.{identified, made_one, renamed}
 use Rattle.straight_line.specs.Leading.{AreDefinitionsBelow, ArePairsBelow, AreRooted, IsForest, definition_by, ordinal, roots_in}
-use Rattle.straight_line.specs.Straight.{AreBelow, AreWithin}
+use Rattle.straight_line.specs.Straight.{AreBelow, HaveVariablesBelow}
 use Rattle.straight_line.specs.declared.definition.By.{By}
 use Rattle.straight_line.specs.declared.definition.By.TheVariants as by
 use Rattle.straight_line.proofs.Identified.{Rooted, at_map, identified_length, identified_rooted, made_length, step, step_other, step_high}
@@ -143,6 +143,6 @@ module _ (n : ℕ) (es : List (ℕ × ℕ)) (w : ArePairsBelow n es) where
     uses_within (by.All p u v) a = (ordinal_within v a.0, tt)
     uses_within (by.Through t v) a = (ordinal_within v a.0, tt)
 
-    pub definitions_within : (ds : List (ℕ × By)) → AreDefinitionsBelow n ds → AreWithin (length roots) (map (definition_by (ordinal n least)) ds)
+    pub definitions_within : (ds : List (ℕ × By)) → AreDefinitionsBelow n ds → HaveVariablesBelow (length roots) (map (definition_by (ordinal n least)) ds)
     definitions_within [] a = tt
     definitions_within (d ∷ ds) a = (record { defined = ordinal_within d.0 a.0.0; uses = uses_within d.1 a.0.1 }, definitions_within ds a.1)

@@ -14,7 +14,7 @@ use Rattle.bool_cubes.specs.Shapes.{Shape, Shapes, text, constant, apply, end, �
 use Rattle.bool_cubes.specs.Codes.{same}
 use Rattle.bool_cubes.specs.Linear.{is_string, are_strings}
 use Rattle.straight_line.proofs.Sames.{string_is}
-use Rattle.straight_line.specs.Met.{Comparison, Draft, Found, with_term, with_part, with_definition, place_of, known_or, literal_met, meet, meet_all}
+use Rattle.straight_line.specs.Met.{Comparison, DraftView, Found, with_term, with_part, with_definition, place_of, known_or, literal_met, meet, meet_all}
 use Rattle.straight_line.specs.Satisfying.{MeetsPart, ComesBy, HasValue}
 use Rattle.straight_line.specs.declared.variable.Own.{Own}
 use Rattle.straight_line.specs.declared.variable.Own.TheVariants as own
@@ -78,7 +78,7 @@ module _ (values : Named) (ws : ℕ → Word) where
   last_fits : (ss : List Shape) (s : Shape) → FitsFrom 0 (ss ++ s ∷ []) → ws (length ss) ≡ word values s
   last_fits ss s f = let e : length ss ≡ 0 + length ss = omega arith in ap ws e ∙ fits_last 0 ss s f
 
-  abbrev pub Fits : Draft → Type 0
+  abbrev pub Fits : DraftView → Type 0
   Fits d = FitsFrom 0 d.terms
 
   abbrev pub PartHolds : ℕ × (Own × Bool) → Type 0
@@ -94,7 +94,7 @@ module _ (values : Named) (ws : ℕ → Word) where
   TruthHolds t = HasValue values (value.Truth t.1) t.0
 
   -- all that was met holds of the words and the values
-  pub record Holds (d : Draft) : Type 0 where
+  pub record Holds (d : DraftView) : Type 0 where
     pub parts : AllByRecursion PartHolds d.parts
     pub definitions : AllByRecursion DefinitionHolds d.definitions
     pub equalities : AllByRecursion EqualityHolds d.equalities
@@ -104,42 +104,42 @@ module _ (values : Named) (ws : ℕ → Word) where
 
   -- a term is met at a place: the words fit what was met before too, the place has the term's word, and
   -- what is added holds
-  pub record IsMet (d : Draft) (s : Shape) (r : Found) : Type 0 where
+  pub record IsMet (d : DraftView) (s : Shape) (r : Found) : Type 0 where
     pub earlier : Fits r.1 → Fits d
     pub at : Fits r.1 → ws r.0 ≡ word values s
     pub keeps : Fits r.1 → Holds d → Holds r.1
     pub back : Holds r.1 → Holds d
 
-  pub record AreMet (d : Draft) (ss : Shapes) (r : List ℕ × Draft) : Type 0 where
+  pub record AreMet (d : DraftView) (ss : Shapes) (r : List ℕ × DraftView) : Type 0 where
     pub earlier : Fits r.1 → Fits d
     pub at : Fits r.1 → map ws r.0 ≡ words values ss
     pub keeps : Fits r.1 → Holds d → Holds r.1
     pub back : Holds r.1 → Holds d
 
-  with_term_holds : (s : Shape) (d : Draft) → Holds d → Holds (with_term s d)
+  with_term_holds : (s : Shape) (d : DraftView) → Holds d → Holds (with_term s d)
   with_term_holds s d h = record { parts = h.parts; definitions = h.definitions; equalities = h.equalities; comparisons = h.comparisons; truths = h.truths; whole = h.whole }
 
-  with_term_back : (s : Shape) (d : Draft) → Holds (with_term s d) → Holds d
+  with_term_back : (s : Shape) (d : DraftView) → Holds (with_term s d) → Holds d
   with_term_back s d h = record { parts = h.parts; definitions = h.definitions; equalities = h.equalities; comparisons = h.comparisons; truths = h.truths; whole = h.whole }
 
-  with_definition_holds : (i : ℕ) (b : By) (d : Draft) → Holds d → ComesBy ws (ws i) b → Holds (with_definition i b d)
+  with_definition_holds : (i : ℕ) (b : By) (d : DraftView) → Holds d → ComesBy ws (ws i) b → Holds (with_definition i b d)
   with_definition_holds i b d h p = record { parts = h.parts; definitions = all_push DefinitionHolds d.definitions (i, b) h.definitions p; equalities = h.equalities; comparisons = h.comparisons; truths = h.truths; whole = h.whole }
 
-  with_definition_back : (i : ℕ) (b : By) (d : Draft) → Holds (with_definition i b d) → Holds d
+  with_definition_back : (i : ℕ) (b : By) (d : DraftView) → Holds (with_definition i b d) → Holds d
   with_definition_back i b d h = record { parts = h.parts; definitions = all_popped DefinitionHolds d.definitions (i, b) h.definitions; equalities = h.equalities; comparisons = h.comparisons; truths = h.truths; whole = h.whole }
 
-  pub with_part_holds : (i : ℕ) (p : Own × Bool) (d : Draft) → Holds d → MeetsPart (ws i) p → Holds (with_part i p d)
+  pub with_part_holds : (i : ℕ) (p : Own × Bool) (d : DraftView) → Holds d → MeetsPart (ws i) p → Holds (with_part i p d)
   with_part_holds i p d h m = record { parts = all_push PartHolds d.parts (i, p) h.parts m; definitions = h.definitions; equalities = h.equalities; comparisons = h.comparisons; truths = h.truths; whole = h.whole }
 
-  pub with_part_back : (i : ℕ) (p : Own × Bool) (d : Draft) → Holds (with_part i p d) → Holds d
+  pub with_part_back : (i : ℕ) (p : Own × Bool) (d : DraftView) → Holds (with_part i p d) → Holds d
   with_part_back i p d h = record { parts = all_popped PartHolds d.parts (i, p) h.parts; definitions = h.definitions; equalities = h.equalities; comparisons = h.comparisons; truths = h.truths; whole = h.whole }
 
   -- a term that was met before, or is new
-  known_met : (s : Shape) (d : Draft) (new : Found) → is_string s ≡ true → IsMet d s new → (o : Option ℕ) → place_of s d.terms ≡ o → IsMet d s (known_or o d new)
+  known_met : (s : Shape) (d : DraftView) (new : Found) → is_string s ≡ true → IsMet d s new → (o : Option ℕ) → place_of s d.terms ≡ o → IsMet d s (known_or o d new)
   known_met s d new x m None e = m
   known_met s d new x m (Some i) e = record { earlier = λ f. f; at = λ f. let g : i ≡ 0 + i = omega arith in ap ws g ∙ place_fits s 0 d.terms x f i e; keeps = λ f h. h; back = λ h. h }
 
-  constant_met : (n : List ℕ) (s : Sort) (d : Draft) → IsMet d (constant n s) (length d.terms, with_term (constant n s) d)
+  constant_met : (n : List ℕ) (s : Sort) (d : DraftView) → IsMet d (constant n s) (length d.terms, with_term (constant n s) d)
   constant_met n s d = record {
     earlier = λ f. fits_first 0 d.terms (constant n s) f;
     at = λ f. last_fits d.terms (constant n s) f;
@@ -147,7 +147,7 @@ module _ (values : Named) (ws : ℕ → Word) where
     back = with_term_back (constant n s) d;
   }
 
-  text_met : (w : Word) (d : Draft) → IsMet d (text w) (literal_met (text w) (own.Word w) d)
+  text_met : (w : Word) (d : DraftView) → IsMet d (text w) (literal_met (text w) (own.Word w) d)
   text_met w d = record {
     earlier = λ f. fits_first 0 d.terms (text w) f;
     at = λ f. last_fits d.terms (text w) f;
@@ -156,7 +156,7 @@ module _ (values : Named) (ws : ℕ → Word) where
   }
 
   -- a compound term, once its arguments are met
-  compound_met : (t : Shape) (d : Draft) (b : By) (e : Draft) → (Fits e → Fits (with_term t d)) → (Fits e → Holds (with_term t d) → Holds e) → (Holds e → Holds (with_term t d)) → (Fits e → ComesBy ws (word values t) b) → IsMet d t (length d.terms, with_definition (length d.terms) b e)
+  compound_met : (t : Shape) (d : DraftView) (b : By) (e : DraftView) → (Fits e → Fits (with_term t d)) → (Fits e → Holds (with_term t d) → Holds e) → (Holds e → Holds (with_term t d)) → (Fits e → ComesBy ws (word values t) b) → IsMet d t (length d.terms, with_definition (length d.terms) b e)
   compound_met t d b e earlier keeps back comes = record {
     earlier = λ f. fits_first 0 d.terms t (earlier f);
     at = λ f. last_fits d.terms t (earlier f);
@@ -165,7 +165,7 @@ module _ (values : Named) (ws : ℕ → Word) where
   }
 
   mutual
-    pub is_met : (s : Shape) (d : Draft) → is_string s ≡ true → IsMet d s (meet s d)
+    pub is_met : (s : Shape) (d : DraftView) → is_string s ≡ true → IsMet d s (meet s d)
     is_met (text w) d e = text_met w d
     is_met (constant n s) d e = known_met (constant n s) d _ e (constant_met n s d) (place_of (constant n s) d.terms) refl
     is_met (apply op.Concat (s ⨾ ss)) d e =
@@ -185,7 +185,7 @@ module _ (values : Named) (ws : ℕ → Word) where
         known_met t d _ e (compound_met t d (by.All p u r.0) r.1 m.earlier m.keeps m.back (λ f. ap (replace_all p u) (sym (m.at f)))) (place_of t d.terms) refl
     is_met _ d e = absurd (cc)
 
-    are_met : (ss : Shapes) (d : Draft) → are_strings ss ≡ true → AreMet d ss (meet_all ss d)
+    are_met : (ss : Shapes) (d : DraftView) → are_strings ss ≡ true → AreMet d ss (meet_all ss d)
     are_met end d e = record { earlier = λ f. f; at = λ f. refl; keeps = λ f h. h; back = λ h. h }
     are_met (s ⨾ ss) d e =
         let q = and_parts (is_string s) (are_strings ss) e in

@@ -1,7 +1,7 @@
 -- The first free definition among those at some places.
 use Rattle.std.proofs.Common.{◌≡◌, refl, sym, ap, ◌∙◌, ℕ, zero, suc, ◌+◌, ◌<◌, ◌≤◌, inl, inr, Bool, true, false, List, [], ◌∷◌, ◌++◌, length, Option, Some, None, arith}
 use Rattle.std.specs.Prelude.{slice_get, if◌then◌else◌}
-use Rattle.straight_line.specs.Flattening.{Taken, behind, is_free, take_free, taken}
+use Rattle.straight_line.specs.Flattening.{TakenDefinition, behind, is_free, take_free, taken}
 use Rattle.straight_line.specs.Waiting.{Among, AscendsFrom, picked, with_one}
 use Rattle.straight_line.specs.declared.definition.Definition.{Definition}
 
@@ -25,7 +25,7 @@ module _ (ds left : List Definition) where
       by_get None h d es fs e = e
       by_get (Some c) h d es fs e = ap (λ b. if b then Some (c, es) else behind c (take_free left es)) (h c refl) ∙ ap (behind c) e
 
-abbrev pub next_of : ℕ → Taken → List Definition
+abbrev pub next_of : ℕ → TakenDefinition → List Definition
 next_of n o = elim o [ None ↦ [] | Some r ↦ r.0 ∷ taken n r.1 ]
 
 pub taken_some : (n m : ℕ) (es rest : List Definition) (d : Definition) → n ≡ suc m → take_free es es ≡ Some (d, rest) → taken n es ≡ d ∷ taken m rest

@@ -14,8 +14,8 @@ use Rattle.bool_cubes.specs.Codes.{same}
 use Rattle.bool_cubes.specs.Linear.{are_linear, are_strings, is_linear, is_product, is_string, linears, written}
 use Rattle.bool_cubes.specs.Shapes.{Shape, Shapes, number, text, constant, apply, member, related, end, ◌⨾◌, head_sort, seen}
 use Rattle.bool_cubes.specs.declared.literal.Literal.{Literal}
-use Rattle.straight_line.specs.Bounds.{used}
-use Rattle.straight_line.specs.Met.{Draft, Found, add, add_all, known_or, meet, meet_all, meet_all_unknowns, meet_unknowns, met, nothing_met, place_of, registered, with_definition, with_register, with_term, with_value}
+use Rattle.straight_line.specs.Using.{used}
+use Rattle.straight_line.specs.Met.{DraftView, Found, add, add_all, known_or, meet, meet_all, meet_all_unknowns, meet_unknowns, met, nothing_met, place_of, registered, with_definition, with_register, with_term, with_value}
 use Rattle.straight_line.specs.Said.{Said, are_one, atom_said, compares, constant_said, equality_said, first_outside, has_part, holds, is_outside, one_said, outside, pair_said, part_said, row_said, said, string_said, value_is, where_true, written_by}
 use Rattle.straight_line.specs.declared.definition.By.{By}
 use Rattle.straight_line.specs.declared.definition.By.TheVariants as by
@@ -29,16 +29,16 @@ use Rattle.straight_line.proofs.Strings.{never, string_written}
 abbrev pub SomeUsed : ℕ × By → Type 0
 SomeUsed e = 0 < length (used e.1)
 
-pub record IsProper (d : Draft) : Type 0 where
+pub record IsProper (d : DraftView) : Type 0 where
   pub inside : AreIn (length d.terms) d
   pub some : AllByRecursion SomeUsed d.definitions
 
-known_some : (d : Draft) (new : Found) (o : Option ℕ) → AllByRecursion SomeUsed d.definitions → AllByRecursion SomeUsed new.1.definitions → AllByRecursion SomeUsed (known_or o d new).1.definitions
+known_some : (d : DraftView) (new : Found) (o : Option ℕ) → AllByRecursion SomeUsed d.definitions → AllByRecursion SomeUsed new.1.definitions → AllByRecursion SomeUsed (known_or o d new).1.definitions
 known_some d new None a b = b
 known_some d new (Some i) a b = a
 
 mutual
-  some_met : (s : Shape) (d : Draft) → is_string s ≡ true → AllByRecursion SomeUsed d.definitions → AllByRecursion SomeUsed (meet s d).1.definitions
+  some_met : (s : Shape) (d : DraftView) → is_string s ≡ true → AllByRecursion SomeUsed d.definitions → AllByRecursion SomeUsed (meet s d).1.definitions
   some_met (text w) d e a = a
   some_met (constant n s) d e a = known_some d (length d.terms, with_term (constant n s) d) (place_of (constant n s) d.terms) a a
   some_met (apply op.Concat (s ⨾ ss)) d e a =
@@ -55,19 +55,19 @@ mutual
       known_some d (length d.terms, with_definition (length d.terms) (by.All p u r.0) r.1) (place_of t d.terms) a (all_push SomeUsed r.1.definitions (length d.terms, by.All p u r.0) (some_met s (with_term t d) e a) (omega arith))
   some_met _ d e a = absurd (never e)
 
-  some_all_met : (ss : Shapes) (d : Draft) → are_strings ss ≡ true → AllByRecursion SomeUsed d.definitions → AllByRecursion SomeUsed (meet_all ss d).1.definitions
+  some_all_met : (ss : Shapes) (d : DraftView) → are_strings ss ≡ true → AllByRecursion SomeUsed d.definitions → AllByRecursion SomeUsed (meet_all ss d).1.definitions
   some_all_met end d e a = a
   some_all_met (s ⨾ ss) d e a = let h = and_parts (is_string s) (are_strings ss) e in some_all_met ss (meet s d).1 h.1 (some_met s d h.0 a)
 
-proper_met : (s : Shape) (d : Draft) → is_string s ≡ true → IsProper d → IsProper (meet s d).1
+proper_met : (s : Shape) (d : DraftView) → is_string s ≡ true → IsProper d → IsProper (meet s d).1
 proper_met s d e p = record { inside = (is_placed s d e).keeps p.inside; some = some_met s d e p.some }
 
 -- unknowns
-proper_integer : (n : List ℕ) (d : Draft) (b : Bool) → IsProper d → IsProper (if b then d else record d { integers = d.integers ++ n ∷ [] })
+proper_integer : (n : List ℕ) (d : DraftView) (b : Bool) → IsProper d → IsProper (if b then d else record d { integers = d.integers ++ n ∷ [] })
 proper_integer n d true p = p
 proper_integer n d false p = record { inside = record { parts = p.inside.parts; definitions = p.inside.definitions; equalities = p.inside.equalities; registers = p.inside.registers }; some = p.some }
 
-proper_register : (s : Shape) (d : Draft) (b : Bool) → is_string s ≡ true → IsProper d → IsProper (if b then d else registered s (meet s d))
+proper_register : (s : Shape) (d : DraftView) (b : Bool) → is_string s ≡ true → IsProper d → IsProper (if b then d else registered s (meet s d))
 proper_register s d true e p = p
 proper_register s d false e p =
     let r = meet s d in
@@ -77,11 +77,11 @@ proper_register s d false e p =
       some = q.some;
     }
 
-proper_length : (s : Shape) (d : Draft) → is_string s ≡ true → IsProper d → IsProper (with_register (written s) d)
+proper_length : (s : Shape) (d : DraftView) → is_string s ≡ true → IsProper d → IsProper (with_register (written s) d)
 proper_length s d e p = proper_register (written s) d (list_any (λ (r : Shape × ℕ). same (written s) r.0) d.registers) (string_written s e) p
 
 mutual
-  proper_unknowns : (s : Shape) (d : Draft) → is_linear s ≡ true → IsProper d → IsProper (meet_unknowns s d)
+  proper_unknowns : (s : Shape) (d : DraftView) → is_linear s ≡ true → IsProper d → IsProper (meet_unknowns s d)
   proper_unknowns (number n) d e p = p
   proper_unknowns (constant n s) d e p = proper_integer n d (list_any (pointwise nat_eq n) d.integers) p
   proper_unknowns (apply op.Length (text w ⨾ end)) d e p = p
@@ -94,7 +94,7 @@ mutual
   proper_unknowns (apply op.Length (s ⨾ end)) d e p = absurd (never e)
   proper_unknowns _ d e p = absurd (never e)
 
-  proper_all_unknowns : (ss : Shapes) (d : Draft) → are_linear ss ≡ true → IsProper d → IsProper (meet_all_unknowns ss d)
+  proper_all_unknowns : (ss : Shapes) (d : DraftView) → are_linear ss ≡ true → IsProper d → IsProper (meet_all_unknowns ss d)
   proper_all_unknowns end d e p = p
   proper_all_unknowns (s ⨾ ss) d e p = let h = and_parts (is_linear s) (are_linear ss) e in proper_all_unknowns ss (meet_unknowns s d) h.1 (proper_unknowns s d h.0 p)
 
@@ -160,11 +160,11 @@ atom_formed (apply op.Contains (s ⨾ text p ⨾ end)) b o = part_formed s (own.
 atom_formed (apply op.IsDigit (s ⨾ end)) b o = part_formed s own.Digit b o
 atom_formed _ b o = absurd (never (sym o))
 
-proper_value : (o : Option Bool) (n : List ℕ) (b : Bool) (d : Draft) → IsProper d → IsProper (with_value o n b d)
+proper_value : (o : Option Bool) (n : List ℕ) (b : Bool) (d : DraftView) → IsProper d → IsProper (with_value o n b d)
 proper_value None n b d p = record { inside = record { parts = p.inside.parts; definitions = p.inside.definitions; equalities = p.inside.equalities; registers = p.inside.registers }; some = p.some }
 proper_value (Some c) n b d p = record { inside = record { parts = p.inside.parts; definitions = p.inside.definitions; equalities = p.inside.equalities; registers = p.inside.registers }; some = p.some }
 
-proper_add : (x : Said) (d : Draft) → IsFormedSaid x → IsProper d → IsProper (add x d)
+proper_add : (x : Said) (d : DraftView) → IsFormedSaid x → IsProper d → IsProper (add x d)
 proper_add (value_is n b) d f p = proper_value (lookup (pointwise nat_eq n) d.truths) n b d p
 proper_add (compares o s t b) d f p =
     let q = proper_unknowns t (meet_unknowns s d) f.1 (proper_unknowns s d f.0 p) in
@@ -207,7 +207,7 @@ pub inside_first : (b : Bool) (l : Literal) (o : Option Literal) → (if b then 
 inside_first true l o e = absurd (cc)
 inside_first false l o e = (refl, e)
 
-proper_all : (ls : List Literal) (d : Draft) → first_outside ls ≡ None → IsProper d → IsProper (add_all ls d)
+proper_all : (ls : List Literal) (d : DraftView) → first_outside ls ≡ None → IsProper d → IsProper (add_all ls d)
 proper_all [] d o p = p
 proper_all (l ∷ ls) d o p =
     let h = inside_first (is_outside (said l)) l (first_outside ls) o in

@@ -7,8 +7,8 @@ use Rattle.sv_terms.specs.declared.op.Op.TheVariants as op
 use Rattle.bool_cubes.specs.Shapes.{Shape, Shapes, text, constant, apply, end, ◌⨾◌}
 use Rattle.bool_cubes.specs.Codes.{same}
 use Rattle.bool_cubes.specs.Linear.{is_string, are_strings}
-use Rattle.straight_line.specs.Bounds.{used}
-use Rattle.straight_line.specs.Met.{Draft, Found, with_term, with_definition, place_of, known_or, literal_met, meet, meet_all}
+use Rattle.straight_line.specs.Using.{used}
+use Rattle.straight_line.specs.Met.{DraftView, Found, with_term, with_definition, place_of, known_or, literal_met, meet, meet_all}
 use Rattle.straight_line.specs.Straight.{AreBelow}
 use Rattle.straight_line.specs.declared.variable.Own.{Own}
 use Rattle.straight_line.specs.declared.variable.Own.TheVariants as own
@@ -37,13 +37,13 @@ abbrev pub RegisterIn : ℕ → Shape × ℕ → Type 0
 RegisterIn n r = r.1 < n
 
 -- every place of a draft is below n
-pub record AreIn (n : ℕ) (d : Draft) : Type 0 where
+pub record AreIn (n : ℕ) (d : DraftView) : Type 0 where
   pub parts : AllByRecursion (PartIn n) d.parts
   pub definitions : AllByRecursion (DefinitionIn n) d.definitions
   pub equalities : AllByRecursion (PairIn n) d.equalities
   pub registers : AllByRecursion (RegisterIn n) d.registers
 
-pub in_more : (n m : ℕ) (d : Draft) → n ≤ m → AreIn n d → AreIn m d
+pub in_more : (n m : ℕ) (d : DraftView) → n ≤ m → AreIn n d → AreIn m d
 in_more n m d h a = record {
   parts = all_weaker (PartIn n) (PartIn m) (λ p l. omega arith) d.parts a.parts;
   definitions = all_weaker (DefinitionIn n) (DefinitionIn m) (λ e l. (omega arith, below_more n m h (used e.1) l.1)) d.definitions a.definitions;
@@ -52,17 +52,17 @@ in_more n m d h a = record {
 }
 
 -- a term is met at a place that is there, and nothing is lost
-pub record IsPlaced (d : Draft) (r : Found) : Type 0 where
+pub record IsPlaced (d : DraftView) (r : Found) : Type 0 where
   pub grows : length d.terms ≤ length r.1.terms
   pub place : r.0 < length r.1.terms
   pub keeps : AreIn (length d.terms) d → AreIn (length r.1.terms) r.1
 
-pub record ArePlaced (d : Draft) (r : List ℕ × Draft) : Type 0 where
+pub record ArePlaced (d : DraftView) (r : List ℕ × DraftView) : Type 0 where
   pub grows : length d.terms ≤ length r.1.terms
   pub places : AreBelow (length r.1.terms) r.0
   pub keeps : AreIn (length d.terms) d → AreIn (length r.1.terms) r.1
 
-longer : (d : Draft) (s : Shape) → length (with_term s d).terms ≡ length d.terms + 1
+longer : (d : DraftView) (s : Shape) → length (with_term s d).terms ≡ length d.terms + 1
 longer d s = length-append d.terms (s ∷ [])
 
 -- a place that was found
@@ -81,11 +81,11 @@ found_in s (t ∷ ts) i e = by_test s t ts (same s t) (λ j q. found_in s ts j q
     by_test s t ts true f i e = let g : 0 ≡ i = cc in omega arith
     by_test s t ts false f i e = later s ts (place_of s ts) refl f i e
 
-known_placed : (s : Shape) (d : Draft) (new : Found) → IsPlaced d new → (o : Option ℕ) → place_of s d.terms ≡ o → IsPlaced d (known_or o d new)
+known_placed : (s : Shape) (d : DraftView) (new : Found) → IsPlaced d new → (o : Option ℕ) → place_of s d.terms ≡ o → IsPlaced d (known_or o d new)
 known_placed s d new p None e = p
 known_placed s d new p (Some i) e = record { grows = omega arith; place = found_in s d.terms i e; keeps = λ a. a }
 
-constant_placed : (s : Shape) (d : Draft) → IsPlaced d (length d.terms, with_term s d)
+constant_placed : (s : Shape) (d : DraftView) → IsPlaced d (length d.terms, with_term s d)
 constant_placed s d =
     let l = longer d s in
     record {
@@ -94,7 +94,7 @@ constant_placed s d =
       keeps = λ a. let b = in_more (length d.terms) (length (with_term s d).terms) d (omega arith) a in record { parts = b.parts; definitions = b.definitions; equalities = b.equalities; registers = b.registers };
     }
 
-text_placed : (s : Shape) (o : Own) (d : Draft) → IsPlaced d (literal_met s o d)
+text_placed : (s : Shape) (o : Own) (d : DraftView) → IsPlaced d (literal_met s o d)
 text_placed s o d =
     let l = longer d s in
     record {
@@ -105,7 +105,7 @@ text_placed s o d =
     }
 
 -- a compound term, once its arguments are met
-compound_placed : (t : Shape) (d : Draft) (b : By) (e : Draft) → length (with_term t d).terms ≤ length e.terms → (AreIn (length (with_term t d).terms) (with_term t d) → AreIn (length e.terms) e) → AreBelow (length e.terms) (used b) → IsPlaced d (length d.terms, with_definition (length d.terms) b e)
+compound_placed : (t : Shape) (d : DraftView) (b : By) (e : DraftView) → length (with_term t d).terms ≤ length e.terms → (AreIn (length (with_term t d).terms) (with_term t d) → AreIn (length e.terms) e) → AreBelow (length e.terms) (used b) → IsPlaced d (length d.terms, with_definition (length d.terms) b e)
 compound_placed t d b e g k u =
     let l = longer d t in
     record {
@@ -117,7 +117,7 @@ compound_placed t d b e g k u =
     }
 
 mutual
-  pub is_placed : (s : Shape) (d : Draft) → is_string s ≡ true → IsPlaced d (meet s d)
+  pub is_placed : (s : Shape) (d : DraftView) → is_string s ≡ true → IsPlaced d (meet s d)
   is_placed (text w) d e = text_placed (text w) (own.Word w) d
   is_placed (constant n s) d e = known_placed (constant n s) d _ (constant_placed (constant n s) d) (place_of (constant n s) d.terms) refl
   is_placed (apply op.Concat (s ⨾ ss)) d e =
@@ -137,7 +137,7 @@ mutual
       known_placed t d _ (compound_placed t d (by.All p u r.0) r.1 m.grows m.keeps (m.place, tt)) (place_of t d.terms) refl
   is_placed _ d e = absurd (cc)
 
-  are_placed : (ss : Shapes) (d : Draft) → are_strings ss ≡ true → ArePlaced d (meet_all ss d)
+  are_placed : (ss : Shapes) (d : DraftView) → are_strings ss ≡ true → ArePlaced d (meet_all ss d)
   are_placed end d e = record { grows = omega arith; places = tt; keeps = λ a. a }
   are_placed (s ⨾ ss) d e =
       let q = and_parts (is_string s) (are_strings ss) e in

@@ -11,7 +11,7 @@ use Rattle.straight_line.specs.Flattening.{Bounded, has_column}
 use Rattle.straight_line.specs.Keeping.{kept, kept_all, nothing_kept}
 use Rattle.straight_line.specs.declared.draft.Quantity.{Quantity}
 use Rattle.straight_line.specs.declared.draft.Quantity.TheVariants.{Integer, Length}
-use Rattle.straight_line.specs.declared.keeping.Kept.{Kept}
+use Rattle.straight_line.specs.declared.keeping.KeptUnknowns.{KeptUnknowns}
 use Rattle.straight_line.proofs.Columned.{ReachesAll}
 use Rattle.straight_line.proofs.Finished.{is_kept}
 
@@ -50,7 +50,7 @@ module _ (us : List Unknown) (ns : List (Option ℕ)) (xs : List Unknown) (x : U
   ]
 
 -- the numbers of what was kept so far
-pub record AreReached (us : List Unknown) (k : Kept) (xs ys : List Unknown) : Type 0 where
+pub record AreReached (us : List Unknown) (k : KeptUnknowns) (xs ys : List Unknown) : Type 0 where
   pub integers : ReachesAll us k.integer_numbers xs
   pub registers : ReachesAll us k.register_numbers ys
   pub integer_places : length us ≡ length k.integer_numbers
@@ -62,7 +62,7 @@ pub one_longer : {X Y : Type 0} (xs : List X) (ys : List Y) (x : X) (y : Y) → 
 one_longer xs ys x y e = length-append xs (x ∷ []) ∙ (let h : length (x ∷ []) ≡ length (y ∷ []) = refl in omega arith) ∙ sym (length-append ys (y ∷ []))
 
 module _ (f : ℕ → ℕ) (ts : List Shape) where
-  skipped : (q : Quantity) (us : List Unknown) (k : Kept) (xs ys : List Unknown) → AreReached us k xs ys → AreReached (us ++ unknown_at ts q ∷ []) (kept f q false k) xs ys
+  skipped : (q : Quantity) (us : List Unknown) (k : KeptUnknowns) (xs ys : List Unknown) → AreReached us k xs ys → AreReached (us ++ unknown_at ts q ∷ []) (kept f q false k) xs ys
   skipped q us k xs ys r = record {
     integers = reaches_skip us k.integer_numbers xs (unknown_at ts q) r.integers;
     registers = reaches_skip us k.register_numbers ys (unknown_at ts q) r.registers;
@@ -72,7 +72,7 @@ module _ (f : ℕ → ℕ) (ts : List Shape) where
     register_count = r.register_count;
   }
 
-  integer_taken : (name : List ℕ) (us : List Unknown) (k : Kept) (xs ys : List Unknown) → AreReached us k xs ys → AreReached (us ++ integer name ∷ []) (kept f (Integer name) true k) (xs ++ integer name ∷ []) ys
+  integer_taken : (name : List ℕ) (us : List Unknown) (k : KeptUnknowns) (xs ys : List Unknown) → AreReached us k xs ys → AreReached (us ++ integer name ∷ []) (kept f (Integer name) true k) (xs ++ integer name ∷ []) ys
   integer_taken name us k xs ys r = record {
     integers = subst (λ n. ReachesAll (us ++ integer name ∷ []) (k.integer_numbers ++ Some n ∷ []) (xs ++ integer name ∷ [])) r.integer_count (reaches_next us k.integer_numbers xs (integer name) r.integer_places r.integers);
     registers = reaches_skip us k.register_numbers ys (integer name) r.registers;
@@ -82,7 +82,7 @@ module _ (f : ℕ → ℕ) (ts : List Shape) where
     register_count = r.register_count;
   }
 
-  length_taken : (i : ℕ) (us : List Unknown) (k : Kept) (xs ys : List Unknown) → AreReached us k xs ys → AreReached (us ++ length_of (term_at ts i) ∷ []) (kept f (Length i) true k) xs (ys ++ length_of (term_at ts i) ∷ [])
+  length_taken : (i : ℕ) (us : List Unknown) (k : KeptUnknowns) (xs ys : List Unknown) → AreReached us k xs ys → AreReached (us ++ length_of (term_at ts i) ∷ []) (kept f (Length i) true k) xs (ys ++ length_of (term_at ts i) ∷ [])
   length_taken i us k xs ys r = record {
     integers = reaches_skip us k.integer_numbers xs (length_of (term_at ts i)) r.integers;
     registers = subst (λ n. ReachesAll (us ++ length_of (term_at ts i) ∷ []) (k.register_numbers ++ Some n ∷ []) (ys ++ length_of (term_at ts i) ∷ [])) r.register_count (reaches_next us k.register_numbers ys (length_of (term_at ts i)) r.register_places r.registers);
@@ -99,14 +99,14 @@ module _ (f : ℕ → ℕ) (ts : List Shape) where
     abbrev pub lengths_from : List Quantity → List Unknown
     lengths_from qs = map (λ (r : Shape × ℕ). length_of r.0) (filter (λ (r : Shape × ℕ). has_column bs (length_of r.0)) (registers_among ts qs))
 
-    abbrev Reaches : List Unknown → List Quantity → Kept → List Unknown → List Unknown → Type 0
+    abbrev Reaches : List Unknown → List Quantity → KeptUnknowns → List Unknown → List Unknown → Type 0
     Reaches us qs k xs ys = AreReached (us ++ map (unknown_at ts) qs) (kept_all f qs (map (is_kept f ts bs) qs) k) (xs ++ integers_from qs) (ys ++ lengths_from qs)
 
     none : (us : List Unknown) → us ≡ us ++ []
     none [] = refl
     none (u ∷ us) = ap (λ z. u ∷ z) (none us)
 
-    integer_step : (name : List ℕ) (qs : List Quantity) (us : List Unknown) (k : Kept) (xs ys : List Unknown) (b : Bool) → has_column bs (integer name) ≡ b → AreReached us k xs ys → ((us : List Unknown) (k : Kept) (xs ys : List Unknown) → AreReached us k xs ys → Reaches us qs k xs ys) → AreReached (us ++ integer name ∷ map (unknown_at ts) qs) (kept_all f qs (map (is_kept f ts bs) qs) (kept f (Integer name) b k)) (xs ++ map integer (cond b (name ∷ filter (λ (n : List ℕ). has_column bs (integer n)) (integers_among qs)) (filter (λ (n : List ℕ). has_column bs (integer n)) (integers_among qs)))) (ys ++ lengths_from qs)
+    integer_step : (name : List ℕ) (qs : List Quantity) (us : List Unknown) (k : KeptUnknowns) (xs ys : List Unknown) (b : Bool) → has_column bs (integer name) ≡ b → AreReached us k xs ys → ((us : List Unknown) (k : KeptUnknowns) (xs ys : List Unknown) → AreReached us k xs ys → Reaches us qs k xs ys) → AreReached (us ++ integer name ∷ map (unknown_at ts) qs) (kept_all f qs (map (is_kept f ts bs) qs) (kept f (Integer name) b k)) (xs ++ map integer (cond b (name ∷ filter (λ (n : List ℕ). has_column bs (integer n)) (integers_among qs)) (filter (λ (n : List ℕ). has_column bs (integer n)) (integers_among qs)))) (ys ++ lengths_from qs)
     integer_step name qs us k xs ys true e r rec =
         subst (λ z. AreReached z (kept_all f qs (map (is_kept f ts bs) qs) (kept f (Integer name) true k)) (xs ++ integer name ∷ integers_from qs) (ys ++ lengths_from qs)) (append_assoc us (integer name ∷ []) (map (unknown_at ts) qs))
         (subst (λ z. AreReached ((us ++ integer name ∷ []) ++ map (unknown_at ts) qs) (kept_all f qs (map (is_kept f ts bs) qs) (kept f (Integer name) true k)) z (ys ++ lengths_from qs)) (append_assoc xs (integer name ∷ []) (integers_from qs))
@@ -115,7 +115,7 @@ module _ (f : ℕ → ℕ) (ts : List Shape) where
         subst (λ z. AreReached z (kept_all f qs (map (is_kept f ts bs) qs) (kept f (Integer name) false k)) (xs ++ integers_from qs) (ys ++ lengths_from qs)) (append_assoc us (integer name ∷ []) (map (unknown_at ts) qs))
         (rec (us ++ integer name ∷ []) (kept f (Integer name) false k) xs ys (skipped (Integer name) us k xs ys r))
 
-    length_step : (i : ℕ) (qs : List Quantity) (us : List Unknown) (k : Kept) (xs ys : List Unknown) (b : Bool) → has_column bs (length_of (term_at ts i)) ≡ b → AreReached us k xs ys → ((us : List Unknown) (k : Kept) (xs ys : List Unknown) → AreReached us k xs ys → Reaches us qs k xs ys) → AreReached (us ++ length_of (term_at ts i) ∷ map (unknown_at ts) qs) (kept_all f qs (map (is_kept f ts bs) qs) (kept f (Length i) b k)) (xs ++ integers_from qs) (ys ++ map (λ (r : Shape × ℕ). length_of r.0) (cond b ((term_at ts i, i) ∷ filter (λ (r : Shape × ℕ). has_column bs (length_of r.0)) (registers_among ts qs)) (filter (λ (r : Shape × ℕ). has_column bs (length_of r.0)) (registers_among ts qs))))
+    length_step : (i : ℕ) (qs : List Quantity) (us : List Unknown) (k : KeptUnknowns) (xs ys : List Unknown) (b : Bool) → has_column bs (length_of (term_at ts i)) ≡ b → AreReached us k xs ys → ((us : List Unknown) (k : KeptUnknowns) (xs ys : List Unknown) → AreReached us k xs ys → Reaches us qs k xs ys) → AreReached (us ++ length_of (term_at ts i) ∷ map (unknown_at ts) qs) (kept_all f qs (map (is_kept f ts bs) qs) (kept f (Length i) b k)) (xs ++ integers_from qs) (ys ++ map (λ (r : Shape × ℕ). length_of r.0) (cond b ((term_at ts i, i) ∷ filter (λ (r : Shape × ℕ). has_column bs (length_of r.0)) (registers_among ts qs)) (filter (λ (r : Shape × ℕ). has_column bs (length_of r.0)) (registers_among ts qs))))
     length_step i qs us k xs ys true e r rec =
         subst (λ z. AreReached z (kept_all f qs (map (is_kept f ts bs) qs) (kept f (Length i) true k)) (xs ++ integers_from qs) (ys ++ length_of (term_at ts i) ∷ lengths_from qs)) (append_assoc us (length_of (term_at ts i) ∷ []) (map (unknown_at ts) qs))
         (subst (λ z. AreReached ((us ++ length_of (term_at ts i) ∷ []) ++ map (unknown_at ts) qs) (kept_all f qs (map (is_kept f ts bs) qs) (kept f (Length i) true k)) (xs ++ integers_from qs) z) (append_assoc ys (length_of (term_at ts i) ∷ []) (lengths_from qs))
@@ -124,7 +124,7 @@ module _ (f : ℕ → ℕ) (ts : List Shape) where
         subst (λ z. AreReached z (kept_all f qs (map (is_kept f ts bs) qs) (kept f (Length i) false k)) (xs ++ integers_from qs) (ys ++ lengths_from qs)) (append_assoc us (length_of (term_at ts i) ∷ []) (map (unknown_at ts) qs))
         (rec (us ++ length_of (term_at ts i) ∷ []) (kept f (Length i) false k) xs ys (skipped (Length i) us k xs ys r))
 
-    pub all_reached : (qs : List Quantity) (us : List Unknown) (k : Kept) (xs ys : List Unknown) → AreReached us k xs ys → AreReached (us ++ map (unknown_at ts) qs) (kept_all f qs (map (is_kept f ts bs) qs) k) (xs ++ integers_from qs) (ys ++ lengths_from qs)
+    pub all_reached : (qs : List Quantity) (us : List Unknown) (k : KeptUnknowns) (xs ys : List Unknown) → AreReached us k xs ys → AreReached (us ++ map (unknown_at ts) qs) (kept_all f qs (map (is_kept f ts bs) qs) k) (xs ++ integers_from qs) (ys ++ lengths_from qs)
     all_reached [] us k xs ys r = subst (λ z. AreReached z k (xs ++ []) (ys ++ [])) (none us) (subst (λ z. AreReached us k z (ys ++ [])) (none xs) (subst (λ z. AreReached us k xs z) (none ys) r))
     all_reached (Integer name ∷ qs) us k xs ys r = integer_step name qs us k xs ys (has_column bs (integer name)) refl r (λ us k xs ys r. all_reached qs us k xs ys r)
     all_reached (Length i ∷ qs) us k xs ys r = length_step i qs us k xs ys (has_column bs (length_of (term_at ts i))) refl r (λ us k xs ys r. all_reached qs us k xs ys r)

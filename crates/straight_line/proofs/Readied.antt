@@ -15,7 +15,7 @@ use Rattle.bool_cubes.specs.Shapes.{Shape, text, constant, apply, member, relate
 use Rattle.bool_cubes.specs.Linear.{is_string, is_linear}
 use Rattle.bool_cubes.specs.declared.literal.Literal.{Literal}
 use Rattle.straight_line.specs.Laws.{IsGood, IsSpelled, AreSpelled}
-use Rattle.straight_line.specs.Met.{Draft, add, add_all, nothing_met, met}
+use Rattle.straight_line.specs.Met.{DraftView, add, add_all, nothing_met, met}
 use Rattle.straight_line.specs.Said.{Said, compares, has_part, are_one, written_by, where_true, part_said, row_said, one_said, string_said, equality_said, pair_said, constant_said, atom_said, said, is_outside, first_outside}
 use Rattle.straight_line.specs.declared.variable.Own.{Own}
 use Rattle.straight_line.specs.declared.variable.Own.TheVariants as own
@@ -101,7 +101,7 @@ module _ (values : Named) where
   literal_ready : (l : Literal) → IsGood values l → is_outside (said l) ≡ false → Ready values (said l)
   literal_ready l g o = atom_ready (seen l.atom) l.positive (subst (λ t. IsTrue (is_valued values t)) (sym (raw-seen l.atom)) g.valued) g.spelled o
 
-  all_settled : (ls : List Literal) (d : Draft) → AllByRecursion (IsGood values) ls → first_outside ls ≡ None → IsSettled values d → IsSettled values (add_all ls d)
+  all_settled : (ls : List Literal) (d : DraftView) → AllByRecursion (IsGood values) ls → first_outside ls ≡ None → IsSettled values d → IsSettled values (add_all ls d)
   all_settled [] d g o h = h
   all_settled (l ∷ ls) d g o h =
       let i = inside (is_outside (said l)) l (first_outside ls) o in

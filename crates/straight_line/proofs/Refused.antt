@@ -1,13 +1,13 @@
 -- A cube that is refused has no flat cube: where definitions stand in order, no variable has two, and
 -- there is no cycle.
-use Rattle.std.proofs.Common.{◌≡◌, refl, sym, ap, ◌∙◌, subst, Bool, true, false, ℕ, zero, suc, ◌+◌, ◌≤◌, inl, inr, List, [], ◌∷◌, length, Some, None, cond, arith}
+use Rattle.std.proofs.Common.{◌≡◌, refl, sym, ap, ◌∙◌, subst, Bool, true, false, ℕ, ◌+◌, ◌≤◌, inl, inr, List, [], ◌∷◌, length, Some, None, cond, arith}
 use Rattle.std.specs.Prelude.{nat_eq}
 use Rattle.std.proofs.lemmas.Bool.{eqb-true}
 use Rattle.std.proofs.lemmas.List.{length-map}
-use Rattle.straight_line.specs.Bounds.{is_defined}
+use Rattle.straight_line.specs.Using.{is_defined}
 use Rattle.straight_line.specs.Flattening.{IsCycle, IsFlatOf, IsTwice, IsWide, definitions_of, integers_of, ordered, registers_of}
 use Rattle.straight_line.specs.Laws.{RefusedHasNone}
-use Rattle.straight_line.specs.Met.{Draft, met}
+use Rattle.straight_line.specs.Met.{DraftView, met}
 use Rattle.straight_line.specs.Straight.{InOrder, IsStraight, StandsBefore}
 use Rattle.straight_line.specs.declared.definition.Definition.{Definition}
 use Rattle.straight_line.specs.declared.fault.FlatFault.TheVariants.{Outside, Twice, Cycle, Wide, Memory}
@@ -25,7 +25,7 @@ at_most_one n v (d ∷ ds) o = by_test n v d ds o.0 (nat_eq d.variable v) refl (
     by_test n v d ds s true e h = let z = defined_none v ds (subst (λ x. is_defined ds x ≡ false) (eqb-true d.variable v e) s.once) in omega arith
     by_test n v d ds s false e h = h
 
-module _ (d : Draft) (flat : Flat) (f : IsFlatOf d flat) (s : IsStraight flat) where
+module _ (d : DraftView) (flat : Flat) (f : IsFlatOf d flat) (s : IsStraight flat) where
   complete : length (ordered (definitions_of d)) ≡ length (definitions_of d)
   complete = ap length (sym f.definitions) ∙ f.complete
 

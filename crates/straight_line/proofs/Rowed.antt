@@ -14,13 +14,13 @@ use Rattle.straight_line.specs.Rowing.{AreRowsExactly, IsNumber, integers_for, r
 use Rattle.straight_line.specs.declared.draft.Quantity.{Quantity}
 use Rattle.straight_line.specs.declared.fault.FlatFault.{FlatFault}
 use Rattle.straight_line.specs.declared.fault.FlatFault.TheVariants.{Outside, Twice, Cycle, Wide, Memory}
-use Rattle.straight_line.specs.declared.keeping.Kept.{Kept}
+use Rattle.straight_line.specs.declared.keeping.KeptUnknowns.{KeptUnknowns}
 use Rattle.straight_line.proofs.Columned.{rows_renumbered}
 use Rattle.straight_line.proofs.Finished.{column_same, integers_kept, is_kept, registers_kept}
 use Rattle.straight_line.proofs.Keeps.{IsCounted, keeps_counted}
 use Rattle.straight_line.proofs.Reached.{kept_reached}
 
-module _ (f : ℕ → ℕ) (qs : List Quantity) (used : List Bool) (k : Kept) (is : k ≡ kept_all f qs used nothing_kept) where
+module _ (f : ℕ → ℕ) (qs : List Quantity) (used : List Bool) (k : KeptUnknowns) (is : k ≡ kept_all f qs used nothing_kept) where
   pub counted : IsCounted k
   counted = subst IsCounted (sym is) (keeps_counted f qs used)
 

@@ -6,15 +6,15 @@ use Rattle.std.proofs.lemmas.List.{take_more}
 use Rattle.bool_cubes.specs.Past.{IsFitting}
 use Rattle.bool_cubes.specs.declared.literal.Literal.{Literal}
 use Rattle.straight_line.specs.Comparing.{IsGathered}
-use Rattle.straight_line.specs.Gathered.{Gathers, IsAdded}
-use Rattle.straight_line.specs.Met.{Draft, add, add_all, met, nothing_met}
+use Rattle.straight_line.specs.Gathered.{Gathers, IsLiteralAdded}
+use Rattle.straight_line.specs.Met.{DraftView, add, add_all, met, nothing_met}
 use Rattle.straight_line.specs.Said.{first_outside, is_outside, said}
-use Rattle.straight_line.specs.declared.literals.Kind.{Kind}
-use Rattle.straight_line.specs.declared.literals.Kind.TheVariants as kind
-use Rattle.straight_line.specs.declared.meeting.Meeting.{Meeting}
+use Rattle.straight_line.specs.declared.literals.LiteralReading.{LiteralReading}
+use Rattle.straight_line.specs.declared.literals.LiteralReading.TheVariants as kind
+use Rattle.straight_line.specs.declared.meeting.DraftBuilder.{DraftBuilder}
 use Rattle.straight_line.proofs.Proper.{inside_first}
 
-added_push : (ls : List Literal) (l : Literal) (d : Draft) → add_all (ls ++ l ∷ []) d ≡ add (said l) (add_all ls d)
+added_push : (ls : List Literal) (l : Literal) (d : DraftView) → add_all (ls ++ l ∷ []) d ≡ add (said l) (add_all ls d)
 added_push [] l d = refl
 added_push (k ∷ ls) l d = added_push ls l (add (said k) d)
 
@@ -24,14 +24,14 @@ outside_push (k ∷ ls) l o =
     let h = inside_first (is_outside (said k)) k (first_outside ls) o in
     ap (λ b. if b then Some k else first_outside (ls ++ l ∷ [])) h.0 ∙ outside_push ls l h.1
 
-pub record IsScanned (ls : List Literal) (m : Meeting) (i : ℕ) : Type 0 where
+pub record IsScanned (ls : List Literal) (m : DraftBuilder) (i : ℕ) : Type 0 where
   pub gathers : Gathers m (met (take i ls))
   pub inside : first_outside (take i ls) ≡ None
 
-pub scanned_first : (ls : List Literal) (m : Meeting) → Gathers m nothing_met → IsScanned ls m 0
+pub scanned_first : (ls : List Literal) (m : DraftBuilder) → Gathers m nothing_met → IsScanned ls m 0
 scanned_first ls m g = record { gathers = g; inside = refl }
 
-pub scanned_gathered : (ls : List Literal) (m : Meeting) (i : ℕ) → IsScanned ls m i → IsGathered m
+pub scanned_gathered : (ls : List Literal) (m : DraftBuilder) (i : ℕ) → IsScanned ls m i → IsGathered m
 scanned_gathered ls m i s = record { draft = met (take i ls); gathers = s.gathers }
 
 pub fitting_at : (ls : List Literal) (i : ℕ) (l : Literal) → AllByRecursion IsFitting ls → i < length ls → l ≡ get_or ls i l → IsFitting l
@@ -42,9 +42,9 @@ fitting_at (x ∷ ls) (suc i) l a h e = fitting_at ls i l a.1 (omega arith) e
 more : (ls : List Literal) (i : ℕ) (l : Literal) → i < length ls → l ≡ get_or ls i l → take (i + 1) ls ≡ take i ls ++ l ∷ []
 more ls i l h e = take_more ls i l h ∙ ap (λ x. take i ls ++ x ∷ []) (sym e)
 
-pub scanned_step : (ls : List Literal) (m n : Meeting) (i : ℕ) (l : Literal) (k : Kind) → i < length ls → l ≡ get_or ls i l → IsScanned ls m i → IsAdded m n (said l) k → k ≡ kind.Written → IsScanned ls n (i + 1)
+pub scanned_step : (ls : List Literal) (m n : DraftBuilder) (i : ℕ) (l : Literal) (k : LiteralReading) → i < length ls → l ≡ get_or ls i l → IsScanned ls m i → IsLiteralAdded m n (said l) k → k ≡ kind.Written → IsScanned ls n (i + 1)
 scanned_step ls m n i l k h e s a w =
-    let b = (subst (IsAdded m n (said l)) w a).each (met (take i ls)) s.gathers in
+    let b = (subst (IsLiteralAdded m n (said l)) w a).each (met (take i ls)) s.gathers in
     record {
       gathers = subst (Gathers n) (sym (ap met (more ls i l h e) ∙ added_push (take i ls) l nothing_met)) b.1;
       inside = ap first_outside (more ls i l h e) ∙ outside_push (take i ls) l s.inside ∙ ap (λ c. if c then Some l else None) b.0;
@@ -57,10 +57,10 @@ outside_at (x ∷ ls) (suc i) l h e o q =
     let p = inside_first (is_outside (said x)) x (first_outside (take i ls)) o in
     ap (λ b. if b then Some x else first_outside ls) p.0 ∙ outside_at ls i l (omega arith) e p.1 q
 
-pub scanned_outside : (ls : List Literal) (m n : Meeting) (i : ℕ) (l c : Literal) (k : Kind) → i < length ls → l ≡ get_or ls i l → IsScanned ls m i → IsAdded m n (said l) k → k ≡ kind.Outside → c ≡ l → first_outside ls ≡ Some c
-scanned_outside ls m n i l c k h e s a w q = outside_at ls i l h e s.inside ((subst (IsAdded m n (said l)) w a).each (met (take i ls)) s.gathers) ∙ ap Some (sym q)
+pub scanned_outside : (ls : List Literal) (m n : DraftBuilder) (i : ℕ) (l c : Literal) (k : LiteralReading) → i < length ls → l ≡ get_or ls i l → IsScanned ls m i → IsLiteralAdded m n (said l) k → k ≡ kind.Outside → c ≡ l → first_outside ls ≡ Some c
+scanned_outside ls m n i l c k h e s a w q = outside_at ls i l h e s.inside ((subst (IsLiteralAdded m n (said l)) w a).each (met (take i ls)) s.gathers) ∙ ap Some (sym q)
 
-pub scanned_all : (ls : List Literal) (m : Meeting) (i : ℕ) → length ls ≤ i → IsScanned ls m i → (first_outside ls ≡ None) × Gathers m (met ls)
+pub scanned_all : (ls : List Literal) (m : DraftBuilder) (i : ℕ) → length ls ≤ i → IsScanned ls m i → (first_outside ls ≡ None) × Gathers m (met ls)
 scanned_all ls m i h s = let e = take_whole ls i h in (ap first_outside (sym e) ∙ s.inside, subst (λ us. Gathers m (met us)) e s.gathers)
   where
     take_whole : {X : Type 0} (xs : List X) (j : ℕ) → length xs ≤ j → take j xs ≡ xs

@@ -15,7 +15,7 @@ use Rattle.bool_cubes.specs.Shapes.{Shape, Shapes, number, text, constant, apply
 use Rattle.bool_cubes.specs.Codes.{same}
 use Rattle.bool_cubes.specs.Linear.{Linear, Unknown, integer, length_of, other, is_string, are_strings, is_linear, are_linear, is_product, linear, linears, written}
 use Rattle.straight_line.specs.Laws.{IsSpelled, AreSpelled}
-use Rattle.straight_line.specs.Met.{Comparison, Draft, Found, with_term, with_definition, known_or, place_of, meet, meet_all, with_integer, registered, with_register, meet_unknowns, meet_all_unknowns, with_comparison, with_value, nothing_met, add}
+use Rattle.straight_line.specs.Met.{Comparison, DraftView, Found, with_term, with_definition, known_or, place_of, meet, meet_all, with_integer, registered, with_register, meet_unknowns, meet_all_unknowns, with_comparison, with_value, nothing_met, add}
 use Rattle.straight_line.specs.Said.{Said, value_is, compares, holds, has_part, are_one, written_by, outside}
 use Rattle.straight_line.specs.Satisfying.{HasValue}
 use Rattle.straight_line.specs.declared.definition.By.TheVariants as by
@@ -37,15 +37,15 @@ use Rattle.straight_line.proofs.Texts.{and_parts, valued_apply, valued_constant}
 abbrev pub Rest : Type 0
 Rest = List (List ℕ) × (List (Shape × ℕ) × List Comparison)
 
-abbrev pub rest : Draft → Rest
+abbrev pub rest : DraftView → Rest
 rest d = (d.integers, (d.registers, d.comparisons))
 
-known_leaves : (d : Draft) (new : Found) (o : Option ℕ) → rest new.1 ≡ rest d → rest (known_or o d new).1 ≡ rest d
+known_leaves : (d : DraftView) (new : Found) (o : Option ℕ) → rest new.1 ≡ rest d → rest (known_or o d new).1 ≡ rest d
 known_leaves d new None e = e
 known_leaves d new (Some i) e = refl
 
 mutual
-  pub leaves : (s : Shape) (d : Draft) → is_string s ≡ true → rest (meet s d).1 ≡ rest d
+  pub leaves : (s : Shape) (d : DraftView) → is_string s ≡ true → rest (meet s d).1 ≡ rest d
   leaves (text w) d e = refl
   leaves (constant n s) d e = known_leaves d (length d.terms, with_term (constant n s) d) (place_of (constant n s) d.terms) refl
   leaves (apply op.Concat (s ⨾ ss)) d e =
@@ -62,7 +62,7 @@ mutual
       known_leaves d (length d.terms, with_definition (length d.terms) (by.All p u r.0) r.1) (place_of t d.terms) (leaves s (with_term t d) e)
   leaves _ d e = absurd (never e)
 
-  all_leave : (ss : Shapes) (d : Draft) → are_strings ss ≡ true → rest (meet_all ss d).1 ≡ rest d
+  all_leave : (ss : Shapes) (d : DraftView) → are_strings ss ≡ true → rest (meet_all ss d).1 ≡ rest d
   all_leave end d e = refl
   all_leave (s ⨾ ss) d e =
       let h = and_parts (is_string s) (are_strings ss) e in
@@ -109,7 +109,7 @@ module _ (values : Named) where
     pub registers : AreApart (lengths_of r.1.0)
     pub comparisons : AllByRecursion (IsReady r.0 r.1.0) r.1.1
 
-  pub record IsSettled (d : Draft) : Type 0 where
+  pub record IsSettled (d : DraftView) : Type 0 where
     pub inside : AreIn (length d.terms) d
     pub sound : AllByRecursion (IsSound values) d.terms
     pub entries : NewHave nothing_met d
@@ -119,7 +119,7 @@ module _ (values : Named) where
   counted_more ts us r f c = record { numbers = c.numbers; places = all_weaker (PlaceIs ts) (PlaceIs us) (λ q a. f q.1 q.0 a) r.1.0 c.places; integers = c.integers; registers = c.registers; comparisons = c.comparisons }
 
   -- a string term is met
-  pub settled_met : (s : Shape) (d : Draft) → IsSound values s → IsSettled d → IsSettled (meet s d).1
+  pub settled_met : (s : Shape) (d : DraftView) → IsSound values s → IsSettled d → IsSettled (meet s d).1
   settled_met s d q h =
       let p = is_placed s d q.0 in
       let m = is_entered s d q.0 in
@@ -131,29 +131,29 @@ module _ (values : Named) where
       }
 
   -- the unknowns that stand in one draft stand in another
-  abbrev pub More : Draft → Draft → Type 0
+  abbrev pub More : DraftView → DraftView → Type 0
   More d e = (u : Unknown) → Stands d.integers d.registers u → Stands e.integers e.registers u
 
-  known_more : (d e : Draft) → More d e → (a : Linear) → Known d.integers d.registers a → Known e.integers e.registers a
+  known_more : (d e : DraftView) → More d e → (a : Linear) → Known d.integers d.registers a → Known e.integers e.registers a
   known_more d e f a k = all_weaker (λ (t : Unknown × ℤ). Stands d.integers d.registers t.0) (λ (t : Unknown × ℤ). Stands e.integers e.registers t.0) (λ t h. f t.0 h) a.terms k
 
-  ready_more : (d e : Draft) → More d e → (c : Comparison) → IsReady d.integers d.registers c → IsReady e.integers e.registers c
+  ready_more : (d e : DraftView) → More d e → (c : Comparison) → IsReady d.integers d.registers c → IsReady e.integers e.registers c
   ready_more d e f c r = record { row = r.row; left = r.left; right = r.right; known_left = known_more d e f (linear c.left) r.known_left; known_right = known_more d e f (linear c.right) r.known_right }
 
-  pub record IsStanding (d e : Draft) (u : Unknown) : Type 0 where
+  pub record IsStanding (d e : DraftView) (u : Unknown) : Type 0 where
     pub settled : IsSettled e
     pub more : More d e
     pub here : Stands e.integers e.registers u
 
-  abbrev with_name : List ℕ → Draft → Draft
+  abbrev with_name : List ℕ → DraftView → DraftView
   with_name n d = record d { integers = d.integers ++ n ∷ [] }
 
-  name_more : (n : List ℕ) (d : Draft) → More d (with_name n d)
+  name_more : (n : List ℕ) (d : DraftView) → More d (with_name n d)
   name_more n d (integer m) h = subst (λ us. stands (integer m) us ≡ true) (sym (map_push integer d.integers n)) (stands_more (integer m) (integer n) (integers_of d.integers) h)
   name_more n d (length_of s) h = h
   name_more n d (other s) h = h
 
-  integer_standing : (n : List ℕ) (d : Draft) → HasNumber n → IsSettled d → (b : Bool) → list_any (pointwise nat_eq n) d.integers ≡ b → IsStanding d (if b then d else with_name n d) (integer n)
+  integer_standing : (n : List ℕ) (d : DraftView) → HasNumber n → IsSettled d → (b : Bool) → list_any (pointwise nat_eq n) d.integers ≡ b → IsStanding d (if b then d else with_name n d) (integer n)
   integer_standing n d v h true e = record { settled = h; more = λ u k. k; here = name_stands n d.integers ∙ e }
   integer_standing n d v h false e = record {
     settled = record {
@@ -172,15 +172,15 @@ module _ (values : Named) where
     here = subst (λ us. stands (integer n) us ≡ true) (sym (map_push integer d.integers n)) (stands_last (integer n) (integer n) (integers_of d.integers) (text_self n));
   }
 
-  abbrev with_length : Shape → ℕ → Draft → Draft
+  abbrev with_length : Shape → ℕ → DraftView → DraftView
   with_length s i d = record d { registers = d.registers ++ (s, i) ∷ [] }
 
-  length_more : (s : Shape) (i : ℕ) (d : Draft) → More d (with_length s i d)
+  length_more : (s : Shape) (i : ℕ) (d : DraftView) → More d (with_length s i d)
   length_more s i d (integer n) h = h
   length_more s i d (other t) h = h
   length_more s i d (length_of t) h = subst (λ us. stands (length_of t) us ≡ true) (sym (map_push (λ (r : Shape × ℕ). length_of r.0) d.registers (s, i))) (stands_more (length_of t) (length_of s) (lengths_of d.registers) h)
 
-  length_standing : (s : Shape) (i : ℕ) (d : Draft) → is_string s ≡ true → At d.terms i s → IsSettled d → list_any (λ (r : Shape × ℕ). same s r.0) d.registers ≡ false → IsStanding d (with_length s i d) (length_of s)
+  length_standing : (s : Shape) (i : ℕ) (d : DraftView) → is_string s ≡ true → At d.terms i s → IsSettled d → list_any (λ (r : Shape × ℕ). same s r.0) d.registers ≡ false → IsStanding d (with_length s i d) (length_of s)
   length_standing s i d q a h e = record {
     settled = record {
       inside = record { parts = h.inside.parts; definitions = h.inside.definitions; equalities = h.inside.equalities; registers = all_push (RegisterIn (length d.terms)) d.registers (s, i) h.inside.registers (at_within d.terms i s a) };
@@ -198,10 +198,10 @@ module _ (values : Named) where
     here = subst (λ us. stands (length_of s) us ≡ true) (sym (map_push (λ (r : Shape × ℕ). length_of r.0) d.registers (s, i))) (stands_last (length_of s) (length_of s) (lengths_of d.registers) (string_self s));
   }
 
-  more_left : (d e : Draft) → rest e ≡ rest d → More d e
+  more_left : (d e : DraftView) → rest e ≡ rest d → More d e
   more_left d e p u h = subst (λ (r : Rest). Stands r.0 r.1.0 u) (sym p) h
 
-  register_standing : (s : Shape) (d : Draft) → IsSound values s → IsSettled d → (b : Bool) → list_any (λ (r : Shape × ℕ). same s r.0) d.registers ≡ b → IsStanding d (if b then d else registered s (meet s d)) (length_of s)
+  register_standing : (s : Shape) (d : DraftView) → IsSound values s → IsSettled d → (b : Bool) → list_any (λ (r : Shape × ℕ). same s r.0) d.registers ≡ b → IsStanding d (if b then d else registered s (meet s d)) (length_of s)
   register_standing s d q h true e = record { settled = h; more = λ u k. k; here = length_stands s d.registers ∙ e }
   register_standing s d q h false e =
       let l = leaves s d q.0 in
@@ -210,36 +210,36 @@ module _ (values : Named) where
       record { settled = k.settled; more = λ u x. k.more u (more_left d (meet s d).1 l u x); here = k.here }
 
   -- the unknowns of a term, and of terms one after another
-  pub record IsCounted (d e : Draft) (a : Linear) : Type 0 where
+  pub record IsCounted (d e : DraftView) (a : Linear) : Type 0 where
     pub settled : IsSettled e
     pub more : More d e
     pub known : Known e.integers e.registers a
 
-  pub record AllCounted (d e : Draft) (ls : List Linear) : Type 0 where
+  pub record AllCounted (d e : DraftView) (ls : List Linear) : Type 0 where
     pub settled : IsSettled e
     pub more : More d e
     pub known : AllByRecursion (Known e.integers e.registers) ls
 
-  same_counted : (d : Draft) (n : ℤ) → IsSettled d → IsCounted d d (record { terms = []; constant = n })
+  same_counted : (d : DraftView) (n : ℤ) → IsSettled d → IsCounted d d (record { terms = []; constant = n })
   same_counted d n h = record { settled = h; more = λ u k. k; known = tt }
 
-  one_counted : (d e : Draft) (u : Unknown) → IsStanding d e u → IsCounted d e (record { terms = (u, pos 1) ∷ []; constant = pos 0 })
+  one_counted : (d e : DraftView) (u : Unknown) → IsStanding d e u → IsCounted d e (record { terms = (u, pos 1) ∷ []; constant = pos 0 })
   one_counted d e u s = record { settled = s.settled; more = s.more; known = (s.here, tt) }
 
-  combined_counted : (d e : Draft) (ls : List Linear) (a : Linear) → AllCounted d e ls → (AllByRecursion (Known e.integers e.registers) ls → Known e.integers e.registers a) → IsCounted d e a
+  combined_counted : (d e : DraftView) (ls : List Linear) (a : Linear) → AllCounted d e ls → (AllByRecursion (Known e.integers e.registers) ls → Known e.integers e.registers a) → IsCounted d e a
   combined_counted d e ls a c f = record { settled = c.settled; more = c.more; known = f c.known }
 
   sound_argument : (s : Shape) → IsNumeric (apply op.Length (s ⨾ end)) → IsSound values s
   sound_argument s q = (q.0, ((and_parts (is_valued values (raw s)) true (sym (valued_apply values op.Length (raws (s ⨾ end))) ∙ q.1.0)).0, q.1.1.0))
 
-  register_counted : (s : Shape) (d : Draft) → IsNumeric (apply op.Length (s ⨾ end)) → IsSettled d → IsCounted d (with_register (written s) d) (record { terms = (length_of (written s), pos 1) ∷ []; constant = pos 0 })
+  register_counted : (s : Shape) (d : DraftView) → IsNumeric (apply op.Length (s ⨾ end)) → IsSettled d → IsCounted d (with_register (written s) d) (record { terms = (length_of (written s), pos 1) ∷ []; constant = pos 0 })
   register_counted s d q h = one_counted d (with_register (written s) d) (length_of (written s)) (register_standing (written s) d (sound_written values s (sound_argument s q)) h (list_any (λ (r : Shape × ℕ). same (written s) r.0) d.registers) refl)
 
   number_given : (n : List ℕ) (s : Sort) → IsNumeric (constant n s) → HasNumber n
   number_given n s q = number_is values (lookup (pointwise nat_eq n) values) s q.0 (sym (valued_constant values n s) ∙ q.1.0)
 
   mutual
-    pub unknowns_counted : (s : Shape) (d : Draft) → IsNumeric s → IsSettled d → IsCounted d (meet_unknowns s d) (linear s)
+    pub unknowns_counted : (s : Shape) (d : DraftView) → IsNumeric s → IsSettled d → IsCounted d (meet_unknowns s d) (linear s)
     unknowns_counted (number n) d q h = same_counted d n h
     unknowns_counted (constant n s) d q h = one_counted d (with_integer n d) (integer n) (integer_standing n d (number_given n s q) h (list_any (pointwise nat_eq n) d.integers) refl)
     unknowns_counted (apply op.Length (text w ⨾ end)) d q h = same_counted d (pos (length w)) h
@@ -259,7 +259,7 @@ module _ (values : Named) where
     unknowns_counted (apply op.Length (s ⨾ end)) d q h = absurd (never q.0)
     unknowns_counted _ d q h = absurd (never q.0)
 
-    all_unknowns_counted : (ss : Shapes) (d : Draft) → AllOf IsNumeric ss → IsSettled d → AllCounted d (meet_all_unknowns ss d) (linears ss)
+    all_unknowns_counted : (ss : Shapes) (d : DraftView) → AllOf IsNumeric ss → IsSettled d → AllCounted d (meet_all_unknowns ss d) (linears ss)
     all_unknowns_counted end d q h = record { settled = h; more = λ u k. k; known = tt }
     all_unknowns_counted (s ⨾ ss) d q h =
         let a = unknowns_counted s d q.0 h in
@@ -281,22 +281,22 @@ module _ (values : Named) where
   Ready outside = ⊥
 
   -- the same terms and unknowns, with more said of them
-  settled_by : (d e : Draft) → IsSettled d → Grows d e → ((i : ℕ) (t : Shape) → At e.terms i t → At d.terms i t) → AreIn (length e.terms) e → AllByRecursion (IsSound values) e.terms → AreCounted e.terms (rest e) → IsSettled e
+  settled_by : (d e : DraftView) → IsSettled d → Grows d e → ((i : ℕ) (t : Shape) → At e.terms i t → At d.terms i t) → AreIn (length e.terms) e → AllByRecursion (IsSound values) e.terms → AreCounted e.terms (rest e) → IsSettled e
   settled_by d e h g back i s c = record { inside = i; sound = s; entries = λ j t l a. entry_more d e g j t (h.entries j t l (back j t a)); counted = c }
 
-  settled_value : (o : Option Bool) (n : List ℕ) (b : Bool) (d : Draft) → IsSettled d → IsSettled (with_value o n b d)
+  settled_value : (o : Option Bool) (n : List ℕ) (b : Bool) (d : DraftView) → IsSettled d → IsSettled (with_value o n b d)
   settled_value None n b d h = settled_by d (with_value None n b d) h (record { terms = λ i s a. a; parts = λ p a. a; definitions = λ q a. a }) (λ i t a. a) (record { parts = h.inside.parts; definitions = h.inside.definitions; equalities = h.inside.equalities; registers = h.inside.registers }) h.sound h.counted
   settled_value (Some c) n b d h = settled_by d (with_value (Some c) n b d) h (record { terms = λ i s a. a; parts = λ p a. a; definitions = λ q a. a }) (λ i t a. a) (record { parts = h.inside.parts; definitions = h.inside.definitions; equalities = h.inside.equalities; registers = h.inside.registers }) h.sound h.counted
 
-  settled_comparison : (c : Comparison) (d : Draft) → IsSettled d → IsReady d.integers d.registers c → IsSettled (with_comparison c d)
+  settled_comparison : (c : Comparison) (d : DraftView) → IsSettled d → IsReady d.integers d.registers c → IsSettled (with_comparison c d)
   settled_comparison c d h r = settled_by d (with_comparison c d) h (record { terms = λ i s a. a; parts = λ p a. a; definitions = λ q a. a }) (λ i t a. a) (record { parts = h.inside.parts; definitions = h.inside.definitions; equalities = h.inside.equalities; registers = h.inside.registers }) h.sound
       (record { numbers = h.counted.numbers; places = h.counted.places; integers = h.counted.integers; registers = h.counted.registers; comparisons = all_push (IsReady d.integers d.registers) d.comparisons c h.counted.comparisons r })
 
   -- a term that was met, with its place
-  placed_written : (s : Shape) (d : Draft) → IsSound values s → (meet (written s) d).0 < length (meet (written s) d).1.terms
+  placed_written : (s : Shape) (d : DraftView) → IsSound values s → (meet (written s) d).0 < length (meet (written s) d).1.terms
   placed_written s d q = (is_placed (written s) d (sound_written values s q).0).place
 
-  pub is_settled : (x : Said) (d : Draft) → Ready x → IsSettled d → IsSettled (add x d)
+  pub is_settled : (x : Said) (d : DraftView) → Ready x → IsSettled d → IsSettled (add x d)
   is_settled (value_is n b) d r h = settled_value (lookup (pointwise nat_eq n) d.truths) n b d h
   is_settled (compares o s t b) d r h =
       let a = unknowns_counted s d r.1.0 h in

@@ -7,9 +7,9 @@ use Rattle.std.specs.List.{list_all, list_any}
 use Rattle.std.specs.Ordering.{is_eq, nat_cmp}
 use Rattle.std.proofs.lemmas.List.{get_or_default}
 use Rattle.std.proofs.lemmas.Bool.{cases_eq, cases_lt, eq-eqb, eqb-true}
-use Rattle.straight_line.specs.Bounds.{is_defined, used}
+use Rattle.straight_line.specs.Using.{is_defined, used}
 use Rattle.straight_line.specs.Flattening.{is_free, take_free, taken}
-use Rattle.straight_line.specs.Waiting.{Among, AreDistinct, Awaits, Has, HaveOnce, IsAhead, IsPassed, IsSorted, IsSorting, IsWaited, picked, with_one}
+use Rattle.straight_line.specs.Waiting.{Among, AreDistinct, Awaits, Has, HaveOnce, IsAhead, NoneAheadBefore, IsSorted, IsSorting, IsWaited, picked, with_one}
 use Rattle.straight_line.specs.declared.definition.Definition.{Definition}
 use Rattle.straight_line.specs.declared.ordering.Waiter.{Waiter}
 use Rattle.straight_line.proofs.Picks.{FreeIs, Parted, first_free, none_free, parted, picked_push, taken_none, taken_some}
@@ -118,7 +118,7 @@ module _ (ds : List Definition) (w : Waiter) (rest : List Waiter) (order : List 
       free_passed = s.free_passed;
       waits_left = λ u x h a. elim (cases u x a) [ inl b ↦ s.waits_left u x h b | inr q ↦ subst (λ z. Among z.definition s.left) q.1 (s.pends_left w (inl refl)) ];
       waits_for = λ u x h a. elim (cases u x a) [ inl b ↦ s.waits_for u x h b | inr q ↦ subst (λ z. Awaits ds z u) q.1 (subst (Awaits ds next) (sym q.0) new_for) ];
-      waits_passed = λ u x h a. elim (cases u x a) [ inl b ↦ s.waits_passed u x h b | inr q ↦ subst (IsPassed ds ahead) q.1 (record { definition = d; is = is; within = omega arith; before = before }) ];
+      waits_passed = λ u x h a. elim (cases u x a) [ inl b ↦ s.waits_passed u x h b | inr q ↦ subst (NoneAheadBefore ds ahead) q.1 (record { definition = d; is = is; within = omega arith; before = before }) ];
       pends_left = λ x a. s.pends_left x (inr a);
       pends_passed = λ x a. s.pends_passed x (inr a);
       each = λ k a. elim (s.each k a) [
@@ -188,7 +188,7 @@ module _ (ds : List Definition) (w : Waiter) (rest : List Waiter) (order : List 
       ];
     }
 
-module _ (ds : List Definition) (w : Waiter) (rest : List Waiter) (order : List ℕ) (ahead : List Bool) (free : List ℕ) (waiters : List (List Waiter)) (p : IsPassed ds ahead w) (us : List ℕ) (is : us ≡ used p.definition.by) (from : ℕ) (more : (i : ℕ) → w.from ≤ i → i < from → IsAhead ahead (get_or us i 0) → ⊥) where
+module _ (ds : List Definition) (w : Waiter) (rest : List Waiter) (order : List ℕ) (ahead : List Bool) (free : List ℕ) (waiters : List (List Waiter)) (p : NoneAheadBefore ds ahead w) (us : List ℕ) (is : us ≡ used p.definition.by) (from : ℕ) (more : (i : ℕ) → w.from ≤ i → i < from → IsAhead ahead (get_or us i 0) → ⊥) where
   all_before : (i : ℕ) → i < from → IsAhead ahead (get_or (used p.definition.by) i 0) → ⊥
   all_before i l a = elim (cases_lt i w.from) [ inl m ↦ p.before i m a | inr m ↦ more i m l (subst (λ z. IsAhead ahead (get_or z i 0)) (sym is) a) ]
 
@@ -373,7 +373,7 @@ module _ (ds : List Definition) (once : HaveOnce ds) (order : List ℕ) (ahead :
     others_ahead : (v : ℕ) → IsAhead ahead v → (v ≡ d.variable → ⊥) → IsAhead unmarked v
     others_ahead v a n = get_or-set_other ahead d.variable v false false n ∙ a
 
-    passed_now : (w : Waiter) → IsPassed ds ahead w → IsPassed ds unmarked w
+    passed_now : (w : Waiter) → NoneAheadBefore ds ahead w → NoneAheadBefore ds unmarked w
     passed_now w h = record { definition = h.definition; is = h.is; within = h.within; before = λ i l a. h.before i l (was (get_or (used h.definition.by) i 0) a).0 }
 
     abbrev rows : List (List Waiter)

@@ -10,8 +10,8 @@ use Rattle.std.proofs.lemmas.Option.{slice_get-get_or, slice_get_within}
 use Rattle.std.proofs.lemmas.List.{get_or_default, length-set}
 use Rattle.std.proofs.lemmas.List.FromFn.{length-range_with_len}
 use Rattle.straight_line.specs.Flattening.{taken}
-use Rattle.straight_line.specs.Straight.{AreWithin}
-use Rattle.straight_line.specs.Waiting.{Among, AscendsFrom, Has, HaveOnce, IsMarked, IsSorting, picked, waiters_from, with_one}
+use Rattle.straight_line.specs.Straight.{HaveVariablesBelow}
+use Rattle.straight_line.specs.Waiting.{Among, AscendsFrom, Has, HaveOnce, AreFirstMarked, IsSorting, picked, waiters_from, with_one}
 use Rattle.straight_line.specs.declared.definition.Definition.{Definition}
 use Rattle.straight_line.specs.declared.ordering.Waiter.{Waiter}
 use Rattle.straight_line.proofs.Sorted.{IsFiled, at_set, closed_at, own_cmp, same_cmp, same_item}
@@ -70,7 +70,7 @@ no_waiters zero v = refl
 no_waiters (suc n) zero = refl
 no_waiters (suc n) (suc v) = no_waiters n v
 
-pub started : (ds : List Definition) (n : ℕ) (ahead : List Bool) (rows : List (List Waiter)) → rows ≡ replicate n nobody → IsMarked ds (length ds) ahead → IsSorting ds (waiters_from 0 (length ds)) [] ahead [] rows
+pub started : (ds : List Definition) (n : ℕ) (ahead : List Bool) (rows : List (List Waiter)) → rows ≡ replicate n nobody → AreFirstMarked ds (length ds) ahead → IsSorting ds (waiters_from 0 (length ds)) [] ahead [] rows
 started ds n ahead rows r m =
     let none : (v : ℕ) (w : Waiter) → Among w (get_or rows v []) → ⊥ = λ v w a. subst (Among w) (ap (λ z. get_or z v []) r ∙ no_waiters n v) a in
     let all : picked ds (range_with_len 0 (length ds)) ≡ ds = picked_behind [] ds 0 refl in
@@ -112,13 +112,13 @@ falses zero v = refl
 falses (suc n) zero = refl
 falses (suc n) (suc v) = falses n v
 
-pub marked_none : (ds : List Definition) (n : ℕ) (ahead : List Bool) → ahead ≡ replicate n false → IsMarked ds 0 ahead
+pub marked_none : (ds : List Definition) (n : ℕ) (ahead : List Bool) → ahead ≡ replicate n false → AreFirstMarked ds 0 ahead
 marked_none ds n ahead e = record {
   ahead_is = λ v a. absurd (let f : false ≡ true = sym (ap (λ z. get_or z v false) e ∙ falses n v) ∙ a in cc);
   is_ahead = λ k d l q. absurd (omega arith);
 }
 
-pub marked_more : (ds : List Definition) (i : ℕ) (d : Definition) (ahead : List Bool) → i < length ds → d ≡ get_or ds i d → d.variable < length ahead → IsMarked ds i ahead → IsMarked ds (i + 1) (slice_set ahead d.variable true)
+pub marked_more : (ds : List Definition) (i : ℕ) (d : Definition) (ahead : List Bool) → i < length ds → d ≡ get_or ds i d → d.variable < length ahead → AreFirstMarked ds i ahead → AreFirstMarked ds (i + 1) (slice_set ahead d.variable true)
 marked_more ds i d ahead l e inside m =
     let at : slice_get ds i ≡ Some d = slice_get-get_or ds i d l ∙ ap Some (sym e) in
     record {
@@ -170,7 +170,7 @@ least_within ds order ahead k free rows s =
     has_first : (k : ℕ) (free : List ℕ) → Has (k ∷ free) k
     has_first k free = ap (λ b. b || list_any (λ j. is_eq (nat_cmp k j)) free) (own_cmp k)
 
-pub filed_closed : (n : ℕ) (ds : List Definition) (order order' : List ℕ) (ahead ahead' : List Bool) (k : ℕ) (free : List ℕ) (rows : List (List Waiter)) (d : Definition) (row empty ws : List Waiter) → length ahead ≡ n → length rows ≡ length ahead → AreWithin n ds → HaveOnce ds → k < length ds → ((j : ℕ) → Has free j → k < j) → IsSorting ds [] order ahead (k ∷ free) rows → slice_get ds k ≡ Some d → order' ≡ order ++ k ∷ [] → ahead' ≡ slice_set ahead d.variable false → row ≡ get_or rows d.variable row → ws ≡ row → empty ≡ [] → (length order' ≡ length order + 1) × IsFiled n ds ws order' ahead' free (slice_set rows d.variable empty)
+pub filed_closed : (n : ℕ) (ds : List Definition) (order order' : List ℕ) (ahead ahead' : List Bool) (k : ℕ) (free : List ℕ) (rows : List (List Waiter)) (d : Definition) (row empty ws : List Waiter) → length ahead ≡ n → length rows ≡ length ahead → HaveVariablesBelow n ds → HaveOnce ds → k < length ds → ((j : ℕ) → Has free j → k < j) → IsSorting ds [] order ahead (k ∷ free) rows → slice_get ds k ≡ Some d → order' ≡ order ++ k ∷ [] → ahead' ≡ slice_set ahead d.variable false → row ≡ get_or rows d.variable row → ws ≡ row → empty ≡ [] → (length order' ≡ length order + 1) × IsFiled n ds ws order' ahead' free (slice_set rows d.variable empty)
 filed_closed n ds order order' ahead ahead' k free rows d row empty ws a r within once inside first s e o h w v z =
     let in_ahead : d.variable < length ahead = let l = within_variable n ds k d within e in omega arith in
     let in_rows : d.variable < length rows = omega arith in

@@ -3,9 +3,9 @@ use Rattle.std.proofs.Common.{◌≡◌, refl, sym, ap, ◌∙◌, subst, Bool, 
 use Rattle.std.specs.Prelude.{nat_eq, if◌then◌else◌}
 use Rattle.std.specs.List.{AllByRecursion, list_all}
 use Rattle.std.proofs.lemmas.Bool.{eq-eqb}
-use Rattle.straight_line.specs.Bounds.{is_defined, used}
-use Rattle.straight_line.specs.Flattening.{Taken, behind, is_free, take_free, taken}
-use Rattle.straight_line.specs.Straight.{InOrder, IsWithin}
+use Rattle.straight_line.specs.Using.{is_defined, used}
+use Rattle.straight_line.specs.Flattening.{TakenDefinition, behind, is_free, take_free, taken}
+use Rattle.straight_line.specs.Straight.{InOrder, HasVariablesBelow}
 use Rattle.straight_line.specs.declared.definition.Definition.{Definition}
 use Rattle.straight_line.proofs.Traced.{passing}
 
@@ -20,15 +20,15 @@ weights false false n = refl
 
 -- what was taken out and the others pass a test as often as all
 module _ (p : Definition → Bool) where
-  abbrev Counts : Taken → List Definition → Type 0
+  abbrev Counts : TakenDefinition → List Definition → Type 0
   Counts None ds = Unit {0}
   Counts (Some (d, rest)) ds = (length ds ≡ suc (length rest)) × (passing p ds ≡ weight (p d) (passing p rest))
 
-  behind_counts : (d : Definition) (ds : List Definition) (o : Taken) → Counts o ds → Counts (behind d o) (d ∷ ds)
+  behind_counts : (d : Definition) (ds : List Definition) (o : TakenDefinition) → Counts o ds → Counts (behind d o) (d ∷ ds)
   behind_counts d ds None h = tt
   behind_counts d ds (Some (e, rest)) h = (ap suc h.0, ap (weight (p d)) h.1 ∙ weights (p d) (p e) (passing p rest))
 
-  if_counts : (b : Bool) (d : Definition) (ds : List Definition) (o : Taken) → Counts o ds → Counts (if b then Some (d, ds) else behind d o) (d ∷ ds)
+  if_counts : (b : Bool) (d : Definition) (ds : List Definition) (o : TakenDefinition) → Counts o ds → Counts (if b then Some (d, ds) else behind d o) (d ∷ ds)
   if_counts true d ds o h = (refl, refl)
   if_counts false d ds o h = behind_counts d ds o h
 
@@ -36,14 +36,14 @@ module _ (p : Definition → Bool) where
   free_counts left [] = tt
   free_counts left (d ∷ ds) = if_counts (is_free left d) d ds (take_free left ds) (free_counts left ds)
 
-  abbrev next : ℕ → Taken → List Definition
+  abbrev next : ℕ → TakenDefinition → List Definition
   next n o = elim o [ None ↦ [] | Some r ↦ r.0 ∷ taken n r.1 ]
 
   none_left : (ds : List Definition) → 0 ≡ length ds → 0 ≡ passing p ds
   none_left [] e = refl
   none_left (d ∷ ds) e = absurd (omega arith)
 
-  next_counts : (n : ℕ) (ds : List Definition) (o : Taken) → Counts o ds → ((es : List Definition) → length (taken n es) ≡ length es → passing p (taken n es) ≡ passing p es) → length (next n o) ≡ length ds → passing p (next n o) ≡ passing p ds
+  next_counts : (n : ℕ) (ds : List Definition) (o : TakenDefinition) → Counts o ds → ((es : List Definition) → length (taken n es) ≡ length es → passing p (taken n es) ≡ passing p es) → length (next n o) ≡ length ds → passing p (next n o) ≡ passing p ds
   next_counts n ds None h f e = none_left ds e
   next_counts n ds (Some (d, rest)) h f e = ap (weight (p d)) (f rest (let l = h.0 in omega arith)) ∙ sym h.1
 
@@ -51,20 +51,20 @@ module _ (p : Definition → Bool) where
   taken_counts zero ds e = none_left ds e
   taken_counts (suc n) ds e = next_counts n ds (take_free ds ds) (free_counts ds ds) (λ es l. taken_counts n es l) e
 
-abbrev next_of : ℕ → Taken → List Definition
+abbrev next_of : ℕ → TakenDefinition → List Definition
 next_of n o = elim o [ None ↦ [] | Some r ↦ r.0 ∷ taken n r.1 ]
 
 -- what was taken out is free and had what all have, and the others have it
 module _ (P : Definition → Type 0) (left : List Definition) where
-  abbrev Fits : Taken → List Definition → Type 0
+  abbrev Fits : TakenDefinition → List Definition → Type 0
   Fits None ds = Unit {0}
   Fits (Some (d, rest)) ds = (is_free left d ≡ true) × (AllByRecursion P ds → P d × AllByRecursion P rest)
 
-  behind_fits : (d : Definition) (ds : List Definition) (o : Taken) → Fits o ds → Fits (behind d o) (d ∷ ds)
+  behind_fits : (d : Definition) (ds : List Definition) (o : TakenDefinition) → Fits o ds → Fits (behind d o) (d ∷ ds)
   behind_fits d ds None h = tt
   behind_fits d ds (Some (e, rest)) h = (h.0, λ a. let r = h.1 a.1 in (r.0, (a.0, r.1)))
 
-  if_fits : (b : Bool) (d : Definition) (ds : List Definition) (o : Taken) → is_free left d ≡ b → Fits o ds → Fits (if b then Some (d, ds) else behind d o) (d ∷ ds)
+  if_fits : (b : Bool) (d : Definition) (ds : List Definition) (o : TakenDefinition) → is_free left d ≡ b → Fits o ds → Fits (if b then Some (d, ds) else behind d o) (d ∷ ds)
   if_fits true d ds o e h = (e, λ a. a)
   if_fits false d ds o e h = behind_fits d ds o h
 
@@ -93,7 +93,7 @@ defined_none v (d ∷ ds) e = by_test (nat_eq d.variable v) e (λ h. defined_non
 
 -- a definition of a variable below n by others below n, at least one
 abbrev pub IsSound : ℕ → Definition → Type 0
-IsSound n d = IsWithin n d × (0 < length (used d.by))
+IsSound n d = HasVariablesBelow n d × (0 < length (used d.by))
 
 free_of : (es : List Definition) (vs : List ℕ) → list_all (λ v. not (is_defined es v)) vs ≡ true → AllByRecursion (λ v. is_defined es v ≡ false) vs
 free_of es [] e = tt
@@ -118,7 +118,7 @@ module _ (n : ℕ) where
   less_once true m l = omega arith
   less_once false m l = l
 
-  step : (m : ℕ) (es : List Definition) (o : Taken) → ((v : ℕ) → Counts (defines v) o es) → Fits (IsSound n) es o es → ((fs : List Definition) → length (taken m fs) ≡ length fs → AllByRecursion (IsSound n) fs → Once fs → InOrder n (taken m fs)) → length (next_of m o) ≡ length es → AllByRecursion (IsSound n) es → Once es → InOrder n (next_of m o)
+  step : (m : ℕ) (es : List Definition) (o : TakenDefinition) → ((v : ℕ) → Counts (defines v) o es) → Fits (IsSound n) es o es → ((fs : List Definition) → length (taken m fs) ≡ length fs → AllByRecursion (IsSound n) fs → Once fs → InOrder n (taken m fs)) → length (next_of m o) ≡ length es → AllByRecursion (IsSound n) es → Once es → InOrder n (next_of m o)
   step m es None c f rec e a once = tt
   step m es (Some (d, rest)) c f rec e a once =
       let r = f.1 a in

@@ -14,7 +14,7 @@ use Rattle.bool_cubes.specs.Mirrors.{raw-seen}
 use Rattle.bool_cubes.specs.Shapes.{Shape, text, seen, raw}
 use Rattle.bool_cubes.specs.declared.literal.Literal.{Literal}
 use Rattle.straight_line.specs.Laws.{IsGood}
-use Rattle.straight_line.specs.Met.{Draft, add, add_all, nothing_met, met}
+use Rattle.straight_line.specs.Met.{DraftView, add, add_all, nothing_met, met}
 use Rattle.straight_line.specs.Said.{said, is_outside, first_outside}
 use Rattle.straight_line.proofs.Meetings.{Fits, FitsFrom, Holds}
 use Rattle.straight_line.proofs.Texts.{word}
@@ -34,13 +34,13 @@ module _ (values : Named) (ws : ℕ → Word) (decided : (r : Regex) (w : Word) 
       (k.0, (λ h. k.1.0 (ap (val values) q ∙ h), λ h. sym (ap (val values) q) ∙ k.1.1 h))
 
   -- the same of what was met behind the literals
-  pub record AreTold (ls : List Literal) (d e : Draft) : Type 0 where
+  pub record AreTold (ls : List Literal) (d e : DraftView) : Type 0 where
     pub earlier : Fits values ws e → Fits values ws d
     pub keeps : Fits values ws e → AreTrueLiterals values ls → Holds values ws d → Holds values ws e
     pub tells : Fits values ws e → Holds values ws e → AreTrueLiterals values ls
     pub back : Holds values ws e → Holds values ws d
 
-  pub all_told : (ls : List Literal) (d : Draft) → AllByRecursion (IsGood values) ls → first_outside ls ≡ None → AreTold ls d (add_all ls d)
+  pub all_told : (ls : List Literal) (d : DraftView) → AllByRecursion (IsGood values) ls → first_outside ls ≡ None → AreTold ls d (add_all ls d)
   all_told [] d g o = record { earlier = λ f. f; keeps = λ f t h. h; tells = λ f h. tt; back = λ h. h }
   all_told (l ∷ ls) d g o =
       let i = inside (is_outside (said l)) l (first_outside ls) o in
@@ -80,5 +80,5 @@ module _ (values : Named) where
       let m : suc n ≡ length (ts ++ s ∷ []) = ap suc e ∙ sym (length-append ts (s ∷ []) ∙ add-one (length ts)) in
       (ap (words_at (ts ++ s ∷ us)) e ∙ ap (word values) (at_end ts s us), subst (λ x. FitsFrom values (words_at x) (suc n) us) (pushed ts s us) (fit_from (ts ++ s ∷ []) us (suc n) m))
 
-  pub all_fit : (d : Draft) → Fits values (words_at d.terms) d
+  pub all_fit : (d : DraftView) → Fits values (words_at d.terms) d
   all_fit d = fit_from [] d.terms 0 refl

@@ -6,11 +6,11 @@ use Rattle.std.proofs.Math.Seq.{get_or-append_seam}
 use Rattle.std.proofs.lemmas.List.{get_or_append_left, get_or_default, get_or_past, length-replicate, length-set}
 use Rattle.std.proofs.lemmas.List.Recursion.{is_count_by}
 use Rattle.std.proofs.lemmas.Option.{slice_get_within}
-use Rattle.straight_line.specs.Bounds.{used}
+use Rattle.straight_line.specs.Using.{used}
 use Rattle.straight_line.specs.Flattening.{IsCycle, IsTwice, NoneTwice, Uses, UsesInTurn, ordered}
-use Rattle.straight_line.specs.Straight.{AreBelow, AreWithin}
+use Rattle.straight_line.specs.Straight.{AreBelow, HaveVariablesBelow}
 use Rattle.straight_line.specs.Tracing.{HasPlaces, IsPlacedExactly, IsStraightened, LeadTo}
-use Rattle.straight_line.specs.Waiting.{Among, HaveOnce, IsAhead, IsClosed, IsSorted, picked, with_one}
+use Rattle.straight_line.specs.Waiting.{Among, HaveOnce, IsAhead, AheadUsesAhead, IsSorted, picked, with_one}
 use Rattle.straight_line.specs.declared.definition.Definition.{Definition}
 use Rattle.straight_line.specs.declared.fault.FlatFault.{FlatFault}
 use Rattle.straight_line.specs.declared.fault.FlatFault.TheVariants.{Outside, Twice, Cycle, Wide, Memory}
@@ -83,7 +83,7 @@ placed_none ds n places e = record {
   is = λ v k q. absurd (no_place n v k (sym (ap (λ z. get_or z v None) e) ∙ q));
 }
 
-pub placed_more : (ds : List Definition) (n i : ℕ) (places : List (Option ℕ)) (d : Definition) → AreWithin n ds → slice_get ds i ≡ Some d → get_or places d.variable None ≡ None → IsPlacedTo ds n i places → IsPlacedTo ds n (i + 1) (slice_set places d.variable (Some i))
+pub placed_more : (ds : List Definition) (n i : ℕ) (places : List (Option ℕ)) (d : Definition) → HaveVariablesBelow n ds → slice_get ds i ≡ Some d → get_or places d.variable None ≡ None → IsPlacedTo ds n i places → IsPlacedTo ds n (i + 1) (slice_set places d.variable (Some i))
 placed_more ds n i places d within at free f =
     let inside : d.variable < length places = let l = within_variable n ds i d within at in let c = f.count in omega arith in
     record {
@@ -200,7 +200,7 @@ pub record HasNext (ds : List Definition) (places : List (Option ℕ)) (ahead : 
   pub use_within : use_at < length (used definition.by)
   pub use_ahead : IsAhead ahead (get_or (used definition.by) use_at 0)
 
-pub has_next : (ds : List Definition) (places : List (Option ℕ)) (ahead : List Bool) (v : ℕ) → AreWithin (length ahead) ds → HasPlaces ds places → IsClosed ds ahead → IsAhead ahead v → HasNext ds places ahead v
+pub has_next : (ds : List Definition) (places : List (Option ℕ)) (ahead : List Bool) (v : ℕ) → HaveVariablesBelow (length ahead) ds → HasPlaces ds places → AheadUsesAhead ds ahead → IsAhead ahead v → HasNext ds places ahead v
 has_next ds places ahead v within has closed a =
     let r = closed v a in
     record {

@@ -10,7 +10,7 @@ use Rattle.sv_linear.specs.declared.row.Row.{Row}
 use Rattle.bool_cubes.specs.Linear.{Unknown}
 use Rattle.straight_line.specs.Flattening.{Bounded, IsFlatOf, IsRowFor, all_bounded, unknowns_of}
 use Rattle.straight_line.specs.Laws.{FlatIsOne}
-use Rattle.straight_line.specs.Met.{Draft, met}
+use Rattle.straight_line.specs.Met.{DraftView, met}
 use Rattle.straight_line.specs.declared.flat.Flat.{Flat}
 use Rattle.straight_line.proofs.Inserted.{Terms, below, skipped, taken}
 
@@ -64,7 +64,7 @@ rows_one us (c ∷ bs) (r ∷ rs) (q ∷ qs) a b =
     let row : r ≡ q = λ i. record { form = f i; kind = k i } in
     λ i. row i ∷ rows_one us bs rs qs a.1 b.1 i
 
-flat_same : (d : Draft) (a b : Flat) → IsFlatOf d a → IsFlatOf d b → a ≡ b
+flat_same : (d : DraftView) (a b : Flat) → IsFlatOf d a → IsFlatOf d b → a ≡ b
 flat_same d a b f g = λ i. record {
   variables = (f.variables ∙ sym g.variables) i;
   definitions = (f.definitions ∙ sym g.definitions) i;

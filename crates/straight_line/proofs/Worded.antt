@@ -5,14 +5,14 @@ use Rattle.std.proofs.lemmas.List.{length-map}
 use Rattle.std.proofs.lemmas.List.FromFn.{length-range_with_len}
 use Rattle.straight_line.specs.Filling.{ArePartsBelow, AreNumbersBelow, free_variable, named_all, parted_all, variable_from}
 use Rattle.straight_line.specs.Leading.{AreDefinitionsBelow, ArePairsBelow, AreRooted, IsForest, definition_by, ordinal, roots_in}
-use Rattle.straight_line.specs.Straight.{AreWithin}
+use Rattle.straight_line.specs.Straight.{HaveVariablesBelow}
 use Rattle.straight_line.specs.Tracing.{IsStraightened}
 use Rattle.straight_line.specs.Wording.{IsWording, definitions_by, least_of}
 use Rattle.straight_line.specs.declared.definition.By.{By}
 use Rattle.straight_line.specs.declared.definition.Definition.{Definition}
 use Rattle.straight_line.specs.declared.fault.FlatFault.{FlatFault}
 use Rattle.straight_line.specs.declared.variable.Own.{Own}
-use Rattle.straight_line.specs.declared.wording.Words.{Words}
+use Rattle.straight_line.specs.declared.wording.NumberedDefinitions.{NumberedDefinitions}
 use Rattle.straight_line.proofs.Linked.{definitions_are, definitions_within, least_count, least_lower, least_rooted, number_at, numbers_count}
 use Rattle.straight_line.proofs.Variables.{numbers_below, variables_are}
 
@@ -49,8 +49,8 @@ module _ (n : ℕ) (es : List (ℕ × ℕ)) (w : ArePairsBelow n es) (of : List 
     pub renamed_are : renamed ≡ definitions_by n es ds
     renamed_are = e ∙ definitions_are n es w of is ds a
 
-    pub renamed_within : AreWithin count renamed
-    renamed_within = subst (AreWithin count) (sym renamed_are) (subst (λ z. AreWithin z (definitions_by n es ds)) (sym count_is) (definitions_within n es w of is ds a))
+    pub renamed_within : HaveVariablesBelow count renamed
+    renamed_within = subst (HaveVariablesBelow count) (sym renamed_are) (subst (λ z. HaveVariablesBelow z (definitions_by n es ds)) (sym count_is) (definitions_within n es w of is ds a))
 
     pub renamed_straight : (r : Result (List Definition) FlatFault) → IsStraightened renamed r → IsStraightened (definitions_by n es ds) r
     renamed_straight r h = subst (λ z. IsStraightened z r) renamed_are h
@@ -66,7 +66,7 @@ filter-at-most p (x ∷ xs) = by (p x) (filter-at-most p xs)
 roots-at-most : (n : ℕ) (firsts : List ℕ) → length (roots_in n firsts) ≤ n
 roots-at-most n firsts = let l = filter-at-most (λ i. nat_eq (get_or firsts i i) i) (range_with_len 0 n) in let e = length-range_with_len 0 n in omega arith
 
-pub worded : (names : List (Option (List ℕ))) (es : List (ℕ × ℕ)) (w : ArePairsBelow (length names) es) (few : length names < 2 ^ 32) (words : Words) (count : ℕ) (ps : List (ℕ × (Own × Bool))) (ds : List (ℕ × By)) → words.of.items ≡ map (ordinal (length names) (least_of (length names) es)) (range_with_len 0 (length names)) → count ≡ length (roots_in (length names) (least_of (length names) es)) → ArePartsBelow (length names) ps → AreDefinitionsBelow (length names) ds → words.variables ≡ parted_all words.of.items ps (named_all words.of.items names (replicate count free_variable)) → IsStraightened (definitions_by (length names) es ds) (Ok words.definitions) → IsWording names ps ds es words
+pub worded : (names : List (Option (List ℕ))) (es : List (ℕ × ℕ)) (w : ArePairsBelow (length names) es) (few : length names < 2 ^ 32) (words : NumberedDefinitions) (count : ℕ) (ps : List (ℕ × (Own × Bool))) (ds : List (ℕ × By)) → words.of.items ≡ map (ordinal (length names) (least_of (length names) es)) (range_with_len 0 (length names)) → count ≡ length (roots_in (length names) (least_of (length names) es)) → ArePartsBelow (length names) ps → AreDefinitionsBelow (length names) ds → words.variables ≡ parted_all words.of.items ps (named_all words.of.items names (replicate count free_variable)) → IsStraightened (definitions_by (length names) es ds) (Ok words.definitions) → IsWording names ps ds es words
 worded names es w few words count ps ds of_is count_is in_parts in_ds v s =
     let n = length names in
     let are : words.variables ≡ map (variable_from names ps (least_of (length names) es)) (roots_in (length names) (least_of (length names) es)) = v ∙ ap (λ z. parted_all words.of.items ps (named_all words.of.items names (replicate z free_variable))) count_is ∙ variables_are (length names) es w words.of.items of_is names ps in_parts in
@@ -78,6 +78,6 @@ worded names es w few words count ps ds of_is count_is in_parts in_ds v s =
           let e = ap length are ∙ length-map (roots_in (length names) (least_of (length names) es)) (variable_from names ps (least_of (length names) es)) in
           let l = roots-at-most (length names) (least_of (length names) es) in
           omega arith;
-      within = subst (λ z. AreWithin z (definitions_by (length names) es ds)) (sym (ap length are ∙ length-map (roots_in (length names) (least_of (length names) es)) (variable_from names ps (least_of (length names) es)))) (definitions_within (length names) es w words.of.items of_is ds in_ds);
+      within = subst (λ z. HaveVariablesBelow z (definitions_by (length names) es ds)) (sym (ap length are ∙ length-map (roots_in (length names) (least_of (length names) es)) (variable_from names ps (least_of (length names) es)))) (definitions_within (length names) es w words.of.items of_is ds in_ds);
       straight = s;
     }

@@ -7,7 +7,7 @@ use Rattle.sv_linear.specs.declared.row.RowKind.{RowKind}
 use Rattle.sv_linear.specs.declared.row.RowKind.TheVariants.{Le, Eq}
 use Rattle.sv_terms.specs.declared.op.Op.{Op}
 use Rattle.bool_cubes.specs.Roles.{role_of}
-use Rattle.bool_cubes.specs.declared.roles.Order.TheVariants as order
+use Rattle.bool_cubes.specs.declared.roles.IntOrder.TheVariants as order
 use Rattle.bool_cubes.specs.declared.roles.Role.{Role}
 use Rattle.bool_cubes.specs.declared.roles.Role.TheVariants as role
 use Rattle.bool_cubes.specs.Linear.{Linear, Step, addition, added, less, linear, minus_one, of_number, scaled}
@@ -18,21 +18,21 @@ use Rattle.bool_cubes.specs.Shapes.{Shape}
 use Rattle.bool_cubes.specs.declared.past.Differences.{Differences}
 use Rattle.bool_cubes.specs.declared.term_form.TermForm.{TermForm}
 use Rattle.straight_line.specs.Gathered.{Gathers, Knows, number_at}
-use Rattle.straight_line.specs.Met.{Draft}
-use Rattle.straight_line.specs.declared.meeting.Meeting.{Meeting}
-use Rattle.straight_line.specs.declared.comparison.Bound.{Bound}
-use Rattle.straight_line.specs.declared.comparison.Bound.TheVariants as bound
+use Rattle.straight_line.specs.Met.{DraftView}
+use Rattle.straight_line.specs.declared.meeting.DraftBuilder.{DraftBuilder}
+use Rattle.straight_line.specs.declared.comparison.RowReading.{RowReading}
+use Rattle.straight_line.specs.declared.comparison.RowReading.TheVariants as bound
 
 -- what was met, for some literals
-pub record IsGathered (m : Meeting) : Type 0 where
-  pub draft : Draft
+pub record IsGathered (m : DraftBuilder) : Type 0 where
+  pub draft : DraftView
   pub gathers : Gathers m draft
 
 -- no step of an atom is past 128 bits
 pub record AtomFits (s : Shape) : Type 0 where
   pub plain : ArePlain (atom_steps s)
 
-abbrev pub bound_at : Role → Bool → Bound
+abbrev pub bound_at : Role → Bool → RowReading
 bound_at (role.Order order.AtMost) true = bound.AtMost
 bound_at (role.Order order.AtMost) false = bound.Above
 bound_at (role.Order order.Below) true = bound.Below
@@ -49,10 +49,10 @@ bound_at role.Length b = bound.Zero
 bound_at (role.Built k) b = bound.Zero
 bound_at (role.Test t) b = bound.Zero
 
-abbrev pub bound_by : Op → Bool → Bound
+abbrev pub bound_by : Op → Bool → RowReading
 bound_by o b = bound_at (role_of o) b
 
-abbrev pub kind_by : Bound → RowKind
+abbrev pub kind_by : RowReading → RowKind
 kind_by bound.Zero = Eq
 kind_by bound.AtMost = Le
 kind_by bound.Below = Le
@@ -63,14 +63,14 @@ abbrev pub one : Linear
 one = of_number (pos 1)
 
 -- the form that is to be at most 0, or 0, by the difference of the sides
-abbrev pub form_by : Bound → Linear → Linear
+abbrev pub form_by : RowReading → Linear → Linear
 form_by bound.Zero a = a
 form_by bound.AtMost a = a
 form_by bound.Below a = added a one
 form_by bound.AtLeast a = scaled a minus_one
 form_by bound.Above a = added (scaled a minus_one) one
 
-abbrev pub steps_by : Bound → Shape → Shape → List Step
+abbrev pub steps_by : RowReading → Shape → Shape → List Step
 steps_by bound.Zero s t = equality_steps s t
 steps_by bound.AtMost s t = comparison_steps s t
 steps_by bound.Below s t = comparison_steps s t
@@ -78,11 +78,11 @@ steps_by bound.AtLeast s t = comparison_steps s t
 steps_by bound.Above s t = comparison_steps s t
 
 -- no step of a comparison is past 128 bits
-pub record RowFits (o : Op) (s t : Shape) (b : Bool) : Type 0 where
+pub record ComparisonFits (o : Op) (s t : Shape) (b : Bool) : Type 0 where
   pub plain : ArePlain (steps_by (bound_by o b) s t)
 
 -- 1 more is within 128 bits
-pub record CanAdd (f : TermForm) : Type 0 where
+pub record CanAddOne (f : TermForm) : Type 0 where
   pub codes : List (List ℤ)
   pub of : Linear
   pub numbered : AreNumbered codes
@@ -92,7 +92,7 @@ pub record CanAdd (f : TermForm) : Type 0 where
 pub record IsPlus (f g : TermForm) : Type 0 where
   pub each : (us : List (List ℤ)) (a : Linear) → AreNumbered us → IsNumbered us a f → IsNumbered us (added a one) g
 
-pub record CanBound (d : Differences) (b : Bound) : Type 0 where
+pub record CanBound (d : Differences) (b : RowReading) : Type 0 where
   pub codes : List (List ℤ)
   pub left : Linear
   pub right : Linear
@@ -100,7 +100,7 @@ pub record CanBound (d : Differences) (b : Bound) : Type 0 where
   pub below : b ≡ bound.Below → ArePlain (addition (less left right) one ∷ [])
   pub above : b ≡ bound.Above → ArePlain (addition (scaled (less left right) minus_one) one ∷ [])
 
-pub record IsBoundBy (d : Differences) (b : Bound) (f : TermForm) : Type 0 where
+pub record IsBoundBy (d : Differences) (b : RowReading) (f : TermForm) : Type 0 where
   pub each : (us : List (List ℤ)) (left right : Linear) → AreDifferences us left right d → IsNumbered us (form_by b (less left right)) f
 
 -- what stands at the unknowns that have the number n
@@ -125,11 +125,11 @@ pub record IsRenumbered (ns : List (List ℤ × ℕ)) (us : List (List ℤ)) (f 
   pub coefficients : (n : ℕ) → coefficient n g.coefficients ≡ sum_at ns us n f.coefficients
 
 -- the unknowns of both sides have numbers, and no step is past 128 bits
-pub record IsComparable (m : Meeting) (o : Op) (s t : Shape) (b : Bool) : Type 0 where
+pub record IsComparable (m : DraftBuilder) (o : Op) (s t : Shape) (b : Bool) : Type 0 where
   pub gathered : IsGathered m
   pub left : Knows m.numbers (linear s)
   pub right : Knows m.numbers (linear t)
-  pub fits : RowFits o s t b
+  pub fits : ComparisonFits o s t b
 
 -- the place of an unknown among the terms of a form: what is behind has greater ones
 pub record IsPlaceIn (terms : List (ℕ × ℤ)) (unknown at : ℕ) : Type 0 where

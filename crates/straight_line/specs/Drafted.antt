@@ -6,8 +6,8 @@ use Rattle.sv_linear.specs.declared.row.Row.{Row}
 use Rattle.bool_cubes.specs.Linear.{Unknown, integer, length_of}
 use Rattle.bool_cubes.specs.Shapes.{Shape, text}
 use Rattle.straight_line.specs.Flattening.{IsRowFor, bounded_of, name_of}
-use Rattle.straight_line.specs.Met.{Draft}
-use Rattle.straight_line.specs.declared.draft.Draft.{Draft as Held}
+use Rattle.straight_line.specs.Met.{DraftView}
+use Rattle.straight_line.specs.declared.draft.FlatDraft.{FlatDraft as Held}
 use Rattle.straight_line.specs.declared.draft.Quantity.{Quantity}
 use Rattle.straight_line.specs.declared.draft.Quantity.TheVariants.{Integer, Length}
 
@@ -31,7 +31,7 @@ registers_among ts (Integer name ∷ qs) = registers_among ts qs
 registers_among ts (Length i ∷ qs) = (term_at ts i, i) ∷ registers_among ts qs
 
 -- the numbers of all lists are those of what was met; the rows are those of the comparisons over the quantities
-pub record Holds (held : Held) (d : Draft) : Type 0 where
+pub record HoldsDraft (held : Held) (d : DraftView) : Type 0 where
   pub names : held.names ≡ map name_of d.terms
   pub parts : held.parts ≡ d.parts
   pub definitions : held.definitions ≡ d.definitions

@@ -13,8 +13,8 @@ use Rattle.bool_cubes.specs.Shapes.{Shape, Shapes, constant, apply, member, rela
 use Rattle.bool_cubes.specs.Linear.{Linear, Unknown, integer, length_of, linear, less, scaled, added, minus_one, of_number}
 use Rattle.bool_cubes.specs.Linear as form
 use Rattle.bool_cubes.specs.declared.literal.Literal.{Literal}
-use Rattle.straight_line.specs.Bounds.{used, is_defined}
-use Rattle.straight_line.specs.Met.{Comparison, Draft, met}
+use Rattle.straight_line.specs.Using.{used, is_defined}
+use Rattle.straight_line.specs.Met.{Comparison, DraftView, met}
 use Rattle.straight_line.specs.Said.{first_outside}
 use Rattle.straight_line.specs.Straight.{AreNamesApart, IsStraight}
 use Rattle.straight_line.specs.declared.variable.Own.{Own}
@@ -35,15 +35,15 @@ identified [] firsts = firsts
 identified ((i, j) ∷ es) firsts = identified es (made_one (get_or firsts i i) (get_or firsts j j) firsts)
 
 -- the least place that is one with each place
-abbrev pub firsts_of : Draft → List ℕ
+abbrev pub firsts_of : DraftView → List ℕ
 firsts_of d = identified d.equalities (range_with_len 0 (length d.terms))
 
 -- the places that are the least among those that are one with them: one for each variable, in order
-abbrev pub roots_of : Draft → List ℕ
+abbrev pub roots_of : DraftView → List ℕ
 roots_of d = filter (λ i. nat_eq (get_or (firsts_of d) i i) i) (range_with_len 0 (length d.terms))
 
 -- the variable of a place: the number of those that came before
-abbrev pub variable_of : Draft → ℕ → ℕ
+abbrev pub variable_of : DraftView → ℕ → ℕ
 variable_of d i = length (filter (λ r. nat_lt r (get_or (firsts_of d) i i)) (roots_of d))
 
 -- the name of a constant
@@ -62,10 +62,10 @@ names_at (s ∷ ss) [] r = []
 names_at (s ∷ ss) (f ∷ fs) r = with_name (nat_eq f r) (name_of s) (names_at ss fs r)
 
 -- the variable whose least place is r
-abbrev pub variable_at : Draft → ℕ → Variable
+abbrev pub variable_at : DraftView → ℕ → Variable
 variable_at d r = record { names = names_at d.terms (firsts_of d) r; parts = map (λ (p : ℕ × (Own × Bool)). p.1) (filter (λ (p : ℕ × (Own × Bool)). nat_eq (get_or (firsts_of d) p.0 p.0) r) d.parts) }
 
-abbrev pub variables_of : Draft → List Variable
+abbrev pub variables_of : DraftView → List Variable
 variables_of d = map (variable_at d) (roots_of d)
 
 -- definitions of places as definitions of variables
@@ -75,25 +75,25 @@ renamed f (by.First p u v) = by.First p u (f v)
 renamed f (by.All p u v) = by.All p u (f v)
 renamed f (by.Through t v) = by.Through t (f v)
 
-abbrev pub definition_of : Draft → ℕ × By → Definition
+abbrev pub definition_of : DraftView → ℕ × By → Definition
 definition_of d (i, b) = record { variable = variable_of d i; by = renamed (variable_of d) b }
 
-abbrev pub definitions_of : Draft → List Definition
+abbrev pub definitions_of : DraftView → List Definition
 definitions_of d = map (definition_of d) d.definitions
 
 -- whether none of the definitions defines a variable that this one uses
 abbrev pub is_free : List Definition → Definition → Bool
 is_free ds d = list_all (λ v. not (is_defined ds v)) (used d.by)
 
-abbrev pub Taken : Type 0
-Taken = Option (Definition × List Definition)
+abbrev pub TakenDefinition : Type 0
+TakenDefinition = Option (Definition × List Definition)
 
-abbrev pub behind : Definition → Taken → Taken
+abbrev pub behind : Definition → TakenDefinition → TakenDefinition
 behind d None = None
 behind d (Some (e, es)) = Some (e, d ∷ es)
 
 -- the first of the definitions that is free among all that are left, and the others
-abbrev pub take_free : List Definition → List Definition → Taken
+abbrev pub take_free : List Definition → List Definition → TakenDefinition
 take_free left [] = None
 take_free left (d ∷ ds) = if is_free left d then Some (d, ds) else behind d (take_free left ds)
 
@@ -132,7 +132,7 @@ abbrev pub bounded_of : Comparison → Bounded
 bounded_of c = compared (if c.positive then c.op else opposite c.op) (less (linear c.left) (linear c.right))
 
 -- the forms of all comparisons, which are to be at most 0, or 0
-abbrev pub all_bounded : Draft → List Bounded
+abbrev pub all_bounded : DraftView → List Bounded
 all_bounded d = map bounded_of d.comparisons
 
 -- whether an unknown has a column that isn't 0 in one of the forms
@@ -140,14 +140,14 @@ abbrev pub has_column : List Bounded → Unknown → Bool
 has_column bs u = list_any (λ (b : Bounded). not (int_eq (form.multiple_of u b.1.terms) (pos 0))) bs
 
 -- the integer constants and the terms with a register are those with a column that isn't 0, in the order in which they were met
-abbrev pub integers_of : Draft → List (List ℕ)
+abbrev pub integers_of : DraftView → List (List ℕ)
 integers_of d = filter (λ (name : List ℕ). has_column (all_bounded d) (integer name)) d.integers
 
-abbrev pub registers_of : Draft → List (Shape × ℕ)
+abbrev pub registers_of : DraftView → List (Shape × ℕ)
 registers_of d = filter (λ (r : Shape × ℕ). has_column (all_bounded d) (length_of r.0)) d.registers
 
 -- the unknowns of the rows, by their numbers
-abbrev pub unknowns_of : Draft → List Unknown
+abbrev pub unknowns_of : DraftView → List Unknown
 unknowns_of d = map integer (integers_of d) ++ map (λ (r : Shape × ℕ). length_of r.0) (registers_of d)
 
 -- what a form has at an unknown, 0 at a number that none has
@@ -162,7 +162,7 @@ pub record IsRowFor (unknowns : List Unknown) (b : Bounded) (r : Row) : Type 0 w
   pub coefficients : (u : ℕ) → coefficient u r.form.coefficients ≡ coefficient_at b.1 (slice_get unknowns u)
 
 -- the flat cube of what was met; no definition is lost, as it would be on a cycle
-pub record IsFlatOf (d : Draft) (flat : Flat) : Type 0 where
+pub record IsFlatOf (d : DraftView) (flat : Flat) : Type 0 where
   pub variables : flat.variables ≡ variables_of d
   pub definitions : flat.definitions ≡ ordered (definitions_of d)
   pub complete : length flat.definitions ≡ length (definitions_of d)
@@ -199,7 +199,7 @@ abbrev pub NoCycle : List Definition → Type 0
 NoCycle ds = (vs : List ℕ) → IsCycle ds vs → ⊥
 
 -- the number of registers, or of integer constants, and it is above 64
-abbrev pub IsWide : Draft → ℕ → Type 0
+abbrev pub IsWide : DraftView → ℕ → Type 0
 IsWide d n = ((n ≡ length (registers_of d)) ⊎ (n ≡ length (integers_of d))) × (most_registers < n)
 
 -- each constant of the literals has the sort that `sorts` gives its name
@@ -240,7 +240,7 @@ IsFlattened ls (Err (Wide n)) = (first_outside ls ≡ None) × NoneTwice (defini
 IsFlattened ls (Err (Memory e)) = ⊤
 
 -- the same of what was met alone: its flat cube, or the first thing for which that isn't as of a straight cube
-abbrev pub IsFinished : Draft → Result Flat FlatFault → Type 0
+abbrev pub IsFinished : DraftView → Result Flat FlatFault → Type 0
 IsFinished d (Ok flat) = IsFlatOf d flat × IsStraight flat
 IsFinished d (Err (Outside l)) = ⊥
 IsFinished d (Err (Twice v)) = IsTwice (definitions_of d) v

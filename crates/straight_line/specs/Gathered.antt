@@ -14,21 +14,21 @@ use Rattle.bool_cubes.specs.Linear.{Linear, Unknown, are_linear, is_linear, line
 use Rattle.bool_cubes.specs.Shapes.{Shape, Shapes, constant}
 use Rattle.sv_terms.specs.declared.sort.Sort.{Sort}
 use Rattle.bool_cubes.specs.declared.literal.Literal.{Literal}
-use Rattle.straight_line.specs.Drafted.{Holds, integers_among, registers_among, unknown_at}
+use Rattle.straight_line.specs.Drafted.{HoldsDraft, integers_among, registers_among, unknown_at}
 use Rattle.straight_line.specs.Flattening.{Bounded, bounded_of, name_of}
 use Rattle.straight_line.specs.Kinds.{is_text}
-use Rattle.straight_line.specs.Met.{Draft, add, meet, meet_all, meet_unknowns, meet_all_unknowns, met, place_of, with_term}
+use Rattle.straight_line.specs.Met.{DraftView, add, meet, meet_all, meet_unknowns, meet_all_unknowns, met, place_of, with_term}
 use Rattle.straight_line.specs.Said.{Said, first_outside, is_outside}
-use Rattle.straight_line.specs.declared.literals.Kind.{Kind}
-use Rattle.straight_line.specs.declared.literals.Kind.TheVariants as kind
-use Rattle.straight_line.specs.declared.draft.Draft.{Draft as Held}
+use Rattle.straight_line.specs.declared.literals.LiteralReading.{LiteralReading}
+use Rattle.straight_line.specs.declared.literals.LiteralReading.TheVariants as kind
+use Rattle.straight_line.specs.declared.draft.FlatDraft.{FlatDraft as Held}
 use Rattle.straight_line.specs.declared.fault.FlatFault.{FlatFault}
 use Rattle.straight_line.specs.declared.fault.FlatFault.TheVariants as fault
 use Rattle.straight_line.specs.declared.draft.Quantity.{Quantity}
 use Rattle.straight_line.specs.declared.draft.Quantity.TheVariants.{Integer, Length}
-use Rattle.straight_line.specs.declared.meeting.Meeting.{Meeting}
-use Rattle.straight_line.specs.declared.meeting.Place.{Place}
-use Rattle.straight_line.specs.declared.meeting.Place.TheVariants.{Known, New}
+use Rattle.straight_line.specs.declared.meeting.DraftBuilder.{DraftBuilder}
+use Rattle.straight_line.specs.declared.meeting.TermPlace.{TermPlace}
+use Rattle.straight_line.specs.declared.meeting.TermPlace.TheVariants.{Known, New}
 
 -- the number that stands at a code
 abbrev pub number_at : List ℤ → List (List ℤ × ℕ) → Option ℕ
@@ -60,7 +60,7 @@ abbrev pub unknowns_at : List Shape → List Quantity → List Unknown
 unknowns_at ts qs = map (unknown_at ts) qs
 
 -- the lists are those of what was met, and each map finds what stands in them
-pub record Gathers (m : Meeting) (d : Draft) : Type 0 where
+pub record Gathers (m : DraftBuilder) (d : DraftView) : Type 0 where
   pub names : m.names ≡ map name_of d.terms
   pub places : (s : Shape) → is_text s ≡ false → number_at (flat (code s)) m.places ≡ place_of s d.terms
   pub parts : m.parts ≡ d.parts
@@ -77,61 +77,61 @@ pub record Gathers (m : Meeting) (d : Draft) : Type 0 where
   pub broken : m.broken ≡ d.broken
 
 -- what was gathered before, with what f adds, is what is gathered after
-pub record Becomes (old new : Meeting) (f : Draft → Draft) : Type 0 where
-  pub each : (d : Draft) → Gathers old d → Gathers new (f d)
+pub record Becomes (old new : DraftBuilder) (f : DraftView → DraftView) : Type 0 where
+  pub each : (d : DraftView) → Gathers old d → Gathers new (f d)
 
 -- a term is met: this is its place
-pub record IsMet (old new : Meeting) (s : Shape) (i : ℕ) : Type 0 where
-  pub gathers : (d : Draft) → Gathers old d → Gathers new (meet s d).1
-  pub place : (d : Draft) → Gathers old d → i ≡ (meet s d).0
+pub record IsTermMet (old new : DraftBuilder) (s : Shape) (i : ℕ) : Type 0 where
+  pub gathers : (d : DraftView) → Gathers old d → Gathers new (meet s d).1
+  pub place : (d : DraftView) → Gathers old d → i ≡ (meet s d).0
 
 -- terms are met one after another: their places are put behind those before
-pub record ArePieced (old new : Meeting) (ss : Shapes) (before after : List ℕ) : Type 0 where
-  pub gathers : (d : Draft) → Gathers old d → Gathers new (meet_all ss d).1
-  pub places : (d : Draft) → Gathers old d → after ≡ before ++ (meet_all ss d).0
+pub record ArePieced (old new : DraftBuilder) (ss : Shapes) (before after : List ℕ) : Type 0 where
+  pub gathers : (d : DraftView) → Gathers old d → Gathers new (meet_all ss d).1
+  pub places : (d : DraftView) → Gathers old d → after ≡ before ++ (meet_all ss d).0
 
 -- a term is sought: its place where it came before, and else it stands at a new one
-abbrev pub SoughtBy : Meeting → Meeting → Shape → Place → Draft → Type 0
+abbrev pub SoughtBy : DraftBuilder → DraftBuilder → Shape → TermPlace → DraftView → Type 0
 SoughtBy old new s (Known i) d = (place_of s d.terms ≡ Some i) × Gathers new d
 SoughtBy old new s (New i) d = (place_of s d.terms ≡ None) × (i ≡ length d.terms) × Gathers new (with_term s d)
 
-pub record IsSought (old new : Meeting) (s : Shape) (p : Place) : Type 0 where
-  pub each : (d : Draft) → Gathers old d → SoughtBy old new s p d
+pub record IsSought (old new : DraftBuilder) (s : Shape) (p : TermPlace) : Type 0 where
+  pub each : (d : DraftView) → Gathers old d → SoughtBy old new s p d
 
 -- the unknowns of a form have numbers
 abbrev pub Knows : List (List ℤ × ℕ) → Linear → Type 0
 Knows ns a = AllByRecursion (λ (t : Unknown × ℤ). (k : ℕ) × (number_at (flat (unknown_code t.0)) ns ≡ Some k)) a.terms
 
 -- what has a number keeps it
-abbrev pub Keeps : List (List ℤ × ℕ) → List (List ℤ × ℕ) → Type 0
-Keeps old new = (c : List ℤ) (k : ℕ) → number_at c old ≡ Some k → number_at c new ≡ Some k
+abbrev pub KeepsNumbers : List (List ℤ × ℕ) → List (List ℤ × ℕ) → Type 0
+KeepsNumbers old new = (c : List ℤ) (k : ℕ) → number_at c old ≡ Some k → number_at c new ≡ Some k
 
 -- the unknowns of a term of sort Int are counted
-pub record IsCounted (old new : Meeting) (s : Shape) : Type 0 where
-  pub gathers : is_linear s ≡ true → (d : Draft) → Gathers old d → Gathers new (meet_unknowns s d)
+pub record IsCounted (old new : DraftBuilder) (s : Shape) : Type 0 where
+  pub gathers : is_linear s ≡ true → (d : DraftView) → Gathers old d → Gathers new (meet_unknowns s d)
   pub known : is_linear s ≡ true → Knows new.numbers (linear s)
-  pub kept : Keeps old.numbers new.numbers
+  pub kept : KeepsNumbers old.numbers new.numbers
 
 -- an integer constant is counted
-pub record IsIntegerCounted (old new : Meeting) (name : List ℕ) : Type 0 where
+pub record IsIntegerCounted (old new : DraftBuilder) (name : List ℕ) : Type 0 where
   pub each : (s : Sort) → IsCounted old new (constant name s)
 
-pub record AreCounted (old new : Meeting) (ss : Shapes) : Type 0 where
-  pub gathers : are_linear ss ≡ true → (d : Draft) → Gathers old d → Gathers new (meet_all_unknowns ss d)
+pub record AreCounted (old new : DraftBuilder) (ss : Shapes) : Type 0 where
+  pub gathers : are_linear ss ≡ true → (d : DraftView) → Gathers old d → Gathers new (meet_all_unknowns ss d)
   pub known : are_linear ss ≡ true → AllByRecursion (λ (a : Linear). Knows new.numbers a) (linears ss)
-  pub kept : Keeps old.numbers new.numbers
+  pub kept : KeepsNumbers old.numbers new.numbers
 
 -- a literal that says this is of this kind, and what it says is added where it is of a written one
-abbrev pub AddedBy : Meeting → Meeting → Said → Kind → Draft → Type 0
+abbrev pub AddedBy : DraftBuilder → DraftBuilder → Said → LiteralReading → DraftView → Type 0
 AddedBy old new x kind.Written d = (is_outside x ≡ false) × Gathers new (add x d)
 AddedBy old new x kind.Outside d = is_outside x ≡ true
 
-pub record IsAdded (old new : Meeting) (x : Said) (k : Kind) : Type 0 where
-  pub each : (d : Draft) → Gathers old d → AddedBy old new x k d
+pub record IsLiteralAdded (old new : DraftBuilder) (x : Said) (k : LiteralReading) : Type 0 where
+  pub each : (d : DraftView) → Gathers old d → AddedBy old new x k d
 
 -- what the literals say is held by a draft, and none is of no written kind; or the first that is
 abbrev pub IsDraftOf : List Literal → Result Held FlatFault → Type 0
-IsDraftOf ls (Ok held) = (first_outside ls ≡ None) × Holds held (met ls)
+IsDraftOf ls (Ok held) = (first_outside ls ≡ None) × HoldsDraft held (met ls)
 IsDraftOf ls (Err (fault.Outside l)) = first_outside ls ≡ Some l
 IsDraftOf ls (Err (fault.Twice v)) = ⊥
 IsDraftOf ls (Err (fault.Cycle vs)) = ⊥

@@ -9,10 +9,10 @@ use Rattle.bool_cubes.specs.declared.roles.Role.TheVariants as role
 use Rattle.bool_cubes.specs.declared.roles.Test.TheVariants as test
 use Rattle.bool_cubes.specs.Linear.{is_constant, is_linear, is_string, linear}
 use Rattle.bool_cubes.specs.Shapes.{Shape, Shapes, truth, number, text, constant, apply, member, related, opaque, end, ◌⨾◌}
-use Rattle.straight_line.specs.declared.literals.Head.{Head}
-use Rattle.straight_line.specs.declared.literals.Head.TheVariants as head
-use Rattle.straight_line.specs.declared.kind.Build.{Build}
-use Rattle.straight_line.specs.declared.kind.Build.TheVariants as build
+use Rattle.straight_line.specs.declared.literals.AtomHead.{AtomHead}
+use Rattle.straight_line.specs.declared.literals.AtomHead.TheVariants as head
+use Rattle.straight_line.specs.declared.kind.PlaceBuild.{PlaceBuild}
+use Rattle.straight_line.specs.declared.kind.PlaceBuild.TheVariants as build
 use Rattle.straight_line.specs.declared.kind.Joining.{Joining}
 use Rattle.straight_line.specs.declared.kind.Joining.TheVariants as joining
 use Rattle.straight_line.specs.declared.kind.Linearity.{Linearity}
@@ -29,7 +29,7 @@ is_text (related t s u) = false
 is_text (opaque s) = false
 
 -- what a function builds a string term of
-abbrev pub build_by : Role → Build
+abbrev pub build_by : Role → PlaceBuild
 build_by role.Connective = build.Nothing
 build_by role.Equality = build.Nothing
 build_by role.Distinct = build.Nothing
@@ -41,7 +41,7 @@ build_by (role.Built made.First) = build.First
 build_by (role.Built made.All) = build.All
 build_by (role.Test t) = build.Nothing
 
-abbrev pub build_of : Op → Build
+abbrev pub build_of : Op → PlaceBuild
 build_of o = build_by (role_of o)
 
 -- a term of a written form, a literal and a literal
@@ -128,7 +128,7 @@ read_of joining.Length ss = length_of ss
 read_of joining.Nothing ss = linearity.Other
 
 -- how a function stands at the head of an atom of a written kind
-abbrev pub head_by : Role → Head
+abbrev pub head_by : Role → AtomHead
 head_by role.Connective = head.Other
 head_by role.Equality = head.Equality
 head_by role.Distinct = head.Other
@@ -141,5 +141,5 @@ head_by (role.Test test.Suffix) = head.Suffix
 head_by (role.Test test.Contains) = head.Contains
 head_by (role.Test test.Digit) = head.Digit
 
-abbrev pub head_of : Op → Head
+abbrev pub head_of : Op → AtomHead
 head_of o = head_by (role_of o)

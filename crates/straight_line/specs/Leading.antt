@@ -1,7 +1,7 @@
 -- Places that lead to others that aren't greater, and in the end to the least of those that are one with them.
 use Rattle.std.specs.Prelude.{◌≡◌, ℕ, ◌<◌, ◌≤◌, List, length, filter, get_or, nat_eq, nat_lt}
 use Rattle.std.specs.List.{AllByRecursion, range_with_len}
-use Rattle.straight_line.specs.Bounds.{used}
+use Rattle.straight_line.specs.Using.{used}
 use Rattle.straight_line.specs.Flattening.{renamed}
 use Rattle.straight_line.specs.Straight.{AreBelow}
 use Rattle.straight_line.specs.declared.definition.By.{By}

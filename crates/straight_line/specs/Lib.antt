@@ -1,11 +1,7 @@
+pub mod Using
 pub mod Said
 pub mod Met
 pub mod Satisfying
-pub mod Bounds
-pub mod Growth
-pub mod Sides
-pub mod Measuring
-pub mod NumberLaws
 pub mod Straight
 pub mod Flattening
 pub mod Leading

@@ -1,11 +1,11 @@
 -- What a draft must be for it to be finished.
 use Rattle.std.specs.Prelude.{ℕ, ◌<◌, length}
 use Rattle.std.specs.List.{AllByRecursion}
-use Rattle.straight_line.specs.Bounds.{used}
+use Rattle.straight_line.specs.Using.{used}
 use Rattle.straight_line.specs.Keeping.{AreQuantitiesBelow}
-use Rattle.straight_line.specs.Wording.{AreMet}
+use Rattle.straight_line.specs.Wording.{ArePlacesBelow}
 use Rattle.straight_line.specs.declared.definition.By.{By}
-use Rattle.straight_line.specs.declared.draft.Draft.{Draft as Held}
+use Rattle.straight_line.specs.declared.draft.FlatDraft.{FlatDraft as Held}
 
 -- each definition uses at least one place
 abbrev pub UsesSome : ℕ × By → Type 0
@@ -13,6 +13,6 @@ UsesSome e = 0 < length (used e.1)
 
 -- all places are there, and no concatenation is of no pieces
 pub record IsReady (held : Held) : Type 0 where
-  pub met : AreMet (length held.names) held.parts held.definitions held.equalities
+  pub met : ArePlacesBelow (length held.names) held.parts held.definitions held.equalities
   pub quantities : AreQuantitiesBelow (length held.names) held.quantities
   pub some : AllByRecursion UsesSome held.definitions

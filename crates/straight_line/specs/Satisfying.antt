@@ -35,8 +35,8 @@ MeetsPart w (o, true) = Says o w
 MeetsPart w (o, false) = Says o w → ⊥
 
 -- a word that meets all parts of its variable
-abbrev pub Meets : Variable → Word → Type 0
-Meets v w = IsWord w × AllByRecursion (MeetsPart w) v.parts
+abbrev pub MeetsParts : Variable → Word → Type 0
+MeetsParts v w = IsWord w × AllByRecursion (MeetsPart w) v.parts
 
 -- the word of a variable
 abbrev pub word_at : List Word → ℕ → Word
@@ -58,7 +58,7 @@ lengths_of registers words = map (λ v. length (word_at words v)) registers
 
 -- the words of the variables meet the parts and the definitions: what the text says without its rows
 pub record SatisfiesWords (flat : Flat) (words : List Word) : Type 0 where
-  pub parts : AllZip Meets flat.variables words
+  pub parts : AllZip MeetsParts flat.variables words
   pub definitions : AllByRecursion (Defines words) flat.definitions
 
 -- the numbers of the integer constants and the lengths of the registers meet the rows
@@ -80,7 +80,7 @@ abbrev pub NamesHave : Named → Variable → Word → Type 0
 NamesHave values v w = AllByRecursion (HasValue values (value.Text w)) v.names
 
 -- the values of the constants are those of the variables, the integers and the truths
-pub record IsOf (flat : Flat) (words : List Word) (numbers : List ℤ) (values : Named) : Type 0 where
+pub record AreModelValues (flat : Flat) (words : List Word) (numbers : List ℤ) (values : Named) : Type 0 where
   pub names : AllZip (NamesHave values) flat.variables words
   pub integers : AllZip (λ n z. HasValue values (value.Number z) n) flat.integers numbers
   pub truths : AllByRecursion (λ (t : List ℕ × Bool). HasValue values (value.Truth t.1) t.0) flat.truths
@@ -89,5 +89,5 @@ pub record IsOf (flat : Flat) (words : List Word) (numbers : List ℤ) (values :
 pub record Extends (flat : Flat) (values : Named) : Type 0 where
   pub words : List Word
   pub numbers : List ℤ
-  pub of : IsOf flat words numbers values
+  pub of : AreModelValues flat words numbers values
   pub satisfied : Satisfies flat words numbers

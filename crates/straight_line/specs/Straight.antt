@@ -4,7 +4,7 @@ use Rattle.std.specs.Prelude.{◌≡◌, ℕ, ◌+◌, ◌<◌, ◌≤◌, ◌^�
 use Rattle.std.specs.List.{AllByRecursion, IsDistinct}
 use Rattle.std.specs.Cmp.Lexicographic.{pointwise}
 use Rattle.sv_linear.specs.declared.row.Row.{Row}
-use Rattle.straight_line.specs.Bounds.{used, is_defined}
+use Rattle.straight_line.specs.Using.{used, is_defined}
 use Rattle.straight_line.specs.declared.variable.Variable.{Variable}
 use Rattle.sv_terms.specs.Transduction.{IsFormed}
 use Rattle.straight_line.specs.declared.definition.By.{By}
@@ -17,12 +17,12 @@ abbrev pub AreBelow : ℕ → List ℕ → Type 0
 AreBelow n vs = AllByRecursion (λ v. v < n) vs
 
 -- a definition whose variables are below n
-pub record IsWithin (n : ℕ) (d : Definition) : Type 0 where
+pub record HasVariablesBelow (n : ℕ) (d : Definition) : Type 0 where
   pub defined : d.variable < n
   pub uses : AreBelow n (used d.by)
 
-abbrev pub AreWithin : ℕ → List Definition → Type 0
-AreWithin n ds = AllByRecursion (IsWithin n) ds
+abbrev pub HaveVariablesBelow : ℕ → List Definition → Type 0
+HaveVariablesBelow n ds = AllByRecursion (HasVariablesBelow n) ds
 
 -- a definition of one of n variables by others, none of which is defined by it or behind it
 pub record StandsBefore (n : ℕ) (d : Definition) (behind : List Definition) : Type 0 where
@@ -49,7 +49,7 @@ abbrev pub HasFormed : Flat → Type 0
 HasFormed flat = AllByRecursion (λ (d : Definition). IsFormedBy d.by) flat.definitions
 
 -- the unknowns of a row are below n, and no number of it is -2^127
-pub record IsRowOf (n : ℕ) (r : Row) : Type 0 where
+pub record IsRowBelow (n : ℕ) (r : Row) : Type 0 where
   pub unknowns : AllByRecursion (λ t. t.0 < n) r.form.coefficients
   pub constant : unsigned_abs r.form.constant < 2 ^ 127
   pub coefficients : AllByRecursion (λ t. unsigned_abs t.1 < 2 ^ 127) r.form.coefficients
@@ -71,6 +71,6 @@ AreNamesApart flat = IsDistinct (pointwise nat_eq) (all_names flat)
 pub record IsStraight (flat : Flat) : Type 0 where
   pub order : InOrder (length flat.variables) flat.definitions
   pub registers : AreBelow (length flat.variables) flat.registers
-  pub rows : AllByRecursion (IsRowOf (length flat.integers + length flat.registers)) flat.rows
+  pub rows : AllByRecursion (IsRowBelow (length flat.integers + length flat.registers)) flat.rows
   pub few_registers : length flat.registers ≤ 64
   pub few_integers : length flat.integers ≤ 64

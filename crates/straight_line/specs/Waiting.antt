@@ -2,7 +2,7 @@
 use Rattle.std.specs.Prelude.{◌≡◌, ℕ, zero, suc, ◌+◌, ◌<◌, ◌≤◌, ◌⊎◌, Bool, true, false, List, [], ◌∷◌, ◌++◌, length, get_or, slice_get, Option, Some, None, ⊤}
 use Rattle.std.specs.List.{list_any}
 use Rattle.std.specs.Ordering.{is_eq, nat_cmp}
-use Rattle.straight_line.specs.Bounds.{used}
+use Rattle.straight_line.specs.Using.{used}
 use Rattle.straight_line.specs.Flattening.{ordered, taken}
 use Rattle.straight_line.specs.declared.definition.Definition.{Definition}
 use Rattle.straight_line.specs.declared.ordering.Waiter.{Waiter}
@@ -43,7 +43,7 @@ abbrev pub Has : List ℕ → ℕ → Type 0
 Has free k = list_any (λ j. is_eq (nat_cmp k j)) free ≡ true
 
 -- no variable before the waiter's place among those that its definition uses is ahead
-pub record IsPassed (ds : List Definition) (ahead : List Bool) (w : Waiter) : Type 0 where
+pub record NoneAheadBefore (ds : List Definition) (ahead : List Bool) (w : Waiter) : Type 0 where
   pub definition : Definition
   pub is : slice_get ds w.definition ≡ Some definition
   pub within : w.from ≤ length (used definition.by)
@@ -77,9 +77,9 @@ pub record IsSorting (ds : List Definition) (pending : List Waiter) (order : Lis
   pub free_passed : (k i : ℕ) (d : Definition) → Has free k → slice_get ds k ≡ Some d → i < length (used d.by) → IsAhead ahead (get_or (used d.by) i 0) → ⊥
   pub waits_left : (v : ℕ) (w : Waiter) → IsAhead ahead v → Among w (get_or waiters v []) → Among w.definition left
   pub waits_for : (v : ℕ) (w : Waiter) → IsAhead ahead v → Among w (get_or waiters v []) → Awaits ds w v
-  pub waits_passed : (v : ℕ) (w : Waiter) → IsAhead ahead v → Among w (get_or waiters v []) → IsPassed ds ahead w
+  pub waits_passed : (v : ℕ) (w : Waiter) → IsAhead ahead v → Among w (get_or waiters v []) → NoneAheadBefore ds ahead w
   pub pends_left : (w : Waiter) → Among w pending → Among w.definition left
-  pub pends_passed : (w : Waiter) → Among w pending → IsPassed ds ahead w
+  pub pends_passed : (w : Waiter) → Among w pending → NoneAheadBefore ds ahead w
   pub each : (k : ℕ) → Among k left → Has free k ⊎ (IsWaited ahead waiters k ⊎ IsPending pending k)
 
 -- the definitions from a place on, so many, none of whose variables was looked at
@@ -88,18 +88,18 @@ waiters_from i zero = []
 waiters_from i (suc n) = record { definition = i; from = 0 } ∷ waiters_from (i + 1) n
 
 -- the variables of the first n definitions are marked, and no other is
-pub record IsMarked (ds : List Definition) (n : ℕ) (ahead : List Bool) : Type 0 where
+pub record AreFirstMarked (ds : List Definition) (n : ℕ) (ahead : List Bool) : Type 0 where
   pub ahead_is : (v : ℕ) → IsAhead ahead v → (k : ℕ) × (d : Definition) × (k < n) × (slice_get ds k ≡ Some d) × (d.variable ≡ v)
   pub is_ahead : (k : ℕ) (d : Definition) → k < n → slice_get ds k ≡ Some d → IsAhead ahead d.variable
 
 -- the definition of each variable that is ahead uses one that is ahead
-abbrev pub IsClosed : List Definition → List Bool → Type 0
-IsClosed ds ahead = (v : ℕ) → IsAhead ahead v → (k : ℕ) × (d : Definition) × (i : ℕ) × (slice_get ds k ≡ Some d) × (d.variable ≡ v) × (i < length (used d.by)) × IsAhead ahead (get_or (used d.by) i 0)
+abbrev pub AheadUsesAhead : List Definition → List Bool → Type 0
+AheadUsesAhead ds ahead = (v : ℕ) → IsAhead ahead v → (k : ℕ) × (d : Definition) × (i : ℕ) × (slice_get ds k ≡ Some d) × (d.variable ≡ v) × (i < length (used d.by)) × IsAhead ahead (get_or (used d.by) i 0)
 
 -- the places of the definitions in their order; the others define the variables that are ahead
 pub record IsSorted (ds : List Definition) (places : List ℕ) (ahead : List Bool) : Type 0 where
   pub kept : ordered ds ≡ picked ds places
   pub placed : (k : ℕ) → Among k places → (d : Definition) × (slice_get ds k ≡ Some d)
   pub distinct : AreDistinct places
-  pub closed : IsClosed ds ahead
+  pub closed : AheadUsesAhead ds ahead
   pub whole : ((v : ℕ) → IsAhead ahead v → ⊥) → length places ≡ length ds

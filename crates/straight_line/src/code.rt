@@ -1,4 +1,3 @@
-use std::alloc::{AllocError, Global};
 use std::hash::{Hash, Hasher};
 use std::marker::Model;
 use sv_list::Items;

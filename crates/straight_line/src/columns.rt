@@ -1,7 +1,7 @@
 //! The columns of rows that aren't 0.
 ghost use Rattle.std.specs.Prelude.{◌≡◌, ℕ, ◌<◌, ◌^◌, ◌||◌, true, false, length, get_or, replicate, slice_set, IfOk};
 ghost use Rattle.sv_linear.specs.Terms.{AscendsWithin};
-ghost use Rattle.straight_line.specs.Columns.{has_entry, has_term, marked_by};
+ghost use Rattle.straight_line.specs.Columns.{has_entry, has_term};
 
 use std::alloc::{AllocError, Global};
 use sv_linear::Row;

@@ -2,17 +2,16 @@
 ghost use Rattle.std.specs.Prelude.{◌≡◌, ◌≢◌, ◌<◌, ◌^◌, ◌+ℤ◌, ℕ, pos, Some, [], get_or, length, nat_eq, IfOk, OnOk, if◌then◌else◌};
 ghost use Rattle.bool_cubes.specs.Shapes.{seen};
 ghost use Rattle.bool_cubes.specs.declared.fault.CubeFault.TheVariants as any_fault;
-ghost use Rattle.sv_linear.specs.Terms.{AscendsWithin, AscendsWithin-prop, coefficient};
-ghost use Rattle.straight_line.specs.Comparing.{CanAdd, CanBound, CanRenumber, IsBoundBy, IsComparable, IsPlaceIn, IsPlus, IsRenumbered, kind_by, bound_at, bound_by};
+ghost use Rattle.sv_linear.specs.Terms.{AscendsWithin, coefficient};
+ghost use Rattle.straight_line.specs.Comparing.{CanAddOne, CanBound, CanRenumber, IsBoundBy, IsComparable, IsPlaceIn, IsPlus, IsRenumbered, kind_by, bound_at, bound_by};
 ghost use Rattle.bool_cubes.specs.declared.roles.Role.TheVariants as any_role;
 ghost use Rattle.straight_line.specs.Gathered.{Becomes, number_at};
 ghost use Rattle.straight_line.specs.Met.{with_comparison};
 ghost use Rattle.std.specs.declared.alloc.AllocError.{AllocError};
 
 use crate::code::Code;
-use crate::meeting::Meeting;
-use crate::places::Places;
-use bool_cubes::{CubeFault, Differences, Order, Role, TermForm, Unknowns, role_of, subtract};
+use crate::meeting::DraftBuilder;
+use bool_cubes::{CubeFault, Differences, IntOrder, Role, TermForm, Unknowns, role_of, subtract};
 use std::alloc::{AllocError, Global};
 use sv_linear::{Form, Row, RowKind};
 use sv_list::{Copied, Items};
@@ -20,7 +19,7 @@ use sv_terms::{Op, Term};
 
 /// How a comparison reads as a row, by the difference of its sides.
 #[derive(Clone, Copy, Debug, PartialEq, Eq)]
-enum Bound {
+enum RowReading {
     /// The difference is 0.
     Zero,
     /// It is at most 0.
@@ -34,7 +33,7 @@ enum Bound {
 }
 
 /// The bound of a comparison, or with `false` of the one that holds where that one doesn't.
-fn bound_of(op: Op, positive: bool) -> Bound
+fn bound_of(op: Op, positive: bool) -> RowReading
     ensures { result ≡ bound_by op positive }
 {
     match role_of(op) {
@@ -45,62 +44,67 @@ fn bound_of(op: Op, positive: bool) -> Bound
         | Role::Joined(_)
         | Role::Length
         | Role::Built(_)
-        | Role::Test(_) => Bound::Zero,
+        | Role::Test(_) => RowReading::Zero,
     }
 }
 
-fn bound_of_order(order: Order, positive: bool) -> Bound
+fn bound_of_order(order: IntOrder, positive: bool) -> RowReading
     ensures { result ≡ bound_at (any_role.Order order) positive }
 {
     match order {
-        Order::AtMost => if positive {
-            Bound::AtMost
+        IntOrder::AtMost => if positive {
+            RowReading::AtMost
         } else {
-            Bound::Above
+            RowReading::Above
         },
-        Order::Below => if positive {
-            Bound::Below
+        IntOrder::Below => if positive {
+            RowReading::Below
         } else {
-            Bound::AtLeast
+            RowReading::AtLeast
         },
-        Order::AtLeast => if positive {
-            Bound::AtLeast
+        IntOrder::AtLeast => if positive {
+            RowReading::AtLeast
         } else {
-            Bound::Below
+            RowReading::Below
         },
-        Order::Above => if positive {
-            Bound::Above
+        IntOrder::Above => if positive {
+            RowReading::Above
         } else {
-            Bound::AtMost
+            RowReading::AtMost
         },
     }
 }
 
-fn row_kind(bound: Bound) -> RowKind
+fn row_kind(bound: RowReading) -> RowKind
     ensures { result ≡ kind_by bound }
 {
     match bound {
-        Bound::Zero => RowKind::Eq,
-        Bound::AtMost | Bound::Below | Bound::AtLeast | Bound::Above => RowKind::Le,
+        RowReading::Zero => RowKind::Eq,
+        RowReading::AtMost | RowReading::Below | RowReading::AtLeast | RowReading::Above =>
+            RowKind::Le,
     }
 }
 
 /// The form that is to be at most 0, or 0.
-fn bound_form(alloc: Global, differences: Differences, bound: Bound) -> Result<TermForm, AllocError>
+fn bound_form(
+    alloc: Global,
+    differences: Differences,
+    bound: RowReading,
+) -> Result<TermForm, AllocError>
     requires { CanBound differences bound }
     ensures { IfOk result (λ f. IsBoundBy differences bound f) }
 {
     let Differences { less, more } = differences;
     match bound {
-        Bound::Zero | Bound::AtMost => Ok(less),
-        Bound::Below => Ok(plus_one(alloc, &less)?),
-        Bound::AtLeast => Ok(more),
-        Bound::Above => Ok(plus_one(alloc, &more)?),
+        RowReading::Zero | RowReading::AtMost => Ok(less),
+        RowReading::Below => Ok(plus_one(alloc, &less)?),
+        RowReading::AtLeast => Ok(more),
+        RowReading::Above => Ok(plus_one(alloc, &more)?),
     }
 }
 
 fn plus_one(alloc: Global, form: &TermForm) -> Result<TermForm, AllocError>
-    requires { CanAdd form.now }
+    requires { CanAddOne form.now }
     ensures { IfOk result (λ f. IsPlus form.now f) }
 {
     match form.add(alloc, &TermForm::number(alloc, 1)) {
@@ -119,7 +123,7 @@ fn memory(fault: CubeFault) -> AllocError
     }
 }
 
-impl Meeting {
+impl DraftBuilder {
     /// Adds the row of a comparison of two terms whose unknowns were counted.
     pub fn compare(
         &mut self,

@@ -1,10 +1,10 @@
 //! Variables with two definitions, and cycles of definitions.
-ghost use Rattle.std.specs.Prelude.{◌≡◌, ◌<◌, ◌≤◌, drop, length, get_or, replicate, slice_get, Some, None, IfOk};
-ghost use Rattle.straight_line.specs.Bounds.{used};
+ghost use Rattle.std.specs.Prelude.{◌≡◌, ◌<◌, ◌≤◌, drop, length, replicate, slice_get, Some, None, IfOk};
+ghost use Rattle.straight_line.specs.Using.{used};
 ghost use Rattle.straight_line.specs.Flattening.{IsCycle, Uses};
-ghost use Rattle.straight_line.specs.Straight.{AreWithin};
+ghost use Rattle.straight_line.specs.Straight.{HaveVariablesBelow};
 ghost use Rattle.straight_line.specs.Tracing.{HasPlaces, IsPlacedExactly};
-ghost use Rattle.straight_line.specs.Waiting.{IsAhead, IsClosed};
+ghost use Rattle.straight_line.specs.Waiting.{IsAhead, AheadUsesAhead};
 ghost use Rattle.straight_line.specs.declared.definition.Definition.{Definition as AnyDefinition};
 
 use crate::definition::Definition;
@@ -19,7 +19,7 @@ pub fn places(
     variables: u32,
     definitions: &[Definition],
 ) -> Result<Items<Option<usize>>, FlatFault>
-    requires { AreWithin variables definitions.now }
+    requires { HaveVariablesBelow variables definitions.now }
     ensures { IsPlacedExactly variables definitions.now result }
 {
     let mut places = nowhere(alloc, variables as usize)?;
@@ -52,10 +52,10 @@ pub fn cycle(
     ahead: &[bool],
     start: u32,
 ) -> Result<Items<u32>, AllocError>
-    requires within { AreWithin (length ahead.now) definitions.now }
+    requires within { HaveVariablesBelow (length ahead.now) definitions.now }
     requires count { length places.now ≡ length ahead.now }
     requires places { HasPlaces definitions.now places.now }
-    requires closed { IsClosed definitions.now ahead.now }
+    requires closed { AheadUsesAhead definitions.now ahead.now }
     requires start { IsAhead ahead.now start }
     ensures { IfOk result (IsCycle definitions.now) }
 {
@@ -74,10 +74,10 @@ pub fn cycle(
 
 /// The first variable that is ahead among those that the definition of this one uses.
 fn next(definitions: &[Definition], places: &[Option<usize>], ahead: &[bool], variable: u32) -> u32
-    requires within { AreWithin (length ahead.now) definitions.now }
+    requires within { HaveVariablesBelow (length ahead.now) definitions.now }
     requires count { length places.now ≡ length ahead.now }
     requires places { HasPlaces definitions.now places.now }
-    requires closed { IsClosed definitions.now ahead.now }
+    requires closed { AheadUsesAhead definitions.now ahead.now }
     requires ahead { IsAhead ahead.now variable }
     ensures ahead { IsAhead ahead.now result }
     ensures uses { Uses definitions.now variable result }

@@ -25,7 +25,7 @@ pub struct Definition {
 
 impl By {
     ghost use Rattle.std.specs.Prelude.{◌≡◌};
-    ghost use Rattle.straight_line.specs.Bounds.{used};
+    ghost use Rattle.straight_line.specs.Using.{used};
 
     /// The variables that it uses, one for each occurrence. Constant time.
     pub fn uses(&self) -> &[u32]

@@ -22,7 +22,7 @@ pub enum Quantity {
 /// lengths that stand in comparisons, also where they cancel; the unknowns of `rows` are numbered by it.
 /// All lists are in the order in which things first came, `rows` has one row for each comparison.
 #[derive(Debug, Drop)]
-pub struct Draft {
+pub struct FlatDraft {
     pub names: Items<Option<Name>>,
     pub parts: Items<(u32, (Own, bool))>,
     pub definitions: Items<(u32, By)>,

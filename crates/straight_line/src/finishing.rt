@@ -1,11 +1,11 @@
 //! The flat cube of what was met.
 ghost use Rattle.std.specs.Prelude.{◌<◌, ◌^◌, length, IfOk};
-ghost use Rattle.straight_line.specs.Drafted.{Holds};
+ghost use Rattle.straight_line.specs.Drafted.{HoldsDraft};
 ghost use Rattle.straight_line.specs.Flattening.{IsFinished};
-ghost use Rattle.straight_line.specs.Met.{Draft as Met};
+ghost use Rattle.straight_line.specs.Met.{DraftView as Met};
 ghost use Rattle.straight_line.specs.Readiness.{IsReady};
 
-use crate::draft::Draft;
+use crate::draft::FlatDraft;
 use crate::fault::FlatFault;
 use crate::flat::Flat;
 use crate::rowing::settle_rows;
@@ -14,12 +14,12 @@ use std::alloc::Global;
 
 /// The flat cube of what was met; or the first thing in this order for which that isn't as of a straight cube: a
 /// variable with two definitions, a cycle, too many registers or integer constants. Linear up to a logarithm.
-pub fn finish(alloc: Global, draft: Draft) -> Result<Flat, FlatFault>
+pub fn finish(alloc: Global, draft: FlatDraft) -> Result<Flat, FlatFault>
     requires { IsReady draft }
-    ensures finished { (d : Met) → Holds draft d → IsFinished d result }
+    ensures finished { (d : Met) → HoldsDraft draft d → IsFinished d result }
     ensures few { IfOk result (λ flat. length flat.variables < 2 ^ 32) }
 {
-    let Draft {
+    let FlatDraft {
         names,
         parts,
         definitions,

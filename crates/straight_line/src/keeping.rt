@@ -9,7 +9,7 @@ use sv_terms::Name;
 
 /// Unknowns of rows, by their kinds.
 #[derive(Drop)]
-pub struct Kept {
+pub struct KeptUnknowns {
     /// Integer constants.
     pub integers: Items<Name>,
     /// The variables of the terms whose lengths are unknowns.
@@ -26,12 +26,12 @@ pub fn keep(
     of: &[u32],
     quantities: Items<Quantity>,
     used: &[bool],
-) -> Result<Kept, AllocError>
+) -> Result<KeptUnknowns, AllocError>
     requires count { length used.now ≡ length quantities }
     requires places { AreQuantitiesBelow (length of.now) quantities }
     ensures { IfOk result (λ k. k ≡ kept_all (λ i. get_or of.now i 0) quantities used.now nothing_kept) }
 {
-    let mut kept = Kept {
+    let mut kept = KeptUnknowns {
         integers: Items::new(alloc),
         registers: Items::new(alloc),
         integer_numbers: Items::new(alloc),
@@ -54,7 +54,7 @@ fn flag_at(used: &[bool], place: usize) -> bool
     used[place]
 }
 
-impl Kept {
+impl KeptUnknowns {
     fn add(&mut self, of: &[u32], quantity: Quantity, is_used: bool) -> Result<(), AllocError>
         requires { IsQuantityBelow (length of.now) quantity }
         ensures { OnOk result (self.new ≡ kept (λ i. get_or of.now i 0) quantity is_used self.old) }

@@ -9,7 +9,7 @@ use sv_terms::{Op, Sort, Term};
 
 /// What a function builds a string term of.
 #[derive(Clone, Copy, Debug, PartialEq, Eq)]
-pub enum Build {
+pub enum PlaceBuild {
     /// Pieces.
     Concat,
     /// A word with a literal for the first occurrence of another.
@@ -19,20 +19,20 @@ pub enum Build {
     Nothing,
 }
 
-pub fn build_of(op: Op) -> Build
+pub fn build_of(op: Op) -> PlaceBuild
     ensures { result ≡ build_of op }
 {
     match role_of(op) {
-        Role::Built(Built::Concat) => Build::Concat,
-        Role::Built(Built::First) => Build::First,
-        Role::Built(Built::All) => Build::All,
+        Role::Built(Built::Concat) => PlaceBuild::Concat,
+        Role::Built(Built::First) => PlaceBuild::First,
+        Role::Built(Built::All) => PlaceBuild::All,
         Role::Connective
         | Role::Equality
         | Role::Distinct
         | Role::Order(_)
         | Role::Joined(_)
         | Role::Length
-        | Role::Test(_) => Build::Nothing,
+        | Role::Test(_) => PlaceBuild::Nothing,
     }
 }
 
@@ -58,10 +58,10 @@ pub fn is_string(term: &Term) -> bool
         Term::Text(_) => true,
         Term::Constant(_, sort) => *sort == Sort::String,
         Term::Apply(op, terms) => match build_of(*op) {
-            Build::Concat => !terms.is_empty() && are_strings(terms.as_slice(), 0),
-            Build::First => is_replacement(terms.as_slice()),
-            Build::All => is_replacement(terms.as_slice()),
-            Build::Nothing => false,
+            PlaceBuild::Concat => !terms.is_empty() && are_strings(terms.as_slice(), 0),
+            PlaceBuild::First => is_replacement(terms.as_slice()),
+            PlaceBuild::All => is_replacement(terms.as_slice()),
+            PlaceBuild::Nothing => false,
         },
         _ => false,
     }

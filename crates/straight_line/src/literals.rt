@@ -3,15 +3,15 @@ ghost use Rattle.std.specs.Prelude.{◌≡◌, map, IfOk};
 ghost use Rattle.sv_terms.specs.declared.op.Op.TheVariants as any_op;
 ghost use Rattle.bool_cubes.specs.Past.{IsFitting};
 ghost use Rattle.bool_cubes.specs.Shapes.{apply, end, seen, shapes, text, ◌⨾◌};
-ghost use Rattle.straight_line.specs.Comparing.{AtomFits, IsGathered, RowFits};
-ghost use Rattle.straight_line.specs.Gathered.{IsAdded};
+ghost use Rattle.straight_line.specs.Comparing.{AtomFits, IsGathered, ComparisonFits};
+ghost use Rattle.straight_line.specs.Gathered.{IsLiteralAdded};
 ghost use Rattle.straight_line.specs.Kinds.{head_of};
-ghost use Rattle.straight_line.specs.Said.{atom_said, constant_said, equality_said, one_said, pair_said, part_said, row_said, said, string_said};
+ghost use Rattle.straight_line.specs.Said.{atom_said, constant_said, one_said, pair_said, part_said, row_said, said, string_said};
 ghost use Rattle.straight_line.specs.declared.variable.Own.TheVariants as any_own;
 
 use crate::definition::By;
 use crate::kind::{is_linear, is_string};
-use crate::meeting::Meeting;
+use crate::meeting::DraftBuilder;
 use crate::variable::Own;
 use bool_cubes::{Literal, Role, Test, head_sort, role_of};
 use std::alloc::{AllocError, Global};
@@ -21,7 +21,7 @@ use sv_word::Word;
 
 /// Whether a literal is of a written kind.
 #[derive(Clone, Copy, Debug, PartialEq, Eq)]
-pub enum Kind {
+pub enum LiteralReading {
     /// It is, and what it says was added.
     Written,
     /// It isn't, and nothing was added.
@@ -30,7 +30,7 @@ pub enum Kind {
 
 /// A function as it stands at the head of an atom of a written kind.
 #[derive(Clone, Copy, Debug, PartialEq, Eq)]
-enum Head {
+enum AtomHead {
     Equality,
     Order,
     Prefix,
@@ -40,28 +40,28 @@ enum Head {
     Other,
 }
 
-fn head_of(op: Op) -> Head
+fn head_of(op: Op) -> AtomHead
     ensures { result ≡ head_of op }
 {
     match role_of(op) {
-        Role::Equality => Head::Equality,
-        Role::Order(_) => Head::Order,
-        Role::Test(Test::Prefix) => Head::Prefix,
-        Role::Test(Test::Suffix) => Head::Suffix,
-        Role::Test(Test::Contains) => Head::Contains,
-        Role::Test(Test::Digit) => Head::Digit,
+        Role::Equality => AtomHead::Equality,
+        Role::Order(_) => AtomHead::Order,
+        Role::Test(Test::Prefix) => AtomHead::Prefix,
+        Role::Test(Test::Suffix) => AtomHead::Suffix,
+        Role::Test(Test::Contains) => AtomHead::Contains,
+        Role::Test(Test::Digit) => AtomHead::Digit,
         Role::Connective | Role::Distinct | Role::Joined(_) | Role::Length | Role::Built(_) =>
-            Head::Other,
+            AtomHead::Other,
     }
 }
 
-impl Meeting {
+impl DraftBuilder {
     /// Adds what a literal says.
     #[tactic(auto, using(crate::proofs::Stated::said_constant, crate::proofs::Stated::said_member, crate::proofs::Stated::said_pair, crate::proofs::Stated::said_applied, crate::proofs::Stated::applied_fits, crate::proofs::Stated::said_nothing))]
-    pub fn add(&mut self, alloc: Global, literal: &Literal) -> Result<Kind, AllocError>
+    pub fn add(&mut self, alloc: Global, literal: &Literal) -> Result<LiteralReading, AllocError>
         requires gathered { IsGathered self.old }
         requires fitting { IsFitting literal.now }
-        ensures { IfOk result (λ k. IsAdded self.old self.new (said literal.now) k) }
+        ensures { IfOk result (λ k. IsLiteralAdded self.old self.new (said literal.now) k) }
     {
         let positive = literal.positive;
         match &literal.atom {
@@ -71,7 +71,7 @@ impl Meeting {
                 Ok(self.add_pair(alloc, transducer.get(), read.get(), written.get(), positive)?)
             }
             Term::Apply(op, terms) => Ok(self.add_applied(alloc, *op, terms.as_slice(), positive)?),
-            _ => Ok(Kind::Outside),
+            _ => Ok(LiteralReading::Outside),
         }
     }
 
@@ -81,14 +81,14 @@ impl Meeting {
         name: &Name,
         sort: Sort,
         value: bool,
-    ) -> Result<Kind, AllocError>
-        ensures { IfOk result (λ k. IsAdded self.old self.new (constant_said name.now sort value) k) }
+    ) -> Result<LiteralReading, AllocError>
+        ensures { IfOk result (λ k. IsLiteralAdded self.old self.new (constant_said name.now sort value) k) }
     {
         if sort != Sort::Bool {
-            return Ok(Kind::Outside);
+            return Ok(LiteralReading::Outside);
         }
         self.value(alloc, name, value)?;
-        Ok(Kind::Written)
+        Ok(LiteralReading::Written)
     }
 
     #[tactic(auto, using(crate::proofs::Stated::member_added))]
@@ -98,8 +98,8 @@ impl Meeting {
         tested: &Term,
         regex: &Regex,
         positive: bool,
-    ) -> Result<Kind, AllocError>
-        ensures { IfOk result (λ k. IsAdded self.old self.new (part_said (seen tested.now) (any_own.InRe regex.now) positive) k) }
+    ) -> Result<LiteralReading, AllocError>
+        ensures { IfOk result (λ k. IsLiteralAdded self.old self.new (part_said (seen tested.now) (any_own.InRe regex.now) positive) k) }
     {
         Ok(self.add_part(alloc, tested, Own::InRe(regex.copy(alloc)?), positive)?)
     }
@@ -113,22 +113,22 @@ impl Meeting {
         read: &Term,
         written: &Term,
         positive: bool,
-    ) -> Result<Kind, AllocError>
-        ensures { IfOk result (λ k. IsAdded self.old self.new (pair_said transducer.now (seen read.now) (seen written.now) positive) k) }
+    ) -> Result<LiteralReading, AllocError>
+        ensures { IfOk result (λ k. IsLiteralAdded self.old self.new (pair_said transducer.now (seen read.now) (seen written.now) positive) k) }
     {
         if !positive {
-            return Ok(Kind::Outside);
+            return Ok(LiteralReading::Outside);
         }
         if !is_string(read) {
-            return Ok(Kind::Outside);
+            return Ok(LiteralReading::Outside);
         }
         if !is_string(written) {
-            return Ok(Kind::Outside);
+            return Ok(LiteralReading::Outside);
         }
         let read = self.place(alloc, read)?;
         let written = self.place(alloc, written)?;
         self.define(written, By::Through(transducer.copy(alloc)?, read))?;
-        Ok(Kind::Written)
+        Ok(LiteralReading::Written)
     }
 
     #[tactic(auto, using(crate::proofs::Stated::applied_one, crate::proofs::Stated::applied_two, crate::proofs::Stated::applied_two_fits, crate::proofs::Stated::applied_not))]
@@ -138,10 +138,10 @@ impl Meeting {
         op: Op,
         terms: &[Term],
         positive: bool,
-    ) -> Result<Kind, AllocError>
+    ) -> Result<LiteralReading, AllocError>
         requires gathered { IsGathered self.old }
         requires fitting { AtomFits (apply op (shapes (map seen terms.now))) }
-        ensures { IfOk result (λ k. IsAdded self.old self.new (atom_said (apply op (shapes (map seen terms.now))) positive) k) }
+        ensures { IfOk result (λ k. IsLiteralAdded self.old self.new (atom_said (apply op (shapes (map seen terms.now))) positive) k) }
     {
         if terms.len() == 1 {
             return Ok(self.add_single(alloc, op, &terms[0], positive)?);
@@ -149,7 +149,7 @@ impl Meeting {
         if terms.len() == 2 {
             return Ok(self.add_double(alloc, op, &terms[0], &terms[1], positive)?);
         }
-        Ok(Kind::Outside)
+        Ok(LiteralReading::Outside)
     }
 
     #[tactic(auto, using(crate::proofs::Stated::digit_added, crate::proofs::Stated::single_not))]
@@ -159,12 +159,12 @@ impl Meeting {
         op: Op,
         term: &Term,
         positive: bool,
-    ) -> Result<Kind, AllocError>
-        ensures { IfOk result (λ k. IsAdded self.old self.new (atom_said (apply op (seen term.now ⨾ end)) positive) k) }
+    ) -> Result<LiteralReading, AllocError>
+        ensures { IfOk result (λ k. IsLiteralAdded self.old self.new (atom_said (apply op (seen term.now ⨾ end)) positive) k) }
     {
         match head_of(op) {
-            Head::Digit => Ok(self.add_part(alloc, term, Own::Digit, positive)?),
-            _ => Ok(Kind::Outside),
+            AtomHead::Digit => Ok(self.add_part(alloc, term, Own::Digit, positive)?),
+            _ => Ok(LiteralReading::Outside),
         }
     }
 
@@ -176,19 +176,19 @@ impl Meeting {
         left: &Term,
         right: &Term,
         positive: bool,
-    ) -> Result<Kind, AllocError>
+    ) -> Result<LiteralReading, AllocError>
         requires gathered { IsGathered self.old }
         requires fitting { AtomFits (apply op (seen left.now ⨾ seen right.now ⨾ end)) }
-        ensures { IfOk result (λ k. IsAdded self.old self.new (atom_said (apply op (seen left.now ⨾ seen right.now ⨾ end)) positive) k) }
+        ensures { IfOk result (λ k. IsLiteralAdded self.old self.new (atom_said (apply op (seen left.now ⨾ seen right.now ⨾ end)) positive) k) }
     {
         match head_of(op) {
-            Head::Equality => Ok(self.add_equality(alloc, left, right, positive)?),
-            Head::Order => Ok(self.add_comparison(alloc, op, left, right, positive)?),
-            Head::Prefix => Ok(self.add_prefix(alloc, left, right, positive)?),
-            Head::Suffix => Ok(self.add_suffix(alloc, left, right, positive)?),
-            Head::Contains => Ok(self.add_infix(alloc, left, right, positive)?),
-            Head::Digit => Ok(Kind::Outside),
-            Head::Other => Ok(Kind::Outside),
+            AtomHead::Equality => Ok(self.add_equality(alloc, left, right, positive)?),
+            AtomHead::Order => Ok(self.add_comparison(alloc, op, left, right, positive)?),
+            AtomHead::Prefix => Ok(self.add_prefix(alloc, left, right, positive)?),
+            AtomHead::Suffix => Ok(self.add_suffix(alloc, left, right, positive)?),
+            AtomHead::Contains => Ok(self.add_infix(alloc, left, right, positive)?),
+            AtomHead::Digit => Ok(LiteralReading::Outside),
+            AtomHead::Other => Ok(LiteralReading::Outside),
         }
     }
 
@@ -199,11 +199,11 @@ impl Meeting {
         pattern: &Term,
         term: &Term,
         positive: bool,
-    ) -> Result<Kind, AllocError>
-        ensures { IfOk result (λ k. IsAdded self.old self.new (atom_said (apply any_op.PrefixOf (seen pattern.now ⨾ seen term.now ⨾ end)) positive) k) }
+    ) -> Result<LiteralReading, AllocError>
+        ensures { IfOk result (λ k. IsLiteralAdded self.old self.new (atom_said (apply any_op.PrefixOf (seen pattern.now ⨾ seen term.now ⨾ end)) positive) k) }
     {
         let Term::Text(word) = pattern else {
-            return Ok(Kind::Outside);
+            return Ok(LiteralReading::Outside);
         };
         Ok(self.add_part(alloc, term, Own::Prefix(word.copy(alloc)?), positive)?)
     }
@@ -215,11 +215,11 @@ impl Meeting {
         pattern: &Term,
         term: &Term,
         positive: bool,
-    ) -> Result<Kind, AllocError>
-        ensures { IfOk result (λ k. IsAdded self.old self.new (atom_said (apply any_op.SuffixOf (seen pattern.now ⨾ seen term.now ⨾ end)) positive) k) }
+    ) -> Result<LiteralReading, AllocError>
+        ensures { IfOk result (λ k. IsLiteralAdded self.old self.new (atom_said (apply any_op.SuffixOf (seen pattern.now ⨾ seen term.now ⨾ end)) positive) k) }
     {
         let Term::Text(word) = pattern else {
-            return Ok(Kind::Outside);
+            return Ok(LiteralReading::Outside);
         };
         Ok(self.add_part(alloc, term, Own::Suffix(word.copy(alloc)?), positive)?)
     }
@@ -231,11 +231,11 @@ impl Meeting {
         term: &Term,
         pattern: &Term,
         positive: bool,
-    ) -> Result<Kind, AllocError>
-        ensures { IfOk result (λ k. IsAdded self.old self.new (atom_said (apply any_op.Contains (seen term.now ⨾ seen pattern.now ⨾ end)) positive) k) }
+    ) -> Result<LiteralReading, AllocError>
+        ensures { IfOk result (λ k. IsLiteralAdded self.old self.new (atom_said (apply any_op.Contains (seen term.now ⨾ seen pattern.now ⨾ end)) positive) k) }
     {
         let Term::Text(word) = pattern else {
-            return Ok(Kind::Outside);
+            return Ok(LiteralReading::Outside);
         };
         Ok(self.add_part(alloc, term, Own::Contains(word.copy(alloc)?), positive)?)
     }
@@ -248,15 +248,15 @@ impl Meeting {
         term: &Term,
         own: Own,
         positive: bool,
-    ) -> Result<Kind, AllocError>
-        ensures { IfOk result (λ k. IsAdded self.old self.new (part_said (seen term.now) own positive) k) }
+    ) -> Result<LiteralReading, AllocError>
+        ensures { IfOk result (λ k. IsLiteralAdded self.old self.new (part_said (seen term.now) own positive) k) }
     {
         if !is_string(term) {
-            return Ok(Kind::Outside);
+            return Ok(LiteralReading::Outside);
         }
         let place = self.place(alloc, term)?;
         self.say(place, own, positive)?;
-        Ok(Kind::Written)
+        Ok(LiteralReading::Written)
     }
 
     #[tactic(auto, using(crate::proofs::Stated::equal_strings, crate::proofs::Stated::equal_numbers, crate::proofs::Stated::equal_numbers_fit, crate::proofs::Stated::unequal_numbers, crate::proofs::Stated::equal_truths, crate::proofs::Stated::equal_languages))]
@@ -266,10 +266,10 @@ impl Meeting {
         left: &Term,
         right: &Term,
         positive: bool,
-    ) -> Result<Kind, AllocError>
+    ) -> Result<LiteralReading, AllocError>
         requires gathered { IsGathered self.old }
         requires fitting { AtomFits (apply any_op.Equal (seen left.now ⨾ seen right.now ⨾ end)) }
-        ensures { IfOk result (λ k. IsAdded self.old self.new (atom_said (apply any_op.Equal (seen left.now ⨾ seen right.now ⨾ end)) positive) k) }
+        ensures { IfOk result (λ k. IsLiteralAdded self.old self.new (atom_said (apply any_op.Equal (seen left.now ⨾ seen right.now ⨾ end)) positive) k) }
     {
         match head_sort(left) {
             Sort::String => Ok(self.add_strings(alloc, left, right, positive)?),
@@ -277,11 +277,11 @@ impl Meeting {
                 if positive {
                     Ok(self.add_comparison(alloc, Op::Equal, left, right, true)?)
                 } else {
-                    Ok(Kind::Outside)
+                    Ok(LiteralReading::Outside)
                 }
             }
-            Sort::Bool => Ok(Kind::Outside),
-            Sort::RegLan => Ok(Kind::Outside),
+            Sort::Bool => Ok(LiteralReading::Outside),
+            Sort::RegLan => Ok(LiteralReading::Outside),
         }
     }
 
@@ -293,8 +293,8 @@ impl Meeting {
         left: &Term,
         right: &Term,
         positive: bool,
-    ) -> Result<Kind, AllocError>
-        ensures { IfOk result (λ k. IsAdded self.old self.new (string_said (seen left.now) (seen right.now) positive) k) }
+    ) -> Result<LiteralReading, AllocError>
+        ensures { IfOk result (λ k. IsLiteralAdded self.old self.new (string_said (seen left.now) (seen right.now) positive) k) }
     {
         if let Term::Text(word) = left {
             return Ok(self.add_literal(alloc, word, right, positive)?);
@@ -313,17 +313,17 @@ impl Meeting {
         word: &Word,
         term: &Term,
         positive: bool,
-    ) -> Result<Kind, AllocError>
-        ensures { IfOk result (λ k. IsAdded self.old self.new (string_said (text word.now) (seen term.now) positive) k) }
+    ) -> Result<LiteralReading, AllocError>
+        ensures { IfOk result (λ k. IsLiteralAdded self.old self.new (string_said (text word.now) (seen term.now) positive) k) }
     {
         if let Term::Text(other) = term {
             let same = word.same(other);
             if positive {
                 self.hold(same);
-                return Ok(Kind::Written);
+                return Ok(LiteralReading::Written);
             }
             self.hold(!same);
-            return Ok(Kind::Written);
+            return Ok(LiteralReading::Written);
         }
         Ok(self.add_part(alloc, term, Own::Word(word.copy(alloc)?), positive)?)
     }
@@ -336,22 +336,22 @@ impl Meeting {
         left: &Term,
         right: &Term,
         positive: bool,
-    ) -> Result<Kind, AllocError>
-        ensures { IfOk result (λ k. IsAdded self.old self.new (one_said (seen left.now) (seen right.now) positive) k) }
+    ) -> Result<LiteralReading, AllocError>
+        ensures { IfOk result (λ k. IsLiteralAdded self.old self.new (one_said (seen left.now) (seen right.now) positive) k) }
     {
         if !positive {
-            return Ok(Kind::Outside);
+            return Ok(LiteralReading::Outside);
         }
         if !is_string(left) {
-            return Ok(Kind::Outside);
+            return Ok(LiteralReading::Outside);
         }
         if !is_string(right) {
-            return Ok(Kind::Outside);
+            return Ok(LiteralReading::Outside);
         }
         let left = self.place(alloc, left)?;
         let right = self.place(alloc, right)?;
         self.equate(left, right)?;
-        Ok(Kind::Written)
+        Ok(LiteralReading::Written)
     }
 
     // The comparison of two terms of sort Int.
@@ -363,20 +363,20 @@ impl Meeting {
         left: &Term,
         right: &Term,
         positive: bool,
-    ) -> Result<Kind, AllocError>
+    ) -> Result<LiteralReading, AllocError>
         requires gathered { IsGathered self.old }
-        requires fitting { RowFits op (seen left.now) (seen right.now) positive }
-        ensures { IfOk result (λ k. IsAdded self.old self.new (row_said op (seen left.now) (seen right.now) positive) k) }
+        requires fitting { ComparisonFits op (seen left.now) (seen right.now) positive }
+        ensures { IfOk result (λ k. IsLiteralAdded self.old self.new (row_said op (seen left.now) (seen right.now) positive) k) }
     {
         if !is_linear(left) {
-            return Ok(Kind::Outside);
+            return Ok(LiteralReading::Outside);
         }
         if !is_linear(right) {
-            return Ok(Kind::Outside);
+            return Ok(LiteralReading::Outside);
         }
         self.count(alloc, left)?;
         self.count(alloc, right)?;
         self.compare(alloc, op, left, right, positive)?;
-        Ok(Kind::Written)
+        Ok(LiteralReading::Written)
     }
 }

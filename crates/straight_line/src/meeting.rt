@@ -4,16 +4,16 @@ ghost use Rattle.bool_cubes.specs.Flats.{flat};
 ghost use Rattle.bool_cubes.specs.Codes.{code};
 ghost use Rattle.bool_cubes.specs.Linear.{written};
 ghost use Rattle.bool_cubes.specs.Shapes.{seen, text};
-ghost use Rattle.straight_line.specs.Drafted.{Holds};
+ghost use Rattle.straight_line.specs.Drafted.{HoldsDraft};
 ghost use Rattle.straight_line.specs.Flattening.{name_of};
-ghost use Rattle.straight_line.specs.Gathered.{Becomes, Gathers, IsMet, IsSought, number_at};
+ghost use Rattle.straight_line.specs.Gathered.{Becomes, Gathers, IsTermMet, IsSought, number_at};
 ghost use Rattle.straight_line.specs.Kinds.{is_text};
-ghost use Rattle.straight_line.specs.Met.{Draft as Met, nothing_met, with_truth};
+ghost use Rattle.straight_line.specs.Met.{DraftView as Met, nothing_met, with_truth};
 
 use crate::code::Code;
 use crate::definition::By;
-use crate::draft::{Draft, Quantity};
-use crate::places::Places;
+use crate::draft::{FlatDraft, Quantity};
+use crate::places::CodeNumbers;
 use crate::truths::Truths;
 use crate::variable::Own;
 use bool_cubes::Written;
@@ -26,38 +26,38 @@ use sv_word::Word;
 /// A draft that literals are added to, with what finds the place of a term, the number of a quantity and
 /// the value of a Bool constant that came before.
 #[derive(Drop)]
-pub struct Meeting {
+pub struct DraftBuilder {
     pub names: Items<Option<Name>>,
-    pub places: Places,
+    pub places: CodeNumbers,
     pub parts: Items<(u32, (Own, bool))>,
     pub definitions: Items<(u32, By)>,
     pub equalities: Items<(u32, u32)>,
     pub quantities: Items<Quantity>,
-    pub numbers: Places,
+    pub numbers: CodeNumbers,
     pub rows: Items<Row>,
     pub truths: Truths,
     pub broken: bool,
 }
 
 /// The place of a term, and whether the term came before.
-pub enum Place {
+pub enum TermPlace {
     Known(u32),
     New(u32),
 }
 
-impl Meeting {
+impl DraftBuilder {
     /// Nothing. Takes no memory.
-    pub fn new(alloc: Global) -> Meeting
+    pub fn new(alloc: Global) -> DraftBuilder
         ensures { Gathers result nothing_met }
     {
-        Meeting {
+        DraftBuilder {
             names: Items::new(alloc),
-            places: Places::new(alloc),
+            places: CodeNumbers::new(alloc),
             parts: Items::new(alloc),
             definitions: Items::new(alloc),
             equalities: Items::new(alloc),
             quantities: Items::new(alloc),
-            numbers: Places::new(alloc),
+            numbers: CodeNumbers::new(alloc),
             rows: Items::new(alloc),
             truths: Truths::new(alloc),
             broken: false,
@@ -65,10 +65,10 @@ impl Meeting {
     }
 
     /// The draft.
-    pub fn into_draft(self, alloc: Global) -> Result<Draft, AllocError>
-        ensures { (d : Met) → Gathers self d → IfOk result (λ held. Holds held d) }
+    pub fn into_draft(self, alloc: Global) -> Result<FlatDraft, AllocError>
+        ensures { (d : Met) → Gathers self d → IfOk result (λ held. HoldsDraft held d) }
     {
-        let Meeting {
+        let DraftBuilder {
             names,
             places: _,
             parts,
@@ -81,7 +81,7 @@ impl Meeting {
             broken,
         } = self;
         let truths = truths.into_items(alloc)?;
-        Ok(Draft {
+        Ok(FlatDraft {
             names,
             parts,
             definitions,
@@ -122,7 +122,7 @@ impl Meeting {
     /// A literal at a new place, with the part that it is this word.
     #[tactic(auto, using(crate::proofs::Placing::literal_put))]
     pub fn literal(&mut self, word: Word) -> Result<u32, AllocError>
-        ensures met { IfOk result (λ i. IsMet self.old self.new (text word) i) }
+        ensures met { IfOk result (λ i. IsTermMet self.old self.new (text word) i) }
         ensures numbers { OnOk result (self.new.numbers ≡ self.old.numbers) }
     {
         let place = self.put()?;
@@ -137,7 +137,7 @@ impl Meeting {
         alloc: Global,
         term: &Term,
         name: Option<Name>,
-    ) -> Result<Place, AllocError>
+    ) -> Result<TermPlace, AllocError>
         requires text { is_text (written (seen term.now)) ≡ false }
         requires name { name ≡ name_of (written (seen term.now)) }
         ensures sought { IfOk result (λ p. IsSought self.old self.new (written (seen term.now)) p) }
@@ -145,10 +145,10 @@ impl Meeting {
     {
         let code = string_code(alloc, term)?;
         match self.places.get(&code) {
-            Some(place) => Ok(Place::Known(place)),
+            Some(place) => Ok(TermPlace::Known(place)),
             None => {
                 let place = self.file(code, name)?;
-                Ok(Place::New(place))
+                Ok(TermPlace::New(place))
             }
         }
     }

@@ -1,6 +1,6 @@
 //! Definitions of places as definitions of variables.
 ghost use Rattle.std.specs.Prelude.{◌≡◌, map, length, get_or, IfOk};
-ghost use Rattle.straight_line.specs.Bounds.{used};
+ghost use Rattle.straight_line.specs.Using.{used};
 ghost use Rattle.straight_line.specs.Flattening.{renamed};
 ghost use Rattle.straight_line.specs.Leading.{AreDefinitionsBelow, definition_by};
 ghost use Rattle.straight_line.specs.Straight.{AreBelow};

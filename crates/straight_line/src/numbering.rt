@@ -7,7 +7,7 @@ use std::alloc::{AllocError, Global};
 
 /// The variables of places.
 #[derive(Debug, Drop)]
-pub struct Numbering {
+pub struct VariableNumbers {
     /// The number of each place's variable.
     pub of: Vec<u32>,
     /// The number of variables.
@@ -16,14 +16,14 @@ pub struct Numbering {
 
 /// Numbers variables in the order of their least places, which `firsts` has for each place. Linear.
 #[tactic(auto, using(crate::proofs::Ranked::ranked_none, crate::proofs::Ranked::ranked_first, crate::proofs::Ranked::ranked_other, crate::proofs::Ranked::ranked_all))]
-pub fn number(alloc: Global, firsts: &[u32]) -> Result<Numbering, AllocError>
+pub fn number(alloc: Global, firsts: &[u32]) -> Result<VariableNumbers, AllocError>
     requires lower { IsForest firsts.now }
     requires rooted { AreRooted firsts.now }
     requires few { length firsts.now ≤ 2 ^ 32 - 1 }
     ensures count { IfOk result (λ n. n.count ≡ length (roots_in (length firsts.now) firsts.now)) }
     ensures of { IfOk result (λ n. n.of.items ≡ map (ordinal (length firsts.now) firsts.now) (range_with_len 0 (length firsts.now))) }
 {
-    let mut numbering = Numbering {
+    let mut numbering = VariableNumbers {
         of: Vec::new(alloc),
         count: 0,
     };
@@ -33,7 +33,7 @@ pub fn number(alloc: Global, firsts: &[u32]) -> Result<Numbering, AllocError>
     Ok(numbering)
 }
 
-impl Numbering {
+impl VariableNumbers {
     /// Numbers the variable of the next place, which is new where the place is its least.
     fn add(&mut self, place: usize, first: u32) -> Result<(), AllocError>
         requires next { length self.old.of.items ≡ place }

@@ -1,8 +1,8 @@
 //! The order of definitions: each stands before those that use its variable, and the first that can come
 //! comes next.
 ghost use Rattle.std.specs.Prelude.{◌≡◌, ℕ, ◌+◌, ◌<◌, ◌≤◌, List, [], ◌∷◌, length, get_or, replicate, false, IfOk, OnOk};
-ghost use Rattle.straight_line.specs.Straight.{AreBelow, AreWithin};
-ghost use Rattle.straight_line.specs.Waiting.{Has, HaveOnce, IsAhead, IsMarked, IsPassed, IsSorted, IsSorting, waiters_from};
+ghost use Rattle.straight_line.specs.Straight.{AreBelow, HaveVariablesBelow};
+ghost use Rattle.straight_line.specs.Waiting.{Has, HaveOnce, IsAhead, AreFirstMarked, NoneAheadBefore, IsSorted, IsSorting, waiters_from};
 
 use crate::definition::Definition;
 use std::alloc::{AllocError, Global};
@@ -35,7 +35,7 @@ struct Sorting {
 impl Sorting {
     /// All definitions are left, and none is filed.
     fn new(alloc: Global, variables: u32, definitions: &[Definition]) -> Result<Sorting, AllocError>
-        requires { AreWithin variables definitions.now }
+        requires { HaveVariablesBelow variables definitions.now }
         ensures ahead { IfOk result (λ s. length s.ahead ≡ variables) }
         ensures rows { IfOk result (λ s. length s.waiters.items ≡ variables) }
         ensures sorting { IfOk result (λ s. IsSorting definitions.now (waiters_from 0 (length definitions.now)) s.order s.ahead s.free.keys s.waiters.items) }
@@ -52,9 +52,9 @@ impl Sorting {
 
     /// Files a definition with the free ones, or with those that wait for the first variable that is ahead.
     fn file(&mut self, definitions: &[Definition], waiter: Waiter) -> Result<(), AllocError>
-        requires within { AreWithin (length self.old.ahead) definitions.now }
+        requires within { HaveVariablesBelow (length self.old.ahead) definitions.now }
         requires rows { length self.old.waiters.items ≡ length self.old.ahead }
-        requires passed { IsPassed definitions.now self.old.ahead waiter }
+        requires passed { NoneAheadBefore definitions.now self.old.ahead waiter }
         ensures order { self.new.order ≡ self.old.order }
         ensures ahead { self.new.ahead ≡ self.old.ahead }
         ensures rows { length self.new.waiters.items ≡ length self.old.waiters.items }
@@ -75,7 +75,7 @@ impl Sorting {
 
     /// Files all definitions.
     fn file_all(&mut self, definitions: &[Definition]) -> Result<(), AllocError>
-        requires within { AreWithin (length self.old.ahead) definitions.now }
+        requires within { HaveVariablesBelow (length self.old.ahead) definitions.now }
         requires rows { length self.old.waiters.items ≡ length self.old.ahead }
         requires sorting { IsSorting definitions.now (waiters_from 0 (length definitions.now)) self.old.order self.old.ahead self.old.free.keys self.old.waiters.items }
         ensures ahead { length self.new.ahead ≡ length self.old.ahead }
@@ -101,7 +101,7 @@ impl Sorting {
         definitions: &[Definition],
         first: usize,
     ) -> Result<(), AllocError>
-        requires within { AreWithin (length self.old.ahead) definitions.now }
+        requires within { HaveVariablesBelow (length self.old.ahead) definitions.now }
         requires rows { length self.old.waiters.items ≡ length self.old.ahead }
         requires once { HaveOnce definitions.now }
         requires inside { first < length definitions.now }
@@ -124,7 +124,7 @@ impl Sorting {
 
     /// Puts definitions in order while some are free.
     fn run(&mut self, alloc: Global, definitions: &[Definition]) -> Result<(), AllocError>
-        requires within { AreWithin (length self.old.ahead) definitions.now }
+        requires within { HaveVariablesBelow (length self.old.ahead) definitions.now }
         requires rows { length self.old.waiters.items ≡ length self.old.ahead }
         requires once { HaveOnce definitions.now }
         requires sorting { IsSorting definitions.now [] self.old.order self.old.ahead self.old.free.keys self.old.waiters.items }
@@ -145,9 +145,9 @@ fn mark(
     variables: u32,
     definitions: &[Definition],
 ) -> Result<Items<bool>, AllocError>
-    requires { AreWithin variables definitions.now }
+    requires { HaveVariablesBelow variables definitions.now }
     ensures count { IfOk result (λ ahead. length ahead ≡ variables) }
-    ensures marked { IfOk result (IsMarked definitions.now (length definitions.now)) }
+    ensures marked { IfOk result (AreFirstMarked definitions.now (length definitions.now)) }
 {
     let mut ahead = no_marks(alloc, variables)?;
     for definition in definitions {
@@ -195,7 +195,7 @@ pub fn next_ahead(ahead: &[bool], used: &[u32], from: usize) -> usize
 
 /// Definitions in order.
 #[derive(Drop)]
-pub struct Ordered {
+pub struct OrderedDefinitions {
     /// The places of the definitions in their order, without those that are on a cycle or stand behind one.
     pub places: Items<usize>,
     /// Whether each variable is defined by one of these.
@@ -209,8 +209,8 @@ pub fn sort(
     alloc: Global,
     variables: u32,
     definitions: &[Definition],
-) -> Result<Ordered, AllocError>
-    requires within { AreWithin variables definitions.now }
+) -> Result<OrderedDefinitions, AllocError>
+    requires within { HaveVariablesBelow variables definitions.now }
     requires once { HaveOnce definitions.now }
     ensures count { IfOk result (λ o. length o.ahead ≡ variables) }
     ensures sorted { IfOk result (λ o. IsSorted definitions.now o.places o.ahead) }
@@ -219,7 +219,7 @@ pub fn sort(
     sorting.file_all(definitions)?;
     sorting.run(alloc, definitions)?;
     let Sorting { order, ahead, .. } = sorting;
-    Ok(Ordered {
+    Ok(OrderedDefinitions {
         places: order,
         ahead,
     })

@@ -13,11 +13,11 @@ use std::marker::Model;
 /// Contracts see the list of pairs of a code and its number, in the order in which they came; no code
 /// stands twice.
 #[derive(Drop)]
-pub struct Places {
+pub struct CodeNumbers {
     entries: IndexMap<Code, u32>,
 }
 
-impl Model for Places {
+impl Model for CodeNumbers {
     ghost use Rattle.std.specs.Prelude.{List, ℕ, ℤ};
 
     ghost Value = { List (List ℤ × ℕ) };
@@ -25,12 +25,12 @@ impl Model for Places {
     ghost view = { λ m. m.entries.entries };
 }
 
-impl Places {
+impl CodeNumbers {
     /// No codes. Takes no memory.
-    pub fn new(alloc: Global) -> Places
+    pub fn new(alloc: Global) -> CodeNumbers
         ensures { result ≡ [] }
     {
-        Places {
+        CodeNumbers {
             entries: IndexMap::new(alloc),
         }
     }

@@ -1,5 +1,5 @@
 //! Rows by other numbers of their unknowns.
-ghost use Rattle.std.specs.Prelude.{◌≡◌, ◌≢◌, ℕ, ◌+◌, ◌<◌, ◌≤◌, ◌^◌, pos, [], ◌++◌, get_or, Some, None, IfOk, OnOk};
+ghost use Rattle.std.specs.Prelude.{◌≡◌, ◌≢◌, ℕ, ◌+◌, ◌<◌, ◌^◌, pos, [], ◌++◌, get_or, Some, None, IfOk, OnOk};
 ghost use Rattle.std.specs.List.{AllZip};
 ghost use Rattle.sv_linear.specs.Terms.{AscendsWithin};
 ghost use Rattle.straight_line.specs.Columns.{AreNumbersWithin, IsRenumbered, Rises, chosen, with_term};

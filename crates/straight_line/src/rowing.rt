@@ -1,14 +1,14 @@
 //! What was met of whole numbers: rows over the unknowns that have a column that isn't 0.
-ghost use Rattle.std.specs.Prelude.{◌≡◌, ◌+◌, ◌<◌, List, length, map, IfOk};
+ghost use Rattle.std.specs.Prelude.{◌+◌, ◌<◌, List, length, map, IfOk};
 ghost use Rattle.std.specs.List.{AllByRecursion, AllZip};
 ghost use Rattle.sv_linear.specs.Rows.{HasSymmetricEntries};
 ghost use Rattle.sv_linear.specs.declared.row.Row.{Row};
 ghost use Rattle.bool_cubes.specs.Shapes.{Shape};
 ghost use Rattle.straight_line.specs.Drafted.{unknown_at};
-ghost use Rattle.straight_line.specs.Flattening.{Bounded, IsRowFor, most_registers};
+ghost use Rattle.straight_line.specs.Flattening.{Bounded, IsRowFor};
 ghost use Rattle.straight_line.specs.Keeping.{AreQuantitiesBelow};
 ghost use Rattle.straight_line.specs.Rowing.{AreRowsExactly, IsNumber};
-ghost use Rattle.straight_line.specs.Straight.{IsRowOf};
+ghost use Rattle.straight_line.specs.Straight.{IsRowBelow};
 
 use crate::columns::columns_of;
 use crate::draft::Quantity;
@@ -18,7 +18,7 @@ use crate::renumbering::renumber_all;
 use std::alloc::{AllocError, Global};
 use sv_linear::Row;
 use sv_list::Items;
-use sv_terms::Name;
+use sv_terms::{MOST_REGISTERS, Name};
 
 /// Rows and their unknowns: the integer constants, and behind them the registers.
 #[derive(Drop)]
@@ -29,7 +29,7 @@ pub struct Rows {
 }
 
 /// The rows over those of the quantities that have a column that isn't 0, by the variables of places; or the
-/// number of registers, or else of integer constants, above 64. Linear in the quantities and the rows.
+/// number of registers, or else of integer constants, above `MOST_REGISTERS`. Linear in the quantities and the rows.
 #[tactic(auto, using(crate::proofs::Rowed::excess_is))]
 pub fn settle_rows(
     alloc: Global,
@@ -39,16 +39,16 @@ pub fn settle_rows(
 ) -> Result<Rows, FlatFault>
     requires { AreQuantitiesBelow (length of.now) quantities }
     ensures exact { (ts : List Shape) (bs : List Bounded) → AllZip (IsRowFor (map (unknown_at ts) quantities)) bs rows.now → AreRowsExactly of.now ts bs quantities result }
-    ensures numbered { AllByRecursion (λ (r : Row). HasSymmetricEntries r.form) rows.now → IfOk result (λ s. AllByRecursion (IsRowOf (length s.integers + length s.registers)) s.rows) }
+    ensures numbered { AllByRecursion (λ (r : Row). HasSymmetricEntries r.form) rows.now → IfOk result (λ s. AllByRecursion (IsRowBelow (length s.integers + length s.registers)) s.rows) }
 {
     let used = columns_of(alloc, quantities.len(), rows)?;
     let kept = keep(alloc, of, quantities, used.as_slice())?;
     let registers = kept.registers.len();
-    if registers > 64 {
+    if registers > MOST_REGISTERS {
         return Err(excess(registers));
     }
     let integers = kept.integers.len();
-    if integers > 64 {
+    if integers > MOST_REGISTERS {
         return Err(excess(integers));
     }
     let rows = renumber_all(

@@ -1,6 +1,6 @@
 //! Definitions in order, or why they have none.
 ghost use Rattle.std.specs.Prelude.{ℕ, ◌<◌, ◌^◌, length, MatchOption};
-ghost use Rattle.straight_line.specs.Straight.{AreWithin};
+ghost use Rattle.straight_line.specs.Straight.{HaveVariablesBelow};
 ghost use Rattle.straight_line.specs.Tracing.{IsStraightened};
 ghost use Rattle.straight_line.specs.Waiting.{IsAhead};
 
@@ -19,7 +19,7 @@ pub fn straighten(
     variables: u32,
     definitions: Items<Definition>,
 ) -> Result<Items<Definition>, FlatFault>
-    requires { AreWithin variables definitions }
+    requires { HaveVariablesBelow variables definitions }
     ensures { IsStraightened definitions result }
 {
     let places = places(alloc, variables, definitions.as_slice())?;

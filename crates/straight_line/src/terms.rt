@@ -6,34 +6,34 @@ ghost use Rattle.sv_terms.specs.declared.sort.Sort.{Sort};
 ghost use Rattle.sv_terms.specs.declared.term.Term.TheVariants as any_term;
 ghost use Rattle.bool_cubes.specs.Linear.{before, pieces, written};
 ghost use Rattle.bool_cubes.specs.Shapes.{end, seen, shapes};
-ghost use Rattle.straight_line.specs.Gathered.{ArePieced, IsMet};
+ghost use Rattle.straight_line.specs.Gathered.{ArePieced, IsTermMet};
 ghost use Rattle.straight_line.specs.Kinds.{literals_of};
 
 use crate::definition::By;
-use crate::kind::{Build, build_of};
-use crate::meeting::{Meeting, Place};
+use crate::kind::{PlaceBuild, build_of};
+use crate::meeting::{DraftBuilder, TermPlace};
 use std::alloc::{AllocError, Global};
 use sv_list::Items;
 use sv_terms::{Name, Term};
 use sv_word::Word;
 
-impl Meeting {
+impl DraftBuilder {
     /// The place of a string term; nested concatenations are read as one. A term that came before, literals aside,
     /// keeps its place; a new one is put before its arguments.
     #[cycle(terms)]
     #[tactic(auto, using(crate::proofs::Placing::text_is_met, crate::proofs::Placing::built_nothing, crate::proofs::Placing::leaf_nothing))]
     pub fn place(&mut self, alloc: Global, term: &Term) -> Result<u32, AllocError>
-        ensures met { IfOk result (λ i. IsMet self.old self.new (written (seen term.now)) i) }
+        ensures met { IfOk result (λ i. IsTermMet self.old self.new (written (seen term.now)) i) }
         ensures numbers { OnOk result (self.new.numbers ≡ self.old.numbers) }
     {
         match term {
             Term::Text(word) => Ok(self.literal(word.copy(alloc)?)?),
             Term::Constant(name, _) => Ok(self.constant(alloc, term, name)?),
             Term::Apply(op, terms) => match build_of(*op) {
-                Build::Concat => Ok(self.concat(alloc, term, terms.as_slice())?),
-                Build::First => Ok(self.first(alloc, term, terms.as_slice())?),
-                Build::All => Ok(self.all(alloc, term, terms.as_slice())?),
-                Build::Nothing => Ok(0),
+                PlaceBuild::Concat => Ok(self.concat(alloc, term, terms.as_slice())?),
+                PlaceBuild::First => Ok(self.first(alloc, term, terms.as_slice())?),
+                PlaceBuild::All => Ok(self.all(alloc, term, terms.as_slice())?),
+                PlaceBuild::Nothing => Ok(0),
             },
             _ => Ok(0),
         }
@@ -42,12 +42,12 @@ impl Meeting {
     #[tactic(auto, using(crate::proofs::Placing::constant_no_text, crate::proofs::Placing::constant_name, crate::proofs::Placing::constant_is_known, crate::proofs::Placing::constant_is_new))]
     fn constant(&mut self, alloc: Global, term: &Term, name: &Name) -> Result<u32, AllocError>
         requires { (sort : Sort) × (term.now ≡ any_term.Constant name.now sort) }
-        ensures met { IfOk result (λ i. IsMet self.old self.new (written (seen term.now)) i) }
+        ensures met { IfOk result (λ i. IsTermMet self.old self.new (written (seen term.now)) i) }
         ensures numbers { OnOk result (self.new.numbers ≡ self.old.numbers) }
     {
         let name = name.copy(alloc)?;
         match self.seek(alloc, term, Some(name))? {
-            Place::Known(place) | Place::New(place) => Ok(place),
+            TermPlace::Known(place) | TermPlace::New(place) => Ok(place),
         }
     }
 
@@ -55,12 +55,12 @@ impl Meeting {
     #[tactic(auto, using(crate::proofs::Placing::apply_no_text, crate::proofs::Placing::apply_no_name, crate::proofs::Placing::concat_is_known, crate::proofs::Placing::concat_is_new))]
     fn concat(&mut self, alloc: Global, term: &Term, terms: &[Term]) -> Result<u32, AllocError>
         requires { term.now ≡ any_term.Apply any_op.Concat terms.now }
-        ensures met { IfOk result (λ i. IsMet self.old self.new (written (seen term.now)) i) }
+        ensures met { IfOk result (λ i. IsTermMet self.old self.new (written (seen term.now)) i) }
         ensures numbers { OnOk result (self.new.numbers ≡ self.old.numbers) }
     {
         match self.seek(alloc, term, None)? {
-            Place::Known(place) => Ok(place),
-            Place::New(place) => {
+            TermPlace::Known(place) => Ok(place),
+            TermPlace::New(place) => {
                 let mut places = Items::new(alloc);
                 self.pieces(alloc, terms, &mut places)?;
                 self.define(place, By::Concat(places))?;
@@ -101,7 +101,7 @@ impl Meeting {
         match term {
             Term::Apply(op, terms) => {
                 match build_of(*op) {
-                    Build::Concat => {
+                    PlaceBuild::Concat => {
                         self.pieces(alloc, terms.as_slice(), places)?;
                         Ok(())
                     }
@@ -125,15 +125,15 @@ impl Meeting {
     #[tactic(auto, using(crate::proofs::Placing::apply_no_text, crate::proofs::Placing::apply_no_name, crate::proofs::Placing::literals_three, crate::proofs::Placing::first_nothing, crate::proofs::Placing::first_is_known, crate::proofs::Placing::first_is_new))]
     fn first(&mut self, alloc: Global, term: &Term, terms: &[Term]) -> Result<u32, AllocError>
         requires { term.now ≡ any_term.Apply any_op.Replace terms.now }
-        ensures met { IfOk result (λ i. IsMet self.old self.new (written (seen term.now)) i) }
+        ensures met { IfOk result (λ i. IsTermMet self.old self.new (written (seen term.now)) i) }
         ensures numbers { OnOk result (self.new.numbers ≡ self.old.numbers) }
     {
         let Some((pattern, replacement)) = literals(terms) else {
             return Ok(0);
         };
         match self.seek(alloc, term, None)? {
-            Place::Known(place) => Ok(place),
-            Place::New(place) => {
+            TermPlace::Known(place) => Ok(place),
+            TermPlace::New(place) => {
                 let inner = self.place(alloc, &terms[0])?;
                 let by = By::First(pattern.copy(alloc)?, replacement.copy(alloc)?, inner);
                 self.define(place, by)?;
@@ -147,15 +147,15 @@ impl Meeting {
     #[tactic(auto, using(crate::proofs::Placing::apply_no_text, crate::proofs::Placing::apply_no_name, crate::proofs::Placing::literals_three, crate::proofs::Placing::all_nothing, crate::proofs::Placing::all_is_known, crate::proofs::Placing::all_is_new))]
     fn all(&mut self, alloc: Global, term: &Term, terms: &[Term]) -> Result<u32, AllocError>
         requires { term.now ≡ any_term.Apply any_op.ReplaceAll terms.now }
-        ensures met { IfOk result (λ i. IsMet self.old self.new (written (seen term.now)) i) }
+        ensures met { IfOk result (λ i. IsTermMet self.old self.new (written (seen term.now)) i) }
         ensures numbers { OnOk result (self.new.numbers ≡ self.old.numbers) }
     {
         let Some((pattern, replacement)) = literals(terms) else {
             return Ok(0);
         };
         match self.seek(alloc, term, None)? {
-            Place::Known(place) => Ok(place),
-            Place::New(place) => {
+            TermPlace::Known(place) => Ok(place),
+            TermPlace::New(place) => {
                 let inner = self.place(alloc, &terms[0])?;
                 let by = By::All(pattern.copy(alloc)?, replacement.copy(alloc)?, inner);
                 self.define(place, by)?;

@@ -9,13 +9,13 @@ ghost use Rattle.straight_line.specs.Gathered.{AreCounted, IsCounted, IsIntegerC
 use crate::code::Code;
 use crate::draft::Quantity;
 use crate::kind::{Joining, is_text, joining_of};
-use crate::meeting::Meeting;
+use crate::meeting::DraftBuilder;
 use bool_cubes::Written;
 use std::alloc::{AllocError, Global};
 use sv_list::Items;
 use sv_terms::{Name, Op, Term};
 
-impl Meeting {
+impl DraftBuilder {
     /// Counts the integer constants and the lengths that stand in a term of sort Int. Time is linear in the
     /// term, times the depth to which replacements nest in it.
     #[cycle(unknowns)]

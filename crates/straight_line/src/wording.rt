@@ -1,6 +1,6 @@
 //! What was met of words: variables and definitions.
 ghost use Rattle.std.specs.Prelude.{◌≡◌, ◌<◌, ◌^◌, length, IfOk};
-ghost use Rattle.straight_line.specs.Wording.{AreMet, AreWords};
+ghost use Rattle.straight_line.specs.Wording.{ArePlacesBelow, AreWords};
 
 use crate::definition::{By, Definition};
 use crate::fault::FlatFault;
@@ -16,7 +16,7 @@ use sv_terms::Name;
 
 /// Variables and their definitions in order.
 #[derive(Drop)]
-pub struct Words {
+pub struct NumberedDefinitions {
     /// The number of each place's variable.
     pub of: Vec<u32>,
     pub variables: Items<Variable>,
@@ -32,8 +32,8 @@ pub fn settle_words(
     parts: Items<(u32, (Own, bool))>,
     definitions: Items<(u32, By)>,
     equalities: &[(u32, u32)],
-) -> Result<Words, FlatFault>
-    requires { AreMet (length names) parts definitions equalities.now }
+) -> Result<NumberedDefinitions, FlatFault>
+    requires { ArePlacesBelow (length names) parts definitions equalities.now }
     ensures { AreWords names parts definitions equalities.now result }
 {
     let places = count(names.len())?;
@@ -49,7 +49,7 @@ pub fn settle_words(
                 names,
                 parts,
             )?;
-            Ok(Words {
+            Ok(NumberedDefinitions {
                 of: numbering.of,
                 variables,
                 definitions: straight,

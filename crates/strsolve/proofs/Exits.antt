@@ -25,7 +25,7 @@ use Rattle.smt_session.specs.Steps.{State, opened, kept_of, with_verdict, Tells,
 use Rattle.smt_session.specs.declared.reply.Reply.{Reply}
 use Rattle.smt_session.specs.declared.reply.Reply.TheVariants.{Success, Unsupported, Echo, Error, Sat, Unsat, Unknown, Definitions, Values, Info}
 use Rattle.strsolve.specs.Runs.{IsPrompt, StopsAtExit}
-use Rattle.strsolve.specs.Scripts.{Follows, none, next}
+use Rattle.strsolve.specs.Scripts.{FollowsScript, none, next}
 use Rattle.strsolve.proofs.Turns.{replies_count}
 
 differ : false ≡ true → ⊥
@@ -71,26 +71,26 @@ module _ (s t u : State) (r : Reply) where
   same_step : (item : Sexpr) → Steps s item r t → Steps s item r u → t ≡ u
   same_step item h k = same_performed (checked (symbols_of s.levels) (seen item)) h k
 
-none_left : (s t : State) (items : List Sexpr) (log : List Reply) → Follows s items log t → items ≡ [] → s ≡ t
+none_left : (s t : State) (items : List Sexpr) (log : List Reply) → FollowsScript s items log t → items ≡ [] → s ≡ t
 none_left s t items log (none a) e = refl
 none_left s t items log (next a b c i q is l goes step rest) e = absurd (omega (arith, ap length e))
 
 -- what the first item did
-first_of : (s t : State) (items others : List Sexpr) (log late : List Reply) (item : Sexpr) (r : Reply) → Follows s items log t → items ≡ item ∷ others → log ≡ r ∷ late → (u : State) × Steps s item r u × Follows u others late t
+first_of : (s t : State) (items others : List Sexpr) (log late : List Reply) (item : Sexpr) (r : Reply) → FollowsScript s items log t → items ≡ item ∷ others → log ≡ r ∷ late → (u : State) × Steps s item r u × FollowsScript u others late t
 first_of s t items others log late item r (none a) e f = absurd (omega (arith, ap length e))
 first_of s t items others log late item r (next a b c i q is l goes step rest) e f =
     let same_item : i ≡ item = cc in
     let same_others : is ≡ others = cc in
     let same_reply : q ≡ r = cc in
     let same_late : l ≡ late = cc in
-    (b, subst (λ (x : Reply). Steps a item x b) same_reply (subst (λ (x : Sexpr). Steps a x q b) same_item step), subst (λ (x : List Reply). Follows b others x c) same_late (subst (λ (x : List Sexpr). Follows b x l c) same_others rest))
+    (b, subst (λ (x : Reply). Steps a item x b) same_reply (subst (λ (x : Sexpr). Steps a x q b) same_item step), subst (λ (x : List Reply). FollowsScript b others x c) same_late (subst (λ (x : List Sexpr). FollowsScript b x l c) same_others rest))
 
-same_session : (s t u : State) (items : List Sexpr) (log : List Reply) → Follows s items log t → Follows s items log u → t ≡ u
+same_session : (s t u : State) (items : List Sexpr) (log : List Reply) → FollowsScript s items log t → FollowsScript s items log u → t ≡ u
 same_session s t u items log (none a) k = none_left a u [] [] k refl
 same_session s t u items log (next a b c i q is l goes step rest) k =
     let f = first_of a u (i ∷ is) is (q ∷ l) l i q k refl refl in
     let same : f.0 ≡ b = same_step a f.0 b q i f.1 step in
-    same_session b c u is l rest (subst (λ (x : State). Follows x is l u) same f.2)
+    same_session b c u is l rest (subst (λ (x : State). FollowsScript x is l u) same f.2)
 
 -- what ends a session is a list
 abbrev Ends : Sexpr → Type 0
@@ -111,7 +111,7 @@ record Last (items : List Sexpr) : Type 0 where
   inner : List Sexpr
   is : items ≡ early ++ v.List inner ∷ []
 
-stopped : (s t : State) (items : List Sexpr) (log : List Reply) → Follows s items log t → s.ended ≡ true → items ≡ []
+stopped : (s t : State) (items : List Sexpr) (log : List Reply) → FollowsScript s items log t → s.ended ≡ true → items ≡ []
 stopped s t items log (none a) e = refl
 stopped s t items log (next a b c i q is l goes step rest) e = absurd (differ (sym goes ∙ e))
 
@@ -126,7 +126,7 @@ last_here : (s t : State) (i : Sexpr) (is : List Sexpr) (r : Reply) → Steps s 
 last_here s t i is r step goes over on true e = one_last i is (over e) (ends i s t r step goes e)
 last_here s t i is r step goes over on false e = more_last i is (on e)
 
-last_of : (s t : State) (items : List Sexpr) (log : List Reply) → Follows s items log t → s.ended ≡ false → t.ended ≡ true → Last items
+last_of : (s t : State) (items : List Sexpr) (log : List Reply) → FollowsScript s items log t → s.ended ≡ false → t.ended ≡ true → Last items
 last_of s t items log (none a) goes over = absurd (differ (sym goes ∙ over))
 last_of s t items log (next a b c i q is l going step rest) goes over = last_here a b i is q step going (λ e. stopped b c is l rest e) (λ e. last_of b c is l rest e over) b.ended refl
 
@@ -169,8 +169,8 @@ none_late [] e = refl
 none_late (x ∷ late) e = absurd (omega (arith, e))
 
 -- what was read behind an answered `exit` is shorter than the last bytes that were read
-module _ (l0 l t0 t : Option (List ℕ)) (log : List Reply) (p : IsPrompt l0 l t0 t log) (items : List Sexpr) (rest : List ℕ) (session : State)
-    (begins : Begins false (p.before ++ p.piece) items rest) (follows : Follows opened items log session) (over : session.ended ≡ true) where
+module _ (l0 l : Option (List ℕ)) (read : Option ℕ) (t0 t : Option (List ℕ)) (log : List Reply) (p : IsPrompt l0 l read t0 t log) (items : List Sexpr) (rest : List ℕ) (session : State)
+    (begins : Begins false (p.before ++ p.piece) items rest) (follows : FollowsScript opened items log session) (over : session.ended ≡ true) where
   -- otherwise the `exit` was whole before them, and the session had ended
   whole_before : (mid : List ℕ) → rest ≡ mid ++ p.piece → ⊥
   whole_before mid is =
@@ -184,7 +184,7 @@ module _ (l0 l t0 t : Option (List ℕ)) (log : List Reply) (p : IsPrompt l0 l t
       let same : items ≡ p.right.items = all_items false p.before items p.right.items mid p.right.waits.rest whole p.right.waits.reads many in
       let no_more : p.late ≡ [] = none_late p.late (omega (arith, all, some, ap length same, ap length p.replies, length-append p.early p.late)) in
       let logs : log ≡ p.early = p.replies ∙ ap (λ (x : List Reply). p.early ++ x) no_more ∙ append-nil p.early in
-      let other : Follows opened items log p.right.session = subst (λ (x : List Sexpr). Follows opened x log p.right.session) (sym same) (subst (λ (x : List Reply). Follows opened p.right.items x p.right.session) (sym logs) p.right.follows) in
+      let other : FollowsScript opened items log p.right.session = subst (λ (x : List Sexpr). FollowsScript opened x log p.right.session) (sym same) (subst (λ (x : List Reply). FollowsScript opened p.right.items x p.right.session) (sym logs) p.right.follows) in
       let ends_so : session ≡ p.right.session = same_session opened session p.right.session items log follows other in
       differ (sym p.right.goes_on ∙ sym (ap (λ (x : State). x.ended) ends_so) ∙ over)
 
@@ -194,5 +194,5 @@ module _ (l0 l t0 t : Option (List ℕ)) (log : List Reply) (p : IsPrompt l0 l t
     | inr more ↦ let k = left_behind false (p.before ++ p.piece) (tokens_of_all items) rest begins.lexed in let m = longer_end k.0 rest p.before p.piece (sym k.1) more in absurd (whole_before m.0 m.1)
   ]
 
-pub stops_at_exit : (l0 l t0 t : Option (List ℕ)) (log : List Reply) → IsPrompt l0 l t0 t log → StopsAtExit l0 l log
-stops_at_exit l0 l t0 t log p = record { bytes = p.before ++ p.piece; gave = p.gave; few = λ items rest session begins follows over. few l0 l t0 t log p items rest session begins follows over }
+pub stops_at_exit : (l0 l : Option (List ℕ)) (read : Option ℕ) (t0 t : Option (List ℕ)) (log : List Reply) → IsPrompt l0 l read t0 t log → StopsAtExit l0 l log
+stops_at_exit l0 l read t0 t log p = record { bytes = p.before ++ p.piece; gave = p.gave; few = λ items rest session begins follows over. few l0 l read t0 t log p items rest session begins follows over }

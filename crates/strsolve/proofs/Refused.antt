@@ -3,7 +3,7 @@ use Rattle.std.proofs.Common.{◌≡◌, ℕ, List, [], ◌∷◌, ◌++◌, tru
 use Rattle.std.proofs.KnownBytes.{Consumes-nil, Appends-nil}
 use Rattle.std.specs.declared.option.Option.{Option}
 use Rattle.std.specs.Io.KnownBytes.{Appends}
-use Rattle.command_words.specs.Asked.{IsAsked, IsTaskOf}
+use Rattle.command_words.specs.Asked.{IsAskedLine, IsTaskOf}
 use Rattle.command_words.specs.Words.{is_in_form, seed_given, size_given, file_given}
 use Rattle.command_words.specs.declared.command_line.CommandLine.{CommandLine}
 use Rattle.command_words.specs.declared.command_line.Task.TheVariants.{Generate}
@@ -12,9 +12,9 @@ use Rattle.smt_session.specs.Steps.{opened}
 use Rattle.strsolve.specs.declared.status.Status.TheVariants.{Answered, NoMemory, WriteFailed}
 use Rattle.strsolve.specs.CommandLine.{AskFor}
 use Rattle.strsolve.specs.Generated.{IsAnsweredFront, IsGenerated, IsTrueIn}
-use Rattle.strsolve.specs.Runs.{IsCut, IsFront, IsPrompt, IsUnfinished}
-use Rattle.strsolve.specs.Scripts.{AnswersWhole, Follows, none, texts_of}
-use Rattle.strsolve.proofs.Counts.{nothing_waits}
+use Rattle.strsolve.specs.Runs.{IsLogCut, IsFront, IsPrompt, IsAnsweredSoFar}
+use Rattle.strsolve.specs.Scripts.{AnswersWhole, FollowsScript, none, texts_of}
+use Rattle.strsolve.proofs.Counts.{nothing_waits, within_none}
 use Rattle.strsolve.proofs.Turns.{cut_here, nothing_written}
 use Rattle.strsolve.proofs.Verdicts.{verdict_true}
 
@@ -32,28 +32,29 @@ pub not_both : (v w : List (List ℕ)) → v ≡ w → is_in_form v ≡ true →
 not_both v w is t f = differ (sym f ∙ sym (ap is_in_form is) ∙ t)
 
 -- the seed and the size are those that the words ask for
-pub asked : (v w : List (List ℕ)) (line : CommandLine) (s n seed size : ℕ) → v ≡ w → IsAsked v line → line.task ≡ Generate s n → AskFor w seed size → (s ≡ seed) × (n ≡ size)
+pub asked : (v w : List (List ℕ)) (line : CommandLine) (s n seed size : ℕ) → v ≡ w → IsAskedLine v line → line.task ≡ Generate s n → AskFor w seed size → (s ≡ seed) × (n ≡ size)
 asked v w line s n seed size is h task ask =
     let t = subst (IsTaskOf (seed_given v) (size_given v) (file_given v)) task h.task in
     let a : Some s ≡ Some seed = sym t.0 ∙ ap seed_given is ∙ ask.seed_is in
     let b : Some n ≡ Some size = sym t.1 ∙ ap size_given is ∙ ask.size_is in
     (cc, cc)
 
-nothing_cut : (t : Option (List ℕ)) (log : List Reply) → log ≡ [] → IsCut false [] t t log
+nothing_cut : (t : Option (List ℕ)) (log : List Reply) → log ≡ [] → IsLogCut false [] t t log
 nothing_cut t log e = cut_here false [] [] opened log t t (nothing_written opened log t refl e)
 
 pub nothing_front : (l t : Option (List ℕ)) (log : List Reply) → log ≡ [] → IsFront l l t t log
 nothing_front l t log e = record { ended = false; bytes = []; read = record { gave = Consumes-nil l; end = λ f. absurd (differ f) }; cut = nothing_cut t log e }
 
 nothing_whole : (log : List Reply) → log ≡ [] → AnswersWhole [] log
-nothing_whole log e = record { items = []; session = opened; waits = nothing_waits; follows = subst (λ (x : List Reply). Follows opened [] x opened) (sym e) (none opened); goes_on = refl }
+nothing_whole log e = record { items = []; session = opened; waits = nothing_waits; follows = subst (λ (x : List Reply). FollowsScript opened [] x opened) (sym e) (none opened); goes_on = refl }
 
-pub nothing_prompt : (l t : Option (List ℕ)) (log : List Reply) → log ≡ [] → IsPrompt l l t t log
-nothing_prompt l t log e = record {
+pub nothing_prompt : (l : Option (List ℕ)) (last : Option ℕ) (t : Option (List ℕ)) (log : List Reply) → log ≡ [] → IsPrompt l l last t t log
+nothing_prompt l last t log e = record {
   before = [];
   piece = [];
   gave = Consumes-nil l;
   short = omega arith;
+  read_last = within_none last;
   early = [];
   late = [];
   replies = e;
@@ -62,7 +63,7 @@ nothing_prompt l t log e = record {
   took = Appends-nil t;
 }
 
-pub nothing_unfinished : (l t : Option (List ℕ)) (log : List Reply) → log ≡ [] → IsUnfinished l l t t log
+pub nothing_unfinished : (l t : Option (List ℕ)) (log : List Reply) → log ≡ [] → IsAnsweredSoFar l l t t log
 nothing_unfinished l t log e = record {
   bytes = [];
   gave = Consumes-nil l;

@@ -4,9 +4,9 @@ use Rattle.smt_session.specs.declared.reply.Reply.{Reply}
 use Rattle.generated_script.specs.Blocks.{block, blocks}
 use Rattle.generated_script.specs.Draws.{behind}
 use Rattle.strsolve.specs.Generated.{IsAnsweredFront, IsAnsweredWhole, StopsIn}
-use Rattle.strsolve.specs.Runs.{IsCut}
+use Rattle.strsolve.specs.Runs.{IsLogCut}
 use Rattle.strsolve.specs.Scripts.{all}
-use Rattle.strsolve.specs.Standing.{IsWaiting, Stops}
+use Rattle.strsolve.specs.Standing.{AwaitsItem, Stops}
 use Rattle.strsolve.specs.declared.answering.Answering.{Answering}
 use Rattle.strsolve.specs.declared.status.Status.{Status}
 use Rattle.strsolve.specs.declared.status.Status.TheVariants.{Answered, ErrorAnswered, WrongWords, ReadFailed, WriteFailed, NoMemory}
@@ -22,10 +22,10 @@ pub all-fed : (script bytes : List ℕ) (s n : ℕ) → n ≡ 0 → script ≡ b
 all-fed script bytes s n is e = e ∙ ap (λ m. bytes ++ blocks s m) is
 
 -- a front of it was answered so far
-pub cut-front : (script bytes more : List ℕ) (log : List Reply) (ended : Bool) → script ≡ bytes ++ more → IsCut ended bytes None None log → IsAnsweredFront script log
+pub cut-front : (script bytes more : List ℕ) (log : List Reply) (ended : Bool) → script ≡ bytes ++ more → IsLogCut ended bytes None None log → IsAnsweredFront script log
 cut-front script bytes more log ended is cut = record { ended = ended; front = bytes; more = more; is = is; right = cut.right }
 
-pub here-front : (script bytes more : List ℕ) (a : Answering) → script ≡ bytes ++ more → IsWaiting a bytes None None → IsAnsweredFront script a.replies
+pub here-front : (script bytes more : List ℕ) (a : Answering) → script ≡ bytes ++ more → AwaitsItem a bytes None None → IsAnsweredFront script a.replies
 here-front script bytes more a is waits =
     let w = waits.answering in
     cut-front script bytes more a.replies false is (cut_here false bytes w.items a.session a.replies None None w.written)

@@ -4,7 +4,7 @@ use Rattle.std.specs.declared.option.Option.{Option}
 use Rattle.smt_session.specs.declared.reply.Reply.{Reply}
 use Rattle.strsolve.specs.declared.status.Status.{Status}
 use Rattle.strsolve.specs.declared.status.Status.TheVariants.{Answered, ErrorAnswered, WrongWords, ReadFailed, WriteFailed, NoMemory}
-use Rattle.strsolve.specs.Runs.{IsAnswered, IsCut, IsDone, IsUnfinished}
+use Rattle.strsolve.specs.Runs.{IsAnswered, IsLogCut, IsDone, IsAnsweredSoFar}
 use Rattle.strsolve.specs.Scripts.{has_error}
 use Rattle.strsolve.specs.Standing.{Ended, Stops}
 
@@ -15,7 +15,7 @@ module _ (ended : Bool) (bytes : List ℕ) (t0 t : Option (List ℕ)) (log : Lis
   done_stops (inr is) right error h = subst (Stops ended bytes t0 t log) (sym is) (h, error is)
 
   -- the sink failed, or there was no memory
-  pub cut_stops : (s ≡ WriteFailed) ⊎ (s ≡ NoMemory) → IsCut ended bytes t0 t log → Stops ended bytes t0 t log s
+  pub cut_stops : (s ≡ WriteFailed) ⊎ (s ≡ NoMemory) → IsLogCut ended bytes t0 t log → Stops ended bytes t0 t log s
   cut_stops (inl is) h = subst (Stops ended bytes t0 t log) (sym is) h
   cut_stops (inr is) h = subst (Stops ended bytes t0 t log) (sym is) h
 
@@ -30,7 +30,7 @@ module _ (l0 l t0 t : Option (List ℕ)) (log : List Reply) (s : Status) (h : En
   pub ended_error : s ≡ ErrorAnswered → has_error log ≡ true
   ended_error is = (subst (Ended l0 l t0 t log) is h).1
 
-  pub ended_unread : s ≡ ReadFailed → IsUnfinished l0 l t0 t log
+  pub ended_unread : s ≡ ReadFailed → IsAnsweredSoFar l0 l t0 t log
   ended_unread is = subst (Ended l0 l t0 t log) is h
 
   pub not_refused : s ≡ WrongWords → ⊥

@@ -20,9 +20,9 @@ use Rattle.smt_session.specs.declared.info.Info.{Info as InfoOf}
 use Rattle.smt_session.specs.declared.info.Info.TheVariants as info
 use Rattle.smt_session.specs.declared.reply.Reply.{Reply}
 use Rattle.smt_session.specs.declared.reply.Reply.TheVariants.{Success, Unsupported, Echo, Error, Sat, Unsat, Unknown, Definitions, Values, Info}
-use Rattle.smt_session.specs.declared.session.Kept.{Kept}
-use Rattle.smt_session.specs.declared.session.Kept.TheVariants as kept
-use Rattle.strsolve.specs.Scripts.{Follows, none, next, Answers, to_end, to_exit, to_fault, AnswersFront, so_far, all, IsNotOwed, IsTrueOf}
+use Rattle.smt_session.specs.declared.session.LastVerdict.{LastVerdict}
+use Rattle.smt_session.specs.declared.session.LastVerdict.TheVariants as kept
+use Rattle.strsolve.specs.Scripts.{FollowsScript, none, next, AnswersBytes, to_end, to_exit, to_fault, AnswersFront, so_far, all, IsNotOwed, IsTrueOf}
 use Rattle.strsolve.specs.Runs.{IsTrueFor}
 use Rattle.sexpr_reader.specs.Reads.{Begins}
 use Rattle.std.proofs.lemmas.List.{append-nil}
@@ -47,7 +47,7 @@ either_outcome : (b : Bool) (x y : Outcome) → is_verdict x.0 ≡ false → is_
 either_outcome true x y h g = h
 either_outcome false x y h g = g
 
-no_model : (k : Option Kept) → is_verdict (model_reply k) ≡ false
+no_model : (k : Option LastVerdict) → is_verdict (model_reply k) ≡ false
 unfolding is_verdict
 no_model (Some (kept.Sat values)) = refl
 no_model (Some kept.Unsat) = refl
@@ -74,7 +74,7 @@ told_info : (i : InfoOf) → is_verdict (Info i) ≡ false
 unfolding is_verdict
 told_info i = refl
 
-no_reason : (k : Option Kept) → is_verdict (reason_reply k) ≡ false
+no_reason : (k : Option LastVerdict) → is_verdict (reason_reply k) ≡ false
 unfolding is_verdict
 no_reason (Some (kept.Sat values)) = refl
 no_reason (Some kept.Unsat) = refl
@@ -89,7 +89,7 @@ no_info s k =
     let version = either (same_keyword k (codes ":version")) (Info info.Version) _ (told_info info.Version) behavior in
     either (same_keyword k (codes ":name")) (Info info.Name) _ (told_info info.Name) version
 
-no_terms : (symbols : List Symbol) (k : Option Kept) (items : List Sexpr) (r : Reply) → AnswersTerms symbols k items r → is_verdict r ≡ false
+no_terms : (symbols : List Symbol) (k : Option LastVerdict) (items : List Sexpr) (r : Reply) → AnswersTerms symbols k items r → is_verdict r ≡ false
 unfolding is_verdict
 no_terms symbols (Some (kept.Sat values)) items (Values vs) h = refl
 no_terms symbols (Some (kept.Sat values)) items (Error kind) h = refl
@@ -161,8 +161,8 @@ claims s t item (Definitions ds) h = tt
 claims s t item (Values vs) h = tt
 claims s t item (Info i) h = tt
 
-behind : (s t : State) (items : List Sexpr) (log early late : List Reply) (r : Reply) → Follows s items log t → log ≡ early ++ r ∷ late
-    → (before after : List Sexpr) × (u : State) × (items ≡ before ++ after) × Follows s before early u × IsTrueOf u r
+behind : (s t : State) (items : List Sexpr) (log early late : List Reply) (r : Reply) → FollowsScript s items log t → log ≡ early ++ r ∷ late
+    → (before after : List Sexpr) × (u : State) × (items ≡ before ++ after) × FollowsScript s before early u × IsTrueOf u r
 behind s t items log [] late r (none a) e = absurd (omega (arith, ap length e))
 behind s t items log (x ∷ early) late r (none a) e = absurd (omega (arith, ap length e))
 behind s t items log [] late r (next a b c i q is l goes step rest) e = let same : q ≡ r = cc in ([], i ∷ is, a, refl, none a, subst (IsTrueOf a) same (claims a b i q step))
@@ -190,7 +190,7 @@ last_or_before (z ∷ early) late (y ∷ log) r x e =
 -- each verdict of a right log is true
 module _ (ended : Bool) (bytes : List ℕ) where
   told : (items : List Sexpr) (rest : List ℕ) (early : List Reply) (r : Reply) → Begins ended bytes items rest
-      → (before after : List Sexpr) × (u : State) × (items ≡ before ++ after) × Follows opened before early u × IsTrueOf u r → IsTrueFor ended bytes early r
+      → (before after : List Sexpr) × (u : State) × (items ≡ before ++ after) × FollowsScript opened before early u × IsTrueOf u r → IsTrueFor ended bytes early r
   told items rest early r begins h = record {
     items = h.0;
     others = h.1;
@@ -201,13 +201,13 @@ module _ (ended : Bool) (bytes : List ℕ) where
     holds = h.5;
   }
 
-  at_fault : (items : List Sexpr) (rest : List ℕ) (s : State) (first early : List Reply) (r : Reply) (kind : ErrorKind) → Begins ended bytes items rest → Follows opened items first s
+  at_fault : (items : List Sexpr) (rest : List ℕ) (s : State) (first early : List Reply) (r : Reply) (kind : ErrorKind) → Begins ended bytes items rest → FollowsScript opened items first s
       → ((early ≡ first) × (r ≡ Error kind)) ⊎ ((more : List Reply) × (first ≡ early ++ r ∷ more)) → IsTrueFor ended bytes early r
   at_fault items rest s first early r kind begins follows (inl h) =
-      told items rest early r begins (items, [], s, sym (append-nil items), subst (λ (l : List Reply). Follows opened items l s) (sym h.0) follows, subst (IsTrueOf s) (sym h.1) tt)
+      told items rest early r begins (items, [], s, sym (append-nil items), subst (λ (l : List Reply). FollowsScript opened items l s) (sym h.0) follows, subst (IsTrueOf s) (sym h.1) tt)
   at_fault items rest s first early r kind begins follows (inr h) = told items rest early r begins (behind opened s items first early h.0 r follows h.1)
 
-  in_answers : (log early late : List Reply) (r : Reply) → Answers ended bytes log → log ≡ early ++ r ∷ late → IsTrueFor ended bytes early r
+  in_answers : (log early late : List Reply) (r : Reply) → AnswersBytes ended bytes log → log ≡ early ++ r ∷ late → IsTrueFor ended bytes early r
   in_answers log early late r (to_end items s is ends follows) e =
       told items ends.rest early r (subst (λ b. Begins b bytes items ends.rest) (sym is) ends.reads.begins) (behind opened s items log early late r follows e)
   in_answers log early late r (to_exit items rest s begins follows is) e = told items rest early r begins (behind opened s items log early late r follows e)

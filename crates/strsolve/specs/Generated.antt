@@ -5,9 +5,9 @@ use Rattle.std.specs.Io.KnownBytes.{Appends}
 use Rattle.smt_session.specs.declared.reply.Reply.{Reply}
 use Rattle.smt_session.specs.declared.reply.Reply.TheVariants as reply
 use Rattle.generated_script.specs.Summary.{summary_text}
-use Rattle.generated_script.specs.declared.tally.Tally.{Tally}
+use Rattle.generated_script.specs.declared.tally.VerdictCounts.{VerdictCounts}
 use Rattle.strsolve.specs.Runs.{IsTrueFor}
-use Rattle.strsolve.specs.Scripts.{Answers, AnswersFront}
+use Rattle.strsolve.specs.Scripts.{AnswersBytes, AnswersFront}
 use Rattle.strsolve.specs.declared.status.Status.{Status}
 use Rattle.strsolve.specs.declared.status.Status.TheVariants.{Answered, ErrorAnswered, WrongWords, ReadFailed, WriteFailed, NoMemory}
 
@@ -28,7 +28,7 @@ abbrev pub counted : (Reply → Bool) → List Reply → ℕ
 counted is log = min (count_by is log) (2 ^ 64 - 1)
 
 -- the verdicts of the log
-abbrev pub tally_of : List Reply → Tally
+abbrev pub tally_of : List Reply → VerdictCounts
 tally_of log = record { sat = counted is_sat log; unsat = counted is_unsat log; unknown = counted is_unknown log }
 
 -- the log is right for the script, up to its end, or to an answered `exit` or a syntax fault in a front of it
@@ -38,7 +38,7 @@ pub record IsAnsweredWhole (script : List ℕ) (log : List Reply) : Type 0 where
   pub more : List ℕ
   pub is : script ≡ front ++ more
   pub whole : ended ≡ true → more ≡ []
-  pub right : Answers ended front log
+  pub right : AnswersBytes ended front log
 
 -- the log is right so far, for a front of the script
 pub record IsAnsweredFront (script : List ℕ) (log : List Reply) : Type 0 where

@@ -16,31 +16,31 @@ use Rattle.smt_session.specs.declared.reply.Reply.{Reply}
 use Rattle.smt_session.specs.declared.reply.Reply.TheVariants.{Error, Sat, Unsat, Unknown}
 
 -- a reply to each item, and the session behind the last; nothing follows an answered `exit`
-pub data Follows : State → List Sexpr → List Reply → State → Type 0 where
-  none : (s : State) → Follows s [] [] s
-  next : (s t u : State) (item : Sexpr) (r : Reply) (items : List Sexpr) (log : List Reply) → s.ended ≡ false → Steps s item r t → Follows t items log u → Follows s (item ∷ items) (r ∷ log) u
+pub data FollowsScript : State → List Sexpr → List Reply → State → Type 0 where
+  none : (s : State) → FollowsScript s [] [] s
+  next : (s t u : State) (item : Sexpr) (r : Reply) (items : List Sexpr) (log : List Reply) → s.ended ≡ false → Steps s item r t → FollowsScript t items log u → FollowsScript s (item ∷ items) (r ∷ log) u
 
 -- the right replies to the bytes; `ended` says whether the input has ended behind them
-pub data Answers (ended : Bool) (bytes : List ℕ) (log : List Reply) : Type 0 where
+pub data AnswersBytes (ended : Bool) (bytes : List ℕ) (log : List Reply) : Type 0 where
   -- up to the end of the input, behind whole items
-  to_end : (items : List Sexpr) (s : State) → ended ≡ true → Ends bytes items → Follows opened items log s → Answers ended bytes log
+  to_end : (items : List Sexpr) (s : State) → ended ≡ true → Ends bytes items → FollowsScript opened items log s → AnswersBytes ended bytes log
   -- up to an answered `exit`
-  to_exit : (items : List Sexpr) (rest : List ℕ) (s : State) → Begins ended bytes items rest → Follows opened items log s → s.ended ≡ true → Answers ended bytes log
+  to_exit : (items : List Sexpr) (rest : List ℕ) (s : State) → Begins ended bytes items rest → FollowsScript opened items log s → s.ended ≡ true → AnswersBytes ended bytes log
   -- up to a syntax fault, whose error is the last reply
-  to_fault : (items : List Sexpr) (early : List Reply) (s : State) (fault : SyntaxFault) (kind : ErrorKind) → FaultAfter ended bytes items fault → Follows opened items early s → s.ended ≡ false → of_syntax fault ≡ Some kind → log ≡ early ++ Error kind ∷ [] → Answers ended bytes log
+  to_fault : (items : List Sexpr) (early : List Reply) (s : State) (fault : SyntaxFault) (kind : ErrorKind) → FaultAfter ended bytes items fault → FollowsScript opened items early s → s.ended ≡ false → of_syntax fault ≡ Some kind → log ≡ early ++ Error kind ∷ [] → AnswersBytes ended bytes log
 
 -- the replies to all items that are whole so far; none of them ended the session, and there is no syntax fault so far
 pub record AnswersWhole (bytes : List ℕ) (log : List Reply) : Type 0 where
   pub items : List Sexpr
   pub session : State
   pub waits : Waits bytes items
-  pub follows : Follows opened items log session
+  pub follows : FollowsScript opened items log session
   pub goes_on : session.ended ≡ false
 
 -- right replies, to a front of the items
 pub data AnswersFront (ended : Bool) (bytes : List ℕ) (log : List Reply) : Type 0 where
-  so_far : (items : List Sexpr) (rest : List ℕ) (s : State) → Begins ended bytes items rest → Follows opened items log s → AnswersFront ended bytes log
-  all : Answers ended bytes log → AnswersFront ended bytes log
+  so_far : (items : List Sexpr) (rest : List ℕ) (s : State) → Begins ended bytes items rest → FollowsScript opened items log s → AnswersFront ended bytes log
+  all : AnswersBytes ended bytes log → AnswersFront ended bytes log
 
 -- no answer is owed: where the text is within the limits, some assertion is opaque, and the others have values
 pub record IsNotOwed (terms : List Term) : Type 0 where

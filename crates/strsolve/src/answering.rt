@@ -2,10 +2,10 @@
 ghost use Rattle.std.specs.Prelude.{◌≡◌, ◌≤◌, ◌+◌, ◌++◌, [], ℕ, List, Bool, true, false, length, IfSome, IfNone, MatchOption, OnOk, OnErr};
 ghost use Rattle.std.specs.declared.option.Option.{Option as Optional};
 ghost use Rattle.sv_io.specs.Counts.{Rose};
-ghost use Rattle.strsolve.specs.Runs.{IsCut};
-ghost use Rattle.strsolve.specs.Standing.{Adds, IsAnswering, IsFaulty, IsGiven, IsWaiting, Stops};
+ghost use Rattle.strsolve.specs.Runs.{IsLogCut};
+ghost use Rattle.strsolve.specs.Standing.{AddsReplies, IsAnswering, IsFaulty, IsGiven, AwaitsItem, Stops};
 
-use crate::log::Log;
+use crate::log::ReplyLog;
 use crate::status::Status;
 use crate::transfer::write_reply;
 use sexpr_reader::{Reader, Sexpr, SyntaxFault, more_bytes_may_follow};
@@ -19,7 +19,7 @@ use sv_io::Sink;
 pub struct Answering {
     reader: Reader,
     session: Session,
-    replies: Log,
+    replies: ReplyLog,
     /// How many bytes were fed.
     fed: u64,
 }
@@ -28,19 +28,19 @@ impl Answering {
     /// Nothing was fed and answered. So many threads do the cubes of a check. It takes no memory.
     pub fn new(alloc: Global, workers: u32) -> Answering
         requires { 1 ≤ workers }
-        ensures waits { (taken : Optional (List ℕ)) → IsWaiting result [] taken taken }
+        ensures waits { (taken : Optional (List ℕ)) → AwaitsItem result [] taken taken }
         ensures empty { result.replies ≡ [] }
     {
         Answering {
             reader: Reader::new(alloc),
             session: Session::new(alloc, workers),
-            replies: Log::new(),
+            replies: ReplyLog::new(),
             fed: 0,
         }
     }
 
     /// The replies.
-    pub fn into_log(self) -> Log
+    pub fn into_log(self) -> ReplyLog
         ensures { result ≡ self.replies }
     {
         let Answering { replies, .. } = self;
@@ -50,7 +50,7 @@ impl Answering {
     /// Takes the next bytes.
     pub fn feed(&mut self, piece: &[u8]) -> Result<(), AllocError>
         ensures ok { OnOk result ((bytes : List ℕ) (taken_old taken_new : Optional (List ℕ)) → IsAnswering false self.old bytes taken_old taken_new → IsAnswering false self.new (bytes ++ piece.now) taken_old taken_new) }
-        ensures err { OnErr result ((bytes : List ℕ) (taken_old taken_new : Optional (List ℕ)) → IsAnswering false self.old bytes taken_old taken_new → IsCut false (bytes ++ piece.now) taken_old taken_new self.new.replies) }
+        ensures err { OnErr result ((bytes : List ℕ) (taken_old taken_new : Optional (List ℕ)) → IsAnswering false self.old bytes taken_old taken_new → IsLogCut false (bytes ++ piece.now) taken_old taken_new self.new.replies) }
         ensures replies { self.new.replies ≡ self.old.replies }
     {
         more_bytes_may_follow();
@@ -76,8 +76,8 @@ impl Answering {
     ) -> Option<Status>
         requires answering { (bytes : List ℕ) × (taken : Optional (List ℕ)) × IsAnswering false self.old bytes taken (K.taken sink.old) }
         ensures went { (bytes : List ℕ) (taken : Optional (List ℕ)) → IsAnswering false self.old bytes taken (K.taken sink.old)
-            → MatchOption result (IsWaiting self.new bytes taken (K.taken sink.new)) (λ status. Stops false bytes taken (K.taken sink.new) self.new.replies status) }
-        ensures added { Adds self.old.replies self.new.replies (K.taken sink.old) (K.taken sink.new) }
+            → MatchOption result (AwaitsItem self.new bytes taken (K.taken sink.new)) (λ status. Stops false bytes taken (K.taken sink.new) self.new.replies status) }
+        ensures added { AddsReplies self.old.replies self.new.replies (K.taken sink.old) (K.taken sink.new) }
         ensures later { K.faults sink.old ≤ K.faults sink.new }
         ensures failed { IfSome result (λ status. status ≡ Status.WriteFailed → Rose (K.faults sink.old) (K.faults sink.new)) }
     {
@@ -103,7 +103,7 @@ impl Answering {
     ) -> Status
         requires answering { (bytes : List ℕ) × (taken : Optional (List ℕ)) × IsAnswering false self.old bytes taken (K.taken sink.old) }
         ensures went { (bytes : List ℕ) (taken : Optional (List ℕ)) → IsAnswering false self.old bytes taken (K.taken sink.old) → Stops true bytes taken (K.taken sink.new) self.new.replies result }
-        ensures added { Adds self.old.replies self.new.replies (K.taken sink.old) (K.taken sink.new) }
+        ensures added { AddsReplies self.old.replies self.new.replies (K.taken sink.old) (K.taken sink.new) }
         ensures later { K.faults sink.old ≤ K.faults sink.new }
         ensures failed { result ≡ Status.WriteFailed → Rose (K.faults sink.old) (K.faults sink.new) }
     {
@@ -133,7 +133,7 @@ impl Answering {
             → MatchOption result (IsAnswering ended self.new bytes taken (K.taken sink.new)) (λ status. Stops ended bytes taken (K.taken sink.new) self.new.replies status) }
         ensures count { IfNone result (length self.new.replies ≡ length self.old.replies + 1) }
         ensures fed { self.new.fed ≡ self.old.fed }
-        ensures added { Adds self.old.replies self.new.replies (K.taken sink.old) (K.taken sink.new) }
+        ensures added { AddsReplies self.old.replies self.new.replies (K.taken sink.old) (K.taken sink.new) }
         ensures later { K.faults sink.old ≤ K.faults sink.new }
         ensures failed { IfSome result (λ status. status ≡ Status.WriteFailed → Rose (K.faults sink.old) (K.faults sink.new)) }
     {
@@ -156,7 +156,7 @@ impl Answering {
     // Answers a syntax fault by its error.
     fn refuse<K: Sink>(&mut self, alloc: Global, sink: &mut K, fault: SyntaxFault) -> Status
         ensures went { (ended : Bool) (bytes : List ℕ) (taken : Optional (List ℕ)) → IsFaulty ended self.old fault bytes taken (K.taken sink.old) → Stops ended bytes taken (K.taken sink.new) self.new.replies result }
-        ensures added { Adds self.old.replies self.new.replies (K.taken sink.old) (K.taken sink.new) }
+        ensures added { AddsReplies self.old.replies self.new.replies (K.taken sink.old) (K.taken sink.new) }
         ensures later { K.faults sink.old ≤ K.faults sink.new }
         ensures failed { result ≡ Status.WriteFailed → Rose (K.faults sink.old) (K.faults sink.new) }
     {

@@ -5,11 +5,11 @@ ghost use Rattle.generated_script.specs.Summary.{summary_text};
 ghost use Rattle.sv_io.specs.Counts.{Rose};
 ghost use Rattle.generated_script.specs.Blocks.{script};
 ghost use Rattle.strsolve.specs.Generated.{IsGenerated, StopsIn, tally_of};
-ghost use Rattle.strsolve.specs.Standing.{IsWaiting};
+ghost use Rattle.strsolve.specs.Standing.{AwaitsItem};
 
 use crate::answering::Answering;
-use crate::log::Log;
-use crate::status::{Run, Status};
+use crate::log::ReplyLog;
+use crate::status::{ProgramRun, Status};
 use crate::transfer::write_all;
 use generated_script::{Blocks, summary};
 use std::alloc::Global;
@@ -42,7 +42,7 @@ fn answer_blocks<R: Threads + Sync>(
     seed: u64,
     size: u64,
 ) -> Status
-    requires { IsWaiting answering.old [] None None }
+    requires { AwaitsItem answering.old [] None None }
     ensures { StopsIn (script seed size) answering.new.replies result }
 {
     let mut blocks = Blocks::new(seed);
@@ -65,7 +65,7 @@ fn answer_blocks<R: Threads + Sync>(
 }
 
 // Writes the line that sums up the verdicts, and says how that went.
-fn write_summary<K: Sink>(alloc: Global, size: u64, log: &Log, sink: &mut K) -> Status
+fn write_summary<K: Sink>(alloc: Global, size: u64, log: &ReplyLog, sink: &mut K) -> Status
     ensures statuses { (result ≡ Status.Answered) ⊎ (result ≡ Status.WriteFailed) ⊎ (result ≡ Status.NoMemory) }
     ensures whole { result ≡ Status.Answered → Appends (K.taken sink.old) (K.taken sink.new) (summary_text size (tally_of log.now)) }
     ensures front { (count : ℕ) × Appends (K.taken sink.old) (K.taken sink.new) (take count (summary_text size (tally_of log.now))) }
@@ -92,7 +92,7 @@ pub fn answer_generated<R: Threads + Sync, K: Sink>(
     seed: u64,
     size: u64,
     sink: &mut K,
-) -> Run
+) -> ProgramRun
     requires { 1 ≤ workers }
     ensures generated { IsGenerated (script seed size) size (K.taken sink.old) (K.taken sink.new) result.status result.log }
     ensures failed { result.status ≡ Status.WriteFailed → Rose (K.faults sink.old) (K.faults sink.new) }
@@ -103,9 +103,9 @@ pub fn answer_generated<R: Threads + Sync, K: Sink>(
     match status {
         Status::Answered | Status::ErrorAnswered => {
             let status = write_summary(alloc, size, &log, sink);
-            Run { status, log }
+            ProgramRun { status, log }
         }
-        Status::NoMemory => Run { status, log },
+        Status::NoMemory => ProgramRun { status, log },
         // No words are read, and nothing was read or written.
         Status::WrongWords => unreachable!(),
         Status::ReadFailed => unreachable!(),

@@ -1,7 +1,7 @@
 ghost use Rattle.std.specs.Prelude.{◌≡◌, ◌⊎◌, ◌≤◌};
 ghost use Rattle.strsolve.specs.Codes.{code_of};
 
-use crate::log::Log;
+use crate::log::ReplyLog;
 use sv_io::SinkFault;
 
 /// How a run ended.
@@ -42,6 +42,7 @@ impl Status {
     pub fn of_fault(fault: SinkFault) -> Status
         ensures either { (result ≡ Status.WriteFailed) ⊎ (result ≡ Status.NoMemory) }
         ensures failed { result ≡ Status.WriteFailed → fault ≡ SinkFault.Failed }
+        ensures memory { result ≡ Status.NoMemory → fault ≡ SinkFault.Failed → ⊥ }
     {
         match fault {
             SinkFault::Failed => Status::WriteFailed,
@@ -52,7 +53,7 @@ impl Status {
 
 /// A run: how it ended, and the replies.
 #[derive(Drop)]
-pub struct Run {
+pub struct ProgramRun {
     pub status: Status,
-    pub log: Log,
+    pub log: ReplyLog,
 }

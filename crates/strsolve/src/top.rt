@@ -1,5 +1,5 @@
 //! The top call: from the words, a source and a sink to a status.
-ghost use Rattle.std.specs.Prelude.{◌≡◌, ◌≤◌, ◌⊎◌, ◌∷◌, ◌++◌, ℕ, List, [], take, None, Some, true, false, slice_get, is_some};
+ghost use Rattle.std.specs.Prelude.{◌≡◌, ◌≤◌, ◌⊎◌, ◌∷◌, ◌++◌, ℕ, List, [], take, None, Some, true, false, is_some};
 ghost use Rattle.std.specs.Io.KnownBytes.{Appends};
 ghost use Rattle.std.specs.Option.{option_map};
 ghost use Rattle.std.specs.declared.option.Option.{Option as Optional};
@@ -11,19 +11,19 @@ ghost use Rattle.command_words.specs.Words.{is_in_form};
 ghost use Rattle.generated_script.specs.Blocks.{script};
 ghost use Rattle.strsolve.specs.CommandLine.{AskFor, usage};
 ghost use Rattle.strsolve.specs.Generated.{IsGenerated, IsTrueIn};
-ghost use Rattle.strsolve.specs.Runs.{IsTrueBehind, IsAnswered, IsFront, IsPrompt, IsRefused, StopsAtExit, IsUnfinished};
+ghost use Rattle.strsolve.specs.Runs.{IsTrueBehind, IsAnswered, IsFront, IsPrompt, IsRefused, StopsAtExit, IsAnsweredSoFar};
 ghost use Rattle.strsolve.specs.Scripts.{has_error};
-ghost use Rattle.strsolve.specs.Standing.{Ended, IsWaiting};
+ghost use Rattle.strsolve.specs.Standing.{Ended, AwaitsItem};
 
 use crate::answering::Answering;
 use crate::generating::answer_generated;
-use crate::log::Log;
-use crate::status::{Run, Status};
+use crate::log::ReplyLog;
+use crate::status::{ProgramRun, Status};
 use crate::transfer::write_all;
 use command_words::{Task, WordsFault, read};
 use std::alloc::Global;
 use std::thread::Threads;
-use sv_io::{Sink, Source, Words};
+use sv_io::{ProgramArguments, Sink, Source};
 
 /// How many bytes are asked for at once: each item that was whole before them is answered by then.
 const PIECE: usize = 4_096;
@@ -61,10 +61,10 @@ fn answer_source<R: Threads + Sync, S: Source, K: Sink>(
     source: &mut S,
     sink: &mut K,
 ) -> Status
-    requires waits { IsWaiting answering.old [] (K.taken sink.old) (K.taken sink.old) }
+    requires waits { AwaitsItem answering.old [] (K.taken sink.old) (K.taken sink.old) }
     requires open { S.is_open source.old ≡ true }
     ensures went { Ended (S.left source.old) (S.left source.new) (K.taken sink.old) (K.taken sink.new) answering.new.replies result }
-    ensures prompt { IsPrompt (S.left source.old) (S.left source.new) (K.taken sink.old) (K.taken sink.new) answering.new.replies }
+    ensures prompt { IsPrompt (S.left source.old) (S.left source.new) (S.last source.new) (K.taken sink.old) (K.taken sink.new) answering.new.replies }
     ensures unread { result ≡ Status.ReadFailed → Rose (S.faults source.old) (S.faults source.new) }
     ensures unwritten { result ≡ Status.WriteFailed → Rose (K.faults sink.old) (K.faults sink.new) }
     ensures open { S.is_open source.new ≡ true }
@@ -98,11 +98,11 @@ fn answer_script<R: Threads + Sync, S: Source, K: Sink>(
     name: Option<&str>,
     source: &mut S,
     sink: &mut K,
-) -> Run
+) -> ProgramRun
     requires workers { 1 ≤ workers }
     requires closed { S.is_open source.old ≡ false }
     ensures went { Ended (S.left source.old) (S.left source.new) (K.taken sink.old) (K.taken sink.new) result.log result.status }
-    ensures prompt { IsPrompt (S.left source.old) (S.left source.new) (K.taken sink.old) (K.taken sink.new) result.log }
+    ensures prompt { IsPrompt (S.left source.old) (S.left source.new) (S.last source.new) (K.taken sink.old) (K.taken sink.new) result.log }
     ensures unread { result.status ≡ Status.ReadFailed → Rose (S.faults source.old) (S.faults source.new) }
     ensures unwritten { result.status ≡ Status.WriteFailed → Rose (K.faults sink.old) (K.faults sink.new) }
     ensures open { (result.status ≡ Status.Answered) ⊎ (result.status ≡ Status.ErrorAnswered) → (S.is_open source.new ≡ true) × IsOwn (S.own_name source.old) (option_map (λ text. text.now) name.entry) }
@@ -112,14 +112,14 @@ fn answer_script<R: Threads + Sync, S: Source, K: Sink>(
         Ok(()) => {
             let mut answering = Answering::new(alloc, workers);
             let status = answer_source(rt, alloc, &mut answering, source, sink);
-            Run {
+            ProgramRun {
                 status,
                 log: answering.into_log(),
             }
         }
-        Err(_) => Run {
+        Err(_) => ProgramRun {
             status: Status::ReadFailed,
-            log: Log::new(),
+            log: ReplyLog::new(),
         },
     }
 }
@@ -137,10 +137,10 @@ fn answer_script<R: Threads + Sync, S: Source, K: Sink>(
 pub fn run<R: Threads + Sync, S: Source, K: Sink>(
     rt: &R,
     alloc: Global,
-    words: &Words,
+    words: &ProgramArguments,
     source: &mut S,
     sink: &mut K,
-) -> Run
+) -> ProgramRun
     requires { S.is_open source.old ≡ false }
     ensures answered { is_some (named words.now) ≡ true → (result.status ≡ Status.Answered) ⊎ (result.status ≡ Status.ErrorAnswered) → IsAnswered (S.left source.old) (S.left source.new) (K.taken sink.old) (K.taken sink.new) result.log }
     ensures right { is_some (named words.now) ≡ true → result.status ≡ Status.Answered → has_error result.log ≡ false }
@@ -149,10 +149,10 @@ pub fn run<R: Threads + Sync, S: Source, K: Sink>(
     ensures wrong_words { result.status ≡ Status.WrongWords → (is_in_form words.now ≡ false) × Appends (K.taken sink.old) (K.taken sink.new) usage }
     ensures words { is_in_form words.now ≡ false → (result.status ≡ Status.WrongWords) ⊎ (result.status ≡ Status.WriteFailed) ⊎ (result.status ≡ Status.NoMemory) }
     ensures refused { is_in_form words.now ≡ false → (source.new ≡ source.old) × IsRefused (K.taken sink.old) (K.taken sink.new) result.log }
-    ensures read_fault { result.status ≡ Status.ReadFailed → Rose (S.faults source.old) (S.faults source.new) × IsUnfinished (S.left source.old) (S.left source.new) (K.taken sink.old) (K.taken sink.new) result.log }
+    ensures read_fault { result.status ≡ Status.ReadFailed → Rose (S.faults source.old) (S.faults source.new) × IsAnsweredSoFar (S.left source.old) (S.left source.new) (K.taken sink.old) (K.taken sink.new) result.log }
     ensures write_fault { result.status ≡ Status.WriteFailed → Rose (K.faults sink.old) (K.faults sink.new) }
     ensures front { is_some (named words.now) ≡ true → IsFront (S.left source.old) (S.left source.new) (K.taken sink.old) (K.taken sink.new) result.log }
-    ensures prompt { is_some (named words.now) ≡ true → IsPrompt (S.left source.old) (S.left source.new) (K.taken sink.old) (K.taken sink.new) result.log }
+    ensures prompt { is_some (named words.now) ≡ true → IsPrompt (S.left source.old) (S.left source.new) (S.last source.new) (K.taken sink.old) (K.taken sink.new) result.log }
     ensures exit { is_some (named words.now) ≡ true → StopsAtExit (S.left source.old) (S.left source.new) result.log }
     ensures open { is_some (named words.now) ≡ true → (result.status ≡ Status.Answered) ⊎ (result.status ≡ Status.ErrorAnswered) → S.is_open source.new ≡ true }
     ensures name { (name : Optional (List ℕ)) → named words.now ≡ Some name → (result.status ≡ Status.Answered) ⊎ (result.status ≡ Status.ErrorAnswered) → IsOwn (S.own_name source.old) name }
@@ -163,15 +163,15 @@ pub fn run<R: Threads + Sync, S: Source, K: Sink>(
     let line = match read(alloc, words.as_slice()) {
         Ok(line) => line,
         Err(WordsFault::Outside) => {
-            return Run {
+            return ProgramRun {
                 status: refuse_words(sink),
-                log: Log::new(),
+                log: ReplyLog::new(),
             };
         }
         Err(WordsFault::Memory(_)) => {
-            return Run {
+            return ProgramRun {
                 status: Status::NoMemory,
-                log: Log::new(),
+                log: ReplyLog::new(),
             };
         }
     };

@@ -11,43 +11,43 @@ use Rattle.std.proofs.lemmas.List.Kept.{Contains-dedup_nat, Contains-from_dedup}
 use Rattle.std.proofs.lemmas.List.Sorted.{Contains-permutation, IsPermutation-sym, IsNonDecreasingBy-from_sort}
 use Rattle.std.proofs.lemmas.Map.Keys.{IsStrictlyIncreasing-dedup}
 use Rattle.machine_core.specs.Lists.{Any-append_left, Any-append_right, Any-push_cases, Any-here, Any-none, Any-contains, contained}
-use Rattle.subset_machine.specs.declared.leaving.Leg.{Leg}
-use Rattle.subset_machine.specs.Legs.{Leads, AreHits}
+use Rattle.subset_machine.specs.declared.leaving.EdgeRange.{EdgeRange}
+use Rattle.subset_machine.specs.Legs.{RangeLeads, AreHits}
 use Rattle.subset_machine.specs.Subsets.{ListsAll}
 use Rattle.subset_machine.proofs.PlaceLemmas.{map-in, map-out}
 use Rattle.subset_machine.proofs.AscendingLemmas.{nothing}
 use Rattle.subset_machine.proofs.MarkLemmas.{pairs_cmp, sorted-first}
 
 -- the first characters of the intervals, with the states that these ranges lead to on them
-abbrev pub HitsOf : List Leg → List (ℕ × ℕ) → List (ℕ × ℕ) → Type 0
-HitsOf legs marks hits = (c t : ℕ) → Contains hits (c, t) ↔ (Any (λ m. m.0 ≡ c) marks × Any (Leads c t) legs)
+abbrev pub HitsOf : List EdgeRange → List (ℕ × ℕ) → List (ℕ × ℕ) → Type 0
+HitsOf legs marks hits = (c t : ℕ) → Contains hits (c, t) ↔ (Any (λ m. m.0 ≡ c) marks × Any (RangeLeads c t) legs)
 
 -- what a range leads to on the first character of an interval
 abbrev pub hit : ℕ → ℕ × ℕ → ℕ × ℕ
 hit to m = (m.0, to)
 
 pub hits-none : (marks : List (ℕ × ℕ)) → HitsOf [] marks []
-hits-none marks c t = (λ i. absurd (nothing (c, t) i), λ a. absurd (Any-none (Leads c t) a.1))
+hits-none marks c t = (λ i. absurd (nothing (c, t) i), λ a. absurd (Any-none (RangeLeads c t) a.1))
 
 pub one-more : {X : Type 0} (xs : List X) (i : ℕ) (x d : X) → i < length xs → x ≡ get_or xs i d → take (i + 1) xs ≡ take i xs ++ x ∷ []
 one-more xs i x d lt is = take_more xs i d lt ∙ ap (λ y. take i xs ++ y ∷ []) (sym is)
 
-pub hits-more : (legs : List Leg) (marks part hits new : List (ℕ × ℕ)) (i : ℕ) (s d : Leg) → i < length legs → s ≡ get_or legs i d
+pub hits-more : (legs : List EdgeRange) (marks part hits new : List (ℕ × ℕ)) (i : ℕ) (s d : EdgeRange) → i < length legs → s ≡ get_or legs i d
     → ((p : ℕ × ℕ) → Contains part p ↔ (Contains marks p × (s.low ≤ p.0) × (p.0 ≤ s.high)))
     → new ≡ hits ++ map (hit s.to) part → HitsOf (take i legs) marks hits → HitsOf (take (i + 1) legs) marks new
 hits-more legs marks part hits new i s d lt is within made before c t =
     let grown = one-more legs i s d lt is in (
       λ h. elim (Contains-append_cases hits (map (hit s.to) part) (c, t) (subst (λ l. Contains l (c, t)) made h)) [
-        | inl j ↦ let b = (before c t).0 j in (b.0, subst (Any (Leads c t)) (sym grown) (Any-append_left (Leads c t) (take i legs) (s ∷ []) b.1))
+        | inl j ↦ let b = (before c t).0 j in (b.0, subst (Any (RangeLeads c t)) (sym grown) (Any-append_left (RangeLeads c t) (take i legs) (s ∷ []) b.1))
         | inr j ↦
             let m = map-in (hit s.to) part (c, t) j in
             let w = (within m.0).0 m.1 in
             let at : m.0.0 ≡ c = ap (λ (p : ℕ × ℕ). p.0) m.2 in
             let to : s.to ≡ t = ap (λ (p : ℕ × ℕ). p.1) m.2 in
-            let l : Leads c t s = (subst (λ n. s.low ≤ n) at w.1, subst (λ n. n ≤ s.high) at w.2, to) in
-            (Any-contains (λ (m : ℕ × ℕ). m.0 ≡ c) marks m.0 w.0 at, subst (Any (Leads c t)) (sym grown) (Any-append_right (Leads c t) (take i legs) (s ∷ []) (Any-here (Leads c t) s [] l)))
+            let l : RangeLeads c t s = (subst (λ n. s.low ≤ n) at w.1, subst (λ n. n ≤ s.high) at w.2, to) in
+            (Any-contains (λ (m : ℕ × ℕ). m.0 ≡ c) marks m.0 w.0 at, subst (Any (RangeLeads c t)) (sym grown) (Any-append_right (RangeLeads c t) (take i legs) (s ∷ []) (Any-here (RangeLeads c t) s [] l)))
       ],
-      λ a. subst (λ l. Contains l (c, t)) (sym made) (elim (Any-push_cases (Leads c t) (take i legs) s (subst (Any (Leads c t)) grown a.1)) [
+      λ a. subst (λ l. Contains l (c, t)) (sym made) (elim (Any-push_cases (RangeLeads c t) (take i legs) s (subst (Any (RangeLeads c t)) grown a.1)) [
         | inl b ↦ Contains-append_left hits (map (hit s.to) part) (c, t) ((before c t).1 (a.0, b))
         | inr l ↦
             let m = contained (λ (m : ℕ × ℕ). m.0 ≡ c) marks a.0 in
@@ -57,7 +57,7 @@ hits-more legs marks part hits new i s d lt is within made before c t =
       ]),
     )
 
-pub hits-done : (legs : List Leg) (marks hits sorted : List (ℕ × ℕ)) (i : ℕ) → length legs ≤ i → HitsOf (take i legs) marks hits
+pub hits-done : (legs : List EdgeRange) (marks hits sorted : List (ℕ × ℕ)) (i : ℕ) → length legs ≤ i → HitsOf (take i legs) marks hits
     → IsPermutation hits sorted → IsSorted pairs_cmp sorted → AreHits legs marks sorted
 hits-done legs marks hits sorted i le before perm order =
     let h = subst (λ l. HitsOf l marks hits) (take_all i legs le) before in

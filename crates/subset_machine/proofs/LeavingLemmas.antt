@@ -9,11 +9,11 @@ use Rattle.machine_core.specs.Lists.{Any-contains, contained, slice_get-contains
 use Rattle.machine_core.specs.declared.edge.Edge.{Edge}
 use Rattle.machine_core.specs.declared.end.End.{End}
 use Rattle.machine_core.specs.Places.{places, pick}
-use Rattle.machine_core.specs.Edges.{from_of, at_of, move_of, StepsBy, EndsAt, IsFormed}
+use Rattle.machine_core.specs.Edges.{from_of, at_of, move_of, StepsBy, EndsAt, AreEdgesAndEnds}
 use Rattle.machine_core.specs.Moves.{Moves}
-use Rattle.subset_machine.specs.declared.leaving.Leg.{Leg}
+use Rattle.subset_machine.specs.declared.leaving.EdgeRange.{EdgeRange}
 use Rattle.sv_word.specs.Words.{greatest_character}
-use Rattle.subset_machine.specs.Legs.{places_from_some, leg, legs_of, IsRange, Leads, AreLeaving}
+use Rattle.subset_machine.specs.Legs.{places_from_some, leg, legs_of, IsRange, RangeLeads, AreLeaving}
 use Rattle.subset_machine.proofs.AscendingLemmas.{nothing, contains-cases}
 use Rattle.subset_machine.proofs.PlaceLemmas.{places-exact, contains-get, pick-in, pick-out, flat_map-in, flat_map-out, map-in, map-out}
 
@@ -61,10 +61,10 @@ module _ (edges : List Edge) (list : List ℕ) where
   leaving-made free = record {
     exact = λ c t. (
       λ a.
-          let s = contained (Leads c t) (flat_map legs_of edges_from_some) a in
+          let s = contained (RangeLeads c t) (flat_map legs_of edges_from_some) a in
           let e = flat_map-in legs_of edges_from_some s.0 s.1 in
           let p = map-in (leg e.0.to) e.0.on s.0 e.2 in
-          let l = subst (Leads c t) (sym p.2) s.2 in
+          let l = subst (RangeLeads c t) (sym p.2) s.2 in
           let f = from-some-in e.0 e.1 in
           Any-contains (λ s. StepsBy edges s c [] t) list e.0.from f.1
           (Any-contains (λ d. (d.from ≡ e.0.from) × Moves c [] t (move_of d)) edges e.0 f.0 (refl, (ranges-out e.0.on c p.0 p.1 (l.0, l.1), free e.0 f.0, l.2))),
@@ -73,7 +73,7 @@ module _ (edges : List Edge) (list : List ℕ) where
           let e = contained (λ d. (d.from ≡ s.0) × Moves c [] t (move_of d)) edges s.2 in
           let p = ranges-in e.0.on c e.2.1.0 in
           let i = from-some-out e.0 e.1 (subst (Contains list) (sym e.2.0) s.1) in
-          Any-contains (Leads c t) (flat_map legs_of edges_from_some) (leg e.0.to p.0)
+          Any-contains (RangeLeads c t) (flat_map legs_of edges_from_some) (leg e.0.to p.0)
           (flat_map-out legs_of edges_from_some e.0 (leg e.0.to p.0) i (map-out (leg e.0.to) e.0.on p.0 p.1)) (p.2.0, p.2.1, e.2.1.2),
     );
   }
@@ -86,14 +86,14 @@ apart-inside low (q ∷ qs) p h i = elim (contains-cases q qs p i) [
 ]
 
 -- the ranges of an edge have characters
-pub legs-ranges : (e : Edge) → IsApartFrom 0 e.on → (s : Leg) → Contains (legs_of e) s → IsRange s
+pub legs-ranges : (e : Edge) → IsApartFrom 0 e.on → (s : EdgeRange) → Contains (legs_of e) s → IsRange s
 legs-ranges e apart s i = let p = map-in (leg e.to) e.on s i in subst IsRange p.2 (apart-inside 0 e.on p.0 apart p.1)
 
 -- without registers nothing costs anything
-pub edges-free : (states : ℕ) (edges : List Edge) (ends : List End) → IsFormed states 0 edges ends → (e : Edge) → Contains edges e → e.cost ≡ []
+pub edges-free : (states : ℕ) (edges : List Edge) (ends : List End) → AreEdgesAndEnds states 0 edges ends → (e : Edge) → Contains edges e → e.cost ≡ []
 edges-free states edges ends formed e i = nil_from_length e.cost (formed.edge e i).cost
 
-pub ends-free : (states : ℕ) (edges : List Edge) (ends : List End) → IsFormed states 0 edges ends → (e : End) → Contains ends e → e.cost ≡ []
+pub ends-free : (states : ℕ) (edges : List Edge) (ends : List End) → AreEdgesAndEnds states 0 edges ends → (e : End) → Contains ends e → e.cost ≡ []
 ends-free states edges ends formed e i = nil_from_length e.cost (formed.ending e i).cost
 
 -- each place found is one of the edges

@@ -10,8 +10,8 @@ use Rattle.std.specs.declared.cmp.Ordering.{Ordering}
 use Rattle.std.specs.declared.cmp.Ordering.TheVariants.{Less, Equal, Greater}
 use Rattle.sv_word.specs.Ranges.{in_ranges}
 use Rattle.sv_word.specs.Words.{greatest_character}
-use Rattle.subset_machine.specs.declared.leaving.Leg.{Leg}
-use Rattle.subset_machine.specs.Legs.{IsRange, AreBorders, AreMarks}
+use Rattle.subset_machine.specs.declared.leaving.EdgeRange.{EdgeRange}
+use Rattle.subset_machine.specs.Legs.{IsRange, AreBorders, AreUniformIntervals}
 use Rattle.subset_machine.proofs.AscendingLemmas.{nothing}
 use Rattle.subset_machine.proofs.LeavingLemmas.{ranges-in, ranges-out}
 
@@ -29,24 +29,24 @@ pub sorted-first : (ps : List (ℕ × ℕ)) → IsSorted pairs_cmp ps → IsSort
 sorted-first ps h k d l lt = first-first (nat_cmp (get_or ps (k + 1) d).0 (get_or ps k d).0) (nat_cmp (get_or ps (k + 1) d).1 (get_or ps k d).1) (h k d l lt)
 
 -- where ranges begin and stop
-pub record AreListed (legs : List Leg) (borders : List ℕ) : Type 0 where
-  pub begins : (s : Leg) → Contains legs s → Contains borders s.low
-  pub stops : (s : Leg) → Contains legs s → Contains borders (s.high + 1)
+pub record AreListed (legs : List EdgeRange) (borders : List ℕ) : Type 0 where
+  pub begins : (s : EdgeRange) → Contains legs s → Contains borders s.low
+  pub stops : (s : EdgeRange) → Contains legs s → Contains borders (s.high + 1)
   pub top : (b : ℕ) → Contains borders b → b ≤ greatest_character + 1
 
 pub listed-none : AreListed [] []
 listed-none = record { begins = λ s i. absurd (nothing s i); stops = λ s i. absurd (nothing s i); top = λ b i. absurd (nothing b i) }
 
-pub listed-more : (before grown : List Leg) (s : Leg) (old mid new : List ℕ) → grown ≡ before ++ s ∷ [] → IsRange s → mid ≡ old ++ s.low ∷ [] → new ≡ mid ++ (s.high + 1) ∷ []
+pub listed-more : (before grown : List EdgeRange) (s : EdgeRange) (old mid new : List ℕ) → grown ≡ before ++ s ∷ [] → IsRange s → mid ≡ old ++ s.low ∷ [] → new ≡ mid ++ (s.high + 1) ∷ []
     → AreListed before old → AreListed grown new
 listed-more before grown s old mid new more range low high h = record {
   begins = λ t i. elim (Contains-push_cases before s t (subst (λ l. Contains l t) more i)) [
     | inl j ↦ kept t.low (h.begins t j)
-    | inr e ↦ later t.low (subst (λ l. Contains l t.low) (sym low) (subst (λ (x : Leg). Contains (old ++ s.low ∷ []) x.low) e (Contains-push old s.low)))
+    | inr e ↦ later t.low (subst (λ l. Contains l t.low) (sym low) (subst (λ (x : EdgeRange). Contains (old ++ s.low ∷ []) x.low) e (Contains-push old s.low)))
   ];
   stops = λ t i. elim (Contains-push_cases before s t (subst (λ l. Contains l t) more i)) [
     | inl j ↦ kept (t.high + 1) (h.stops t j)
-    | inr e ↦ subst (λ l. Contains l (t.high + 1)) (sym high) (subst (λ (x : Leg). Contains (mid ++ (s.high + 1) ∷ []) (x.high + 1)) e (Contains-push mid (s.high + 1)))
+    | inr e ↦ subst (λ l. Contains l (t.high + 1)) (sym high) (subst (λ (x : EdgeRange). Contains (mid ++ (s.high + 1) ∷ []) (x.high + 1)) e (Contains-push mid (s.high + 1)))
   ];
   top = λ b i. elim (Contains-push_cases mid (s.high + 1) b (subst (λ l. Contains l b) high i)) [
     | inl j ↦ elim (Contains-push_cases old s.low b (subst (λ l. Contains l b) low j)) [ inl k ↦ h.top b k | inr e ↦ (let x = range.0 in let y = range.1 in omega (arith, e)) ]
@@ -60,7 +60,7 @@ listed-more before grown s old mid new more range low high h = record {
     kept : (b : ℕ) → Contains old b → Contains new b
     kept b i = later b (subst (λ l. Contains l b) (sym low) (Contains-append_left old (s.low ∷ []) b i))
 
-pub borders-made : (legs : List Leg) (listed pushed sorted : List ℕ) → AreListed legs listed → pushed ≡ listed ++ (greatest_character + 1) ∷ [] → IsPermutation pushed sorted
+pub borders-made : (legs : List EdgeRange) (listed pushed sorted : List ℕ) → AreListed legs listed → pushed ≡ listed ++ (greatest_character + 1) ∷ [] → IsPermutation pushed sorted
     → IsNonDecreasingBy (λ b. b) sorted → AreBorders legs sorted
 borders-made legs listed pushed sorted h more perm order = record {
   begins = λ s i. kept s.low (h.begins s i);
@@ -98,7 +98,7 @@ cutting-start borders order = record {
   top = omega arith;
 }
 
-module _ (legs : List Leg) (borders : List ℕ) (a : AreBorders legs borders) (at from : ℕ) (marks : List (ℕ × ℕ)) (h : IsCutting borders at from marks) (room : at < length borders) where
+module _ (legs : List EdgeRange) (borders : List ℕ) (a : AreBorders legs borders) (at from : ℕ) (marks : List (ℕ × ℕ)) (h : IsCutting borders at from marks) (room : at < length borders) where
   -- the border at hand
   abbrev border : ℕ
   border = get_or borders at 0
@@ -147,7 +147,7 @@ module _ (legs : List Leg) (borders : List ℕ) (a : AreBorders legs borders) (a
       kept : (m : ℕ × ℕ) → Contains marks m → Contains new m
       kept m i = subst (λ l. Contains l m) (sym made) (Contains-append_left marks ((from, border - 1) ∷ []) m i)
 
-pub marks-made : (legs : List Leg) (borders : List ℕ) (at from : ℕ) (marks : List (ℕ × ℕ)) → AreBorders legs borders → IsCutting borders at from marks → length borders ≤ at → AreMarks legs marks
+pub marks-made : (legs : List EdgeRange) (borders : List ℕ) (at from : ℕ) (marks : List (ℕ × ℕ)) → AreBorders legs borders → IsCutting borders at from marks → length borders ≤ at → AreUniformIntervals legs marks
 marks-made legs borders at from marks a h le = record {
   order = h.order;
   inside = λ m i. let p = h.inside m i in (p.0, (let y = p.1 in let t = h.top in omega arith));

@@ -9,7 +9,7 @@ use Rattle.machine_core.specs.Language.{RunsFrom}
 use Rattle.machine_core.specs.declared.edge.Edge.{Edge}
 use Rattle.machine_core.specs.declared.end.End.{End}
 use Rattle.machine_core.specs.declared.graph.Graph.{Graph}
-use Rattle.machine_core.specs.Edges.{EndsAt, StepsBy, IsFormed}
+use Rattle.machine_core.specs.Edges.{EndsAt, StepsBy, AreEdgesAndEnds}
 use Rattle.machine_core.specs.EdgeLaws.{step_character}
 use Rattle.std.specs.BTreeMap.{BTreeMap, get}
 use Rattle.std.proofs.Common.{Some, nat_eq}
@@ -17,16 +17,16 @@ use Rattle.std.specs.Prelude.{not}
 use Rattle.std.proofs.Math.Bool.{beq}
 use Rattle.machine_core.specs.Places.{pick}
 use Rattle.machine_core.specs.Graphs.{Accepts}
-use Rattle.subset_machine.specs.declared.leaving.Leg.{Leg}
-use Rattle.subset_machine.specs.Legs.{Leads, AreLeaving, AreMarks, AreHits, places_from_some, legs_of}
-use Rattle.subset_machine.specs.Subsets.{ListsAll, StepsFromSome, EndsInSome, MayEnd, SubsetEnds, SubsetSteps, SubsetAccepts, HasWord}
+use Rattle.subset_machine.specs.declared.leaving.EdgeRange.{EdgeRange}
+use Rattle.subset_machine.specs.Legs.{RangeLeads, AreLeaving, AreUniformIntervals, AreHits, places_from_some, legs_of}
+use Rattle.subset_machine.specs.Subsets.{ListsAll, StepsFromSome, EndsInSome, MayEnd, SubsetEnds, SubsetSteps, SubsetAccepts, HasSignedWord}
 use Rattle.subset_machine.specs.Groups.{lists_cmp, AreGroups, AreIntervals, MovesUnder}
 use Rattle.subset_machine.proofs.AscendingLemmas.{nothing, lists-same, lists-weaker, Rises, rises-increasing, inserted}
 use Rattle.subset_machine.proofs.LeavingLemmas.{ranges-in, ranges-out, edges_from_some, leaving-made, edges-free, ends-free}
 
 -- ranges lead to a list of states on each character
-reached : (c : ℕ) (legs : List Leg) → (next : List ℕ) × Rises 0 next × ((t : ℕ) → Contains next t ↔ Any (Leads c t) legs)
-reached c [] = ([], tt, λ t. (λ i. absurd (nothing t i), λ a. absurd (Any-none (Leads c t) a)))
+reached : (c : ℕ) (legs : List EdgeRange) → (next : List ℕ) × Rises 0 next × ((t : ℕ) → Contains next t ↔ Any (RangeLeads c t) legs)
+reached c [] = ([], tt, λ t. (λ i. absurd (nothing t i), λ a. absurd (Any-none (RangeLeads c t) a)))
 reached c (s ∷ ss) = by_test (reached c ss) (nat_le s.low c && nat_le c s.high) refl
   where
     inside : (a b c : ℕ) → (nat_le a c && nat_le c b) ≡ true → (a ≤ c) × (c ≤ b)
@@ -35,24 +35,24 @@ reached c (s ∷ ss) = by_test (reached c ss) (nat_le s.low c && nat_le c s.high
     outside : (a b c : ℕ) → (nat_le a c && nat_le c b) ≡ false → a ≤ c → c ≤ b → ⊥
     outside a b c e l h = grind (arith, nat_tests)
 
-    by_test : (next : List ℕ) × Rises 0 next × ((t : ℕ) → Contains next t ↔ Any (Leads c t) ss) → (b : Bool) → (nat_le s.low c && nat_le c s.high) ≡ b
-        → (next : List ℕ) × Rises 0 next × ((t : ℕ) → Contains next t ↔ Any (Leads c t) (s ∷ ss))
+    by_test : (next : List ℕ) × Rises 0 next × ((t : ℕ) → Contains next t ↔ Any (RangeLeads c t) ss) → (b : Bool) → (nat_le s.low c && nat_le c s.high) ≡ b
+        → (next : List ℕ) × Rises 0 next × ((t : ℕ) → Contains next t ↔ Any (RangeLeads c t) (s ∷ ss))
     by_test r true e =
         let with = inserted 0 s.to r.0 (omega arith) r.1 in
         let l = inside s.low s.high c e in (
           with.0,
           with.1,
           λ t. (
-            λ i. elim ((with.2 t).0 i) [ inl same ↦ Any-here (Leads c t) s ss (l.0, l.1, same) | inr j ↦ Any-there (Leads c t) s ss ((r.2 t).0 j) ],
-            λ a. (with.2 t).1 (elim (Any-cases (Leads c t) s ss a) [ inl h ↦ inl h.2 | inr h ↦ inr ((r.2 t).1 h) ]),
+            λ i. elim ((with.2 t).0 i) [ inl same ↦ Any-here (RangeLeads c t) s ss (l.0, l.1, same) | inr j ↦ Any-there (RangeLeads c t) s ss ((r.2 t).0 j) ],
+            λ a. (with.2 t).1 (elim (Any-cases (RangeLeads c t) s ss a) [ inl h ↦ inl h.2 | inr h ↦ inr ((r.2 t).1 h) ]),
           ),
         )
     by_test r false e = (
       r.0,
       r.1,
       λ t. (
-        λ i. Any-there (Leads c t) s ss ((r.2 t).0 i),
-        λ a. elim (Any-cases (Leads c t) s ss a) [ inl h ↦ absurd (outside s.low s.high c e h.0 h.1) | inr h ↦ (r.2 t).1 h ],
+        λ i. Any-there (RangeLeads c t) s ss ((r.2 t).0 i),
+        λ a. elim (Any-cases (RangeLeads c t) s ss a) [ inl h ↦ absurd (outside s.low s.high c e h.0 h.1) | inr h ↦ (r.2 t).1 h ],
       ),
     )
 
@@ -62,7 +62,7 @@ next-list edges free list c =
     let legs = flat_map legs_of (edges_from_some edges list) in
     let r = reached c legs in
     let l = leaving-made edges list free in
-    (r.0, lists-weaker (λ t. Any (Leads c t) legs) (StepsFromSome edges list c) r.0 (l.exact c) (record { ascending = rises-increasing 0 r.0 r.1; exact = r.2 }))
+    (r.0, lists-weaker (λ t. Any (RangeLeads c t) legs) (StepsFromSome edges list c) r.0 (l.exact c) (record { ascending = rises-increasing 0 r.0 r.1; exact = r.2 }))
 
 -- some state of the list reads the word
 abbrev SomeReads : List Edge → List End → List ℕ → List ℕ → Type 0
@@ -136,11 +136,11 @@ start-in m word a = elim (Any-cases (λ s. RunsFrom (EndsAt m.ends) (StepsBy m.e
 start-out : (m : Graph) (word : List ℕ) → Accepts m word [] → SomeReads m.edges m.ends (0 ∷ []) word
 start-out m word h = Any-here (λ s. RunsFrom (EndsAt m.ends) (StepsBy m.edges) s word []) 0 [] h
 
-pub subset-language : (m : Graph) → m.registers ≡ 0 → (negated : Bool) (word cost : List ℕ) → SubsetAccepts negated m word cost ↔ (HasWord negated m word × (cost ≡ []))
+pub subset-language : (m : Graph) → m.registers ≡ 0 → (negated : Bool) (word cost : List ℕ) → SubsetAccepts negated m word cost ↔ (HasSignedWord negated m word × (cost ≡ []))
 subset-language m plain negated = by_case negated
   where
-    formed : IsFormed m.states 0 m.edges m.ends
-    formed = subst (λ n. IsFormed m.states n m.edges m.ends) plain m.formed
+    formed : AreEdgesAndEnds m.states 0 m.edges m.ends
+    formed = subst (λ n. AreEdgesAndEnds m.states n m.edges m.ends) plain m.formed
 
     free : (e : Edge) → Contains m.edges e → e.cost ≡ []
     free = edges-free m.states m.edges m.ends formed
@@ -151,7 +151,7 @@ subset-language m plain negated = by_case negated
     characters : (s t c : ℕ) (k : List ℕ) → StepsBy m.edges s c k t → c ≤ greatest_character
     characters s t c k a = step_character m.states 0 m.edges m.ends formed s t c k a
 
-    by_case : (negated : Bool) (word cost : List ℕ) → SubsetAccepts negated m word cost ↔ (HasWord negated m word × (cost ≡ []))
+    by_case : (negated : Bool) (word cost : List ℕ) → SubsetAccepts negated m word cost ↔ (HasSignedWord negated m word × (cost ≡ []))
     by_case false word cost = (
       λ r. let h = plain-in m.edges m.ends free free_end characters word (0 ∷ []) cost r in (start-in m word h.0, h.1),
       λ h. subst (SubsetAccepts false m word) (sym h.1) (plain-out m.edges m.ends free free_end characters word (0 ∷ []) (start-out m word h.0)),
@@ -168,17 +168,17 @@ subset-deterministic negated edges list next other cost more c p q = lists-same 
 pub subset-complete : (m : Graph) → m.registers ≡ 0 → (negated : Bool) → IsTrue negated → (list : List ℕ) (c : ℕ) → c ≤ greatest_character
     → (next : List ℕ) × SubsetSteps negated m.edges list c [] next
 subset-complete m plain negated holds list c le =
-    let formed = subst (λ n. IsFormed m.states n m.edges m.ends) plain m.formed in
+    let formed = subst (λ n. AreEdgesAndEnds m.states n m.edges m.ends) plain m.formed in
     let n = next-list m.edges (edges-free m.states m.edges m.ends formed) list c in
     (n.0, (le, refl, n.1, λ e. holds))
 
 -- all characters of an interval lead to the same states
-module _ (edges : List Edge) (list : List ℕ) (legs : List Leg) (marks hits : List (ℕ × ℕ))
-    (leaving : AreLeaving edges list legs) (cut : AreMarks legs marks) (found : AreHits legs marks hits) where
+module _ (edges : List Edge) (list : List ℕ) (legs : List EdgeRange) (marks hits : List (ℕ × ℕ))
+    (leaving : AreLeaving edges list legs) (cut : AreUniformIntervals legs marks) (found : AreHits legs marks hits) where
   same-step : (m : ℕ × ℕ) → Contains marks m → (c d : ℕ) → m.0 ≤ c → c ≤ m.1 → m.0 ≤ d → d ≤ m.1 → (t : ℕ) → StepsFromSome edges list c t → StepsFromSome edges list d t
   same-step m i c d lc hc ld hd t a =
-      let s = contained (Leads c t) legs ((leaving.exact c t).1 a) in
-      (leaving.exact d t).0 (Any-contains (Leads d t) legs s.0 s.1 (cut.uniform m i s.0 s.1 c d t lc hc ld hd s.2))
+      let s = contained (RangeLeads c t) legs ((leaving.exact c t).1 a) in
+      (leaving.exact d t).0 (Any-contains (RangeLeads d t) legs s.0 s.1 (cut.uniform m i s.0 s.1 c d t lc hc ld hd s.2))
 
   hit-step : (m : ℕ × ℕ) → Contains marks m → (c : ℕ) → m.0 ≤ c → c ≤ m.1 → (t : ℕ) → Contains hits (m.0, t) ↔ StepsFromSome edges list c t
   hit-step m i c l h t =
@@ -213,23 +213,23 @@ module _ (edges : List Edge) (list : List ℕ) (legs : List Leg) (marks hits : L
   }
 
 -- what is found on the way to the moves of a list, over plain lists
-pub record Parts (edges : List Edge) (list : List ℕ) (legs : List Leg) (marks hits : List (ℕ × ℕ)) : Type 0 where
+pub record Parts (edges : List Edge) (list : List ℕ) (legs : List EdgeRange) (marks hits : List (ℕ × ℕ)) : Type 0 where
   pub leaving : AreLeaving edges list legs
-  pub cut : AreMarks legs marks
+  pub cut : AreUniformIntervals legs marks
   pub found : AreHits legs marks hits
 
 pub leaving-from : (m : Graph) → m.registers ≡ 0 → (list given : List ℕ) → given ≡ list → (es : List Edge) → es ≡ m.edges → (ps : List ℕ) → ps ≡ places_from_some m.edges given
-    → (legs : List Leg) → legs ≡ flat_map legs_of (pick es ps) → AreLeaving m.edges list legs
+    → (legs : List EdgeRange) → legs ≡ flat_map legs_of (pick es ps) → AreLeaving m.edges list legs
 leaving-from m plain list given at es edges ps places legs f =
-    let formed = subst (λ n. IsFormed m.states n m.edges m.ends) plain m.formed in
+    let formed = subst (λ n. AreEdgesAndEnds m.states n m.edges m.ends) plain m.formed in
     let same : pick es ps ≡ edges_from_some m.edges list = ap (λ l. pick l ps) edges ∙ ap (pick m.edges) (places ∙ ap (places_from_some m.edges) at) in
     subst (AreLeaving m.edges list) (sym (f ∙ ap (flat_map legs_of) same)) (leaving-made m.edges list (edges-free m.states m.edges m.ends formed))
 
-pub parts-from : (edges : List Edge) (list : List ℕ) (legs cut_legs hit_legs : List Leg) (marks marks' hits : List (ℕ × ℕ))
-    → AreLeaving edges list legs → cut_legs ≡ legs → AreMarks cut_legs marks → hit_legs ≡ legs → marks' ≡ marks → AreHits hit_legs marks' hits → Parts edges list legs marks hits
+pub parts-from : (edges : List Edge) (list : List ℕ) (legs cut_legs hit_legs : List EdgeRange) (marks marks' hits : List (ℕ × ℕ))
+    → AreLeaving edges list legs → cut_legs ≡ legs → AreUniformIntervals cut_legs marks → hit_legs ≡ legs → marks' ≡ marks → AreHits hit_legs marks' hits → Parts edges list legs marks hits
 parts-from edges list legs cut_legs hit_legs marks marks' hits leaving a cut b d found = record {
   leaving = leaving;
-  cut = subst (λ l. AreMarks l marks) a cut;
+  cut = subst (λ l. AreUniformIntervals l marks) a cut;
   found = subst (λ l. AreHits l marks hits) b (subst (λ l. AreHits hit_legs l hits) d found);
 }
 

@@ -46,6 +46,6 @@ abbrev pub SubsetAccepts : Bool → Graph → List ℕ → List ℕ → Type 0
 SubsetAccepts negated m word cost = RunsFrom (SubsetEnds negated m.ends) (SubsetSteps negated m.edges) (0 ∷ []) word cost
 
 -- a word of the machine, or negated, any other word
-abbrev pub HasWord : Bool → Graph → List ℕ → Type 0
-HasWord false m word = Accepts m word []
-HasWord true m word = IsWord word × (Accepts m word [] → ⊥)
+abbrev pub HasSignedWord : Bool → Graph → List ℕ → Type 0
+HasSignedWord false m word = Accepts m word []
+HasSignedWord true m word = IsWord word × (Accepts m word [] → ⊥)

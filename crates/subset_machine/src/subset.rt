@@ -1,7 +1,7 @@
 ghost use Rattle.std.specs.Prelude.{◌≡◌, ◌≢◌, ℕ, ◌≤◌, ◌<◌, ◌^◌, ◌↔◌, [], ◌∷◌, List, IfOk, IsTrue, All, AllPairs, Any, Contains};
 ghost use Rattle.sv_word.specs.Ranges.{IsInhabited};
 ghost use Rattle.machine_core.specs.Moves.{Moves};
-ghost use Rattle.subset_machine.specs.Subsets.{IsStateSet, EndsInSome, SubsetEnds, SubsetSteps, SubsetAccepts, HasWord};
+ghost use Rattle.subset_machine.specs.Subsets.{IsStateSet, EndsInSome, SubsetEnds, SubsetSteps, SubsetAccepts, HasSignedWord};
 ghost use Rattle.subset_machine.specs.StateSets.{sets_at_most};
 ghost use Rattle.subset_machine.specs.SubsetLaws.{first-states, next-states, step-cost, end-cost};
 ghost use Rattle.sv_word.specs.Words.{greatest_character};
@@ -40,7 +40,7 @@ impl<'a> Subset<'a> {
         requires { machine.now.registers ≡ 0 }
         ensures machine { result.machine.now ≡ machine.now }
         ensures negated { result.negated ≡ negated }
-        ensures language { (word cost : List ℕ) → SubsetAccepts negated machine.now word cost ↔ (HasWord negated machine.now word × (cost ≡ [])) }
+        ensures language { (word cost : List ℕ) → SubsetAccepts negated machine.now word cost ↔ (HasSignedWord negated machine.now word × (cost ≡ [])) }
         ensures deterministic { (list next other cost more : List ℕ) (c : ℕ)
             → SubsetSteps negated machine.now.edges list c cost next
             → SubsetSteps negated machine.now.edges list c more other → next ≡ other }

@@ -4,7 +4,7 @@ ghost use Rattle.std.specs.List.Sorted.{IsNonDecreasingBy};
 ghost use Rattle.subset_machine.specs.Legs.{AreHits};
 ghost use Rattle.subset_machine.specs.Subsets.{ListsAll};
 
-use crate::leaving::Leg;
+use crate::leaving::EdgeRange;
 use crate::search::between;
 use std::alloc::{AllocError, Global};
 use sv_list::Items;
@@ -13,7 +13,7 @@ use sv_list::Items;
 /// the characters. For h such pairs it takes time n log n for the n ranges and intervals, and h log h.
 pub fn hits_of(
     alloc: Global,
-    legs: &[Leg],
+    legs: &[EdgeRange],
     marks: &[(u32, u32)],
 ) -> Result<Vec<(u32, u32)>, AllocError>
     requires { IsNonDecreasingBy (λ m. m.0) marks.now }
@@ -28,7 +28,11 @@ pub fn hits_of(
 }
 
 // Adds what a range leads to on the first characters of these intervals.
-fn push_hits(hits: &mut Vec<(u32, u32)>, leg: Leg, marks: &[(u32, u32)]) -> Result<(), AllocError>
+fn push_hits(
+    hits: &mut Vec<(u32, u32)>,
+    leg: EdgeRange,
+    marks: &[(u32, u32)],
+) -> Result<(), AllocError>
     ensures { OnOk result (hits.new.items ≡ hits.old.items ++ map (λ m. (m.0, leg.to)) marks.now) }
 {
     for mark in marks {

@@ -19,6 +19,8 @@ pub record Given : Type 0 where
   pub is_open : Bool
   pub is_astray : Bool
   pub faults : ℕ
+  -- how many bytes the last read gave
+  pub last : ℕ
 
 -- a sink in memory
 pub record Taken : Type 0 where

@@ -33,7 +33,7 @@ pub use sink::{Sink, SinkFault};
 pub use source::{Failed, Source};
 pub use standard_sink::StdSink;
 pub use standard_source::StdSource;
-pub use words::Words;
+pub use words::ProgramArguments;
 
 #[cfg(test)]
 mod tests;

@@ -1,4 +1,4 @@
-ghost use Rattle.std.specs.Prelude.{◌≡◌, ◌↔◌, ◌≤◌, ◌<◌, IsTrue, min, length, string_bytes, is_ok, IfOk, not, Some, false, true};
+ghost use Rattle.std.specs.Prelude.{◌≡◌, ◌↔◌, ◌≤◌, ◌<◌, IsTrue, min, length, string_bytes, is_ok, IfOk, MatchResult, not, Some, false, true};
 ghost use Rattle.std.specs.Io.KnownBytes.{ReadConsumes};
 ghost use Rattle.std.specs.Option.{option_map};
 ghost use Rattle.sv_io.specs.Counts.{HasCause, raised};
@@ -19,6 +19,7 @@ pub struct MemSource {
     is_open: bool,
     is_astray: bool,
     faults: u64,
+    last: usize,
 }
 
 impl Model for MemSource {
@@ -28,7 +29,7 @@ impl Model for MemSource {
 
     ghost Value = { Given };
 
-    ghost view = { λ s. record { name = option_map string_bytes s.name; left = drop s.at s.bytes.items; failing = s.failing.items; piece = s.piece; calls = s.calls; is_open = s.is_open; is_astray = s.is_astray; faults = s.faults } };
+    ghost view = { λ s. record { name = option_map string_bytes s.name; left = drop s.at s.bytes.items; failing = s.failing.items; piece = s.piece; calls = s.calls; is_open = s.is_open; is_astray = s.is_astray; faults = s.faults; last = s.last } };
 
     ghost invariant = { λ s. (s.at ≤ length s.bytes.items) × (1 ≤ s.piece) };
 }
@@ -39,7 +40,7 @@ impl MemSource {
     /// does an `open` with another name. A read gives at most `piece` bytes.
     pub fn new(name: Option<String>, bytes: Vec<u8>, failing: Vec<u64>, piece: usize) -> MemSource
         requires { 1 ≤ piece }
-        ensures { result ≡ record { name = option_map string_bytes name; left = bytes.items; failing = failing.items; piece = piece; calls = 0; is_open = false; is_astray = false; faults = 0 } }
+        ensures { result ≡ record { name = option_map string_bytes name; left = bytes.items; failing = failing.items; piece = piece; calls = 0; is_open = false; is_astray = false; faults = 0; last = 0 } }
     {
         MemSource {
             name,
@@ -51,6 +52,7 @@ impl MemSource {
             is_open: false,
             is_astray: false,
             faults: 0,
+            last: 0,
         }
     }
 
@@ -88,6 +90,8 @@ impl Source for MemSource {
 
     ghost room = { λ s. length s.left };
 
+    ghost last = { λ s. Some s.last };
+
     fn open(&mut self, name: Option<&str>) -> Result<(), Failed>
         requires { self.old.is_open ≡ false }
         ensures decided { IsTrue (is_ok result) ↔ ((is_failing self.old.failing self.old.calls ≡ false) × (option_map (λ text. text.now) name.entry ≡ self.old.name)) }
@@ -116,9 +120,11 @@ impl Source for MemSource {
         ensures failed { is_ok result ≡ not (is_failing self.old.failing self.old.calls) }
         ensures count { IfOk result (λ count. count ≡ min (min (length self.old.left) self.old.piece) (length buffer.new)) }
         ensures bytes { ReadConsumes (Some self.old.left) (Some self.new.left) result buffer.new }
-        ensures state { self.new ≡ record self.old { left = self.new.left; calls = raised self.old.calls; faults = faults_after (not (is_ok result)) self.old.faults } }
+        ensures last { MatchResult result (λ count. self.new.last ≡ count) (λ _. self.new.last ≡ 0) }
+        ensures state { self.new ≡ record self.old { left = self.new.left; calls = raised self.old.calls; faults = faults_after (not (is_ok result)) self.old.faults; last = self.new.last } }
     {
         if self.fails() {
+            self.last = 0;
             self.faults = self.faults.saturating_add(1);
             return Err(Failed);
         }
@@ -126,6 +132,7 @@ impl Source for MemSource {
         let count = left.min(self.piece).min(buffer.len());
         buffer[..count].copy_from_slice(&self.bytes[self.at..self.at + count]);
         self.at += count;
+        self.last = count;
         Ok(count)
     }
 }

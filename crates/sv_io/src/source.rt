@@ -4,6 +4,7 @@ ghost use Rattle.std.specs.declared.option.Option.{Option};
 ghost use Rattle.std.specs.Io.{ReadsAtMost};
 ghost use Rattle.std.specs.Io.KnownBytes.{ReadConsumes};
 ghost use Rattle.sv_io.specs.Counts.{HasCause};
+ghost use Rattle.sv_io.specs.Lasts.{IsLast};
 ghost use Rattle.sv_io.specs.Names.{IsOwn};
 
 /// A call failed, and the count of faults of the object that it was made on rose.
@@ -29,6 +30,9 @@ pub trait Source {
     /// The most bytes that it may still give.
     ghost room: { Self → ℕ };
 
+    /// How many bytes the last `read` gave, where the source tells it: 0 where it failed, or met the end.
+    ghost last: { Self → Option ℕ };
+
     /// Opens what `name` names, and standard input without one. The source is open afterwards
     /// exactly where the answer is Ok. Fails where it can't be opened, and where the source tells
     /// its own name and `name` is another; then it is astray from now on.
@@ -52,6 +56,7 @@ pub trait Source {
         ensures bytes { ReadConsumes (left self.old) (left self.new) result buffer.new }
         ensures told { is_some (left self.new) ≡ is_some (left self.old) }
         ensures room { MatchResult result (λ count. room self.new + count ≡ room self.old) (λ _. room self.new ≡ room self.old) }
+        ensures last { IsLast (last self.new) result }
         ensures cause { HasCause (faults self.old) (faults self.new) result }
         ensures open { is_open self.new ≡ true }
         ensures astray { is_astray self.new ≡ is_astray self.old }

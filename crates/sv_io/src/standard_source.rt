@@ -62,6 +62,8 @@ impl Source for StdSource {
 
     ghost room = { λ s. s.room };
 
+    ghost last = { λ s. None };
+
     fn open(&mut self, name: Option<&str>) -> Result<(), Failed> {
         let place = match name {
             None => Place::Input,

@@ -1,6 +1,8 @@
 ghost use Rattle.std.specs.Prelude.{◌≡◌, IfOk, false};
 
-use crate::{Failed, MemSink, MemSource, Sink, SinkFault, Source, StdSink, StdSource, Words};
+use crate::{
+    Failed, MemSink, MemSource, ProgramArguments, Sink, SinkFault, Source, StdSink, StdSource,
+};
 use std::alloc::Global;
 use std::test::Fail;
 
@@ -75,7 +77,7 @@ fn the_real_sink_is_reached(rt: HostRuntime) {
 #[test]
 fn words_are_kept_in_order(rt: HostRuntime) -> Result<(), Fail> {
     let alloc = rt.alloc();
-    let mut words = Words::new(alloc);
+    let mut words = ProgramArguments::new(alloc);
     words.push(alloc, "--workers")?;
     words.push(alloc, "4")?;
     assert!(rt; words.len() == 2);

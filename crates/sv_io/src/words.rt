@@ -7,11 +7,11 @@ use std::marker::Model;
 /// The words of the command line behind the program's name, in order. Contracts see the list of
 /// the words' bytes.
 #[derive(Debug, Drop)]
-pub struct Words {
+pub struct ProgramArguments {
     words: Vec<String>,
 }
 
-impl Model for Words {
+impl Model for ProgramArguments {
     ghost use Rattle.std.specs.Prelude.{List, ℕ, map, string_bytes};
 
     ghost Value = { List (List ℕ) };
@@ -19,12 +19,12 @@ impl Model for Words {
     ghost view = { λ w. map string_bytes w.words.items };
 }
 
-impl Words {
+impl ProgramArguments {
     /// No words.
-    pub fn new(alloc: Global) -> Words
+    pub fn new(alloc: Global) -> ProgramArguments
         ensures { result ≡ [] }
     {
-        Words {
+        ProgramArguments {
             words: Vec::new(alloc),
         }
     }

@@ -8,7 +8,7 @@ use Rattle.sv_linear.specs.declared.fault.FormFault.TheVariants.{Past, Memory}
 use Rattle.sv_linear.specs.declared.form.Form.{Form}
 
 -- l and r are the operands that meet at the first column where the operation's result isn't a number of 128 bits
-pub record IsFirstPast (op : ℤ → ℤ → ℤ) (left right : Column → ℤ) (l r : ℤ) : Type 0 where
+pub record ArePastOperands (op : ℤ → ℤ → ℤ) (left right : Column → ℤ) (l r : ℤ) : Type 0 where
   pub column : Column
   pub left_is : l ≡ left column
   pub right_is : r ≡ right column
@@ -18,5 +18,5 @@ pub record IsFirstPast (op : ℤ → ℤ → ℤ) (left right : Column → ℤ) 
 -- Ok only where each result is a number of 128 bits, and Past only with the first two operands whose result isn't
 abbrev pub IsPastExactly : (ℤ → ℤ → ℤ) → (Column → ℤ) → (Column → ℤ) → Result Form FormFault → Type 0
 IsPastExactly op left right (Ok f) = (c : Column) → FitsSigned w128 (op (left c) (right c))
-IsPastExactly op left right (Err (Past l r)) = IsFirstPast op left right l r
+IsPastExactly op left right (Err (Past l r)) = ArePastOperands op left right l r
 IsPastExactly op left right (Err (Memory e)) = Unit {0}

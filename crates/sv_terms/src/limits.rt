@@ -26,7 +26,7 @@ pub const MOST_TRANSDUCER_ENDS: usize = 4_096;
 pub const MOST_CUBES: u64 = 1_048_576;
 
 /// The most registers of a cube, and the most integer constants.
-pub const MOST_REGISTERS: u32 = 64;
+pub const MOST_REGISTERS: usize = 64;
 
 /// The most splits of a cube, by the numbers of its text.
 pub const MOST_SPLITS: u64 = 1_048_576;

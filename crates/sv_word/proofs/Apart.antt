@@ -4,7 +4,7 @@ use Rattle.std.proofs.lemmas.Bool.Decides.{nat_tests}
 use Rattle.std.proofs.lemmas.Bool.{false≢true, cases_lt}
 use Rattle.std.proofs.lemmas.List.Folds.{list_any-append}
 use Rattle.std.specs.Prelude.{Some, slice_get}
-use Rattle.sv_word.specs.Ranges.{in_ranges, in_pair, IsLeast, IsApartFrom, EndsBy}
+use Rattle.sv_word.specs.Ranges.{in_ranges, in_pair, IsLeast, IsApartFrom, RangesEndBy}
 use Rattle.sv_word.specs.Words.{greatest_character}
 
 -- as `IsApartFrom`, and all pairs stay below `high` and apart from it
@@ -23,7 +23,7 @@ pub apart-less : (low less : ℕ) (ps : List (ℕ × ℕ)) → less ≤ low → 
 apart-less low less [] le h = tt
 apart-less low less (p ∷ ps) le h = (let a = h.0 in omega arith, h.1, h.2, h.3)
 
-pub apart-ends : (low : ℕ) (ps : List (ℕ × ℕ)) → IsApartFrom low ps → EndsBy greatest_character ps
+pub apart-ends : (low : ℕ) (ps : List (ℕ × ℕ)) → IsApartFrom low ps → RangesEndBy greatest_character ps
 apart-ends low [] h = tt
 apart-ends low (p ∷ ps) h = (h.2, apart-ends (p.1 + 2) ps h.3)
 

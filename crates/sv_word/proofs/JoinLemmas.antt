@@ -1,11 +1,11 @@
 -- Two lists of pairs that are joined pair by pair.
 use Rattle.std.proofs.Common.{◌≡◌, ℕ, zero, suc, ◌+◌, ◌-◌, ◌<◌, ◌≤◌, ◌&&◌, ◌||◌, Bool, true, false, cond, nat_le, max, List, [], ◌∷◌, ◌++◌, length, drop, get_or, add-one, ◌⊎◌, inl, inr, refl, ap, sym, ◌∙◌, subst, arith}
-use Rattle.std.proofs.Math.ListN.{drop_of_length-le, set}
+use Rattle.std.proofs.Math.ListN.{drop_of_length-le}
 use Rattle.std.proofs.Math.Seq.{drop-cons}
 use Rattle.std.proofs.lemmas.Bool.Decides.{nat_tests}
 use Rattle.std.specs.Prelude.{fold}
 use Rattle.sv_word.proofs.Apart.{apart-less, or-false}
-use Rattle.sv_word.specs.Ranges.{in_ranges, in_pair, with_joined, IsApartFrom, EndsBy}
+use Rattle.sv_word.specs.Ranges.{in_ranges, in_pair, with_joined, IsApartFrom, RangesEndBy}
 use Rattle.sv_word.specs.Words.{greatest_character}
 
 -- each pair begins at `low` or before
@@ -45,7 +45,7 @@ module _ (q p : ℕ × ℕ) where
   last-starts true le = (le, tt)
   last-starts false le = (le, (omega arith, tt))
 
-  last-ends : (top : ℕ) (t : Bool) → q.1 ≤ top → p.1 ≤ top → EndsBy top (last t)
+  last-ends : (top : ℕ) (t : Bool) → q.1 ≤ top → p.1 ≤ top → RangesEndBy top (last t)
   unfolding last
   last-ends top true a b = (omega arith, tt)
   last-ends top false a b = (a, (b, tt))
@@ -70,21 +70,21 @@ joined-starts [] p s = (omega arith, tt)
 joined-starts (q ∷ []) p s = last-starts q p (nat_le p.0 (q.1 + 1)) s.0
 joined-starts (q ∷ r ∷ qs) p s = (s.0, joined-starts (r ∷ qs) p s.1)
 
-pub joined-ends : (top : ℕ) (ps : List (ℕ × ℕ)) (p : ℕ × ℕ) → EndsBy top ps → p.1 ≤ top → EndsBy top (with_joined ps p)
+pub joined-ends : (top : ℕ) (ps : List (ℕ × ℕ)) (p : ℕ × ℕ) → RangesEndBy top ps → p.1 ≤ top → RangesEndBy top (with_joined ps p)
 unfolding last
 joined-ends top [] p e le = (le, tt)
 joined-ends top (q ∷ []) p e le = last-ends q p top (nat_le p.0 (q.1 + 1)) e.0 le
 joined-ends top (q ∷ r ∷ qs) p e le = (e.0, joined-ends top (r ∷ qs) p e.1 le)
 
-pub end-at : (top : ℕ) (ps : List (ℕ × ℕ)) → EndsBy top ps → (i : ℕ) (d : ℕ × ℕ) → i < length ps → (get_or ps i d).1 ≤ top
+pub end-at : (top : ℕ) (ps : List (ℕ × ℕ)) → RangesEndBy top ps → (i : ℕ) (d : ℕ × ℕ) → i < length ps → (get_or ps i d).1 ≤ top
 end-at top [] e i d lt = absurd (omega arith)
 end-at top (p ∷ ps) e zero d lt = e.0
 end-at top (p ∷ ps) e (suc i) d lt = end-at top ps e.1 i d (omega arith)
 
-pub ends-last : (top : ℕ) (all ps : List (ℕ × ℕ)) (q : ℕ × ℕ) → EndsBy top all → all ≡ ps ++ q ∷ [] → q.1 ≤ top
-ends-last top all ps q e is = by ps (subst (EndsBy top) is e)
+pub ends-last : (top : ℕ) (all ps : List (ℕ × ℕ)) (q : ℕ × ℕ) → RangesEndBy top all → all ≡ ps ++ q ∷ [] → q.1 ≤ top
+ends-last top all ps q e is = by ps (subst (RangesEndBy top) is e)
   where
-    by : (ps : List (ℕ × ℕ)) → EndsBy top (ps ++ q ∷ []) → q.1 ≤ top
+    by : (ps : List (ℕ × ℕ)) → RangesEndBy top (ps ++ q ∷ []) → q.1 ≤ top
     by [] e = e.0
     by (p ∷ ps) e = by ps e.1
 
@@ -186,7 +186,7 @@ module _ (all ps : List (ℕ × ℕ)) (q p : ℕ × ℕ) (is : all ≡ ps ++ q �
 pub joined-first : (ps : List (ℕ × ℕ)) (p : ℕ × ℕ) → ps ≡ [] → p ∷ [] ≡ with_joined ps p
 joined-first ps p e = ap (λ l. with_joined l p) (sym e)
 
-pub ends-drop : (top i : ℕ) (ps : List (ℕ × ℕ)) → EndsBy top ps → EndsBy top (drop i ps)
+pub ends-drop : (top i : ℕ) (ps : List (ℕ × ℕ)) → RangesEndBy top ps → RangesEndBy top (drop i ps)
 ends-drop top zero ps e = e
 ends-drop top (suc i) [] e = e
 ends-drop top (suc i) (p ∷ ps) e = ends-drop top i ps e.1

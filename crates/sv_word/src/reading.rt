@@ -1,6 +1,6 @@
-ghost use Rattle.std.specs.Prelude.{◌≡◌, ◌≢◌, ◌≤◌, ◌+◌, All, alloc_error, length, slice_index, IfOk, IfErr, IfSome};
+ghost use Rattle.std.specs.Prelude.{◌≡◌, ◌≢◌, ◌≤◌, ◌+◌, alloc_error, length, slice_index, IfOk, IfErr, IfSome};
 ghost use Rattle.std.specs.Str.Parse.{digits_value, AllDigits};
-ghost use Rattle.sv_word.specs.Literals.{lit, front_of, escape_of, number_of, braced_digits, four_digits, hex_len, quote_of};
+ghost use Rattle.sv_word.specs.Literals.{lit, front_of, escape_of, braced_digits, four_digits, hex_len};
 ghost use Rattle.sv_word.specs.Words.{greatest_character};
 
 use crate::literal_fault::LiteralFault;

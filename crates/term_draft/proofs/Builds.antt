@@ -10,9 +10,9 @@ use Rattle.sv_terms.specs.declared.term.Term.TheVariants as term
 use Rattle.sv_terms.specs.declared.term.Term.TheOpen.{Term-F}
 use Rattle.sv_terms.specs.declared.term.Term.TheFolds.{fold-Term, fold-roll-Term, map-Term}
 use Rattle.sv_terms.specs.declared.transducer.Transducer.{Transducer}
-use Rattle.term_draft.specs.declared.draft.Node.{Node}
-use Rattle.term_draft.specs.declared.draft.Node.TheVariants as node
-use Rattle.term_draft.specs.declared.draft.Part.{Part}
+use Rattle.term_draft.specs.declared.draft.DraftNode.{DraftNode}
+use Rattle.term_draft.specs.declared.draft.DraftNode.TheVariants as node
+use Rattle.term_draft.specs.declared.draft.DraftPart.{DraftPart}
 use Rattle.term_weight.specs.Bodies.{or_constant, put_in, put_in_layer}
 use Rattle.std.proofs.lemmas.List.{take_more}
 use Rattle.smt_names.specs.Signature.{Name}
@@ -58,15 +58,15 @@ body_size (body.Term t) = size t
 body_size (body.Language r) = 0
 
 -- a part at hand
-abbrev pub node_cost : Node → ℕ
+abbrev pub node_cost : DraftNode → ℕ
 node_cost (node.Called ps b places) = 3 + body_size b.now
 node_cost _ = 3
 
-abbrev pub cost : List Part → ℕ
+abbrev pub cost : List DraftPart → ℕ
 cost [] = 0
 cost (p ∷ ps) = (1 + node_cost p.node) + cost ps
 
-pub cost-before : (ps : List Part) (i : ℕ) (d : Part) → i < length ps → cost (take i ps) + node_cost (get_or ps i d).node < cost ps
+pub cost-before : (ps : List DraftPart) (i : ℕ) (d : DraftPart) → i < length ps → cost (take i ps) + node_cost (get_or ps i d).node < cost ps
 cost-before [] i d h = absurd (omega arith)
 cost-before (p ∷ ps) zero d h = omega arith
 cost-before (p ∷ ps) (suc i) d h = let k = cost-before ps i d (omega arith) in omega arith

@@ -10,7 +10,7 @@ use Rattle.sv_terms.specs.declared.sort.Sort.{Sort}
 use Rattle.sv_terms.specs.declared.term.Term.{Term}
 use Rattle.sv_terms.specs.declared.term.Term.TheOpen.{Term-F}
 use Rattle.sv_terms.specs.declared.term.Term.TheFolds.{fold-Term, fold-roll-Term, map-Term, ind-Term}
-use Rattle.term_draft.specs.declared.draft.Part.{Part}
+use Rattle.term_draft.specs.declared.draft.DraftPart.{DraftPart}
 use Rattle.term_weight.specs.declared.weight.Weight.{Weight}
 use Rattle.term_weight.specs.Bodies.{is_language, term_of, or_constant, put_in, put_in_layer, arguments_for, called}
 use Rattle.term_draft.specs.Drafts.{Adds, Calls, argument_place, at_place, at_places, if_term, senses, term_found, term_place}
@@ -175,13 +175,13 @@ term-if : (k : ℕ) (b : Body) → if_term k (Some b) ≡ (if is_language b then
 term-if k (body.Term t) = refl
 term-if k (body.Language r) = refl
 
-get-term : (ps : List Part) (bs : List Body) (i k : ℕ) (p : Part) → map (λ p. p.weight) ps ≡ map weight_of bs → slice_get ps i ≡ Some p → if_term k (slice_get bs i) ≡ (if p.weight.is_language then None else Some k)
+get-term : (ps : List DraftPart) (bs : List Body) (i k : ℕ) (p : DraftPart) → map (λ p. p.weight) ps ≡ map weight_of bs → slice_get ps i ≡ Some p → if_term k (slice_get bs i) ≡ (if p.weight.is_language then None else Some k)
 get-term [] bs i k p e f = absurd (cc)
 get-term (q ∷ ps) [] i k p e f = absurd (cc)
 get-term (q ∷ ps) (b ∷ bs) zero k p e f =
     let g : q ≡ p = cc in
     let h : q.weight ≡ weight_of b = cc in
-    term-if k b ∙ ap (λ (w : Weight). if w.is_language then None else Some k) (sym h ∙ ap (λ (z : Part). z.weight) g)
+    term-if k b ∙ ap (λ (w : Weight). if w.is_language then None else Some k) (sym h ∙ ap (λ (z : DraftPart). z.weight) g)
 get-term (q ∷ ps) (b ∷ bs) (suc i) k p e f = get-term ps bs i k p (cc) f
 
 get-past : {A : Type 0} (as_ : List A) (i : ℕ) → length as_ ≤ i → slice_get as_ i ≡ None
@@ -189,10 +189,10 @@ get-past [] i h = refl
 get-past (a ∷ as_) zero h = absurd (omega arith)
 get-past (a ∷ as_) (suc i) h = get-past as_ i (omega arith)
 
-pub term-stands : (ps : List Part) (bs : List Body) (i : ℕ) (p : Part) (l : Bool) → map (λ p. p.weight) ps ≡ map weight_of (senses ps) → senses ps ≡ bs → Some p ≡ slice_get ps i → p.weight.is_language ≡ l → (if l then None else Some i) ≡ if_term i (slice_get bs i)
+pub term-stands : (ps : List DraftPart) (bs : List Body) (i : ℕ) (p : DraftPart) (l : Bool) → map (λ p. p.weight) ps ≡ map weight_of (senses ps) → senses ps ≡ bs → Some p ≡ slice_get ps i → p.weight.is_language ≡ l → (if l then None else Some i) ≡ if_term i (slice_get bs i)
 term-stands ps bs i p l e f g h = ap (λ (b : Bool). if b then None else Some i) (sym h) ∙ sym (get-term ps (senses ps) i i p e (sym g)) ∙ ap (λ z. if_term i (slice_get z i)) f
 
-pub none-stands : (ps : List Part) (bs : List Body) (i : ℕ) → senses ps ≡ bs → None ≡ slice_get ps i → None ≡ if_term i (slice_get bs i)
+pub none-stands : (ps : List DraftPart) (bs : List Body) (i : ℕ) → senses ps ≡ bs → None ≡ slice_get ps i → None ≡ if_term i (slice_get bs i)
 none-stands ps bs i f g =
     let h : length bs ≤ i = subst (λ n. n ≤ i) (sym (length-senses ps) ∙ ap length f) (get-none ps i (sym g)) in
     ap (if_term i) (sym (get-past bs i h))

@@ -7,8 +7,8 @@ use Rattle.std.proofs.lemmas.Bool.Decides.{nat_tests}
 use Rattle.sv_terms.specs.declared.entry.Body.{Body}
 use Rattle.sv_terms.specs.declared.sort.Sort.TheVariants as sort
 use Rattle.sv_terms.specs.declared.transducer.Transducer.{Transducer}
-use Rattle.term_draft.specs.declared.draft.Node.{Node}
-use Rattle.term_draft.specs.declared.draft.Part.{Part}
+use Rattle.term_draft.specs.declared.draft.DraftNode.{DraftNode}
+use Rattle.term_draft.specs.declared.draft.DraftPart.{DraftPart}
 use Rattle.term_weight.specs.declared.weight.Weight.{Weight}
 use Rattle.term_weight.specs.Bodies.{opaque, related, term_of}
 use Rattle.term_draft.specs.Drafts.{at_place, sense, senses, senses_from}
@@ -16,34 +16,34 @@ use Rattle.term_weight.specs.Weights.{weight_of, weight_fits, capped, opaque_wei
 use Rattle.term_weight.specs.Sizes.{fits, nodes, nesting}
 use Rattle.term_weight.specs.LayerLaws.{map-snoc, weight-Opaque, weight-Related, weight-term_of}
 
-senses-after : (done : List Body) (ps : List Part) (p : Part) → senses_from done (ps ++ p ∷ []) ≡ senses_from done ps ++ sense (senses_from done ps) p.node ∷ []
+senses-after : (done : List Body) (ps : List DraftPart) (p : DraftPart) → senses_from done (ps ++ p ∷ []) ≡ senses_from done ps ++ sense (senses_from done ps) p.node ∷ []
 senses-after done [] p = refl
 senses-after done (q ∷ ps) p = senses-after (done ++ sense done q.node ∷ []) ps p
 
-length-after : (done : List Body) (ps : List Part) → length (senses_from done ps) ≡ length done + length ps
+length-after : (done : List Body) (ps : List DraftPart) → length (senses_from done ps) ≡ length done + length ps
 length-after done [] = omega arith
 length-after done (p ∷ ps) = length-after (done ++ sense done p.node ∷ []) ps ∙ omega (arith, length-append done (sense done p.node ∷ []))
 
-pub length-senses : (ps : List Part) → length (senses ps) ≡ length ps
+pub length-senses : (ps : List DraftPart) → length (senses ps) ≡ length ps
 length-senses ps = length-after [] ps ∙ omega arith
 
-pub put-senses : (ps : List Part) (n : Node) (w : Weight) (qs : List Part) → qs ≡ ps ++ record { node = n; weight = w } ∷ [] → senses qs ≡ senses ps ++ sense (senses ps) n ∷ []
+pub put-senses : (ps : List DraftPart) (n : DraftNode) (w : Weight) (qs : List DraftPart) → qs ≡ ps ++ record { node = n; weight = w } ∷ [] → senses qs ≡ senses ps ++ sense (senses ps) n ∷ []
 put-senses ps n w qs e = ap senses e ∙ senses-after [] ps (record { node = n; weight = w })
 
-pub put-weights : (ps : List Part) (n : Node) (w : Weight) (qs : List Part) → qs ≡ ps ++ record { node = n; weight = w } ∷ [] → w ≡ weight_of (sense (senses ps) n) → map (λ p. p.weight) ps ≡ map weight_of (senses ps) → map (λ p. p.weight) qs ≡ map weight_of (senses qs)
+pub put-weights : (ps : List DraftPart) (n : DraftNode) (w : Weight) (qs : List DraftPart) → qs ≡ ps ++ record { node = n; weight = w } ∷ [] → w ≡ weight_of (sense (senses ps) n) → map (λ p. p.weight) ps ≡ map weight_of (senses ps) → map (λ p. p.weight) qs ≡ map weight_of (senses qs)
 put-weights ps n w qs e f g =
-    ap (map (λ p. p.weight)) e ∙ map-snoc (λ (p : Part). p.weight) ps (record { node = n; weight = w })
+    ap (map (λ p. p.weight)) e ∙ map-snoc (λ (p : DraftPart). p.weight) ps (record { node = n; weight = w })
     ∙ (λ i. g i ++ f i ∷ [])
     ∙ sym (map-snoc weight_of (senses ps) (sense (senses ps) n))
     ∙ ap (map weight_of) (sym (put-senses ps n w qs e))
 
-get-weight : (ps : List Part) (bs : List Body) (i : ℕ) (p : Part) → map (λ p. p.weight) ps ≡ map weight_of bs → slice_get ps i ≡ Some p → p.weight ≡ weight_of (at_place bs i)
+get-weight : (ps : List DraftPart) (bs : List Body) (i : ℕ) (p : DraftPart) → map (λ p. p.weight) ps ≡ map weight_of bs → slice_get ps i ≡ Some p → p.weight ≡ weight_of (at_place bs i)
 get-weight [] bs i p e f = absurd (cc)
 get-weight (q ∷ ps) [] i p e f = absurd (cc)
-get-weight (q ∷ ps) (b ∷ bs) zero p e f = let g : q ≡ p = cc in let h : q.weight ≡ weight_of b = cc in ap (λ (z : Part). z.weight) (sym g) ∙ h
+get-weight (q ∷ ps) (b ∷ bs) zero p e f = let g : q ≡ p = cc in let h : q.weight ≡ weight_of b = cc in ap (λ (z : DraftPart). z.weight) (sym g) ∙ h
 get-weight (q ∷ ps) (b ∷ bs) (suc i) p e f = get-weight ps bs i p (cc) f
 
-pub part-weight : (ps : List Part) (bs : List Body) (i : ℕ) (p : Part) → map (λ p. p.weight) ps ≡ map weight_of (senses ps) → senses ps ≡ bs → Some p ≡ slice_get ps i → p.weight ≡ weight_of (at_place bs i)
+pub part-weight : (ps : List DraftPart) (bs : List Body) (i : ℕ) (p : DraftPart) → map (λ p. p.weight) ps ≡ map weight_of (senses ps) → senses ps ≡ bs → Some p ≡ slice_get ps i → p.weight ≡ weight_of (at_place bs i)
 part-weight ps bs i p e f g = get-weight ps (senses ps) i p e (sym g) ∙ ap (λ z. weight_of (at_place z i)) f
 
 past-end : (bs : List Body) (i : ℕ) → length bs ≤ i → at_place bs i ≡ opaque sort.Bool
@@ -56,7 +56,7 @@ get-none [] i e = omega arith
 get-none (a ∷ as_) zero e = absurd (cc)
 get-none (a ∷ as_) (suc i) e = let h = get-none as_ i e in omega arith
 
-pub no-part-weight : (ps : List Part) (bs : List Body) (i : ℕ) (w : Weight) → senses ps ≡ bs → None ≡ slice_get ps i → w ≡ opaque_weight sort.Bool → w ≡ weight_of (at_place bs i)
+pub no-part-weight : (ps : List DraftPart) (bs : List Body) (i : ℕ) (w : Weight) → senses ps ≡ bs → None ≡ slice_get ps i → w ≡ opaque_weight sort.Bool → w ≡ weight_of (at_place bs i)
 no-part-weight ps bs i w f g e =
     let h : length bs ≤ i = subst (λ n. n ≤ i) (sym (length-senses ps) ∙ ap length f) (get-none ps i (sym g)) in
     e ∙ sym (weight-Opaque sort.Bool) ∙ ap weight_of (sym (past-end bs i h))
@@ -83,13 +83,13 @@ pair-weighs t bs ws w e f = f ∙ ap pair_weight e ∙ sym (related-weighs t bs)
 pub ruleset drafting = (map-snoc, length-senses, put-senses, put-weights, part-weight, no-part-weight)
 
 -- the part at a place, built of those before it
-kept-before : (done : List Body) (ps : List Part) (i : ℕ) (d : Body) → i < length done → get_or (senses_from done ps) i d ≡ get_or done i d
+kept-before : (done : List Body) (ps : List DraftPart) (i : ℕ) (d : Body) → i < length done → get_or (senses_from done ps) i d ≡ get_or done i d
 kept-before done [] i d h = refl
 kept-before done (p ∷ ps) i d h =
     kept-before (done ++ sense done p.node ∷ []) ps i d (omega (arith, length-append done (sense done p.node ∷ [])))
     ∙ get_or-append done (sense done p.node ∷ []) d i h
 
-sense-after : (done : List Body) (ps : List Part) (i k : ℕ) (d : Body) (e : Part) → i < length ps → k ≡ length done + i → get_or (senses_from done ps) k d ≡ sense (senses_from done (take i ps)) (get_or ps i e).node
+sense-after : (done : List Body) (ps : List DraftPart) (i k : ℕ) (d : Body) (e : DraftPart) → i < length ps → k ≡ length done + i → get_or (senses_from done ps) k d ≡ sense (senses_from done (take i ps)) (get_or ps i e).node
 sense-after done [] i k d e h f = absurd (omega arith)
 sense-after done (p ∷ ps) zero k d e h f =
     let g : k ≡ length done = f ∙ omega arith in
@@ -98,8 +98,8 @@ sense-after done (p ∷ ps) zero k d e h f =
     ∙ get_or-append_seam done (sense done p.node) [] d
 sense-after done (p ∷ ps) (suc i) k d e h f = sense-after (done ++ sense done p.node ∷ []) ps i k d e (omega arith) (omega (arith, length-append done (sense done p.node ∷ [])))
 
-pub sense-at : (ps : List Part) (i : ℕ) (e : Part) → i < length ps → at_place (senses ps) i ≡ sense (senses (take i ps)) (get_or ps i e).node
+pub sense-at : (ps : List DraftPart) (i : ℕ) (e : DraftPart) → i < length ps → at_place (senses ps) i ≡ sense (senses (take i ps)) (get_or ps i e).node
 sense-at ps i e h = sense-after [] ps i i (opaque sort.Bool) e h (omega arith)
 
-pub sense-past : (ps : List Part) (i : ℕ) → length ps ≤ i → at_place (senses ps) i ≡ opaque sort.Bool
+pub sense-past : (ps : List DraftPart) (i : ℕ) → length ps ≤ i → at_place (senses ps) i ≡ opaque sort.Bool
 sense-past ps i h = past-end (senses ps) i (subst (λ n. n ≤ i) (sym (length-senses ps)) h)

@@ -6,9 +6,9 @@ use Rattle.sv_terms.specs.declared.entry.Body.TheVariants as body
 use Rattle.sv_terms.specs.declared.sort.Sort.{Sort}
 use Rattle.sv_terms.specs.declared.sort.Sort.TheVariants as sort
 use Rattle.sv_terms.specs.declared.term.Term.{Term}
-use Rattle.term_draft.specs.declared.draft.Node.{Node}
-use Rattle.term_draft.specs.declared.draft.Node.TheVariants as node
-use Rattle.term_draft.specs.declared.draft.Part.{Part}
+use Rattle.term_draft.specs.declared.draft.DraftNode.{DraftNode}
+use Rattle.term_draft.specs.declared.draft.DraftNode.TheVariants as node
+use Rattle.term_draft.specs.declared.draft.DraftPart.{DraftPart}
 use Rattle.term_weight.specs.Bodies.{opaque, called, related, term_of}
 use Rattle.smt_names.specs.Signature.{Name}
 use Rattle.term_weight.specs.Weights.{plain, nth_if}
@@ -22,18 +22,18 @@ abbrev pub at_places : List Body → List ℕ → List Body
 at_places done ps = map (at_place done) ps
 
 -- what a part is behind these
-abbrev pub sense : List Body → Node → Body
+abbrev pub sense : List Body → DraftNode → Body
 sense done (node.Leaf b) = b
 sense done (node.Applied k ps) = plain k (at_places done ps)
 sense done (node.Called parameters b ps) = called parameters.now b.now (at_places done ps)
 sense done (node.Related t ps) = related t.now (at_places done ps)
 
-abbrev pub senses_from : List Body → List Part → List Body
+abbrev pub senses_from : List Body → List DraftPart → List Body
 senses_from done [] = done
 senses_from done (p ∷ ps) = senses_from (done ++ sense done p.node ∷ []) ps
 
 -- what each part is
-abbrev pub senses : List Part → List Body
+abbrev pub senses : List DraftPart → List Body
 senses ps = senses_from [] ps
 
 -- the answer of a draft to which this is added: its place, at the end; without memory the draft stays as it was

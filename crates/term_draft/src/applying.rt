@@ -4,7 +4,7 @@ ghost use Rattle.term_weight.specs.Bodies as b;
 ghost use Rattle.term_weight.specs.Ranks as r;
 ghost use Rattle.term_weight.specs.Weights as w;
 
-use smt_names::Sense;
+use smt_names::Interpretation;
 use std::alloc::{AllocError, Global};
 use sv_list::{Boxed, Copied, Items};
 use sv_terms::{Body, Op, Regex, Sort, Term, Transducer};
@@ -241,22 +241,26 @@ fn range_body(bodies: Items<Body>) -> Body
 }
 
 /// A regular expression of one part, by its sense.
-fn wrap(alloc: Global, sense: Sense, regex: Regex) -> Result<Regex, AllocError>
+fn wrap(alloc: Global, sense: Interpretation, regex: Regex) -> Result<Regex, AllocError>
     ensures { IfOk result (λ x. x ≡ w.around_one sense regex) }
 {
     let regex = Boxed::new(alloc, regex)?;
     match sense {
-        Sense::Star => Ok(Regex::Star(regex)),
-        Sense::Plus => Ok(Regex::Plus(regex)),
-        Sense::Opt => Ok(Regex::Opt(regex)),
-        Sense::Comp => Ok(Regex::Comp(regex)),
-        Sense::Loop(i, j) => Ok(Regex::Loop(regex, i, j)),
+        Interpretation::Star => Ok(Regex::Star(regex)),
+        Interpretation::Plus => Ok(Regex::Plus(regex)),
+        Interpretation::Opt => Ok(Regex::Opt(regex)),
+        Interpretation::Comp => Ok(Regex::Comp(regex)),
+        Interpretation::Loop(i, j) => Ok(Regex::Loop(regex, i, j)),
         _ => Ok(Regex::Empty),
     }
 }
 
 #[tactic(auto, using(crate::proofs::Shapes::shaped))]
-fn combine_one(alloc: Global, sense: Sense, bodies: Items<Body>) -> Result<Body, AllocError>
+fn combine_one(
+    alloc: Global,
+    sense: Interpretation,
+    bodies: Items<Body>,
+) -> Result<Body, AllocError>
     ensures { IfOk result (λ x. x ≡ Body.Language (r.of_one (w.around_one sense) (map b.regex_of bodies))) }
 {
     match one(bodies) {
@@ -279,32 +283,32 @@ fn one_character(alloc: Global, c: u32) -> Result<Word, AllocError>
 
 /// An application that isn't opaque, in time linear in the number of arguments.
 #[inline(never)]
-pub fn apply(alloc: Global, sense: Sense, bodies: Items<Body>) -> Result<Body, AllocError>
+pub fn apply(alloc: Global, sense: Interpretation, bodies: Items<Body>) -> Result<Body, AllocError>
     ensures { IfOk result (λ x. x ≡ w.plain sense bodies) }
 {
     match sense {
-        Sense::Truth(b) => Ok(Body::Term(Term::Truth(b))),
-        Sense::Meaning(op) => apply_op(alloc, op, bodies),
-        Sense::Equality(op) => apply_op(alloc, op, bodies),
-        Sense::Choice => apply_op(alloc, Op::IfThenElse, bodies),
-        Sense::Product => apply_op(alloc, Op::Multiply, bodies),
-        Sense::Replacement(op) => apply_op(alloc, op, bodies),
-        Sense::Opaque => Ok(opaque(Sort::Bool)),
-        Sense::Membership => membership(alloc, bodies),
-        Sense::TextOf => Ok(word_body(bodies)),
-        Sense::Range => Ok(range_body(bodies)),
-        Sense::Empty => Ok(Body::Language(Regex::Empty)),
-        Sense::All => Ok(Body::Language(Regex::All)),
-        Sense::AnyChar => Ok(Body::Language(Regex::AnyChar)),
-        Sense::Character(c) => Ok(Body::Term(Term::Text(one_character(alloc, c)?))),
-        Sense::Concat => Ok(Body::Language(Regex::Concat(into_regexes(alloc, bodies)?))),
-        Sense::Union => Ok(Body::Language(Regex::Union(into_regexes(alloc, bodies)?))),
-        Sense::Inter => Ok(Body::Language(Regex::Inter(into_regexes(alloc, bodies)?))),
-        Sense::Diff => Ok(Body::Language(Regex::Diff(into_regexes(alloc, bodies)?))),
-        Sense::Star => combine_one(alloc, sense, bodies),
-        Sense::Plus => combine_one(alloc, sense, bodies),
-        Sense::Opt => combine_one(alloc, sense, bodies),
-        Sense::Comp => combine_one(alloc, sense, bodies),
-        Sense::Loop(_, _) => combine_one(alloc, sense, bodies),
+        Interpretation::Truth(b) => Ok(Body::Term(Term::Truth(b))),
+        Interpretation::Meaning(op) => apply_op(alloc, op, bodies),
+        Interpretation::Equality(op) => apply_op(alloc, op, bodies),
+        Interpretation::Choice => apply_op(alloc, Op::IfThenElse, bodies),
+        Interpretation::Product => apply_op(alloc, Op::Multiply, bodies),
+        Interpretation::Replacement(op) => apply_op(alloc, op, bodies),
+        Interpretation::Opaque => Ok(opaque(Sort::Bool)),
+        Interpretation::Membership => membership(alloc, bodies),
+        Interpretation::TextOf => Ok(word_body(bodies)),
+        Interpretation::Range => Ok(range_body(bodies)),
+        Interpretation::Empty => Ok(Body::Language(Regex::Empty)),
+        Interpretation::All => Ok(Body::Language(Regex::All)),
+        Interpretation::AnyChar => Ok(Body::Language(Regex::AnyChar)),
+        Interpretation::Character(c) => Ok(Body::Term(Term::Text(one_character(alloc, c)?))),
+        Interpretation::Concat => Ok(Body::Language(Regex::Concat(into_regexes(alloc, bodies)?))),
+        Interpretation::Union => Ok(Body::Language(Regex::Union(into_regexes(alloc, bodies)?))),
+        Interpretation::Inter => Ok(Body::Language(Regex::Inter(into_regexes(alloc, bodies)?))),
+        Interpretation::Diff => Ok(Body::Language(Regex::Diff(into_regexes(alloc, bodies)?))),
+        Interpretation::Star => combine_one(alloc, sense, bodies),
+        Interpretation::Plus => combine_one(alloc, sense, bodies),
+        Interpretation::Opt => combine_one(alloc, sense, bodies),
+        Interpretation::Comp => combine_one(alloc, sense, bodies),
+        Interpretation::Loop(_, _) => combine_one(alloc, sense, bodies),
     }
 }

@@ -7,12 +7,12 @@ ghost use Rattle.term_draft.specs.Drafts as drafts;
 ghost use Rattle.term_weight.specs.Weights as weights;
 
 use crate::applying::{apply, into_term, opaque, relate};
-use crate::draft::{Draft, Node, Part};
-use smt_names::Sense;
+use crate::draft::{DraftNode, DraftPart, TermDraft};
+use smt_names::Interpretation;
 use std::alloc::{AllocError, Global};
 use sv_list::{Boxed, Copied, Items};
 use sv_terms::{Body, Name, Op, Regex, Sort, Term, Transducer};
-use term_weight::{Places, room};
+use term_weight::{NamePlaces, room};
 
 #[inline(never)]
 fn copy_body(alloc: Global, body: &Body) -> Result<Body, AllocError>
@@ -64,7 +64,7 @@ fn relate_terms(
 }
 
 /// What the part at a place is.
-pub fn build_at(alloc: Global, draft: &Draft<'_>, place: usize) -> Result<Body, AllocError>
+pub fn build_at(alloc: Global, draft: &TermDraft<'_>, place: usize) -> Result<Body, AllocError>
     ensures { IfOk result (λ x. x ≡ drafts.at_place draft.now place) }
 {
     Ok(build(alloc, draft.parts(), place)?)
@@ -73,7 +73,7 @@ pub fn build_at(alloc: Global, draft: &Draft<'_>, place: usize) -> Result<Body, 
 /// What the part at a place among these is.
 #[cycle(build)]
 #[tactic(auto, using(crate::proofs::Builds::building))]
-fn build(alloc: Global, parts: &[Part<'_>], place: usize) -> Result<Body, AllocError>
+fn build(alloc: Global, parts: &[DraftPart<'_>], place: usize) -> Result<Body, AllocError>
     ensures { IfOk result (λ x. x ≡ drafts.at_place (drafts.senses parts.now) place) }
 {
     if place >= parts.len() {
@@ -86,17 +86,26 @@ fn build(alloc: Global, parts: &[Part<'_>], place: usize) -> Result<Body, AllocE
 /// What a part behind these is.
 #[cycle(build)]
 #[tactic(auto, using(crate::proofs::Builds::building))]
-fn build_node(alloc: Global, before: &[Part<'_>], node: &Node<'_>) -> Result<Body, AllocError>
+fn build_node(
+    alloc: Global,
+    before: &[DraftPart<'_>],
+    node: &DraftNode<'_>,
+) -> Result<Body, AllocError>
     ensures { IfOk result (λ x. x ≡ drafts.sense (drafts.senses before.now) node.now) }
 {
     match node {
-        Node::Leaf(body) => copy_body(alloc, body),
-        Node::Applied(sense, places) => build_applied(alloc, before, *sense, places.as_slice()),
-        Node::Called(parameters, body, places) => match body {
+        DraftNode::Leaf(body) => copy_body(alloc, body),
+        DraftNode::Applied(sense, places) => build_applied(
+            alloc,
+            before,
+            *sense,
+            places.as_slice(),
+        ),
+        DraftNode::Called(parameters, body, places) => match body {
             Body::Language(regex) => copy_language(alloc, regex),
             Body::Term(term) => build_called(alloc, before, parameters, term, places.as_slice()),
         },
-        Node::Related(transducer, places) => {
+        DraftNode::Related(transducer, places) => {
             build_related(alloc, before, transducer, places.as_slice())
         }
     }
@@ -108,8 +117,8 @@ fn build_node(alloc: Global, before: &[Part<'_>], node: &Node<'_>) -> Result<Bod
 #[inline(never)]
 fn build_applied(
     alloc: Global,
-    before: &[Part<'_>],
-    sense: Sense,
+    before: &[DraftPart<'_>],
+    sense: Interpretation,
     places: &[usize],
 ) -> Result<Body, AllocError>
     ensures { IfOk result (λ x. x ≡ weights.plain sense (drafts.at_places (drafts.senses before.now) places.now)) }
@@ -124,14 +133,14 @@ fn build_applied(
 #[inline(never)]
 fn build_called(
     alloc: Global,
-    before: &[Part<'_>],
+    before: &[DraftPart<'_>],
     parameters: &[(Name, Sort)],
     term: &Term,
     places: &[usize],
 ) -> Result<Body, AllocError>
     ensures { IfOk result (λ x. x ≡ bodies.called parameters.now (Body.Term term.now) (drafts.at_places (drafts.senses before.now) places.now)) }
 {
-    let index = Places::of(alloc, parameters)?;
+    let index = NamePlaces::of(alloc, parameters)?;
     let term = put_in(alloc, before, places, &index, term)?;
     Ok(Body::Term(term))
 }
@@ -142,7 +151,7 @@ fn build_called(
 #[inline(never)]
 fn build_related(
     alloc: Global,
-    before: &[Part<'_>],
+    before: &[DraftPart<'_>],
     transducer: &Transducer,
     places: &[usize],
 ) -> Result<Body, AllocError>
@@ -154,7 +163,11 @@ fn build_related(
 
 #[cycle(build)]
 #[tactic(auto, using(crate::proofs::Builds::building))]
-fn build_all(alloc: Global, parts: &[Part<'_>], places: &[usize]) -> Result<Items<Body>, AllocError>
+fn build_all(
+    alloc: Global,
+    parts: &[DraftPart<'_>],
+    places: &[usize],
+) -> Result<Items<Body>, AllocError>
     ensures { IfOk result (λ xs. xs ≡ drafts.at_places (drafts.senses parts.now) places.now) }
 {
     let mut all = room(alloc, places.len())?;
@@ -169,9 +182,9 @@ fn build_all(alloc: Global, parts: &[Part<'_>], places: &[usize]) -> Result<Item
 #[tactic(auto, using(crate::proofs::Builds::building))]
 fn put_in(
     alloc: Global,
-    parts: &[Part<'_>],
+    parts: &[DraftPart<'_>],
     arguments: &[usize],
-    index: &Places,
+    index: &NamePlaces,
     term: &Term,
 ) -> Result<Term, AllocError>
     ensures { IfOk result (λ x. x ≡ bodies.put_in (drafts.term_found (drafts.senses parts.now) index.now arguments.now) term.now) }
@@ -208,9 +221,9 @@ fn put_in(
 #[inline(never)]
 fn put_in_constant(
     alloc: Global,
-    parts: &[Part<'_>],
+    parts: &[DraftPart<'_>],
     arguments: &[usize],
-    index: &Places,
+    index: &NamePlaces,
     name: &Name,
     sort: Sort,
 ) -> Result<Term, AllocError>
@@ -227,9 +240,9 @@ fn put_in_constant(
 #[inline(never)]
 fn put_in_applied(
     alloc: Global,
-    parts: &[Part<'_>],
+    parts: &[DraftPart<'_>],
     arguments: &[usize],
-    index: &Places,
+    index: &NamePlaces,
     op: Op,
     terms: &[Term],
 ) -> Result<Term, AllocError>
@@ -247,9 +260,9 @@ fn put_in_applied(
 #[inline(never)]
 fn put_in_member(
     alloc: Global,
-    parts: &[Part<'_>],
+    parts: &[DraftPart<'_>],
     arguments: &[usize],
-    index: &Places,
+    index: &NamePlaces,
     word: &Term,
     regex: &Regex,
 ) -> Result<Term, AllocError>
@@ -264,9 +277,9 @@ fn put_in_member(
 #[inline(never)]
 fn put_in_related(
     alloc: Global,
-    parts: &[Part<'_>],
+    parts: &[DraftPart<'_>],
     arguments: &[usize],
-    index: &Places,
+    index: &NamePlaces,
     transducer: &Transducer,
     read: &Term,
     written: &Term,
@@ -281,7 +294,7 @@ fn put_in_related(
 /// The place of the argument of a parameter of this name.
 #[tactic(auto, using(crate::proofs::Calling::finding))]
 #[inline(never)]
-fn argument(index: &Places, arguments: &[usize], name: &Name) -> Option<usize>
+fn argument(index: &NamePlaces, arguments: &[usize], name: &Name) -> Option<usize>
     ensures { result ≡ drafts.place_found index.now arguments.now name.now }
 {
     match index.get(name) {

@@ -5,7 +5,7 @@ ghost use Rattle.term_weight.specs.Ranks.{applied};
 ghost use Rattle.term_weight.specs.Sizes.{fits as is_fit};
 ghost use Rattle.term_weight.specs.Weights.{weight_of};
 
-use smt_names::{Function, Sense};
+use smt_names::{Function, Interpretation};
 use std::alloc::{AllocError, Global};
 use std::marker::Model;
 use sv_list::Items;
@@ -16,11 +16,11 @@ use term_weight::{Factor, Macro, Weight, opacity, pair_weight, plain_weight, roo
 /// A part of a term that is read and not built yet. Parts are named by their places; a part names
 /// parts before it alone.
 #[derive(Drop)]
-pub enum Node<'a> {
+pub enum DraftNode<'a> {
     /// This, as it stands.
     Leaf(Body),
     /// An application that isn't opaque.
-    Applied(Sense, Items<usize>),
+    Applied(Interpretation, Items<usize>),
     /// The body of a macro with the arguments in the place of its parameters.
     Called(&'a [(Name, Sort)], &'a Body, Items<usize>),
     /// What the transducer reads, and what it may write.
@@ -29,8 +29,8 @@ pub enum Node<'a> {
 
 /// A part and its weight.
 #[derive(Drop)]
-pub struct Part<'a> {
-    pub node: Node<'a>,
+pub struct DraftPart<'a> {
+    pub node: DraftNode<'a>,
     pub weight: Weight,
 }
 
@@ -39,11 +39,11 @@ pub struct Part<'a> {
 ///
 /// Contracts see the list of what the parts are, with everything put in.
 #[derive(Drop)]
-pub struct Draft<'a> {
-    parts: Items<Part<'a>>,
+pub struct TermDraft<'a> {
+    parts: Items<DraftPart<'a>>,
 }
 
-impl<'a> Model for Draft<'a> {
+impl<'a> Model for TermDraft<'a> {
     ghost use Rattle.std.specs.Prelude.{List, ◌≡◌, map};
     ghost use Rattle.std.specs.Coded.{codes};
     ghost use Rattle.sv_terms.specs.contracts.regex.Regex as regex;
@@ -61,24 +61,24 @@ impl<'a> Model for Draft<'a> {
     ghost invariant = { λ x. map (λ p. p.weight) x.parts ≡ map weight_of (senses x.parts) };
 }
 
-impl<'a> Draft<'a> {
+impl<'a> TermDraft<'a> {
     /// No parts.
-    pub fn new(alloc: Global) -> Draft<'a>
+    pub fn new(alloc: Global) -> TermDraft<'a>
         ensures { result ≡ [] }
     {
-        Draft {
+        TermDraft {
             parts: Items::new(alloc),
         }
     }
 
     /// Adds a part of this weight.
     #[tactic(auto, using(crate::proofs::Drafting::drafting))]
-    fn put(&mut self, node: Node<'a>, weight: Weight) -> Result<usize, AllocError>
+    fn put(&mut self, node: DraftNode<'a>, weight: Weight) -> Result<usize, AllocError>
         requires { weight ≡ weight_of (sense self.old node) }
         ensures { Adds (sense self.old node.entry) self.old self.new result }
     {
         let place = self.parts.len();
-        self.parts.push(Part { node, weight })?;
+        self.parts.push(DraftPart { node, weight })?;
         Ok(place)
     }
 
@@ -86,7 +86,7 @@ impl<'a> Draft<'a> {
         requires { weight ≡ weight_of (Body.Term term) }
         ensures { Adds (Body.Term term) self.old self.new result }
     {
-        self.put(Node::Leaf(Body::Term(term)), weight)
+        self.put(DraftNode::Leaf(Body::Term(term)), weight)
     }
 
     /// Adds an opaque part, and answers its place.
@@ -139,7 +139,7 @@ impl<'a> Draft<'a> {
             Some(sort) => self.put_opaque(sort),
             None => {
                 let weight = plain_weight(function.sense, weights);
-                self.put(Node::Applied(function.sense, places), weight)
+                self.put(DraftNode::Applied(function.sense, places), weight)
             }
         }
     }
@@ -175,7 +175,7 @@ impl<'a> Draft<'a> {
         let weights = self.weights(alloc, places.as_slice())?;
         let weight = defined.summary.weight(weights.as_slice());
         self.put(
-            Node::Called(defined.parameters, defined.body, places),
+            DraftNode::Called(defined.parameters, defined.body, places),
             weight,
         )
     }
@@ -223,7 +223,7 @@ impl<'a> Draft<'a> {
     {
         let weights = self.weights(alloc, places.as_slice())?;
         let weight = pair_weight(weights.as_slice());
-        self.put(Node::Related(transducer, places), weight)
+        self.put(DraftNode::Related(transducer, places), weight)
     }
 
     #[tactic(auto, using(crate::proofs::Drafting::drafting))]
@@ -276,7 +276,7 @@ impl<'a> Draft<'a> {
     }
 
     /// The parts in their order.
-    pub(crate) fn parts(&self) -> &[Part<'a>]
+    pub(crate) fn parts(&self) -> &[DraftPart<'a>]
         ensures { senses result.now ≡ self.now }
     {
         self.parts.as_slice()

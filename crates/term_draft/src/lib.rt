@@ -21,4 +21,4 @@ mod draft;
 
 pub use applying::{body_sort, into_term};
 pub use building::build_at;
-pub use draft::Draft;
+pub use draft::TermDraft;

@@ -1,17 +1,17 @@
-use sexpr_reader::{Kind, Reader, Sexpr, SyntaxFault};
+use sexpr_reader::{Reader, Sexpr, SyntaxFault, TokenKind};
 use std::alloc::{AllocError, Global};
 
 /// One letter a kind.
-fn letter(kind: Kind) -> u8 {
+fn letter(kind: TokenKind) -> u8 {
     match kind {
-        Kind::Numeral => b'N',
-        Kind::Decimal => b'D',
-        Kind::Hexadecimal => b'H',
-        Kind::Binary => b'B',
-        Kind::Symbol => b'S',
-        Kind::Quoted => b'Q',
-        Kind::Keyword => b'K',
-        Kind::Literal => b'L',
+        TokenKind::Numeral => b'N',
+        TokenKind::Decimal => b'D',
+        TokenKind::Hexadecimal => b'H',
+        TokenKind::Binary => b'B',
+        TokenKind::Symbol => b'S',
+        TokenKind::Quoted => b'Q',
+        TokenKind::Keyword => b'K',
+        TokenKind::Literal => b'L',
     }
 }
 
@@ -80,7 +80,7 @@ fn drain_end(alloc: Global, reader: &mut Reader, out: &mut Vec<u8>) -> Result<()
 }
 
 /// What the input is read as, in pieces of this size.
-fn reading(alloc: Global, input: &[u8], size: usize) -> Result<Vec<u8>, AllocError> {
+fn read_pieces(alloc: Global, input: &[u8], size: usize) -> Result<Vec<u8>, AllocError> {
     let mut reader = Reader::new(alloc);
     let mut out = Vec::new(alloc);
     for piece in input.chunks(size.max(1)) {
@@ -100,7 +100,7 @@ fn is_read_as(
     size: usize,
     expected: &[u8],
 ) -> Result<bool, AllocError> {
-    let read = reading(alloc, input, size)?;
+    let read = read_pieces(alloc, input, size)?;
     Ok(read.as_slice() == expected)
 }
 

@@ -268,7 +268,7 @@ fn values(
     Ok(())
 }
 
-fn made(
+fn make(
     alloc: Global,
     out: &mut Out,
     symbols: &Declarations,
@@ -344,7 +344,7 @@ pub fn show(
 ) -> Result<Vec<u8>, AllocError> {
     let mut out = Vec::new(alloc);
     match answer {
-        Ok(command) => made(alloc, &mut out, symbols, command)?,
+        Ok(command) => make(alloc, &mut out, symbols, command)?,
         Err(fault) => text(&mut out, fault_name(fault))?,
     }
     Ok(out)

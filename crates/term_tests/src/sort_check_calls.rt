@@ -1,6 +1,6 @@
 // Items of SMT-LIB with what they are. The table names no byte that Rust or SMT-LIB escapes.
 use crate::shown::{show, show_term};
-use sexpr_reader::{Kind, Reader, Sexpr};
+use sexpr_reader::{Reader, Sexpr, TokenKind};
 use sort_check::{Command, asked_term, command};
 use std::alloc::{AllocError, Global};
 use std::process::Abort;
@@ -486,7 +486,7 @@ fn end_row(rows: &mut Progress, expected: &[u8]) -> bool {
 /// Takes the next item of the table: whether its row is right so far.
 fn take(alloc: Global, rows: &mut Progress, item: &Sexpr) -> Result<bool, Fail> {
     match item {
-        Sexpr::Atom(Kind::Quoted, expected) => Ok(end_row(rows, expected.as_slice())),
+        Sexpr::Atom(TokenKind::Quoted, expected) => Ok(end_row(rows, expected.as_slice())),
         _ => {
             rows.last = answer(alloc, &mut rows.symbols, item)?;
             Ok(true)
@@ -501,7 +501,7 @@ fn table(alloc: Global) -> Result<Reader, Fail> {
 }
 
 /// How many rows pass before the first that doesn't.
-fn passed(alloc: Global) -> Result<usize, Fail> {
+fn pass_count(alloc: Global) -> Result<usize, Fail> {
     let mut rows = begin(alloc)?;
     let mut reader = table(alloc)?;
     for _ in 0..4 * COUNT {
@@ -519,12 +519,12 @@ fn passed(alloc: Global) -> Result<usize, Fail> {
 
 #[test]
 fn rows(rt: HostRuntime) -> Result<(), Fail> {
-    assert!(rt; passed(rt.alloc())? == COUNT);
+    assert!(rt; pass_count(rt.alloc())? == COUNT);
     Ok(())
 }
 
 /// The terms that `inner` is put into `times` times, each between `open` and `close`.
-fn nested(
+fn nest(
     alloc: Global,
     open: &[u8],
     times: usize,
@@ -558,7 +558,7 @@ fn first_of(alloc: Global, term: &[u8]) -> Result<Option<u8>, Fail> {
 
 /// So many `let`s, each of which doubles p, around `inner`.
 fn double(alloc: Global, times: usize, inner: &[u8]) -> Result<Vec<u8>, Fail> {
-    let doubled = nested(alloc, b"(let ((a (and a a))) ", times, inner, b")")?;
+    let doubled = nest(alloc, b"(let ((a (and a a))) ", times, inner, b")")?;
     Ok([b"(let ((a p)) ", doubled.as_slice(), b")"].concat(alloc)?)
 }
 
@@ -583,8 +583,8 @@ fn nodes(rt: HostRuntime) -> Result<(), Fail> {
 
 /// So many `not`s around a name for 500 of them around p.
 fn deny(alloc: Global, times: usize) -> Result<Vec<u8>, Fail> {
-    let half = nested(alloc, b"(not ", 500, b"p", b")")?;
-    let inner = nested(alloc, b"(not ", times, b"a", b")")?;
+    let half = nest(alloc, b"(not ", 500, b"p", b")")?;
+    let inner = nest(alloc, b"(not ", times, b"a", b")")?;
     let parts = [
         b"(let ((a ",
         half.as_slice(),
@@ -610,7 +610,7 @@ fn nesting(rt: HostRuntime) -> Result<(), Fail> {
 }
 
 /// The term of an s-expression alone, or its fault.
-fn asked(alloc: Global, item: &[u8]) -> Result<Vec<u8>, Fail> {
+fn ask(alloc: Global, item: &[u8]) -> Result<Vec<u8>, Fail> {
     let mut symbols = Declarations::new(alloc);
     last_of(alloc, &mut symbols, NAMES)?;
     let mut reader = Reader::new(alloc);
@@ -623,7 +623,7 @@ fn asked(alloc: Global, item: &[u8]) -> Result<Vec<u8>, Fail> {
 }
 
 fn is_asked_as(alloc: Global, item: &[u8], expected: &[u8]) -> Result<bool, Fail> {
-    let is = asked(alloc, item)?;
+    let is = ask(alloc, item)?;
     Ok(is.as_slice() == expected)
 }
 

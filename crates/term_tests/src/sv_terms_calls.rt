@@ -127,7 +127,7 @@ fn constant(alloc: Global, text: &str) -> Result<Boxed<Term>, AllocError> {
     Boxed::new(alloc, Term::Constant(name(alloc, text)?, Sort::String))
 }
 
-fn related(alloc: Global, by: i32) -> Result<Term, AllocError> {
+fn relation_by(alloc: Global, by: i32) -> Result<Term, AllocError> {
     let read = constant(alloc, "x")?;
     let written = constant(alloc, "y")?;
     let transducer = Boxed::new(alloc, transducer(alloc, by)?)?;
@@ -139,9 +139,9 @@ fn member(alloc: Global) -> Result<Term, AllocError> {
 }
 
 // A term of all forms.
-fn joined(alloc: Global, by: i32) -> Result<Term, AllocError> {
+fn join_by(alloc: Global, by: i32) -> Result<Term, AllocError> {
     let mut parts = Items::new(alloc);
-    parts.push(related(alloc, by)?)?;
+    parts.push(relation_by(alloc, by)?)?;
     parts.push(member(alloc)?)?;
     parts.push(Term::Opaque(Sort::Bool))?;
     parts.push(Term::Truth(true))?;
@@ -150,9 +150,9 @@ fn joined(alloc: Global, by: i32) -> Result<Term, AllocError> {
 
 // Whether a copy of the term with the one number is the term with the other one.
 fn is_copy(alloc: Global, by: i32, other: i32) -> Result<bool, AllocError> {
-    let term = joined(alloc, by)?;
+    let term = join_by(alloc, by)?;
     let copy = term.copy(alloc)?;
-    let other = joined(alloc, other)?;
+    let other = join_by(alloc, other)?;
     Ok(copy.same(&other))
 }
 

@@ -5,7 +5,7 @@ use std::test::Fail;
 use sv_list::Items;
 use sv_terms::{Body, Entry, Name, Op, Sort, Term};
 use sv_word::Word;
-use term_draft::{Draft, build_at};
+use term_draft::{TermDraft, build_at};
 use term_weight::{Declarations, Declared};
 
 fn word(alloc: Global, text: &str) -> Result<Word, AllocError> {
@@ -29,7 +29,7 @@ fn pair<T: Drop>(alloc: Global, first: T, second: T) -> Result<Items<T>, AllocEr
 
 fn equal(
     alloc: Global,
-    draft: &mut Draft<'_>,
+    draft: &mut TermDraft<'_>,
     first: usize,
     second: usize,
 ) -> Result<usize, AllocError> {
@@ -60,7 +60,7 @@ fn is_term(body: &Body, term: &Term) -> bool {
 
 fn is_built(
     alloc: Global,
-    draft: &Draft<'_>,
+    draft: &TermDraft<'_>,
     place: usize,
     term: &Term,
 ) -> Result<bool, AllocError> {
@@ -71,7 +71,7 @@ fn is_built(
 // The place of an equality of two literals, put into the draft.
 fn put_words(
     alloc: Global,
-    draft: &mut Draft<'_>,
+    draft: &mut TermDraft<'_>,
     first: &str,
     second: &str,
 ) -> Result<usize, AllocError> {
@@ -81,12 +81,12 @@ fn put_words(
 }
 
 // The place of an equality of that with itself.
-fn put_twice(alloc: Global, draft: &mut Draft<'_>) -> Result<usize, AllocError> {
+fn put_twice(alloc: Global, draft: &mut TermDraft<'_>) -> Result<usize, AllocError> {
     let inner = put_words(alloc, draft, "a", "b")?;
     equal(alloc, draft, inner, inner)
 }
 
-fn is_twice(alloc: Global, draft: &Draft<'_>, place: usize) -> Result<bool, AllocError> {
+fn is_twice(alloc: Global, draft: &TermDraft<'_>, place: usize) -> Result<bool, AllocError> {
     let part = words_equal(alloc, "a", "b")?;
     let whole = equality(alloc, part.copy(alloc)?, part)?;
     is_built(alloc, draft, place, &whole)
@@ -94,7 +94,7 @@ fn is_twice(alloc: Global, draft: &Draft<'_>, place: usize) -> Result<bool, Allo
 
 #[test]
 fn a_part_is_used_twice(rt: HostRuntime) -> Result<(), Fail> {
-    let mut draft = Draft::new(rt.alloc());
+    let mut draft = TermDraft::new(rt.alloc());
     let outer = put_twice(rt.alloc(), &mut draft)?;
     assert!(rt; draft.fits(outer));
     assert!(rt; draft.sort(outer) == Sort::Bool);
@@ -142,7 +142,7 @@ fn macros(alloc: Global) -> Result<Declarations, AllocError> {
 // The place of a call; of a name that no macro has, a place of sort Int.
 fn call<'a>(
     alloc: Global,
-    draft: &mut Draft<'a>,
+    draft: &mut TermDraft<'a>,
     names: &'a Declarations,
     text: &str,
     place: usize,
@@ -158,14 +158,14 @@ fn call<'a>(
 // The place of the question whether the word "a" is "b".
 fn call_of_word<'a>(
     alloc: Global,
-    draft: &mut Draft<'a>,
+    draft: &mut TermDraft<'a>,
     names: &'a Declarations,
 ) -> Result<usize, AllocError> {
     let argument = draft.put_word(word(alloc, "a")?)?;
     call(alloc, draft, names, "is-b", argument)
 }
 
-fn compares_words(alloc: Global, draft: &Draft<'_>, place: usize) -> Result<bool, AllocError> {
+fn compares_words(alloc: Global, draft: &TermDraft<'_>, place: usize) -> Result<bool, AllocError> {
     let wanted = words_equal(alloc, "a", "b")?;
     is_built(alloc, draft, place, &wanted)
 }
@@ -173,7 +173,7 @@ fn compares_words(alloc: Global, draft: &Draft<'_>, place: usize) -> Result<bool
 #[test]
 fn a_macro_is_called(rt: HostRuntime) -> Result<(), Fail> {
     let names = macros(rt.alloc())?;
-    let mut draft = Draft::new(rt.alloc());
+    let mut draft = TermDraft::new(rt.alloc());
     let place = call_of_word(rt.alloc(), &mut draft, &names)?;
     assert!(rt; draft.sort(place) == Sort::Bool);
     assert!(rt; compares_words(rt.alloc(), &draft, place)?);
@@ -183,7 +183,7 @@ fn a_macro_is_called(rt: HostRuntime) -> Result<(), Fail> {
 // So many calls around a word.
 fn call_often<'a>(
     alloc: Global,
-    draft: &mut Draft<'a>,
+    draft: &mut TermDraft<'a>,
     names: &'a Declarations,
     times: usize,
 ) -> Result<usize, AllocError> {
@@ -196,7 +196,7 @@ fn call_often<'a>(
 
 // How many places so many calls around a word leave.
 fn places_left(alloc: Global, names: &Declarations, times: usize) -> Result<usize, AllocError> {
-    let mut draft = Draft::new(alloc);
+    let mut draft = TermDraft::new(alloc);
     call_often(alloc, &mut draft, names, times)?;
     draft.put_opaque(Sort::Bool)
 }
@@ -204,7 +204,7 @@ fn places_left(alloc: Global, names: &Declarations, times: usize) -> Result<usiz
 // Whether so many calls around a word are that word.
 fn is_word_left(alloc: Global, names: &Declarations, times: usize) -> Result<bool, AllocError> {
     let wanted = Term::Text(word(alloc, "a")?);
-    let mut draft = Draft::new(alloc);
+    let mut draft = TermDraft::new(alloc);
     let place = call_often(alloc, &mut draft, names, times)?;
     is_built(alloc, &draft, place, &wanted)
 }

@@ -66,7 +66,7 @@ fn negative(alloc: Global, n: i128) -> Result<Value, EvalFault> {
     value_of(alloc, Op::Subtract, &values)
 }
 
-fn ascending(alloc: Global, a: i128, b: i128, c: i128) -> Result<Value, EvalFault> {
+fn ascends(alloc: Global, a: i128, b: i128, c: i128) -> Result<Value, EvalFault> {
     let values = [Value::Number(a), Value::Number(b), Value::Number(c)];
     value_of(alloc, Op::Less, &values)
 }
@@ -92,14 +92,14 @@ fn word(alloc: Global, text: &str) -> Result<Word, AllocError> {
     Ok(word)
 }
 
-fn contained(alloc: Global, text: &str, pattern: &str) -> Result<Value, EvalFault> {
+fn contains(alloc: Global, text: &str, pattern: &str) -> Result<Value, EvalFault> {
     let text = Value::Text(word(alloc, text)?);
     let pattern = Value::Text(word(alloc, pattern)?);
     let values = [text, pattern];
     value_of(alloc, Op::Contains, &values)
 }
 
-fn replaced(alloc: Global, op: Op, text: &str, pattern: &str) -> Result<Value, EvalFault>
+fn replace(alloc: Global, op: Op, text: &str, pattern: &str) -> Result<Value, EvalFault>
     requires { IsSome (applied_sort op (sort.String ∷ sort.String ∷ sort.String ∷ [])) }
 {
     let text = Value::Text(word(alloc, text)?);
@@ -177,20 +177,16 @@ fn negative_is(alloc: Global, n: i128, want: i128) -> Result<bool, AllocError> {
     is(negative(alloc, n), &Value::Number(want))
 }
 
-fn ascending_is(
-    alloc: Global,
-    numbers: (i128, i128, i128),
-    want: bool,
-) -> Result<bool, AllocError> {
+fn ascends_to(alloc: Global, numbers: (i128, i128, i128), want: bool) -> Result<bool, AllocError> {
     let (a, b, c) = numbers;
-    is(ascending(alloc, a, b, c), &Value::Truth(want))
+    is(ascends(alloc, a, b, c), &Value::Truth(want))
 }
 
 fn choice_is(alloc: Global, test: bool, want: bool) -> Result<bool, AllocError> {
     is(choice(alloc, test, false, true), &Value::Truth(want))
 }
 
-fn replaced_is(
+fn replaces_to(
     alloc: Global,
     op: Op,
     text: &str,
@@ -200,11 +196,11 @@ fn replaced_is(
     requires { IsSome (applied_sort op (sort.String ∷ sort.String ∷ sort.String ∷ [])) }
 {
     let want = Value::Text(word(alloc, want)?);
-    is(replaced(alloc, op, text, pattern), &want)
+    is(replace(alloc, op, text, pattern), &want)
 }
 
 fn contains_is(alloc: Global, text: &str, pattern: &str, want: bool) -> Result<bool, AllocError> {
-    is(contained(alloc, text, pattern), &Value::Truth(want))
+    is(contains(alloc, text, pattern), &Value::Truth(want))
 }
 
 fn member_is(alloc: Global, text: &str, want: bool) -> Result<bool, AllocError> {
@@ -227,8 +223,8 @@ fn numbers_stay_within_128_bits(rt: HostRuntime) -> Result<(), AllocError> {
 
 #[test]
 fn truths_are_chosen(rt: HostRuntime) -> Result<(), AllocError> {
-    assert!(rt; ascending_is(rt.alloc(), (1, 2, 3), true)?);
-    assert!(rt; ascending_is(rt.alloc(), (1, 3, 2), false)?);
+    assert!(rt; ascends_to(rt.alloc(), (1, 2, 3), true)?);
+    assert!(rt; ascends_to(rt.alloc(), (1, 3, 2), false)?);
     assert!(rt; choice_is(rt.alloc(), true, false)?);
     assert!(rt; choice_is(rt.alloc(), false, true)?);
     Ok(())
@@ -236,9 +232,9 @@ fn truths_are_chosen(rt: HostRuntime) -> Result<(), AllocError> {
 
 #[test]
 fn patterns_are_replaced(rt: HostRuntime) -> Result<(), AllocError> {
-    assert!(rt; replaced_is(rt.alloc(), Op::ReplaceAll, "aaa", "aa", "ba")?);
-    assert!(rt; replaced_is(rt.alloc(), Op::ReplaceAll, "a", "", "a")?);
-    assert!(rt; replaced_is(rt.alloc(), Op::Replace, "a", "", "ba")?);
+    assert!(rt; replaces_to(rt.alloc(), Op::ReplaceAll, "aaa", "aa", "ba")?);
+    assert!(rt; replaces_to(rt.alloc(), Op::ReplaceAll, "a", "", "a")?);
+    assert!(rt; replaces_to(rt.alloc(), Op::Replace, "a", "", "ba")?);
     Ok(())
 }
 

@@ -11,7 +11,7 @@ use Rattle.smt_names.specs.Form.{Form, forms}
 use Rattle.term_walk.specs.Meant.{Scope, Names, any_size, latest, or_else, meant, meant_all, meant_values, meant_value}
 use Rattle.smt_names.specs.Signature.{Name, same_name}
 use Rattle.term_weight.specs.Sizes.{fits}
-use Rattle.term_walk.specs.Walks.{Each, Bound, sized, Meaning, Read, Reads}
+use Rattle.term_walk.specs.Walks.{Each, Bound, sized, Meaning, Read, ReadsMeaning}
 
 append-none : {A : Type 0} (xs : List A) → xs ++ [] ≡ xs
 append-none [] = refl
@@ -32,7 +32,7 @@ sized-then k x false more y e = e
 
 module _ {X Y : Type 0} (stands : List Body → X → Y → Type 0) where
   -- a fault is the first one
-  pub faulty : (m : Meaning Y) (old new : Walk) (f : CheckFault) → m any_size ≡ Err f → Reads stands m old new (Err f)
+  pub faulty : (m : Meaning Y) (old new : Walk) (f : CheckFault) → m any_size ≡ Err f → ReadsMeaning stands m old new (Err f)
   faulty m old new fault.Unknown e = e
   faulty m old new fault.Sort e = e
   faulty m old new fault.Arity e = e
@@ -45,11 +45,11 @@ module _ {X Y : Type 0} (stands : List Body → X → Y → Type 0) where
   faulty m old new fault.Size e = e
   faulty m old new (fault.Memory a) e = tt
 
-  pub alike : (m k : Meaning Y) (old new : Walk) (r : Result X CheckFault) → ((t : Body → Bool) → m t ≡ k t) → Reads stands m old new r → Reads stands k old new r
-  alike m k old new r h a = subst (λ (z : Meaning Y). Reads stands z old new r) (fun_ext h) a
+  pub alike : (m k : Meaning Y) (old new : Walk) (r : Result X CheckFault) → ((t : Body → Bool) → m t ≡ k t) → ReadsMeaning stands m old new r → ReadsMeaning stands k old new r
+  alike m k old new r h a = subst (λ (z : Meaning Y). ReadsMeaning stands z old new r) (fun_ext h) a
 
 -- a fault before what comes next
-pub fault-first : {X Y V W : Type 0} (stands : List Body → X → Y → Type 0) (holds : List Body → V → W → Type 0) (m : Meaning Y) (k : Meaning W) (old mid new : Walk) (f : CheckFault) → ((e : CheckFault) → m any_size ≡ Err e → k any_size ≡ Err e) → Reads stands m old mid (Err f) → Reads holds k old new (Err f)
+pub fault-first : {X Y V W : Type 0} (stands : List Body → X → Y → Type 0) (holds : List Body → V → W → Type 0) (m : Meaning Y) (k : Meaning W) (old mid new : Walk) (f : CheckFault) → ((e : CheckFault) → m any_size ≡ Err e → k any_size ≡ Err e) → ReadsMeaning stands m old mid (Err f) → ReadsMeaning holds k old new (Err f)
 fault-first stands holds m k old mid new fault.Unknown h a = h fault.Unknown a
 fault-first stands holds m k old mid new fault.Sort h a = h fault.Sort a
 fault-first stands holds m k old mid new fault.Arity h a = h fault.Arity a
@@ -77,15 +77,15 @@ module _ {X Y V W : Type 0} (stands : List Body → X → Y → Type 0) (holds :
     back = second.back ∙ first.back;
   }
 
-  pub then-reads : (x : X) (r : Result V CheckFault) (first : Read stands m old mid x) → Reads holds (λ t. k t first.what) mid new r → Reads holds (λ t. and_then (k t) (m t)) old new r
+  pub then-reads : (x : X) (r : Result V CheckFault) (first : Read stands m old mid x) → ReadsMeaning holds (λ t. k t first.what) mid new r → ReadsMeaning holds (λ t. and_then (k t) (m t)) old new r
   then-reads x (Ok v) first second = then-read x v first second
   then-reads x (Err f) first second = fault-first holds holds (λ t. k t first.what) (λ t. and_then (k t) (m t)) mid new new f (λ e h. ap (and_then (k any_size)) first.means ∙ h) second
 
 -- a test that holds, or doesn't
-pub tested : {X Y : Type 0} (stands : List Body → X → Y → Type 0) (m : Meaning Y) (b : Bool) (f : CheckFault) (old new : Walk) (r : Result X CheckFault) → b ≡ true → Reads stands m old new r → Reads stands (λ t. need b f >> m t) old new r
-tested stands m b f old new r e a = subst (λ (z : Bool). Reads stands (λ t. need z f >> m t) old new r) (sym e) a
+pub tested : {X Y : Type 0} (stands : List Body → X → Y → Type 0) (m : Meaning Y) (b : Bool) (f : CheckFault) (old new : Walk) (r : Result X CheckFault) → b ≡ true → ReadsMeaning stands m old new r → ReadsMeaning stands (λ t. need b f >> m t) old new r
+tested stands m b f old new r e a = subst (λ (z : Bool). ReadsMeaning stands (λ t. need z f >> m t) old new r) (sym e) a
 
-pub untested : {X Y : Type 0} (stands : List Body → X → Y → Type 0) (m : Meaning Y) (b : Bool) (f : CheckFault) (old new : Walk) → b ≡ false → Reads stands (λ t. need b f >> m t) old new (Err f)
+pub untested : {X Y : Type 0} (stands : List Body → X → Y → Type 0) (m : Meaning Y) (b : Bool) (f : CheckFault) (old new : Walk) → b ≡ false → ReadsMeaning stands (λ t. need b f >> m t) old new (Err f)
 untested stands m b f old new e = faulty stands (λ t. need b f >> m t) old new f (ap (λ z. need z f >> m any_size) e)
 
 -- places stay good where a draft grows

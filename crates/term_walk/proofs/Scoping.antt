@@ -9,7 +9,7 @@ use Rattle.std.proofs.lemmas.Cmp.{nat_list_eq_equiv}
 use Rattle.term_walk.specs.declared.scope.Binding.{Binding}
 use Rattle.term_weight.specs.Places.{shown}
 use Rattle.term_walk.specs.Meant.{latest, or_else}
-use Rattle.term_walk.specs.Scopes.{bound_pairs, HidesFrom, IsIndexed}
+use Rattle.term_walk.specs.Scopes.{bound_pairs, HidesFrom, IsNameIndex}
 use Rattle.smt_names.specs.Signature.{Name, same_name}
 
 abbrev Places : Type 0
@@ -60,8 +60,8 @@ hides-left done (c ∷ bs) b h =
     let k = hides-left (done ++ (c.name, c.place) ∷ []) bs b h.1 in
     ((h.0, k.0), k.1 ∙ ap (latest b.name) (append_assoc done ((c.name, c.place) ∷ []) (bound_pairs bs)))
 
-pub index-none : (bs : List Binding) (places : Places) → bs ≡ [] → places ≡ [] → IsIndexed bs places
-index-none bs places e f = subst (λ (z : List Binding). IsIndexed z places) (sym e) (subst (λ (z : Places). IsIndexed [] z) (sym f) (record { found = λ n. refl; hidden = tt }))
+pub index-none : (bs : List Binding) (places : Places) → bs ≡ [] → places ≡ [] → IsNameIndex bs places
+index-none bs places e f = subst (λ (z : List Binding). IsNameIndex z places) (sym e) (subst (λ (z : Places). IsNameIndex [] z) (sym f) (record { found = λ n. refl; hidden = tt }))
 
 pub pairs-snoc : (bs : List Binding) (b : Binding) → bound_pairs (bs ++ b ∷ []) ≡ bound_pairs bs ++ (b.name, b.place) ∷ []
 pairs-snoc bs b = map-append (λ (b : Binding). (b.name, b.place)) bs (b ∷ [])
@@ -73,8 +73,8 @@ length-pairs (b ∷ bs) = ap suc (length-pairs bs)
 pub pairs-bound : (bs cs : List Binding) (name : Name) (place : ℕ) (hides : Option ℕ) (old : List (Name × ℕ)) → cs ≡ bs ++ record { name = name; place = place; hides = hides } ∷ [] → bound_pairs bs ≡ old → bound_pairs cs ≡ old ++ (name, place) ∷ []
 pairs-bound bs cs name place hides old e f = ap bound_pairs e ∙ pairs-snoc bs (record { name = name; place = place; hides = hides }) ∙ ap (λ z. z ++ (name, place) ∷ []) f
 
-pub index-bound : (bs cs : List Binding) (places more : Places) (name key : Name) (place : ℕ) (hides : Option ℕ) → IsIndexed bs places → hides ≡ shown name places → key ≡ name → cs ≡ bs ++ record { name = name; place = place; hides = hides } ∷ [] → ((n : Name) → shown n more ≡ cond (same_name key n) (Some place) (shown n places)) → IsIndexed cs more
-index-bound bs cs places more name key place hides k h e f g = subst (λ (z : List Binding). IsIndexed z more) (sym f) (record {
+pub index-bound : (bs cs : List Binding) (places more : Places) (name key : Name) (place : ℕ) (hides : Option ℕ) → IsNameIndex bs places → hides ≡ shown name places → key ≡ name → cs ≡ bs ++ record { name = name; place = place; hides = hides } ∷ [] → ((n : Name) → shown n more ≡ cond (same_name key n) (Some place) (shown n places)) → IsNameIndex cs more
+index-bound bs cs places more name key place hides k h e f g = subst (λ (z : List Binding). IsNameIndex z more) (sym f) (record {
   found = λ n.
       g n ∙ ap (λ z. cond (same_name z n) (Some place) (shown n places)) e
       ∙ (λ i. cond (same-swap name n i) (Some place) (k.found n i))
@@ -84,30 +84,30 @@ index-bound bs cs places more name key place hides k h e f g = subst (λ (z : Li
   hidden = hides-snoc [] bs (record { name = name; place = place; hides = hides }) k.hidden (h ∙ k.found name);
 })
 
-pub index-same : (bs cs ds : List Binding) (b : Binding) (places more : Places) (n : ℕ) → IsIndexed bs places → cs ≡ bs ++ b ∷ [] → n ≡ length bs → ds ≡ take n cs → more ≡ places → IsIndexed ds more
+pub index-same : (bs cs ds : List Binding) (b : Binding) (places more : Places) (n : ℕ) → IsNameIndex bs places → cs ≡ bs ++ b ∷ [] → n ≡ length bs → ds ≡ take n cs → more ≡ places → IsNameIndex ds more
 index-same bs cs ds b places more n k e f g h =
     let q : ds ≡ bs = g ∙ (λ i. take (f i) (e i)) ∙ take-append_seam bs (b ∷ []) in
-    subst (λ (z : List Binding). IsIndexed z more) (sym q) (subst (λ (z : Places). IsIndexed bs z) (sym h) k)
+    subst (λ (z : List Binding). IsNameIndex z more) (sym q) (subst (λ (z : Places). IsNameIndex bs z) (sym h) k)
 
 -- without the latest binding
 shown-left : (b : Binding) (bs : List Binding) (n : Name) (t : Bool) → same_name b.name n ≡ t → b.hides ≡ latest b.name (bound_pairs bs) → cond t b.hides (latest n (bound_pairs (bs ++ b ∷ []))) ≡ latest n (bound_pairs bs)
 shown-left b bs n true e h = h ∙ latest-same b.name n e (bound_pairs bs)
 shown-left b bs n false e h = ap (latest n) (pairs-snoc bs b) ∙ latest-snoc n (bound_pairs bs) (b.name, b.place) ∙ ap (λ t. or_else (if t then Some b.place else None) (latest n (bound_pairs bs))) (same-swap n b.name ∙ e)
 
-pub index-left : (bs cs : List Binding) (b : Binding) (name : Name) (hides : Option ℕ) (places more : Places) → IsIndexed bs places → bs ≡ cs ++ b ∷ [] → name ≡ b.name → hides ≡ b.hides → ((n : Name) → shown n more ≡ cond (same_name name n) hides (shown n places)) → IsIndexed cs more
+pub index-left : (bs cs : List Binding) (b : Binding) (name : Name) (hides : Option ℕ) (places more : Places) → IsNameIndex bs places → bs ≡ cs ++ b ∷ [] → name ≡ b.name → hides ≡ b.hides → ((n : Name) → shown n more ≡ cond (same_name name n) hides (shown n places)) → IsNameIndex cs more
 index-left bs cs b name hides places more k e u v g' =
     let g : (n : Name) → shown n more ≡ cond (same_name b.name n) b.hides (shown n places) = λ n. g' n ∙ (λ i. cond (same_name (u i) n) (v i) (shown n places)) in
-    let q : IsIndexed (cs ++ b ∷ []) places = subst (λ (z : List Binding). IsIndexed z places) e k in
+    let q : IsNameIndex (cs ++ b ∷ []) places = subst (λ (z : List Binding). IsNameIndex z places) e k in
     let l = hides-left [] cs b q.hidden in
     record {
       found = λ n. g n ∙ ap (cond (same_name b.name n) b.hides) (q.found n) ∙ shown-left b cs n (same_name b.name n) refl l.1;
       hidden = l.0;
     }
 
-pub index-there : (bs cs : List Binding) (b : Binding) (name : Name) (places : Places) → IsIndexed bs places → bs ≡ cs ++ b ∷ [] → name ≡ b.name → shown name places ≡ None → ⊥
+pub index-there : (bs cs : List Binding) (b : Binding) (name : Name) (places : Places) → IsNameIndex bs places → bs ≡ cs ++ b ∷ [] → name ≡ b.name → shown name places ≡ None → ⊥
 index-there bs cs b name places k e u g' =
     let g : shown b.name places ≡ None = ap (λ n. shown n places) (sym u) ∙ g' in
-    let q : IsIndexed (cs ++ b ∷ []) places = subst (λ (z : List Binding). IsIndexed z places) e k in
+    let q : IsNameIndex (cs ++ b ∷ []) places = subst (λ (z : List Binding). IsNameIndex z places) e k in
     let f : None ≡ or_else (Some b.place) (latest b.name (bound_pairs cs)) = sym g ∙ q.found b.name ∙ ap (latest b.name) (pairs-snoc cs b) ∙ latest-snoc b.name (bound_pairs cs) (b.name, b.place) ∙ ap (λ t. or_else (if t then Some b.place else None) (latest b.name (bound_pairs cs))) (same-self b.name) in
     absurd (cc)
 

@@ -5,7 +5,7 @@ use Rattle.std.proofs.lemmas.List.{map-append, take_more}
 use Rattle.std.proofs.Math.Seq.{take-append_seam}
 use Rattle.std.proofs.lemmas.Bool.Decides.{nat_tests}
 use Rattle.std.proofs.lemmas.Grind.{common_steps}
-use Rattle.sexpr_reader.specs.declared.kind.Kind.{Kind}
+use Rattle.sexpr_reader.specs.declared.kind.TokenKind.{TokenKind}
 use Rattle.sexpr_reader.specs.declared.sexpr.Sexpr.{Sexpr}
 use Rattle.sexpr_reader.specs.declared.sexpr.Sexpr.TheVariants as v
 use Rattle.sv_terms.specs.declared.entry.Body.{Body}
@@ -25,25 +25,25 @@ use Rattle.smt_names.specs.Tokens.{chosen}
 use Rattle.smt_names.specs.Signature.{Name}
 use Rattle.term_weight.specs.Sizes.{fits}
 use Rattle.smt_names.specs.Tokens.{symbol, opening}
-use Rattle.term_walk.specs.Walks.{Here, Each, Bound, sized, Meaning, Read, Reads, applied_head, bound_to, fitting}
+use Rattle.term_walk.specs.Walks.{Here, Each, Bound, sized, Meaning, Read, ReadsMeaning, applied_head, bound_to, fitting}
 use Rattle.term_walk.proofs.Reading.{alike, fault-first, then-reads, bound-grow, joined, gathered, single, all-gathered, values-gathered, gathered-snoc, gathered-append}
 use Rattle.smt_names.specs.Shapes.{seen-Atom, seen-List, two-seen}
 use Rattle.term_walk.proofs.Walking.{each-are}
 
 module _ (symbols : Names) (s : Scope) (old new : Walk) (r : Result ℕ CheckFault) where
-  pub atom-read : (item : Sexpr) (k : Kind) (text : List ℕ) → item ≡ v.Atom k text → Reads Here (λ t. meant_token symbols s k text) old new r → Reads Here (λ t. meant t symbols s (seen item)) old new r
+  pub atom-read : (item : Sexpr) (k : TokenKind) (text : List ℕ) → item ≡ v.Atom k text → ReadsMeaning Here (λ t. meant_token symbols s k text) old new r → ReadsMeaning Here (λ t. meant t symbols s (seen item)) old new r
   atom-read item k text e a = alike Here (λ t. meant_token symbols s k text) (λ t. meant t symbols s (seen item)) old new r (λ t. ap (meant t symbols s) (sym (ap seen e ∙ seen-Atom k text))) a
 
-  pub list-read : (item : Sexpr) (xs ys : List Sexpr) → item ≡ v.List xs → ys ≡ xs → Reads Here (λ t. meant t symbols s (group (forms (map seen ys)))) old new r → Reads Here (λ t. meant t symbols s (seen item)) old new r
+  pub list-read : (item : Sexpr) (xs ys : List Sexpr) → item ≡ v.List xs → ys ≡ xs → ReadsMeaning Here (λ t. meant t symbols s (group (forms (map seen ys)))) old new r → ReadsMeaning Here (λ t. meant t symbols s (seen item)) old new r
   list-read item xs ys e f a = alike Here (λ t. meant t symbols s (group (forms (map seen ys)))) (λ t. meant t symbols s (seen item)) old new r (λ t. ap (meant t symbols s) (sym (ap seen (e ∙ ap v.List (sym f)) ∙ seen-List ys))) a
 
   pub arm-read : (fs gs : Forms) (x : Form) (o : Opening) → fs ≡ x ⨾ gs → opening x ≡ o
-      → Reads Here (λ t. chosen o (meant_let t symbols s gs) (meant_quantifier t symbols s gs) (meant_annotated t symbols s gs) (alone (of_theory (identified symbols gs))) (in_parentheses (head symbols x) (count gs) (meant_all t symbols s gs))) old new r
-      → Reads Here (λ t. meant t symbols s (group fs)) old new r
+      → ReadsMeaning Here (λ t. chosen o (meant_let t symbols s gs) (meant_quantifier t symbols s gs) (meant_annotated t symbols s gs) (alone (of_theory (identified symbols gs))) (in_parentheses (head symbols x) (count gs) (meant_all t symbols s gs))) old new r
+      → ReadsMeaning Here (λ t. meant t symbols s (group fs)) old new r
   arm-read fs gs x o e f a = alike Here (λ t. chosen o (meant_let t symbols s gs) (meant_quantifier t symbols s gs) (meant_annotated t symbols s gs) (alone (of_theory (identified symbols gs))) (in_parentheses (head symbols x) (count gs) (meant_all t symbols s gs))) (λ t. meant t symbols s (group fs)) old new r
       (λ t. ap (λ z. chosen z (meant_let t symbols s gs) (meant_quantifier t symbols s gs) (meant_annotated t symbols s gs) (alone (of_theory (identified symbols gs))) (in_parentheses (head symbols x) (count gs) (meant_all t symbols s gs))) (sym f) ∙ ap (λ z. meant t symbols s (group z)) (sym e)) a
 
-  pub annotated-read : (fs gs : Forms) (x : Form) → fs ≡ x ⨾ gs → Reads Here (λ t. meant t symbols s x) old new r → Reads Here (λ t. meant_annotated t symbols s fs) old new r
+  pub annotated-read : (fs gs : Forms) (x : Form) → fs ≡ x ⨾ gs → ReadsMeaning Here (λ t. meant t symbols s x) old new r → ReadsMeaning Here (λ t. meant_annotated t symbols s fs) old new r
   annotated-read fs gs x e a = alike Here (λ t. meant t symbols s x) (λ t. meant_annotated t symbols s fs) old new r (λ t. ap (meant_annotated t symbols s) (sym e)) a
 
 pub count-seen : (xs : List Sexpr) → count (forms (map seen xs)) ≡ length xs
@@ -52,14 +52,14 @@ count-seen (x ∷ xs) = ap suc (count-seen xs)
 
 -- arguments, and then the function
 module _ (symbols : Names) (s : Scope) (old mid new : Walk) (fs : Forms) (n : ℕ) (h : Head) where
-  pub application-read : (places : List ℕ) (r : Result ℕ CheckFault) → nat_le 1 n ≡ true → head_count h n ≡ true → (first : Read Each (λ t. meant_all t symbols s fs) old mid places) → Reads Here (λ t. applied_head h (at_places mid.draft places)) mid new r → Reads Here (λ t. in_parentheses (Ok h) n (meant_all t symbols s fs)) old new r
+  pub application-read : (places : List ℕ) (r : Result ℕ CheckFault) → nat_le 1 n ≡ true → head_count h n ≡ true → (first : Read Each (λ t. meant_all t symbols s fs) old mid places) → ReadsMeaning Here (λ t. applied_head h (at_places mid.draft places)) mid new r → ReadsMeaning Here (λ t. in_parentheses (Ok h) n (meant_all t symbols s fs)) old new r
   application-read places r e f first a =
       alike Here (λ t. and_then (applied_head h) (meant_all t symbols s fs)) (λ t. in_parentheses (Ok h) n (meant_all t symbols s fs)) old new r
       (λ t. sym (ap (λ z. need z fault.Arity >> application h n (meant_all t symbols s fs)) e ∙ ap (λ z. need z fault.Arity >> and_then (applied_head h) (meant_all t symbols s fs)) f))
       (then-reads Each Here (λ t. meant_all t symbols s fs) (λ t. applied_head h) old mid new places r first
       (alike Here (λ t. applied_head h (at_places mid.draft places)) (λ t. applied_head h first.what) mid new r (λ t. ap (applied_head h) (each-are mid.draft places first.what first.there)) a))
 
-  pub application-fault : (f : CheckFault) → nat_le 1 n ≡ true → head_count h n ≡ true → Reads Each (λ t. meant_all t symbols s fs) old new (Err f) → Reads Here (λ t. in_parentheses (Ok h) n (meant_all t symbols s fs)) old new (Err f)
+  pub application-fault : (f : CheckFault) → nat_le 1 n ≡ true → head_count h n ≡ true → ReadsMeaning Each (λ t. meant_all t symbols s fs) old new (Err f) → ReadsMeaning Here (λ t. in_parentheses (Ok h) n (meant_all t symbols s fs)) old new (Err f)
   application-fault f e g a = fault-first Each Here (λ t. meant_all t symbols s fs) (λ t. in_parentheses (Ok h) n (meant_all t symbols s fs)) old new new f
       (λ k j. ap (λ z. need z fault.Arity >> application h n (meant_all any_size symbols s fs)) e ∙ ap (λ z. need z fault.Arity >> and_then (applied_head h) (meant_all any_size symbols s fs)) g ∙ ap (and_then (applied_head h)) j) a
 
@@ -120,7 +120,7 @@ module _ {A X : Type 0} (stands : List Body → List X → List A → Type 0)
   drop-more (b ∷ bs) zero d h = refl
   drop-more (b ∷ bs) (suc i) d h = ap (λ z. b ∷ z) (drop-more bs i d (omega arith))
 
-  pub gather-fault : (xs : List Sexpr) (i : ℕ) (d : Sexpr) (old mid new : Walk) (ps : List X) (f : CheckFault) → i < length xs → d ≡ get_or xs i d → Read stands (λ t. gathered (g t) (map seen (take i xs))) old mid ps → Reads stands (λ t. g t (seen d)) mid new (Err f) → Reads stands (λ t. gathered (g t) (map seen xs)) old new (Err f)
+  pub gather-fault : (xs : List Sexpr) (i : ℕ) (d : Sexpr) (old mid new : Walk) (ps : List X) (f : CheckFault) → i < length xs → d ≡ get_or xs i d → Read stands (λ t. gathered (g t) (map seen (take i xs))) old mid ps → ReadsMeaning stands (λ t. g t (seen d)) mid new (Err f) → ReadsMeaning stands (λ t. gathered (g t) (map seen xs)) old new (Err f)
   gather-fault xs i d old mid new ps f h e a b = fault-first stands stands (λ t. g t (seen d)) (λ t. gathered (g t) (map seen xs)) mid new new f (λ k j.
       ap (λ z. gathered (g any_size) (map seen z)) (drop-more xs i d h)
       ∙ ap (gathered (g any_size)) (map-append seen (take i xs) (get_or xs i d ∷ drop (suc i) xs))
@@ -161,13 +161,13 @@ single-read m old new p a = record {
     one true x = refl
     one false x = refl
 
-pub single-fault : (m : Meaning Body) (old new : Walk) (f : CheckFault) → Reads Here m old new (Err f) → Reads Each (λ t. single (m t)) old new (Err f)
+pub single-fault : (m : Meaning Body) (old new : Walk) (f : CheckFault) → ReadsMeaning Here m old new (Err f) → ReadsMeaning Each (λ t. single (m t)) old new (Err f)
 single-fault m old new f a = fault-first Here Each m (λ t. single (m t)) old new new f (λ k j. ap single j) a
 
-pub all-read : (symbols : Names) (s : Scope) (xs : List Sexpr) (old new : Walk) (r : Result (List ℕ) CheckFault) → Reads Each (λ t. gathered (λ f. single (meant t symbols s f)) (map seen xs)) old new r → Reads Each (λ t. meant_all t symbols s (forms (map seen xs))) old new r
+pub all-read : (symbols : Names) (s : Scope) (xs : List Sexpr) (old new : Walk) (r : Result (List ℕ) CheckFault) → ReadsMeaning Each (λ t. gathered (λ f. single (meant t symbols s f)) (map seen xs)) old new r → ReadsMeaning Each (λ t. meant_all t symbols s (forms (map seen xs))) old new r
 all-read symbols s xs old new r a = alike Each (λ t. gathered (λ f. single (meant t symbols s f)) (map seen xs)) (λ t. meant_all t symbols s (forms (map seen xs))) old new r (λ t. sym (all-gathered t symbols s (map seen xs))) a
 
-pub values-read : (symbols : Names) (s : Scope) (xs : List Sexpr) (old new : Walk) (r : Result (List (Name × ℕ)) CheckFault) → Reads Bound (λ t. gathered (meant_value t symbols s) (map seen xs)) old new r → Reads Bound (λ t. meant_values t symbols s (forms (map seen xs))) old new r
+pub values-read : (symbols : Names) (s : Scope) (xs : List Sexpr) (old new : Walk) (r : Result (List (Name × ℕ)) CheckFault) → ReadsMeaning Bound (λ t. gathered (meant_value t symbols s) (map seen xs)) old new r → ReadsMeaning Bound (λ t. meant_values t symbols s (forms (map seen xs))) old new r
 values-read symbols s xs old new r a = alike Bound (λ t. gathered (meant_value t symbols s) (map seen xs)) (λ t. meant_values t symbols s (forms (map seen xs))) old new r (λ t. sym (values-gathered t symbols s (map seen xs))) a
 
 -- names bound around a term, and left again
@@ -185,13 +185,13 @@ within-read m old mid after new bound place mark e f g h a k = subst (λ (z : Wa
 })
 
 -- behind `let`
-pub let-read : (symbols : Names) (s : Scope) (old mid new : Walk) (bs : List Sexpr) (y : Form) (fs : Forms) (bound : List (Name × ℕ)) (r : Result ℕ CheckFault) → fs ≡ group (forms (map seen bs)) ⨾ y ⨾ end → are_some is_binding (forms (map seen bs)) ≡ true → (first : Read Bound (λ t. meant_values t symbols s (forms (map seen bs))) old mid bound) → Reads Here (λ t. meant t symbols (s ++ first.what) y) mid new r → Reads Here (λ t. meant_let t symbols s fs) old new r
+pub let-read : (symbols : Names) (s : Scope) (old mid new : Walk) (bs : List Sexpr) (y : Form) (fs : Forms) (bound : List (Name × ℕ)) (r : Result ℕ CheckFault) → fs ≡ group (forms (map seen bs)) ⨾ y ⨾ end → are_some is_binding (forms (map seen bs)) ≡ true → (first : Read Bound (λ t. meant_values t symbols s (forms (map seen bs))) old mid bound) → ReadsMeaning Here (λ t. meant t symbols (s ++ first.what) y) mid new r → ReadsMeaning Here (λ t. meant_let t symbols s fs) old new r
 let-read symbols s old mid new bs y fs bound r e f first a =
     alike Here (λ t. and_then (λ q. meant t symbols (s ++ q) y) (meant_values t symbols s (forms (map seen bs)))) (λ t. meant_let t symbols s fs) old new r
     (λ t. sym (ap (meant_let t symbols s) e ∙ ap (λ z. need z fault.Shape >> and_then (λ q. meant t symbols (s ++ q) y) (meant_values t symbols s (forms (map seen bs)))) f))
     (then-reads Bound Here (λ t. meant_values t symbols s (forms (map seen bs))) (λ t q. meant t symbols (s ++ q) y) old mid new bound r first a)
 
-pub let-fault : (symbols : Names) (s : Scope) (old new : Walk) (bs : List Sexpr) (y : Form) (fs : Forms) (f : CheckFault) → fs ≡ group (forms (map seen bs)) ⨾ y ⨾ end → are_some is_binding (forms (map seen bs)) ≡ true → Reads Bound (λ t. meant_values t symbols s (forms (map seen bs))) old new (Err f) → Reads Here (λ t. meant_let t symbols s fs) old new (Err f)
+pub let-fault : (symbols : Names) (s : Scope) (old new : Walk) (bs : List Sexpr) (y : Form) (fs : Forms) (f : CheckFault) → fs ≡ group (forms (map seen bs)) ⨾ y ⨾ end → are_some is_binding (forms (map seen bs)) ≡ true → ReadsMeaning Bound (λ t. meant_values t symbols s (forms (map seen bs))) old new (Err f) → ReadsMeaning Here (λ t. meant_let t symbols s fs) old new (Err f)
 let-fault symbols s old new bs y fs f e g a = fault-first Bound Here (λ t. meant_values t symbols s (forms (map seen bs))) (λ t. meant_let t symbols s fs) old new new f (λ k j.
     ap (meant_let any_size symbols s) e ∙ ap (λ z. need z fault.Shape >> and_then (λ q. meant any_size symbols (s ++ q) y) (meant_values any_size symbols s (forms (map seen bs)))) g ∙ ap (and_then (λ q. meant any_size symbols (s ++ q) y)) j) a
 
@@ -243,12 +243,12 @@ module _ (item : Sexpr) (xs : List Sexpr) (e : item ≡ v.List xs) where
       go (x ∷ y ∷ []) h = absurd (omega arith)
       go (x ∷ y ∷ z ∷ xs) h = refl
 
-pub value-read : (symbols : Names) (s : Scope) (item x y : Form) (old mid new : Walk) (place : ℕ) (r : Result (List (Name × ℕ)) CheckFault) → item ≡ group (x ⨾ y ⨾ end) → (first : Read Here (λ t. meant t symbols s y) old mid place) → Reads Bound (λ t. bound_to t (symbol x) first.what) mid new r → Reads Bound (λ t. meant_value t symbols s item) old new r
+pub value-read : (symbols : Names) (s : Scope) (item x y : Form) (old mid new : Walk) (place : ℕ) (r : Result (List (Name × ℕ)) CheckFault) → item ≡ group (x ⨾ y ⨾ end) → (first : Read Here (λ t. meant t symbols s y) old mid place) → ReadsMeaning Bound (λ t. bound_to t (symbol x) first.what) mid new r → ReadsMeaning Bound (λ t. meant_value t symbols s item) old new r
 value-read symbols s item x y old mid new place r e first a =
     alike Bound (λ t. and_then (bound_to t (symbol x)) (meant t symbols s y)) (λ t. meant_value t symbols s item) old new r (λ t. ap (meant_value t symbols s) (sym e))
     (then-reads Here Bound (λ t. meant t symbols s y) (λ t. bound_to t (symbol x)) old mid new place r first a)
 
-pub value-fault : (symbols : Names) (s : Scope) (item x y : Form) (old new : Walk) (f : CheckFault) → item ≡ group (x ⨾ y ⨾ end) → Reads Here (λ t. meant t symbols s y) old new (Err f) → Reads Bound (λ t. meant_value t symbols s item) old new (Err f)
+pub value-fault : (symbols : Names) (s : Scope) (item x y : Form) (old new : Walk) (f : CheckFault) → item ≡ group (x ⨾ y ⨾ end) → ReadsMeaning Here (λ t. meant t symbols s y) old new (Err f) → ReadsMeaning Bound (λ t. meant_value t symbols s item) old new (Err f)
 value-fault symbols s item x y old new f e a = fault-first Here Bound (λ t. meant t symbols s y) (λ t. meant_value t symbols s item) old new new f (λ k j. ap (meant_value any_size symbols s) e ∙ ap (and_then (bound_to any_size (symbol x))) j) a
 
 abbrev right : {A : Type 0} → A → Result A CheckFault
@@ -259,7 +259,7 @@ module _ (symbols : Names) (s : Scope) (vs : List Sexpr) (y : Form) (fs : Forms)
   abbrev within : (Body → Bool) → Scope → Result Body CheckFault
   within t q = meant t symbols (s ++ q) y
 
-  pub quantifier-read : (old mid after new : Walk) (vars : List (Name × Sort)) (bound : List (Name × ℕ)) (place : ℕ) (r : Result ℕ CheckFault) → are_some is_variable (forms (map seen vs)) ≡ true → vars ≡ variables (forms (map seen vs)) → (first : Read Bound (λ t. Ok (as_constants (renamed false) vars)) old mid bound) → (second : Read Here (λ t. within t first.what) mid after place) → Reads Here (λ t. quantified second.what) after new r → Reads Here (λ t. meant_quantifier t symbols s fs) old new r
+  pub quantifier-read : (old mid after new : Walk) (vars : List (Name × Sort)) (bound : List (Name × ℕ)) (place : ℕ) (r : Result ℕ CheckFault) → are_some is_variable (forms (map seen vs)) ≡ true → vars ≡ variables (forms (map seen vs)) → (first : Read Bound (λ t. Ok (as_constants (renamed false) vars)) old mid bound) → (second : Read Here (λ t. within t first.what) mid after place) → ReadsMeaning Here (λ t. quantified second.what) after new r → ReadsMeaning Here (λ t. meant_quantifier t symbols s fs) old new r
   quantifier-read old mid after new vars bound place r f g first second a =
       alike Here (λ t. and_then (λ q. and_then quantified (within t q)) (Ok (as_constants (renamed false) vars))) (λ t. meant_quantifier t symbols s fs) old new r
       (λ t. sym (ap (meant_quantifier t symbols s) e ∙ ap (λ z. need z fault.Shape >> and_then quantified (within t (quantified_over (forms (map seen vs))))) f ∙ ap (λ z. and_then quantified (within t (as_constants (renamed false) z))) (sym g)))
@@ -269,7 +269,7 @@ module _ (symbols : Names) (s : Scope) (vs : List Sexpr) (y : Form) (fs : Forms)
   okay : {A : Type 0} {x y : A} → right x ≡ right y → x ≡ y
   okay h = cc
 
-  pub quantifier-fault : (old mid new : Walk) (vars : List (Name × Sort)) (bound : List (Name × ℕ)) (f : CheckFault) → are_some is_variable (forms (map seen vs)) ≡ true → vars ≡ variables (forms (map seen vs)) → (first : Read Bound (λ t. Ok (as_constants (renamed false) vars)) old mid bound) → Reads Here (λ t. within t first.what) mid new (Err f) → Reads Here (λ t. meant_quantifier t symbols s fs) old new (Err f)
+  pub quantifier-fault : (old mid new : Walk) (vars : List (Name × Sort)) (bound : List (Name × ℕ)) (f : CheckFault) → are_some is_variable (forms (map seen vs)) ≡ true → vars ≡ variables (forms (map seen vs)) → (first : Read Bound (λ t. Ok (as_constants (renamed false) vars)) old mid bound) → ReadsMeaning Here (λ t. within t first.what) mid new (Err f) → ReadsMeaning Here (λ t. meant_quantifier t symbols s fs) old new (Err f)
   quantifier-fault old mid new vars bound f h g first a = fault-first Here Here (λ t. within t first.what) (λ t. meant_quantifier t symbols s fs) mid old new f (λ k j.
       ap (meant_quantifier any_size symbols s) e ∙ ap (λ z. need z fault.Shape >> and_then quantified (within any_size (quantified_over (forms (map seen vs))))) h
       ∙ ap (λ z. and_then quantified (within any_size (as_constants (renamed false) z))) (sym g)
@@ -350,7 +350,7 @@ sorts-places symbols s fs w2 w3 places r a e f g =
 pub sorts-size : (symbols : Names) (s : Scope) (fs : Forms) (w2 w3 : Walk) (places : List ℕ) (a : Read Each (λ t. meant_all t symbols s fs) w2 w3 places) → w2.is_past ≡ false → w3.is_past ≡ true → settled_sorts symbols s fs ≡ Err fault.Size
 sorts-size symbols s fs w2 w3 places a e f = ap (made_of (map body_sort)) (settled-past symbols s fs a.what a.past a.means a.limits (read-past Each (λ t. meant_all t symbols s fs) w2 w3 places true a e f))
 
-pub settled-err : (symbols : Names) (s : Scope) (fs : Forms) (w2 w3 : Walk) (f : CheckFault) → Reads Each (λ t. meant_all t symbols s fs) w2 w3 (Err f) → Answers (settled symbols s fs) (Err f)
+pub settled-err : (symbols : Names) (s : Scope) (fs : Forms) (w2 w3 : Walk) (f : CheckFault) → ReadsMeaning Each (λ t. meant_all t symbols s fs) w2 w3 (Err f) → Answers (settled symbols s fs) (Err f)
 settled-err symbols s fs w2 w3 fault.Unknown a = settled-fault symbols s fs fault.Unknown a
 settled-err symbols s fs w2 w3 fault.Sort a = settled-fault symbols s fs fault.Sort a
 settled-err symbols s fs w2 w3 fault.Arity a = settled-fault symbols s fs fault.Arity a
@@ -363,7 +363,7 @@ settled-err symbols s fs w2 w3 fault.Index a = settled-fault symbols s fs fault.
 settled-err symbols s fs w2 w3 fault.Size a = settled-fault symbols s fs fault.Size a
 settled-err symbols s fs w2 w3 (fault.Memory x) a = tt
 
-pub sorts-err : (symbols : Names) (s : Scope) (fs : Forms) (w2 w3 : Walk) (f : CheckFault) → Reads Each (λ t. meant_all t symbols s fs) w2 w3 (Err f) → Answers (settled_sorts symbols s fs) (Err f)
+pub sorts-err : (symbols : Names) (s : Scope) (fs : Forms) (w2 w3 : Walk) (f : CheckFault) → ReadsMeaning Each (λ t. meant_all t symbols s fs) w2 w3 (Err f) → Answers (settled_sorts symbols s fs) (Err f)
 sorts-err symbols s fs w2 w3 f a = fault-passes (settled symbols s fs) (settled_sorts symbols s fs) f (λ e. ap (made_of (map body_sort)) e) (settled-err symbols s fs w2 w3 f a)
 
 -- one term
@@ -383,5 +383,5 @@ module _ (symbols : Names) (s : Scope) (f : Form) (w2 w3 : Walk) (place : ℕ) (
   pub one-past : w3.is_past ≡ true → settled symbols s (f ⨾ end) ≡ Err fault.Size
   one-past e = settled-past symbols s (f ⨾ end) one-read.what one-read.past one-read.means one-read.limits (read-past Each (λ t. meant_all t symbols s (f ⨾ end)) w2 w3 (place ∷ []) true one-read begun e)
 
-pub one-err : (symbols : Names) (s : Scope) (f : Form) (w2 w3 : Walk) (e : CheckFault) → Reads Here (λ t. meant t symbols s f) w2 w3 (Err e) → Answers (settled symbols s (f ⨾ end)) (Err e)
+pub one-err : (symbols : Names) (s : Scope) (f : Form) (w2 w3 : Walk) (e : CheckFault) → ReadsMeaning Here (λ t. meant t symbols s f) w2 w3 (Err e) → Answers (settled symbols s (f ⨾ end)) (Err e)
 one-err symbols s f w2 w3 e a = settled-err symbols s (f ⨾ end) w2 w3 e (single-fault (λ t. meant t symbols s f) w2 w3 e a)

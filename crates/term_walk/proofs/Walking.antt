@@ -5,7 +5,7 @@ use Rattle.std.specs.Prelude.{slice_get, not}
 use Rattle.std.proofs.lemmas.Bool.Decides.{nat_tests}
 use Rattle.std.proofs.lemmas.Grind.{common_steps}
 use Rattle.std.proofs.lemmas.List.{map-append, take_more}
-use Rattle.sexpr_reader.specs.declared.kind.Kind.TheVariants.{Numeral, Literal}
+use Rattle.sexpr_reader.specs.declared.kind.TokenKind.TheVariants.{Numeral, Literal}
 use Rattle.sv_terms.specs.declared.entry.Body.{Body}
 use Rattle.sv_terms.specs.declared.entry.Body.TheVariants as body
 use Rattle.sv_terms.specs.declared.sort.Sort.{Sort}
@@ -22,7 +22,7 @@ use Rattle.term_walk.specs.Meant.{Scope, Names, Head, any_size, latest, variable
 use Rattle.smt_names.specs.Signature.{Name}
 use Rattle.term_weight.specs.Sizes.{fits}
 use Rattle.smt_names.specs.Tokens.{value, literal_word}
-use Rattle.term_walk.specs.Walks.{Here, Each, Bound, sized, Meaning, Read, Reads, applied_head, bound_to, bound_place}
+use Rattle.term_walk.specs.Walks.{Here, Each, Bound, sized, Meaning, Read, ReadsMeaning, applied_head, bound_to, bound_place}
 use Rattle.term_walk.proofs.Reading.{alike, Stands, stands-latest, bound-grow, bound-append}
 
 get-last : {A : Type 0} (as_ : List A) (a : A) → slice_get (as_ ++ a ∷ []) (length as_) ≡ Some a
@@ -77,17 +77,17 @@ number-so s ds n h e = let t : nat_le (2 ^ 127) (value ds) ≡ false = grind (ar
 pub number-past : (s : Scope) (ds : List ℕ) → 2 ^ 127 ≤ value ds → meant_token [] s Numeral ds ≡ Err fault.Number
 number-past s ds h = let t : nat_le (2 ^ 127) (value ds) ≡ true = grind (arith, nat_tests) in ap (λ b. refuse b fault.Number >> Ok (body.Term (term.Number (pos (value ds))))) t
 
-pub number-read : (s : Scope) (ds : List ℕ) (n : ℤ) (old new : Walk) (r : Result ℕ CheckFault) → Reads Here (λ t. Ok (body.Term (term.Number n))) old new r → value ds < 2 ^ 127 → n ≡ pos (value ds) → Reads Here (λ t. meant_token [] s Numeral ds) old new r
+pub number-read : (s : Scope) (ds : List ℕ) (n : ℤ) (old new : Walk) (r : Result ℕ CheckFault) → ReadsMeaning Here (λ t. Ok (body.Term (term.Number n))) old new r → value ds < 2 ^ 127 → n ≡ pos (value ds) → ReadsMeaning Here (λ t. meant_token [] s Numeral ds) old new r
 number-read s ds n old new r a h e = alike Here (λ t. Ok (body.Term (term.Number n))) (λ t. meant_token [] s Numeral ds) old new r (λ t. sym (number-so s ds n h e)) a
 
-pub literal-read : (s : Scope) (text w : List ℕ) (old new : Walk) (r : Result ℕ CheckFault) → Some w ≡ literal_word text → Reads Here (λ t. Ok (body.Term (term.Text w))) old new r → Reads Here (λ t. meant_token [] s Literal text) old new r
+pub literal-read : (s : Scope) (text w : List ℕ) (old new : Walk) (r : Result ℕ CheckFault) → Some w ≡ literal_word text → ReadsMeaning Here (λ t. Ok (body.Term (term.Text w))) old new r → ReadsMeaning Here (λ t. meant_token [] s Literal text) old new r
 literal-read s text w old new r e a = alike Here (λ t. Ok (body.Term (term.Text w))) (λ t. meant_token [] s Literal text) old new r (λ t. ap (λ o. or_fault fault.Shape (mapped (λ w. body.Term (term.Text w)) o)) e) a
 
 pub literal-none : (s : Scope) (text : List ℕ) → None ≡ literal_word text → meant_token [] s Literal text ≡ Err fault.Shape
 literal-none s text e = ap (λ o. or_fault fault.Shape (mapped (λ w. body.Term (term.Text w)) o)) (sym e)
 
 -- a fault that was answered
-pub answered : {A X Y : Type 0} (stands : List Body → X → Y → Type 0) (a : Result A CheckFault) (m : Meaning Y) (old new : Walk) (f : CheckFault) → ((e : CheckFault) → a ≡ Err e → m any_size ≡ Err e) → Answers a (Err f) → Reads stands m old new (Err f)
+pub answered : {A X Y : Type 0} (stands : List Body → X → Y → Type 0) (a : Result A CheckFault) (m : Meaning Y) (old new : Walk) (f : CheckFault) → ((e : CheckFault) → a ≡ Err e → m any_size ≡ Err e) → Answers a (Err f) → ReadsMeaning stands m old new (Err f)
 answered stands a m old new fault.Unknown h e = h fault.Unknown e
 answered stands a m old new fault.Sort h e = h fault.Sort e
 answered stands a m old new fault.Arity h e = h fault.Arity e
@@ -120,10 +120,10 @@ unbound symbols s n m old b e f =
     let l : latest n old.scope ≡ None = ap (λ z. latest z old.scope) (sym e) ∙ sym f in
     ap (λ o. variable_or o (alone (named symbols n))) (unbound-is old.draft (latest n s) (subst (λ o. Stands old.draft o (latest n s)) l (stands-latest old.draft n old.scope s b)))
 
-pub name-alone : (symbols : Names) (s : Scope) (n m : Name) (h : Head) (old new : Walk) (r : Result ℕ CheckFault) → Bound old.draft old.scope s → m ≡ n → None ≡ latest m old.scope → named symbols n ≡ Ok h → Reads Here (λ t. application h 0 (Ok [])) old new r → Reads Here (λ t. meant_name symbols s n) old new r
+pub name-alone : (symbols : Names) (s : Scope) (n m : Name) (h : Head) (old new : Walk) (r : Result ℕ CheckFault) → Bound old.draft old.scope s → m ≡ n → None ≡ latest m old.scope → named symbols n ≡ Ok h → ReadsMeaning Here (λ t. application h 0 (Ok [])) old new r → ReadsMeaning Here (λ t. meant_name symbols s n) old new r
 name-alone symbols s n m h old new r b e f g a = alike Here (λ t. application h 0 (Ok [])) (λ t. meant_name symbols s n) old new r (λ t. sym (unbound symbols s n m old b e f ∙ ap alone g)) a
 
-pub name-fault : (symbols : Names) (s : Scope) (n m : Name) (f : CheckFault) (old new : Walk) → Bound old.draft old.scope s → m ≡ n → None ≡ latest m old.scope → Answers (named symbols n) (Err f) → Reads Here (λ t. meant_name symbols s n) old new (Err f)
+pub name-fault : (symbols : Names) (s : Scope) (n m : Name) (f : CheckFault) (old new : Walk) → Bound old.draft old.scope s → m ≡ n → None ≡ latest m old.scope → Answers (named symbols n) (Err f) → ReadsMeaning Here (λ t. meant_name symbols s n) old new (Err f)
 name-fault symbols s n m f old new b e g a = answered Here (named symbols n) (λ t. meant_name symbols s n) old new f (λ k h. unbound symbols s n m old b e g ∙ ap alone h) a
 
 pub here-is : (d : List Body) (p : ℕ) (b : Body) → slice_get d p ≡ Some b → at_place d p ≡ b
@@ -140,13 +140,13 @@ each-are d (p ∷ ps) (b ∷ bs) e =
     let r : map (slice_get d) ps ≡ map Some bs = cc in
     λ i. here-is d p b h i ∷ each-are d ps bs r i
 
-pub applied-so : (h : Head) (bs : List Body) (ss : List Sort) (b : Body) (old new : Walk) (r : Result ℕ CheckFault) → head_sorts h ss ≡ true → ss ≡ map body_sort bs → head_applied h bs ≡ b → Reads Here (λ t. Ok b) old new r → Reads Here (λ t. applied_head h bs) old new r
+pub applied-so : (h : Head) (bs : List Body) (ss : List Sort) (b : Body) (old new : Walk) (r : Result ℕ CheckFault) → head_sorts h ss ≡ true → ss ≡ map body_sort bs → head_applied h bs ≡ b → ReadsMeaning Here (λ t. Ok b) old new r → ReadsMeaning Here (λ t. applied_head h bs) old new r
 applied-so h bs ss b old new r e f g a = alike Here (λ t. Ok b) (λ t. applied_head h bs) old new r (λ t. sym (ap (λ z. need z fault.Sort >> Ok (head_applied h bs)) (ap (head_sorts h) (sym f) ∙ e) ∙ ap Ok g)) a
 
 pub ill-sorted : (h : Head) (bs : List Body) (ss : List Sort) → head_sorts h ss ≡ false → ss ≡ map body_sort bs → applied_head h bs ≡ Err fault.Sort
 ill-sorted h bs ss e f = ap (λ z. need z fault.Sort >> Ok (head_applied h bs)) (ap (head_sorts h) (sym f) ∙ e)
 
-pub alone-so : (h : Head) (old new : Walk) (r : Result ℕ CheckFault) → head_count h 0 ≡ true → Reads Here (λ t. applied_head h []) old new r → Reads Here (λ t. application h 0 (Ok [])) old new r
+pub alone-so : (h : Head) (old new : Walk) (r : Result ℕ CheckFault) → head_count h 0 ≡ true → ReadsMeaning Here (λ t. applied_head h []) old new r → ReadsMeaning Here (λ t. application h 0 (Ok [])) old new r
 alone-so h old new r e a = alike Here (λ t. applied_head h []) (λ t. application h 0 (Ok [])) old new r (λ t. sym (ap (λ z. need z fault.Arity >> applied_head h []) e)) a
 
 pub alone-few : (h : Head) → head_count h 0 ≡ false → application h 0 (Ok []) ≡ Err fault.Arity

@@ -2,8 +2,8 @@
 use Rattle.std.specs.Prelude.{ℕ, pos, Bool, true, false, nat_eq, nat_le, nat_lt, List, [], ◌∷◌, ◌++◌, length, map, Option, Some, None, Result, Ok, Err, codes, if◌then◌else◌}
 use Rattle.std.specs.List.{list_all}
 use Rattle.std.specs.Map.{lookup}
-use Rattle.sexpr_reader.specs.declared.kind.Kind.{Kind}
-use Rattle.sexpr_reader.specs.declared.kind.Kind.TheVariants.{Numeral, Decimal, Hexadecimal, Binary, Symbol, Quoted, Keyword, Literal}
+use Rattle.sexpr_reader.specs.declared.kind.TokenKind.{TokenKind}
+use Rattle.sexpr_reader.specs.declared.kind.TokenKind.TheVariants.{Numeral, Decimal, Hexadecimal, Binary, Symbol, Quoted, Keyword, Literal}
 use Rattle.sv_terms.specs.Names.{symbol_name}
 use Rattle.sv_terms.specs.Sorting.{same_sort}
 use Rattle.sv_terms.specs.declared.entry.Body.{Body}
@@ -18,7 +18,7 @@ use Rattle.sv_terms.specs.declared.limits.TheConstants.{MOST_TIMES}
 use Rattle.smt_names.specs.declared.check_fault.CheckFault.{CheckFault}
 use Rattle.smt_names.specs.declared.check_fault.CheckFault.TheVariants as fault
 use Rattle.smt_names.specs.declared.function.Function.{Function}
-use Rattle.smt_names.specs.declared.function.Takes.TheVariants.{Nothing, Two}
+use Rattle.smt_names.specs.declared.function.ArgumentSorts.TheVariants.{Nothing, Two}
 use Rattle.item_passes.specs.Binders.{is_binding, is_variable, are_some, variables}
 use Rattle.term_weight.specs.Bodies.{body_sort, opaque, called, related, parameter_name}
 use Rattle.smt_names.specs.Faults.{and_then, ◌>>◌, need, refuse, or_fault, made_of}
@@ -150,7 +150,7 @@ variable_or None other = other
 abbrev pub meant_name : Names → Scope → Name → Result Body CheckFault
 meant_name symbols scope n = variable_or (latest n scope) (alone (named symbols n))
 
-abbrev pub meant_token : Names → Scope → Kind → List ℕ → Result Body CheckFault
+abbrev pub meant_token : Names → Scope → TokenKind → List ℕ → Result Body CheckFault
 meant_token symbols scope Numeral ds = refuse (is_too_large ds) fault.Number >> Ok (body.Term (term.Number (pos (value ds))))
 meant_token symbols scope Literal text = or_fault fault.Shape (mapped (λ w. body.Term (term.Text w)) (literal_word text))
 meant_token symbols scope Symbol text = meant_name symbols scope (symbol_name text)

@@ -14,6 +14,6 @@ HidesFrom done [] = Unit {0}
 HidesFrom done (b ∷ bs) = (b.hides ≡ latest b.name done) × HidesFrom (done ++ (b.name, b.place) ∷ []) bs
 
 -- the index says what each name stands for
-pub record IsIndexed (bs : List Binding) (places : List (Name × Option ℕ)) : Type 0 where
+pub record IsNameIndex (bs : List Binding) (places : List (Name × Option ℕ)) : Type 0 where
   pub found : (n : Name) → shown n places ≡ latest n (bound_pairs bs)
   pub hidden : HidesFrom [] bs

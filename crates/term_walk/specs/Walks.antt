@@ -64,7 +64,7 @@ pub record Read {X Y : Type 0} (stands : List Body → X → Y → Type 0) (mean
   pub back : new.scope ≡ old.scope
 
 -- the answer of a walk: what is meant was read, or this is its first fault
-abbrev pub Reads : {X Y : Type 0} → (List Body → X → Y → Type 0) → Meaning Y → Walk → Walk → Result X CheckFault → Type 0
-Reads stands meaning old new (Ok x) = Read stands meaning old new x
-Reads stands meaning old new (Err (fault.Memory e)) = Unit {0}
-Reads stands meaning old new (Err f) = meaning any_size ≡ Err f
+abbrev pub ReadsMeaning : {X Y : Type 0} → (List Body → X → Y → Type 0) → Meaning Y → Walk → Walk → Result X CheckFault → Type 0
+ReadsMeaning stands meaning old new (Ok x) = Read stands meaning old new x
+ReadsMeaning stands meaning old new (Err (fault.Memory e)) = Unit {0}
+ReadsMeaning stands meaning old new (Err f) = meaning any_size ≡ Err f

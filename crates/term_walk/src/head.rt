@@ -13,7 +13,7 @@ ghost use Rattle.smt_names.specs.Tokens as tokens;
 use sexpr_reader::Sexpr;
 use smt_names::signature::{character, function, is_indexed, loop_from};
 use smt_names::token::{bare_name, character_token, digits, number, opening, symbol};
-use smt_names::{CheckFault, Function, Opening, Takes};
+use smt_names::{ArgumentSorts, CheckFault, Function, Opening};
 use std::alloc::Global;
 use sv_terms::{MOST_TIMES, Name, Sort, Transducer};
 use term_weight::{Declarations, Declared, Macro, are_of, takes_count, takes_sorts};
@@ -198,9 +198,11 @@ impl Head<'_> {
     {
         match self {
             Head::Theory(function) => takes_sorts(function.takes, sorts),
-            Head::Constant(_, _) => takes_sorts(Takes::Nothing, sorts),
+            Head::Constant(_, _) => takes_sorts(ArgumentSorts::Nothing, sorts),
             Head::Macro(defined) => are_of(defined.parameters, sorts),
-            Head::Machine(_) => { takes_sorts(Takes::Two(Sort::String, Sort::String), sorts) }
+            Head::Machine(_) => {
+                takes_sorts(ArgumentSorts::Two(Sort::String, Sort::String), sorts)
+            }
         }
     }
 }

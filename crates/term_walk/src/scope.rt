@@ -6,7 +6,7 @@ use std::alloc::{AllocError, Global};
 use std::marker::Model;
 use sv_list::Items;
 use sv_terms::Name;
-use term_weight::Places;
+use term_weight::NamePlaces;
 
 /// A name that is bound, the place of what it stands for, and what it hides.
 #[derive(Drop)]
@@ -24,18 +24,18 @@ pub struct Binding {
 pub struct Scope {
     bindings: Items<Binding>,
     /// What each name stands for now.
-    places: Places,
+    places: NamePlaces,
 }
 
 impl Model for Scope {
     ghost use Rattle.std.specs.Prelude.{List, ℕ};
-    ghost use Rattle.term_walk.specs.Scopes.{bound_pairs, IsIndexed};
+    ghost use Rattle.term_walk.specs.Scopes.{bound_pairs, IsNameIndex};
 
     ghost Value = { List (List ℕ × ℕ) };
 
     ghost view = { λ s. bound_pairs s.bindings };
 
-    ghost invariant = { λ s. IsIndexed s.bindings s.places };
+    ghost invariant = { λ s. IsNameIndex s.bindings s.places };
 }
 
 impl Scope {
@@ -46,7 +46,7 @@ impl Scope {
     {
         Scope {
             bindings: Items::new(alloc),
-            places: Places::new(alloc),
+            places: NamePlaces::new(alloc),
         }
     }
 

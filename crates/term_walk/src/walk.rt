@@ -6,7 +6,6 @@ ghost use Rattle.sv_terms.specs.declared.entry.Body.{Body as Meant};
 ghost use Rattle.smt_names.specs.Faults.{Answers, made_of};
 ghost use Rattle.smt_names.specs.Form.{seen, forms};
 ghost use Rattle.smt_names.specs.Tokens as tokens;
-ghost use Rattle.item_passes.specs.Binders as binders;
 ghost use Rattle.term_weight.specs.Bodies as bodies;
 ghost use Rattle.term_draft.specs.Drafts as drafts;
 ghost use Rattle.term_weight.specs.Ranks as ranks;
@@ -14,43 +13,43 @@ ghost use Rattle.term_weight.specs.Sizes as sizes;
 ghost use Rattle.term_walk.specs.Heads.{kept};
 ghost use Rattle.term_walk.specs.Meant as meaning;
 ghost use Rattle.term_walk.specs.Walks as walks;
-ghost use Rattle.term_walk.specs.Walks.{Reads, Here, Each, Bound};
+ghost use Rattle.term_walk.specs.Walks.{ReadsMeaning, Here, Each, Bound};
 
 use crate::head::{Head, find_function, find_head, head_of};
 use crate::scope::{Scope, parameter_name};
 use item_passes::{are_bindings, are_variables, variables};
-use sexpr_reader::{Kind, Sexpr};
+use sexpr_reader::{Sexpr, TokenKind};
 use smt_names::token::{literal_word, number, opening, symbol};
 use smt_names::{CheckFault, Function, Opening};
 use std::alloc::{AllocError, Global};
 use sv_list::Items;
 use sv_terms::{Body, Name, Sort, Term, Transducer};
-use term_draft::{Draft, build_at};
+use term_draft::{TermDraft, build_at};
 use term_weight::{Declarations, Macro, same_sort};
 
 /// What is known in the middle of a walk over terms.
 #[derive(Drop)]
 pub struct Walk<'a> {
     pub scope: Scope,
-    pub draft: Draft<'a>,
+    pub draft: TermDraft<'a>,
     /// Whether some value of a `let` is too large.
     pub is_past: bool,
 }
 
 fn opaque(walk: &mut Walk<'_>, sort: Sort) -> Result<usize, CheckFault>
-    ensures { Reads Here (λ t. Ok (bodies.opaque sort)) walk.old walk.new result }
+    ensures { ReadsMeaning Here (λ t. Ok (bodies.opaque sort)) walk.old walk.new result }
 {
     Ok(walk.draft.put_opaque(sort)?)
 }
 
 fn constant(walk: &mut Walk<'_>, name: Name, sort: Sort) -> Result<usize, CheckFault>
-    ensures { Reads Here (λ t. Ok (Body.Term (Term.Constant name sort))) walk.old walk.new result }
+    ensures { ReadsMeaning Here (λ t. Ok (Body.Term (Term.Constant name sort))) walk.old walk.new result }
 {
     Ok(walk.draft.put_constant(name, sort)?)
 }
 
 fn read_number(walk: &mut Walk<'_>, text: &[u8]) -> Result<usize, CheckFault>
-    ensures { (s : meaning.Scope) → Reads Here (λ t. meaning.meant_token [] s Kind.Numeral text.now) walk.old walk.new result }
+    ensures { (s : meaning.Scope) → ReadsMeaning Here (λ t. meaning.meant_token [] s TokenKind.Numeral text.now) walk.old walk.new result }
 {
     match number(text) {
         Some(n) => Ok(walk.draft.put_number(n)?),
@@ -59,7 +58,7 @@ fn read_number(walk: &mut Walk<'_>, text: &[u8]) -> Result<usize, CheckFault>
 }
 
 fn read_literal(alloc: Global, walk: &mut Walk<'_>, text: &[u8]) -> Result<usize, CheckFault>
-    ensures { (s : meaning.Scope) → Reads Here (λ t. meaning.meant_token [] s Kind.Literal text.now) walk.old walk.new result }
+    ensures { (s : meaning.Scope) → ReadsMeaning Here (λ t. meaning.meant_token [] s TokenKind.Literal text.now) walk.old walk.new result }
 {
     let word = literal_word(alloc, text)?;
     match word {
@@ -75,7 +74,7 @@ fn apply_function(
     function: Function,
     places: Items<usize>,
 ) -> Result<usize, CheckFault>
-    ensures { Reads Here (λ t. Ok (ranks.applied function (drafts.at_places walk.old.draft places))) walk.old walk.new result }
+    ensures { ReadsMeaning Here (λ t. Ok (ranks.applied function (drafts.at_places walk.old.draft places))) walk.old walk.new result }
 {
     Ok(walk.draft.put_applied(alloc, function, places)?)
 }
@@ -86,7 +85,7 @@ fn call<'a>(
     defined: Macro<'a>,
     places: Items<usize>,
 ) -> Result<usize, CheckFault>
-    ensures { Reads Here (λ t. Ok (bodies.called defined.entry.parameters.now defined.entry.body.now (drafts.at_places walk.old.draft places))) walk.old walk.new result }
+    ensures { ReadsMeaning Here (λ t. Ok (bodies.called defined.entry.parameters.now defined.entry.body.now (drafts.at_places walk.old.draft places))) walk.old walk.new result }
 {
     Ok(walk.draft.put_called(alloc, defined, places)?)
 }
@@ -97,7 +96,7 @@ fn relate<'a>(
     transducer: &'a Transducer,
     places: Items<usize>,
 ) -> Result<usize, CheckFault>
-    ensures { Reads Here (λ t. Ok (bodies.related transducer.now (drafts.at_places walk.old.draft places))) walk.old walk.new result }
+    ensures { ReadsMeaning Here (λ t. Ok (bodies.related transducer.now (drafts.at_places walk.old.draft places))) walk.old walk.new result }
 {
     Ok(walk.draft.put_related(alloc, transducer, places)?)
 }
@@ -109,7 +108,7 @@ fn apply<'a>(
     head: Head<'a>,
     places: Items<usize>,
 ) -> Result<usize, CheckFault>
-    ensures { Reads Here (λ t. walks.applied_head (kept head.entry) (drafts.at_places walk.old.draft places)) walk.old walk.new result }
+    ensures { ReadsMeaning Here (λ t. walks.applied_head (kept head.entry) (drafts.at_places walk.old.draft places)) walk.old walk.new result }
 {
     let sorts = walk.draft.sorts(alloc, places.as_slice())?;
     if !head.takes_sorts(sorts.as_slice()) {
@@ -125,7 +124,7 @@ fn apply<'a>(
 
 /// An identifier by itself.
 fn alone<'a>(alloc: Global, walk: &mut Walk<'a>, head: Head<'a>) -> Result<usize, CheckFault>
-    ensures { Reads Here (λ t. meaning.application (kept head.entry) 0 (Ok [])) walk.old walk.new result }
+    ensures { ReadsMeaning Here (λ t. meaning.application (kept head.entry) 0 (Ok [])) walk.old walk.new result }
 {
     if !head.takes_count(0) {
         return Err(CheckFault::Arity);
@@ -140,7 +139,7 @@ fn read_name<'a>(
     text: &[u8],
 ) -> Result<usize, CheckFault>
     ensures { (s : meaning.Scope) → Bound walk.old.draft walk.old.scope s
-        → Reads Here (λ t. meaning.meant_name symbols.now s (symbol_name text.now)) walk.old walk.new result }
+        → ReadsMeaning Here (λ t. meaning.meant_name symbols.now s (symbol_name text.now)) walk.old walk.new result }
 {
     let name = Name::of(alloc, text)?;
     match walk.scope.latest(&name) {
@@ -156,21 +155,21 @@ fn read_token<'a>(
     alloc: Global,
     walk: &mut Walk<'a>,
     symbols: &'a Declarations,
-    kind: Kind,
+    kind: TokenKind,
     text: &[u8],
 ) -> Result<usize, CheckFault>
     ensures { (s : meaning.Scope) → Bound walk.old.draft walk.old.scope s
-        → Reads Here (λ t. meaning.meant_token symbols.now s kind text.now) walk.old walk.new result }
+        → ReadsMeaning Here (λ t. meaning.meant_token symbols.now s kind text.now) walk.old walk.new result }
 {
     match kind {
-        Kind::Numeral => read_number(walk, text),
-        Kind::Literal => read_literal(alloc, walk, text),
-        Kind::Symbol => read_name(alloc, walk, symbols, text),
-        Kind::Quoted => read_name(alloc, walk, symbols, text),
-        Kind::Decimal => Err(CheckFault::Unknown),
-        Kind::Hexadecimal => Err(CheckFault::Unknown),
-        Kind::Binary => Err(CheckFault::Unknown),
-        Kind::Keyword => Err(CheckFault::Shape),
+        TokenKind::Numeral => read_number(walk, text),
+        TokenKind::Literal => read_literal(alloc, walk, text),
+        TokenKind::Symbol => read_name(alloc, walk, symbols, text),
+        TokenKind::Quoted => read_name(alloc, walk, symbols, text),
+        TokenKind::Decimal => Err(CheckFault::Unknown),
+        TokenKind::Hexadecimal => Err(CheckFault::Unknown),
+        TokenKind::Binary => Err(CheckFault::Unknown),
+        TokenKind::Keyword => Err(CheckFault::Shape),
     }
 }
 
@@ -180,7 +179,7 @@ fn read_identifier<'a>(
     symbols: &'a Declarations,
     parts: &[Sexpr],
 ) -> Result<usize, CheckFault>
-    ensures { Reads Here (λ t. meaning.alone (meaning.of_theory (meaning.identified symbols.now (forms (map seen parts.now))))) walk.old walk.new result }
+    ensures { ReadsMeaning Here (λ t. meaning.alone (meaning.of_theory (meaning.identified symbols.now (forms (map seen parts.now))))) walk.old walk.new result }
 {
     match find_function(alloc, symbols, parts) {
         Ok(function) => alone(alloc, walk, Head::Theory(function)),
@@ -197,7 +196,7 @@ fn read<'a>(
     item: &Sexpr,
 ) -> Result<usize, CheckFault>
     ensures { (s : meaning.Scope) → Bound walk.old.draft walk.old.scope s
-        → Reads Here (λ t. meaning.meant t symbols.now s (seen item.now)) walk.old walk.new result }
+        → ReadsMeaning Here (λ t. meaning.meant t symbols.now s (seen item.now)) walk.old walk.new result }
 {
     match item {
         Sexpr::Atom(kind, text) => read_token(alloc, walk, symbols, *kind, text.as_slice()),
@@ -223,7 +222,7 @@ fn read_all<'a>(
     items: &[Sexpr],
 ) -> Result<Items<usize>, CheckFault>
     ensures { (s : meaning.Scope) → Bound walk.old.draft walk.old.scope s
-        → Reads Each (λ t. meaning.meant_all t symbols.now s (forms (map seen items.now))) walk.old walk.new result }
+        → ReadsMeaning Each (λ t. meaning.meant_all t symbols.now s (forms (map seen items.now))) walk.old walk.new result }
 {
     let mut all = Items::new(alloc);
     for item in items {
@@ -244,7 +243,7 @@ fn read_application<'a>(
     first: &Sexpr,
 ) -> Result<usize, CheckFault>
     ensures { (s : meaning.Scope) → Bound walk.old.draft walk.old.scope s
-        → Reads Here (λ t. meaning.in_parentheses (meaning.head symbols.now (seen first.now)) (length rest.now) (meaning.meant_all t symbols.now s (forms (map seen rest.now)))) walk.old walk.new result }
+        → ReadsMeaning Here (λ t. meaning.in_parentheses (meaning.head symbols.now (seen first.now)) (length rest.now) (meaning.meant_all t symbols.now s (forms (map seen rest.now)))) walk.old walk.new result }
 {
     match head_of(alloc, symbols, first) {
         Ok(head) => {
@@ -271,7 +270,7 @@ fn read_let<'a>(
     parts: &[Sexpr],
 ) -> Result<usize, CheckFault>
     ensures { (s : meaning.Scope) → Bound walk.old.draft walk.old.scope s
-        → Reads Here (λ t. meaning.meant_let t symbols.now s (forms (map seen parts.now))) walk.old walk.new result }
+        → ReadsMeaning Here (λ t. meaning.meant_let t symbols.now s (forms (map seen parts.now))) walk.old walk.new result }
 {
     match parts {
         [bindings, body] => match bindings {
@@ -300,7 +299,7 @@ fn read_values<'a>(
     bindings: &[Sexpr],
 ) -> Result<Items<(Name, usize)>, CheckFault>
     ensures { (s : meaning.Scope) → Bound walk.old.draft walk.old.scope s
-        → Reads Bound (λ t. meaning.meant_values t symbols.now s (forms (map seen bindings.now))) walk.old walk.new result }
+        → ReadsMeaning Bound (λ t. meaning.meant_values t symbols.now s (forms (map seen bindings.now))) walk.old walk.new result }
 {
     let mut all = Items::new(alloc);
     for binding in bindings {
@@ -321,7 +320,7 @@ fn read_value<'a>(
     binding: &Sexpr,
 ) -> Result<Items<(Name, usize)>, CheckFault>
     ensures { (s : meaning.Scope) → Bound walk.old.draft walk.old.scope s
-        → Reads Bound (λ t. meaning.meant_value t symbols.now s (seen binding.now)) walk.old walk.new result }
+        → ReadsMeaning Bound (λ t. meaning.meant_value t symbols.now s (seen binding.now)) walk.old walk.new result }
 {
     match binding {
         Sexpr::List(items) => match items.as_slice() {
@@ -345,7 +344,7 @@ fn read_within<'a>(
     body: &Sexpr,
 ) -> Result<usize, CheckFault>
     ensures { (s : meaning.Scope) (q : meaning.Scope) → Bound walk.old.draft walk.old.scope s → Bound walk.old.draft bound q
-        → Reads Here (λ t. meaning.meant t symbols.now (s ++ q) (seen body.now)) walk.old walk.new result }
+        → ReadsMeaning Here (λ t. meaning.meant t symbols.now (s ++ q) (seen body.now)) walk.old walk.new result }
 {
     let mark = walk.scope.len();
     bind(alloc, &mut walk.scope, bound.as_slice())?;
@@ -366,7 +365,7 @@ fn read_quantifier<'a>(
     parts: &[Sexpr],
 ) -> Result<usize, CheckFault>
     ensures { (s : meaning.Scope) → Bound walk.old.draft walk.old.scope s
-        → Reads Here (λ t. meaning.meant_quantifier t symbols.now s (forms (map seen parts.now))) walk.old walk.new result }
+        → ReadsMeaning Here (λ t. meaning.meant_quantifier t symbols.now s (forms (map seen parts.now))) walk.old walk.new result }
 {
     match parts {
         [bound, body] => match bound {
@@ -396,7 +395,7 @@ fn read_annotated<'a>(
     parts: &[Sexpr],
 ) -> Result<usize, CheckFault>
     ensures { (s : meaning.Scope) → Bound walk.old.draft walk.old.scope s
-        → Reads Here (λ t. meaning.meant_annotated t symbols.now s (forms (map seen parts.now))) walk.old walk.new result }
+        → ReadsMeaning Here (λ t. meaning.meant_annotated t symbols.now s (forms (map seen parts.now))) walk.old walk.new result }
 {
     match parts {
         [] => Err(CheckFault::Shape),
@@ -446,7 +445,7 @@ fn note_value(
     place: usize,
 ) -> Result<Items<(Name, usize)>, CheckFault>
     ensures { (x : Meant) → Here walk.old.draft place x
-        → Reads Bound (λ t. walks.bound_to t (tokens.symbol (seen name.now)) x) walk.old walk.new result }
+        → ReadsMeaning Bound (λ t. walks.bound_to t (tokens.symbol (seen name.now)) x) walk.old walk.new result }
 {
     match bound_place(alloc, name, place) {
         Ok(bound) => {
@@ -485,7 +484,7 @@ fn constants(
     variables: &[(Name, Sort)],
     are_parameters: bool,
 ) -> Result<Items<(Name, usize)>, CheckFault>
-    ensures { Reads Bound (λ t. Ok (meaning.as_constants (meaning.renamed are_parameters) variables.now)) walk.old walk.new result }
+    ensures { ReadsMeaning Bound (λ t. Ok (meaning.as_constants (meaning.renamed are_parameters) variables.now)) walk.old walk.new result }
 {
     let mut all = Items::new(alloc);
     for variable in variables {
@@ -502,7 +501,7 @@ fn constants(
 /// A quantified term is read and sorted alone.
 fn quantify(walk: &mut Walk<'_>, place: usize) -> Result<usize, CheckFault>
     ensures { (x : Meant) → Here walk.old.draft place x
-        → Reads Here (λ t. meaning.quantified x) walk.old walk.new result }
+        → ReadsMeaning Here (λ t. meaning.quantified x) walk.old walk.new result }
 {
     if !same_sort(Sort::Bool, walk.draft.sort(place)) {
         return Err(CheckFault::Sort);
@@ -520,7 +519,7 @@ pub fn settle_sorts(
 {
     let mut walk = Walk {
         scope: Scope::new(alloc),
-        draft: Draft::new(alloc),
+        draft: TermDraft::new(alloc),
         is_past: false,
     };
     match read_all(alloc, &mut walk, symbols, terms) {
@@ -546,7 +545,7 @@ pub fn settle_one(
 {
     let mut walk = Walk {
         scope: Scope::new(alloc),
-        draft: Draft::new(alloc),
+        draft: TermDraft::new(alloc),
         is_past: false,
     };
     let bound = constants(alloc, &mut walk, parameters, true)?;
@@ -566,7 +565,7 @@ pub fn settle_one(
 }
 
 /// Whether none at these places is too large.
-fn all_fit(draft: &Draft<'_>, places: &[usize]) -> bool
+fn all_fit(draft: &TermDraft<'_>, places: &[usize]) -> bool
     ensures { result ≡ list_all sizes.fits (drafts.at_places draft.now places.now) }
 {
     for place in places {
@@ -580,7 +579,7 @@ fn all_fit(draft: &Draft<'_>, places: &[usize]) -> bool
 /// The sorts of what stands at these places, or Size.
 fn fitting_sorts(
     alloc: Global,
-    draft: &Draft<'_>,
+    draft: &TermDraft<'_>,
     places: &[usize],
 ) -> Result<Items<Sort>, CheckFault>
     ensures { Answers (made_of (map bodies.body_sort) (walks.fitting (drafts.at_places draft.now places.now))) result }

@@ -9,7 +9,7 @@ use Rattle.sv_terms.specs.declared.entry.Entry.TheVariants as entry
 use Rattle.sv_terms.specs.declared.sort.Sort.{Sort}
 use Rattle.smt_names.specs.Signature.{Name, same_name}
 use Rattle.term_weight.specs.declared.summary.Summary.{Summary}
-use Rattle.term_weight.specs.Macros.{IsOf, IsKept, IsPast, AreKept, KeepsOthers}
+use Rattle.term_weight.specs.Macros.{IsSummaryOf, HasSummary, IsUndeclared, HaveSummaries, KeepsOthers}
 
 abbrev Symbols : Type 0
 Symbols = List (Name × Entry)
@@ -60,35 +60,35 @@ module _ {A : Type 0} where
       go false h f = f h
 
 -- what is kept under a name that isn't declared
-kept-others : (symbols : Symbols) (n : Name) (old new : Kept) → lookup (same_name n) symbols ≡ None → KeepsOthers n old new → AreKept symbols old → AreKept symbols new
+kept-others : (symbols : Symbols) (n : Name) (old new : Kept) → lookup (same_name n) symbols ≡ None → KeepsOthers n old new → HaveSummaries symbols old → HaveSummaries symbols new
 kept-others symbols n old new h k a = record { found = λ m ps b e. go m ps b (same_name m n) refl e }
   where
-    go : (m : Name) (ps : List (Name × Sort)) (b : Body) (t : Bool) → same_name m n ≡ t → lookup (same_name m) symbols ≡ Some (entry.Macro ps b) → IsOf ps b (lookup (same_name m) new)
+    go : (m : Name) (ps : List (Name × Sort)) (b : Body) (t : Bool) → same_name m n ≡ t → lookup (same_name m) symbols ≡ Some (entry.Macro ps b) → IsSummaryOf ps b (lookup (same_name m) new)
     go m ps b true f e = some-none (lookup (same_name m) symbols) (entry.Macro ps b) e (lookup-same m n f symbols ∙ h)
-    go m ps b false f e = subst (IsOf ps b) (sym (k.same m f)) (a.found m ps b e)
+    go m ps b false f e = subst (IsSummaryOf ps b) (sym (k.same m f)) (a.found m ps b e)
 
-kept-added : (symbols : Symbols) (n : Name) (d : Entry) (kept : Kept) → lookup (same_name n) symbols ≡ None → IsKept d (lookup (same_name n) kept) → AreKept symbols kept → AreKept (symbols ++ (n, d) ∷ []) kept
+kept-added : (symbols : Symbols) (n : Name) (d : Entry) (kept : Kept) → lookup (same_name n) symbols ≡ None → HasSummary d (lookup (same_name n) kept) → HaveSummaries symbols kept → HaveSummaries (symbols ++ (n, d) ∷ []) kept
 kept-added symbols n d kept h k a = record { found = λ m ps b e. go m ps b (same_name m n) refl e }
   where
-    go : (m : Name) (ps : List (Name × Sort)) (b : Body) (t : Bool) → same_name m n ≡ t → lookup (same_name m) (symbols ++ (n, d) ∷ []) ≡ Some (entry.Macro ps b) → IsOf ps b (lookup (same_name m) kept)
-    go m ps b true f e = subst (IsOf ps b) (sym (lookup-same m n f kept)) (k.is ps b (some-inner (sym (lookup-last m symbols (n, d) (lookup-same m n f symbols ∙ h) ∙ ap (λ t. cond t (Some d) None) f) ∙ e)))
+    go : (m : Name) (ps : List (Name × Sort)) (b : Body) (t : Bool) → same_name m n ≡ t → lookup (same_name m) (symbols ++ (n, d) ∷ []) ≡ Some (entry.Macro ps b) → IsSummaryOf ps b (lookup (same_name m) kept)
+    go m ps b true f e = subst (IsSummaryOf ps b) (sym (lookup-same m n f kept)) (k.is ps b (some-inner (sym (lookup-last m symbols (n, d) (lookup-same m n f symbols ∙ h) ∙ ap (λ t. cond t (Some d) None) f) ∙ e)))
       where
         some-inner : Some d ≡ Some (entry.Macro ps b) → d ≡ entry.Macro ps b
         some-inner q = cc
     go m ps b false f e = a.found m ps b (sym (lookup-other m symbols (n, d) f) ∙ e)
 
 -- a new name, where there is memory for it
-pub kept-declared : {E : Type 0} (symbols after : Symbols) (n : Name) (d : Entry) (old new : Kept) (r : Result (Unit {0}) E) → lookup (same_name n) symbols ≡ None → KeepsOthers n old new → IsKept d (lookup (same_name n) new) → AreKept symbols old → OnOk r (after ≡ symbols ++ (n, d) ∷ []) → OnErr r (after ≡ symbols) → AreKept after new
-kept-declared symbols after n d old new (Ok u) h o k a p q = subst (λ (z : Symbols). AreKept z new) (sym p) (kept-added symbols n d new h k (kept-others symbols n old new h o a))
-kept-declared symbols after n d old new (Err e) h o k a p q = subst (λ (z : Symbols). AreKept z new) (sym q) (kept-others symbols n old new h o a)
+pub kept-declared : {E : Type 0} (symbols after : Symbols) (n : Name) (d : Entry) (old new : Kept) (r : Result (Unit {0}) E) → lookup (same_name n) symbols ≡ None → KeepsOthers n old new → HasSummary d (lookup (same_name n) new) → HaveSummaries symbols old → OnOk r (after ≡ symbols ++ (n, d) ∷ []) → OnErr r (after ≡ symbols) → HaveSummaries after new
+kept-declared symbols after n d old new (Ok u) h o k a p q = subst (λ (z : Symbols). HaveSummaries z new) (sym p) (kept-added symbols n d new h k (kept-others symbols n old new h o a))
+kept-declared symbols after n d old new (Err e) h o k a p q = subst (λ (z : Symbols). HaveSummaries z new) (sym q) (kept-others symbols n old new h o a)
 
 -- fewer names
-pub kept-taken : (symbols : Symbols) (k : ℕ) (kept : Kept) → AreKept symbols kept → AreKept (take k symbols) kept
+pub kept-taken : (symbols : Symbols) (k : ℕ) (kept : Kept) → HaveSummaries symbols kept → HaveSummaries (take k symbols) kept
 kept-taken symbols k kept a = record { found = λ m ps b e. a.found m ps b (lookup-taken m k symbols (entry.Macro ps b) e) }
 
 -- without the last one, which isn't declared
-pub kept-popped : (symbols : Symbols) (old new : Kept) (r : Option (Name × Summary)) → old ≡ new ++ option_to_list r → IsPast symbols old → AreKept symbols old → AreKept symbols new
-kept-popped symbols old new None e p a = subst (λ (z : Kept). AreKept symbols z) (e ∙ append-none new) a
+pub kept-popped : (symbols : Symbols) (old new : Kept) (r : Option (Name × Summary)) → old ≡ new ++ option_to_list r → IsUndeclared symbols old → HaveSummaries symbols old → HaveSummaries symbols new
+kept-popped symbols old new None e p a = subst (λ (z : Kept). HaveSummaries symbols z) (e ∙ append-none new) a
   where
     append-none : (xs : Kept) → xs ++ [] ≡ xs
     append-none [] = refl

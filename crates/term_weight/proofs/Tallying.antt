@@ -13,7 +13,7 @@ use Rattle.sv_terms.specs.declared.term.Term.TheVariants as term
 use Rattle.sv_terms.specs.declared.transducer.Transducer.{Transducer}
 use Rattle.term_weight.specs.declared.share.Share.{Share}
 use Rattle.term_weight.specs.declared.share.Uses.{Uses}
-use Rattle.term_weight.specs.declared.tally.Tally.{Tally}
+use Rattle.term_weight.specs.declared.tally.MacroSummary.{MacroSummary}
 use Rattle.term_weight.specs.declared.weight.Factor.TheVariants.{Known}
 use Rattle.term_weight.specs.declared.weight.Weight.{Weight}
 use Rattle.smt_names.specs.Signature.{Name}
@@ -21,7 +21,7 @@ use Rattle.term_weight.specs.Bodies.{is_unknown}
 use Rattle.term_weight.specs.Places.{shown, weight_found}
 use Rattle.term_weight.specs.Sizes.{total as total_of, one_deeper}
 use Rattle.term_weight.specs.Weights.{capped, leaf, as_term, op_weight, in_weight, related_weight, regex_weight, weighed, or_leaf, nth_if, opaque_weight, is_literal}
-use Rattle.term_weight.specs.Summaries.{share, nothing, unknown_if, plus, argument, used, used_at, measured, changed, all_used, total, part, part_named, shares, is_measure, Covers, Gains}
+use Rattle.term_weight.specs.Summaries.{share, nothing, unknown_if, plus, argument, used, used_at, measured, changed, all_used, total, part, part_named, shares, is_measure, PlacesAreWithin, Gains}
 use Rattle.term_weight.specs.FactorLaws.{or-false, op-factor, unknown-holds}
 use Rattle.term_weight.proofs.Layers.{weighed-Constant, weighed-Apply, weighed-InRe, weighed-Related}
 use Rattle.term_weight.proofs.Sharing.{shares-same, plus-assoc, used-more, used-measured, all-changed, length-changed}
@@ -62,17 +62,17 @@ as_term-twice w = by_kind w.is_language refl
     by_kind false e = let f : as_term w ≡ w = ap (λ b. if b then opaque_weight sort.RegLan else w) e in ap as_term f
 
 module _ (places : List (Name × Option ℕ)) where
-  pub gains-then : (a b c : Tally) (f g : List Weight → Share) → Gains places a b f → Gains places b c g → Gains places a c (λ ws. plus (f ws) (g ws))
+  pub gains-then : (a b c : MacroSummary) (f g : List Weight → Share) → Gains places a b f → Gains places b c g → Gains places a c (λ ws. plus (f ws) (g ws))
   gains-then a b c f g p q = record {
     kept = q.kept ∙ p.kept;
-    added = λ cover ws. q.added (subst (Covers places) (sym p.kept) cover) ws ∙ ap (λ z. plus z (g ws)) (p.added cover ws) ∙ plus-assoc (total a ws) (f ws) (g ws);
+    added = λ cover ws. q.added (subst (PlacesAreWithin places) (sym p.kept) cover) ws ∙ ap (λ z. plus z (g ws)) (p.added cover ws) ∙ plus-assoc (total a ws) (f ws) (g ws);
   }
 
-  pub gains-alike : (a b : Tally) (f g : List Weight → Share) → Gains places a b f → ((ws : List Weight) → f ws ≡ g ws) → Gains places a b g
+  pub gains-alike : (a b : MacroSummary) (f g : List Weight → Share) → Gains places a b f → ((ws : List Weight) → f ws ≡ g ws) → Gains places a b g
   gains-alike a b f g p e = record { kept = p.kept; added = λ cover ws. p.added cover ws ∙ ap (plus (total a ws)) (e ws) }
 
   -- at the place of a name
-  pub gains-changed : (t : Tally) (n : Name) (i : ℕ) (f : Uses → Uses) (x : Weight → Share) → ((u : Uses) (w : Weight) → used (f u) w ≡ plus (used u w) (x w)) → Some i ≡ shown n places → Gains places t (changed f i t) (λ ws. x (part_named places ws n))
+  pub gains-changed : (t : MacroSummary) (n : Name) (i : ℕ) (f : Uses → Uses) (x : Weight → Share) → ((u : Uses) (w : Weight) → used (f u) w ≡ plus (used u w) (x w)) → Some i ≡ shown n places → Gains places t (changed f i t) (λ ws. x (part_named places ws n))
   gains-changed t n i f x so e = record {
     kept = length-changed f i t.uses;
     added = λ cover ws.
@@ -82,7 +82,7 @@ module _ (places : List (Name × Option ℕ)) where
         ∙ ap (λ o. plus (total t ws) (x (or_leaf sort.Bool (option_map as_term (nth_if ws o))))) e;
   }
 
-  pub gains-used : (t : Tally) (n : Name) (i d : ℕ) → Some i ≡ shown n places → Gains places t (changed (used_at d) i t) (λ ws. share d (part_named places ws n))
+  pub gains-used : (t : MacroSummary) (n : Name) (i d : ℕ) → Some i ≡ shown n places → Gains places t (changed (used_at d) i t) (λ ws. share d (part_named places ws n))
   gains-used t n i d = gains-changed t n i (used_at d) (share d) (used-more d)
 
   -- what is found by its place
@@ -96,7 +96,7 @@ module _ (places : List (Name × Option ℕ)) where
       or-part None = refl
       or-part (Some w) = ap (λ z. z.factor) (as_term-twice w)
 
-  pub measured-parameter : (t : Tally) (n : Name) (s : Sort) (i : ℕ) → Some i ≡ shown n places → Gains places t (changed measured i t) (λ ws. unknown_if (not (is_literal (part places ws (term.Constant n s)).factor)))
+  pub measured-parameter : (t : MacroSummary) (n : Name) (s : Sort) (i : ℕ) → Some i ≡ shown n places → Gains places t (changed measured i t) (λ ws. unknown_if (not (is_literal (part places ws (term.Constant n s)).factor)))
   measured-parameter t n s i e = gains-alike t _ _ _ (gains-changed t n i measured (λ w. unknown_if (not (is_literal w.factor))) used-measured e) (λ ws. ap (λ f. unknown_if (not (is_literal f))) (sym (named-part ws n s)))
 
   -- terms, layer by layer
@@ -104,7 +104,7 @@ module _ (places : List (Name × Option ℕ)) where
   map-part ws [] = refl
   map-part ws (t ∷ ts) = ap (λ z. part places ws t ∷ z) (map-part ws ts)
 
-  module _ (a b c u : Tally) (d below : ℕ) (deeper-by : below ≡ capped (d + 1)) (p : Gains places a b (λ ws. share d (leaf sort.Bool Known))) where
+  module _ (a b c u : MacroSummary) (d below : ℕ) (deeper-by : below ≡ capped (d + 1)) (p : Gains places a b (λ ws. share d (leaf sort.Bool Known))) where
     pub gains-Apply : (o : Op) (ts xs : List Term) → xs ≡ ts → Gains places b c (λ ws. shares below (map (part places ws) xs)) → Gains places c u (λ ws. unknown_if (is_measure o (map (λ x. x.factor) (map (part places ws) xs)))) → Gains places a u (λ ws. share d (part places ws (term.Apply o ts)))
     gains-Apply o ts xs e q r = gains-alike a u _ _ (gains-then a c u _ _ (gains-then a b c _ _ p q) r) (λ ws.
         (λ i. plus (plus (share d (leaf sort.Bool Known)) (shares (deeper-by i) (map (part places ws) (e i)))) (unknown_if (is_measure o (map (λ x. x.factor) (map (part places ws) (e i))))))
@@ -132,8 +132,8 @@ module _ (places : List (Name × Option ℕ)) where
   shares-next d ws (t ∷ ts) zero x h e = ap (λ z. plus nothing (share d (part places ws z))) e ∙ shares-same _ _ (omega arith) (omega arith) (or-false _)
   shares-next d ws (t ∷ ts) (suc i) x h e = plus-assoc (share d (part places ws t)) _ _ ∙ ap (plus (share d (part places ws t))) (shares-next d ws ts i x (omega arith) e)
 
-  pub gains-next : (a b c : Tally) (d : ℕ) (ts : List Term) (i : ℕ) (x : Term) → i < length ts → x ≡ get_or ts i x → Gains places a b (λ ws. shares d (map (part places ws) (take i ts))) → Gains places b c (λ ws. share d (part places ws x)) → Gains places a c (λ ws. shares d (map (part places ws) (take (i + 1) ts)))
+  pub gains-next : (a b c : MacroSummary) (d : ℕ) (ts : List Term) (i : ℕ) (x : Term) → i < length ts → x ≡ get_or ts i x → Gains places a b (λ ws. shares d (map (part places ws) (take i ts))) → Gains places b c (λ ws. share d (part places ws x)) → Gains places a c (λ ws. shares d (map (part places ws) (take (i + 1) ts)))
   gains-next a b c d ts i x h e p q = rw (add-one i) (gains-alike a c _ _ (gains-then a b c _ _ p q) (λ ws. shares-next d ws ts i x h e))
 
-  pub gains-end : (a b : Tally) (d : ℕ) (ts : List Term) (i : ℕ) → length ts ≤ i → Gains places a b (λ ws. shares d (map (part places ws) (take i ts))) → Gains places a b (λ ws. shares d (map (part places ws) ts))
+  pub gains-end : (a b : MacroSummary) (d : ℕ) (ts : List Term) (i : ℕ) → length ts ≤ i → Gains places a b (λ ws. shares d (map (part places ws) (take i ts))) → Gains places a b (λ ws. shares d (map (part places ws) ts))
   gains-end a b d ts i h p = gains-alike a b _ _ p (λ ws. ap (λ z. shares d (map (part places ws) z)) (take_all i ts h))

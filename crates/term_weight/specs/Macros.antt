@@ -12,16 +12,16 @@ use Rattle.term_weight.specs.declared.summary.Summary.{Summary}
 use Rattle.term_weight.specs.Summaries.{Summarises}
 
 -- there is a summary, which is that of the macro
-abbrev pub IsOf : List (Name × Sort) → Body → Option Summary → Type 0
-IsOf parameters body None = ⊥
-IsOf parameters body (Some x) = Summarises x parameters body
+abbrev pub IsSummaryOf : List (Name × Sort) → Body → Option Summary → Type 0
+IsSummaryOf parameters body None = ⊥
+IsSummaryOf parameters body (Some x) = Summarises x parameters body
 
 -- where this was declared under a name, what is kept under it is its summary
-pub record IsKept (e : Entry) (kept : Option Summary) : Type 0 where
-  pub is : (ps : List (Name × Sort)) (b : Body) → e ≡ entry.Macro ps b → IsOf ps b kept
+pub record HasSummary (e : Entry) (kept : Option Summary) : Type 0 where
+  pub is : (ps : List (Name × Sort)) (b : Body) → e ≡ entry.Macro ps b → IsSummaryOf ps b kept
 
 -- a name that isn't declared
-pub record IsPast (symbols : List (Name × Entry)) (kept : List (Name × Summary)) : Type 0 where
+pub record IsUndeclared (symbols : List (Name × Entry)) (kept : List (Name × Summary)) : Type 0 where
   pub some : 0 < length kept
   pub last : (rest : List (Name × Summary)) (e : Name × Summary) → kept ≡ rest ++ e ∷ [] → lookup (same_name e.0) symbols ≡ None
 
@@ -36,5 +36,5 @@ entry_of (declared.Macro m) = entry.Macro m.parameters.now m.body.now
 entry_of (declared.Machine t) = entry.Machine t.now
 
 -- each macro among these symbols has its summary
-pub record AreKept (symbols : List (Name × Entry)) (kept : List (Name × Summary)) : Type 0 where
-  pub found : (n : Name) (ps : List (Name × Sort)) (b : Body) → lookup (same_name n) symbols ≡ Some (entry.Macro ps b) → IsOf ps b (lookup (same_name n) kept)
+pub record HaveSummaries (symbols : List (Name × Entry)) (kept : List (Name × Summary)) : Type 0 where
+  pub found : (n : Name) (ps : List (Name × Sort)) (b : Body) → lookup (same_name n) symbols ≡ Some (entry.Macro ps b) → IsSummaryOf ps b (lookup (same_name n) kept)

@@ -13,15 +13,15 @@ use Rattle.sv_terms.specs.declared.term.Term.TheVariants as term
 use Rattle.sv_terms.specs.Sorting.{same_sort}
 use Rattle.sv_word.specs.Words.{greatest_character}
 use Rattle.smt_names.specs.declared.function.Function.{Function}
-use Rattle.smt_names.specs.declared.function.Takes.{Takes}
-use Rattle.smt_names.specs.declared.function.Takes.TheVariants.{Nothing, One, Two, Three, Each, Many, Alike, Choice}
-use Rattle.smt_names.specs.declared.function.Sense.{Sense}
-use Rattle.smt_names.specs.declared.function.Sense.TheVariants as is
+use Rattle.smt_names.specs.declared.function.ArgumentSorts.{ArgumentSorts}
+use Rattle.smt_names.specs.declared.function.ArgumentSorts.TheVariants.{Nothing, One, Two, Three, Each, Many, Alike, Choice}
+use Rattle.smt_names.specs.declared.function.Interpretation.{Interpretation}
+use Rattle.smt_names.specs.declared.function.Interpretation.TheVariants as is
 use Rattle.term_weight.specs.Bodies.{body_sort, literal, term_of, is_language, regex_of, opaque, holds_unknown}
 use Rattle.smt_names.specs.Signature.{is_some}
 
 -- whether so many arguments are taken
-abbrev pub takes_count : Takes → ℕ → Bool
+abbrev pub takes_count : ArgumentSorts → ℕ → Bool
 takes_count Nothing n = nat_eq n 0
 takes_count (One s) n = nat_eq n 1
 takes_count (Two s t) n = nat_eq n 2
@@ -32,7 +32,7 @@ takes_count Alike n = nat_le 2 n
 takes_count Choice n = nat_eq n 3
 
 -- whether arguments of these sorts are taken
-abbrev pub takes_sorts : Takes → List Sort → Bool
+abbrev pub takes_sorts : ArgumentSorts → List Sort → Bool
 takes_sorts Nothing [] = true
 takes_sorts (One s) (a ∷ []) = same_sort s a
 takes_sorts (Two s t) (a ∷ b ∷ []) = same_sort s a && same_sort t b
@@ -104,7 +104,7 @@ abbrev pub word_of : ℕ → List ℕ
 word_of c = if nat_le c greatest_character then c ∷ [] else []
 
 -- what an application is by the sense of its function, which gives this sort
-abbrev pub applied_as : Sort → Sense → List Body → Body
+abbrev pub applied_as : Sort → Interpretation → List Body → Body
 applied_as gives (is.Truth b) bs = body.Term (term.Truth b)
 applied_as gives (is.Meaning o) bs = apply o bs
 applied_as gives (is.Equality o) bs = equality o bs

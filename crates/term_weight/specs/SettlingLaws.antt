@@ -15,8 +15,8 @@ use Rattle.sv_terms.specs.declared.term.Term.TheVariants as term
 use Rattle.sv_terms.specs.declared.term.Term.TheOpen.{Term-F}
 use Rattle.sv_terms.specs.declared.term.Term.TheFolds.{fold-Term, fold-roll-Term, map-Term, ind-Term}
 use Rattle.sv_terms.specs.Sorting.{same_sort}
-use Rattle.smt_names.specs.declared.function.Sense.{Sense}
-use Rattle.smt_names.specs.declared.function.Sense.TheVariants as is
+use Rattle.smt_names.specs.declared.function.Interpretation.{Interpretation}
+use Rattle.smt_names.specs.declared.function.Interpretation.TheVariants as is
 use Rattle.term_weight.specs.declared.weight.Factor.{Factor}
 use Rattle.term_weight.specs.Bodies.{body_sort, literal, factor, layer_word, layer_factor, is_language, is_unknown, holds_unknown, term_of, regex_of, opaque}
 use Rattle.term_weight.specs.Ranks.{apply, text_of, range_of, characters, combined, of_one, applied_as, unknowns, word_of}
@@ -164,7 +164,7 @@ product-count : (bs : List Body) → unless (not (nat_le 2 (unknowns bs))) sort.
 product-count bs = ap (λ n. unless (not (nat_le 2 n)) sort.Int) (sym (count-unknowns bs))
 
 module _ (gives : Sort) where
-  pub opaque-so : (k : Sense) (bs : List Body) (r : Sort) → opacity gives k (map weight_of bs) ≡ Some r → applied_as gives k bs ≡ opaque r
+  pub opaque-so : (k : Interpretation) (bs : List Body) (r : Sort) → opacity gives k (map weight_of bs) ≡ Some r → applied_as gives k bs ≡ opaque r
   opaque-so (is.Truth b) bs r e = absurd (cc)
   opaque-so (is.Meaning o) bs r e = absurd (cc)
   opaque-so (is.Equality o) [] r e = some-opaque sort.Bool r e
@@ -206,7 +206,7 @@ module _ (gives : Sort) where
   opaque-so (is.Loop i j) bs r e = combined-opaque (of_one (λ r. re.Loop r i j)) bs r e
   opaque-so (is.Character c) bs r e = absurd (cc)
 
-  pub plain-so : (k : Sense) (bs : List Body) → opacity gives k (map weight_of bs) ≡ None → applied_as gives k bs ≡ plain k bs
+  pub plain-so : (k : Interpretation) (bs : List Body) → opacity gives k (map weight_of bs) ≡ None → applied_as gives k bs ≡ plain k bs
   plain-so (is.Truth b) bs e = refl
   plain-so (is.Meaning o) bs e = refl
   plain-so (is.Equality o) [] e = absurd (cc)
@@ -248,7 +248,7 @@ module _ (gives : Sort) where
   plain-so (is.Loop i j) bs e = combined-plain (of_one (λ r. re.Loop r i j)) bs e
   plain-so (is.Character c) bs e = refl
 
-  pub plain-weighs : (k : Sense) (bs : List Body) → opacity gives k (map weight_of bs) ≡ None → weight_of (plain k bs) ≡ plain_weight k (map weight_of bs)
+  pub plain-weighs : (k : Interpretation) (bs : List Body) → opacity gives k (map weight_of bs) ≡ None → weight_of (plain k bs) ≡ plain_weight k (map weight_of bs)
   plain-weighs (is.Truth b) bs e = weight-Truth b
   plain-weighs (is.Meaning o) bs e = apply-weighs o bs
   plain-weighs (is.Equality o) bs e = apply-weighs o bs

@@ -10,7 +10,7 @@ use Rattle.term_weight.specs.declared.weight.Factor.{Factor}
 use Rattle.term_weight.specs.declared.weight.Weight.{Weight}
 use Rattle.term_weight.specs.declared.share.Share.{Share}
 use Rattle.term_weight.specs.declared.share.Uses.{Uses}
-use Rattle.term_weight.specs.declared.tally.Tally.{Tally}
+use Rattle.term_weight.specs.declared.tally.MacroSummary.{MacroSummary}
 use Rattle.term_weight.specs.declared.summary.Summary.{Summary}
 use Rattle.term_weight.specs.declared.summary.Summary.TheVariants as summary
 use Rattle.smt_names.specs.Signature.{Name}
@@ -79,17 +79,17 @@ all_used (u ∷ us) [] = plus (used u (opaque_weight sort.Bool)) (all_used us []
 all_used (u ∷ us) (w ∷ ws) = plus (used u (as_term w)) (all_used us ws)
 
 -- with what stands there whatever the arguments are
-abbrev pub total : Tally → List Weight → Share
+abbrev pub total : MacroSummary → List Weight → Share
 total t ws = plus t.own (all_used t.uses ws)
 
 -- no node yet, and so many parameters
-abbrev pub empty : ℕ → Tally
+abbrev pub empty : ℕ → MacroSummary
 empty parameters = record { own = nothing; uses = replicate parameters unused }
 
-abbrev pub raised : Share → Tally → Tally
+abbrev pub raised : Share → MacroSummary → MacroSummary
 raised x t = record { own = plus t.own x; uses = t.uses }
 
-abbrev pub changed : (Uses → Uses) → ℕ → Tally → Tally
+abbrev pub changed : (Uses → Uses) → ℕ → MacroSummary → MacroSummary
 changed f i t = record { own = t.own; uses = changed_at f i t.uses }
 
 -- a function of parts that come to this
@@ -128,17 +128,17 @@ abbrev pub part_named : List (Name × Option ℕ) → List Weight → Name → W
 part_named places ws n = or_leaf sort.Bool (weight_found places ws n)
 
 -- each place is one of so many
-pub record Covers (places : List (Name × Option ℕ)) (parameters : ℕ) : Type 0 where
+pub record PlacesAreWithin (places : List (Name × Option ℕ)) (parameters : ℕ) : Type 0 where
   pub within : (n : Name) → IfSome (shown n places) (λ i. i < parameters)
 
 -- the change of a tally adds this, by the weights of the arguments
-pub record Gains (places : List (Name × Option ℕ)) (old new : Tally) (by : List Weight → Share) : Type 0 where
+pub record Gains (places : List (Name × Option ℕ)) (old new : MacroSummary) (by : List Weight → Share) : Type 0 where
   pub kept : length new.uses ≡ length old.uses
-  pub added : Covers places (length old.uses) → (ws : List Weight) → total new ws ≡ plus (total old ws) (by ws)
+  pub added : PlacesAreWithin places (length old.uses) → (ws : List Weight) → total new ws ≡ plus (total old ws) (by ws)
 
 -- a summary tells the weight, by the weights of the arguments
-pub record Tells (places : List (Name × Option ℕ)) (parameters : ℕ) (x : Summary) (by : List Weight → Weight) : Type 0 where
-  pub told : Covers places parameters → (ws : List Weight) → weight_at x ws ≡ by ws
+pub record TellsWeight (places : List (Name × Option ℕ)) (parameters : ℕ) (x : Summary) (by : List Weight → Weight) : Type 0 where
+  pub told : PlacesAreWithin places parameters → (ws : List Weight) → weight_at x ws ≡ by ws
 
 -- a summary is that of a macro with these parameters and this body
 pub record Summarises (x : Summary) (parameters : List (Name × Sort)) (body : Body) : Type 0 where

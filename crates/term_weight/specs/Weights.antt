@@ -16,8 +16,8 @@ use Rattle.sv_terms.specs.declared.term.Term.TheVariants as term
 use Rattle.sv_terms.specs.declared.term.Term.TheOpen.{Term-F}
 use Rattle.sv_terms.specs.declared.term.Term.TheFolds.{fold-Term}
 use Rattle.sv_terms.specs.Sorting.{same_sort}
-use Rattle.smt_names.specs.declared.function.Sense.{Sense}
-use Rattle.smt_names.specs.declared.function.Sense.TheVariants as is
+use Rattle.smt_names.specs.declared.function.Interpretation.{Interpretation}
+use Rattle.smt_names.specs.declared.function.Interpretation.TheVariants as is
 use Rattle.term_weight.specs.declared.weight.Factor.{Factor}
 use Rattle.term_weight.specs.declared.weight.Factor.TheVariants.{Literal, Known, Unknown}
 use Rattle.term_weight.specs.declared.weight.Weight.{Weight}
@@ -119,7 +119,7 @@ of_range _ = Some sort.RegLan
 abbrev pub of_languages : List Weight → Option Sort
 of_languages ws = unless (list_all (λ w. w.is_language) ws) sort.RegLan
 
-abbrev pub opacity : Sort → Sense → List Weight → Option Sort
+abbrev pub opacity : Sort → Interpretation → List Weight → Option Sort
 opacity gives (is.Truth b) ws = None
 opacity gives (is.Meaning o) ws = None
 opacity gives (is.Equality o) ws = of_equality ws
@@ -156,7 +156,7 @@ abbrev pub ranged : List Body → Body
 ranged (b ∷ c ∷ []) = range_of (literal b) (literal c)
 ranged _ = opaque sort.RegLan
 
-abbrev pub around_one : Sense → Regex → Regex
+abbrev pub around_one : Interpretation → Regex → Regex
 around_one is.Star r = re.Star r
 around_one is.Plus r = re.Plus r
 around_one is.Opt r = re.Opt r
@@ -165,7 +165,7 @@ around_one (is.Loop i j) r = re.Loop r i j
 around_one _ r = re.Empty
 
 -- an application that isn't opaque
-abbrev pub plain : Sense → List Body → Body
+abbrev pub plain : Interpretation → List Body → Body
 plain (is.Truth b) bs = body.Term (term.Truth b)
 plain (is.Meaning o) bs = apply o bs
 plain (is.Equality o) bs = apply o bs
@@ -199,7 +199,7 @@ abbrev pub membership_weight : List Weight → Weight
 membership_weight (w ∷ r ∷ []) = in_weight (as_term w) r
 membership_weight _ = opaque_weight sort.Bool
 
-abbrev pub plain_weight : Sense → List Weight → Weight
+abbrev pub plain_weight : Interpretation → List Weight → Weight
 plain_weight (is.Truth b) ws = leaf sort.Bool Known
 plain_weight (is.Meaning o) ws = op_weight o (map as_term ws)
 plain_weight (is.Equality o) ws = op_weight o (map as_term ws)

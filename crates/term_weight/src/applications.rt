@@ -7,7 +7,7 @@ use crate::weight::{
     Factor, Weight, are_languages, combined_weight, is_literal, one_weight, op_weight,
     related_weight, unknowns, weigh_membership,
 };
-use smt_names::Sense;
+use smt_names::Interpretation;
 use sv_terms::{Op, Sort};
 
 /// This sort, where the test fails.
@@ -93,25 +93,29 @@ fn of_languages(weights: &[Weight]) -> Option<Sort>
 
 /// The sort of what a function of this sense is at arguments of these weights, where it is opaque.
 /// Linear in their number.
-pub fn opacity(gives: Sort, sense: Sense, weights: &[Weight]) -> Option<Sort>
+pub fn opacity(gives: Sort, sense: Interpretation, weights: &[Weight]) -> Option<Sort>
     ensures { result ≡ w.opacity gives sense weights.now }
 {
     match sense {
-        Sense::Truth(_) => None,
-        Sense::Meaning(_) => None,
-        Sense::Equality(_) => of_equality(weights),
-        Sense::Choice => of_choice(weights),
-        Sense::Product => of_product(weights),
-        Sense::Replacement(_) => of_replacement(weights),
-        Sense::Opaque => Some(gives),
-        Sense::Membership => of_membership(weights),
-        Sense::TextOf => of_text(weights),
-        Sense::Range => of_range(weights),
-        Sense::Empty | Sense::All | Sense::AnyChar => None,
-        Sense::Character(_) => None,
-        Sense::Concat | Sense::Union | Sense::Inter | Sense::Diff => of_languages(weights),
-        Sense::Star | Sense::Plus | Sense::Opt | Sense::Comp => of_languages(weights),
-        Sense::Loop(_, _) => of_languages(weights),
+        Interpretation::Truth(_) => None,
+        Interpretation::Meaning(_) => None,
+        Interpretation::Equality(_) => of_equality(weights),
+        Interpretation::Choice => of_choice(weights),
+        Interpretation::Product => of_product(weights),
+        Interpretation::Replacement(_) => of_replacement(weights),
+        Interpretation::Opaque => Some(gives),
+        Interpretation::Membership => of_membership(weights),
+        Interpretation::TextOf => of_text(weights),
+        Interpretation::Range => of_range(weights),
+        Interpretation::Empty | Interpretation::All | Interpretation::AnyChar => None,
+        Interpretation::Character(_) => None,
+        Interpretation::Concat
+        | Interpretation::Union
+        | Interpretation::Inter
+        | Interpretation::Diff => of_languages(weights),
+        Interpretation::Star | Interpretation::Plus | Interpretation::Opt | Interpretation::Comp =>
+            of_languages(weights),
+        Interpretation::Loop(_, _) => of_languages(weights),
     }
 }
 
@@ -137,23 +141,29 @@ pub fn pair_weight(weights: &[Weight]) -> Weight
 
 /// What a function of this sense weighs at arguments of these weights, where it isn't opaque.
 /// Linear in their number.
-pub fn plain_weight(sense: Sense, weights: &[Weight]) -> Weight
+pub fn plain_weight(sense: Interpretation, weights: &[Weight]) -> Weight
     ensures { result ≡ w.plain_weight sense weights.now }
 {
     match sense {
-        Sense::Truth(_) => Weight::leaf(Sort::Bool, Factor::Known),
-        Sense::Meaning(op) => op_weight(op, weights),
-        Sense::Equality(op) => op_weight(op, weights),
-        Sense::Choice => op_weight(Op::IfThenElse, weights),
-        Sense::Product => op_weight(Op::Multiply, weights),
-        Sense::Replacement(op) => op_weight(op, weights),
-        Sense::Opaque => Weight::opaque(Sort::Bool),
-        Sense::Membership => membership_weight(weights),
-        Sense::TextOf | Sense::Range => Weight::language(1, 0),
-        Sense::Empty | Sense::All | Sense::AnyChar => Weight::language(1, 0),
-        Sense::Character(_) => Weight::leaf(Sort::String, Factor::Literal),
-        Sense::Concat | Sense::Union | Sense::Inter | Sense::Diff => combined_weight(weights),
-        Sense::Star | Sense::Plus | Sense::Opt | Sense::Comp => one_weight(weights),
-        Sense::Loop(_, _) => one_weight(weights),
+        Interpretation::Truth(_) => Weight::leaf(Sort::Bool, Factor::Known),
+        Interpretation::Meaning(op) => op_weight(op, weights),
+        Interpretation::Equality(op) => op_weight(op, weights),
+        Interpretation::Choice => op_weight(Op::IfThenElse, weights),
+        Interpretation::Product => op_weight(Op::Multiply, weights),
+        Interpretation::Replacement(op) => op_weight(op, weights),
+        Interpretation::Opaque => Weight::opaque(Sort::Bool),
+        Interpretation::Membership => membership_weight(weights),
+        Interpretation::TextOf | Interpretation::Range => Weight::language(1, 0),
+        Interpretation::Empty | Interpretation::All | Interpretation::AnyChar => Weight::language(
+            1, 0,
+        ),
+        Interpretation::Character(_) => Weight::leaf(Sort::String, Factor::Literal),
+        Interpretation::Concat
+        | Interpretation::Union
+        | Interpretation::Inter
+        | Interpretation::Diff => combined_weight(weights),
+        Interpretation::Star | Interpretation::Plus | Interpretation::Opt | Interpretation::Comp =>
+            one_weight(weights),
+        Interpretation::Loop(_, _) => one_weight(weights),
     }
 }

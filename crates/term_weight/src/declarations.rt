@@ -26,7 +26,7 @@ impl std::marker::Model for Declarations {
     ghost use Rattle.sv_terms.specs.contracts.regex.Regex as regex;
     ghost use Rattle.sv_terms.specs.contracts.term.Term as term;
     ghost use Rattle.sv_terms.specs.declared.entry.Entry.{Entry as AnyEntry};
-    ghost use Rattle.term_weight.specs.Macros.{AreKept};
+    ghost use Rattle.term_weight.specs.Macros.{HaveSummaries};
 
     ghost Value = { List (List ℕ × AnyEntry) };
 
@@ -34,7 +34,7 @@ impl std::marker::Model for Declarations {
 
     ghost view = { λ m. m.symbols };
 
-    ghost invariant = { λ m. AreKept m.symbols m.summaries };
+    ghost invariant = { λ m. HaveSummaries m.symbols m.summaries };
 }
 
 impl Declarations {

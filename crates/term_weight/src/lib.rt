@@ -33,7 +33,7 @@ pub use applications::{opacity, pair_weight, plain_weight};
 pub use capacity::room;
 pub use declarations::Declarations;
 pub use declared::{Declared, Macro};
-pub use places::Places;
+pub use places::NamePlaces;
 pub use rank::{are_of, same_sort, takes_count, takes_sorts};
 pub use summary::Summary;
 pub use weight::{Factor, Weight, op_sort};

@@ -12,11 +12,11 @@ use sv_terms::{Name, Sort};
 ///
 /// Contracts see pairs of a name and its place, if it has one.
 #[derive(Drop)]
-pub struct Places {
+pub struct NamePlaces {
     index: IndexMap<Name, Option<usize>>,
 }
 
-impl Model for Places {
+impl Model for NamePlaces {
     ghost use Rattle.std.specs.Prelude.{List, ℕ, Option};
 
     ghost Value = { List (List ℕ × Option ℕ) };
@@ -24,12 +24,12 @@ impl Model for Places {
     ghost view = { λ m. m.index.entries };
 }
 
-impl Places {
+impl NamePlaces {
     /// No places.
-    pub fn new(alloc: Global) -> Places
+    pub fn new(alloc: Global) -> NamePlaces
         ensures { result ≡ [] }
     {
-        Places {
+        NamePlaces {
             index: IndexMap::new(alloc),
         }
     }
@@ -61,10 +61,10 @@ impl Places {
     /// The places of these parameters among them; of equal names the first counts. Linear in the
     /// names.
     #[tactic(auto, using(crate::proofs::Placing::placing))]
-    pub fn of(alloc: Global, parameters: &[(Name, Sort)]) -> Result<Places, AllocError>
+    pub fn of(alloc: Global, parameters: &[(Name, Sort)]) -> Result<NamePlaces, AllocError>
         ensures { IfOk result (λ m. (n : AnyName) → by_name.shown n m ≡ w.place_of n parameters.now) }
     {
-        let mut places = Places::new(alloc);
+        let mut places = NamePlaces::new(alloc);
         let mut i = parameters.len();
         while i > 0 {
             i -= 1;

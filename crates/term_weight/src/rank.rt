@@ -4,7 +4,7 @@ ghost use Rattle.std.specs.List.{list_all};
 ghost use Rattle.sv_terms.specs.Sorting.{same_sort as is_same_sort};
 ghost use Rattle.term_weight.specs.Ranks as ranks;
 
-use smt_names::Takes;
+use smt_names::ArgumentSorts;
 use sv_terms::{Name, Sort};
 
 /// Whether they are the same sort.
@@ -32,18 +32,18 @@ pub fn same_sort(a: Sort, b: Sort) -> bool
 }
 
 /// Whether so many arguments are taken.
-pub fn takes_count(takes: Takes, n: usize) -> bool
+pub fn takes_count(takes: ArgumentSorts, n: usize) -> bool
     ensures { result ≡ ranks.takes_count takes n }
 {
     match takes {
-        Takes::Nothing => n == 0,
-        Takes::One(_) => n == 1,
-        Takes::Two(_, _) => n == 2,
-        Takes::Three(_, _, _) => n == 3,
-        Takes::Each(_) => 1 <= n,
-        Takes::Many(_) => 2 <= n,
-        Takes::Alike => 2 <= n,
-        Takes::Choice => n == 3,
+        ArgumentSorts::Nothing => n == 0,
+        ArgumentSorts::One(_) => n == 1,
+        ArgumentSorts::Two(_, _) => n == 2,
+        ArgumentSorts::Three(_, _, _) => n == 3,
+        ArgumentSorts::Each(_) => 1 <= n,
+        ArgumentSorts::Many(_) => 2 <= n,
+        ArgumentSorts::Alike => 2 <= n,
+        ArgumentSorts::Choice => n == 3,
     }
 }
 
@@ -60,30 +60,30 @@ fn all_have(sort: Sort, sorts: &[Sort]) -> bool
 }
 
 /// Whether arguments of these sorts are taken. Linear in their number.
-pub fn takes_sorts(takes: Takes, sorts: &[Sort]) -> bool
+pub fn takes_sorts(takes: ArgumentSorts, sorts: &[Sort]) -> bool
     ensures { result ≡ ranks.takes_sorts takes sorts.now }
 {
     match takes {
-        Takes::Nothing => sorts.is_empty(),
-        Takes::One(s) => match sorts {
+        ArgumentSorts::Nothing => sorts.is_empty(),
+        ArgumentSorts::One(s) => match sorts {
             [a] => same_sort(s, *a),
             _ => false,
         },
-        Takes::Two(s, t) => match sorts {
+        ArgumentSorts::Two(s, t) => match sorts {
             [a, b] => same_sort(s, *a) && same_sort(t, *b),
             _ => false,
         },
-        Takes::Three(s, t, u) => match sorts {
+        ArgumentSorts::Three(s, t, u) => match sorts {
             [a, b, c] => same_sort(s, *a) && same_sort(t, *b) && same_sort(u, *c),
             _ => false,
         },
-        Takes::Each(s) => all_have(s, sorts),
-        Takes::Many(s) => all_have(s, sorts),
-        Takes::Alike => match sorts {
+        ArgumentSorts::Each(s) => all_have(s, sorts),
+        ArgumentSorts::Many(s) => all_have(s, sorts),
+        ArgumentSorts::Alike => match sorts {
             [first, rest @ ..] => all_have(*first, rest),
             [] => false,
         },
-        Takes::Choice => match sorts {
+        ArgumentSorts::Choice => match sorts {
             [a, b, c] => {
                 same_sort(Sort::Bool, *a) && same_sort(*b, *c) && !same_sort(Sort::RegLan, *b)
             }

@@ -2,7 +2,7 @@ ghost use Rattle.std.specs.Prelude.{◌≡◌, ◌<◌, [], ◌++◌, length, On
 ghost use Rattle.std.specs.Map.{lookup};
 ghost use Rattle.std.specs.Option.{option_copied};
 ghost use Rattle.smt_names.specs.Signature.{same_name};
-ghost use Rattle.term_weight.specs.Macros.{AreKept, IsKept, IsPast, KeepsOthers};
+ghost use Rattle.term_weight.specs.Macros.{HaveSummaries, HasSummary, IsUndeclared, KeepsOthers};
 
 use crate::summary::Summary;
 use indexmap::IndexMap;
@@ -49,7 +49,7 @@ impl Summaries {
 
     /// Keeps the summary of a macro of this name, if the entry is one. Linear in its body.
     pub fn keep(&mut self, alloc: Global, name: &Name, entry: &Entry) -> Result<(), AllocError>
-        ensures kept { OnOk result (IsKept entry.now (lookup (same_name name.now) self.new)) }
+        ensures kept { OnOk result (HasSummary entry.now (lookup (same_name name.now) self.new)) }
         ensures others { KeepsOthers name.now self.old self.new }
     {
         match entry {
@@ -67,7 +67,7 @@ impl Summaries {
 
     /// Whether there is a last macro, and it is no longer declared.
     fn is_past(&self, symbols: &Symbols) -> bool
-        ensures { IsTrue result → IsPast symbols.now self.now }
+        ensures { IsTrue result → IsUndeclared symbols.now self.now }
     {
         match self.map.last() {
             Some((name, _)) => symbols.get(name).is_none(),
@@ -85,7 +85,7 @@ impl Summaries {
 
     /// Forgets the macros that are no longer declared, which are the last ones.
     pub fn forget(&mut self, symbols: &Symbols)
-        ensures { AreKept symbols.now self.old → AreKept symbols.now self.new }
+        ensures { HaveSummaries symbols.now self.old → HaveSummaries symbols.now self.new }
     {
         while self.is_past(symbols) {
             self.pop();

@@ -4,9 +4,9 @@ ghost use Rattle.term_weight.specs.Places as by_name;
 ghost use Rattle.term_weight.specs.Summaries as sums;
 ghost use Rattle.term_weight.specs.Weights as weighing;
 
-use crate::places::Places;
+use crate::places::NamePlaces;
 use crate::share::Share;
-use crate::tally::{Tally, tally_of};
+use crate::tally::{MacroSummary, tally_of};
 use crate::weigh::weigh_regex;
 use crate::weight::{Factor, Weight, holds, op_sort};
 use std::alloc::{AllocError, Global};
@@ -20,7 +20,7 @@ pub enum Summary {
     /// The parameter at a place, of this sort.
     Parameter(usize, Sort),
     /// A function of this sort, of parts that come to this.
-    Term(Sort, Tally),
+    Term(Sort, MacroSummary),
 }
 
 /// A function of parts that come to this.
@@ -39,11 +39,11 @@ fn of_total(sort: Sort, total: Share) -> Weight
 fn function(
     alloc: Global,
     parameters: usize,
-    places: &Places,
+    places: &NamePlaces,
     sort: Sort,
     term: &Term,
 ) -> Result<Summary, AllocError>
-    ensures tells { IfOk result (λ x. sums.Tells places.now parameters x (λ ws. sums.of_total sort (sums.share 0 (sums.part places.now ws term.now)))) }
+    ensures tells { IfOk result (λ x. sums.TellsWeight places.now parameters x (λ ws. sums.of_total sort (sums.share 0 (sums.part places.now ws term.now)))) }
     ensures alone { IfOk result (λ x. sums.parameter_of x ≡ None) }
 {
     let tally = tally_of(alloc, parameters, places, term)?;
@@ -54,10 +54,10 @@ fn function(
 fn of_term(
     alloc: Global,
     parameters: usize,
-    places: &Places,
+    places: &NamePlaces,
     term: &Term,
 ) -> Result<Summary, AllocError>
-    ensures tells { IfOk result (λ x. sums.Tells places.now parameters x (λ ws. weighing.weighed (by_name.weight_found places.now ws) term.now)) }
+    ensures tells { IfOk result (λ x. sums.TellsWeight places.now parameters x (λ ws. weighing.weighed (by_name.weight_found places.now ws) term.now)) }
     ensures alone { IfOk result (λ x. sums.parameter_of x ≡ by_name.named_by (λ n. by_name.shown n places.now) (by_name.name_alone term.now)) }
 {
     match term {
@@ -87,7 +87,7 @@ impl Summary {
     {
         match body {
             Body::Term(term) => {
-                let places = Places::of(alloc, parameters)?;
+                let places = NamePlaces::of(alloc, parameters)?;
                 Ok(of_term(alloc, parameters.len(), &places, term)?)
             }
             Body::Language(regex) => Ok(Summary::Same(weigh_regex(alloc, regex)?)),

@@ -5,7 +5,7 @@ ghost use Rattle.term_weight.specs.Summaries.{Gains};
 ghost use Rattle.term_weight.specs.Weights as weighing;
 
 use crate::capacity::room;
-use crate::places::Places;
+use crate::places::NamePlaces;
 use crate::share::{Share, Uses};
 use crate::weigh::weigh_regex;
 use crate::weight::{Factor, Weight};
@@ -16,21 +16,21 @@ use sv_terms::{Name, Op, Regex, Sort, Term};
 /// What stands in a term whatever the arguments are, and how its parameters are used, each at its
 /// place.
 #[derive(Debug, Drop)]
-pub struct Tally {
+pub struct MacroSummary {
     pub own: Share,
     pub uses: Items<Uses>,
 }
 
-impl Tally {
+impl MacroSummary {
     /// No node yet, and so many parameters.
-    fn empty(alloc: Global, parameters: usize) -> Result<Tally, AllocError>
+    fn empty(alloc: Global, parameters: usize) -> Result<MacroSummary, AllocError>
         ensures { IfOk result (λ t. t ≡ sums.empty parameters) }
     {
         let mut uses = room(alloc, parameters)?;
         for _ in 0..parameters {
             uses.push(Uses::none())?;
         }
-        Ok(Tally {
+        Ok(MacroSummary {
             own: Share::nothing(),
             uses,
         })
@@ -95,7 +95,7 @@ fn argument(weights: &[Weight], place: usize) -> Weight
 
 /// A part without parts.
 #[inline(never)]
-fn leaf(tally: &mut Tally, places: &Places, depth: u32, factor: Factor)
+fn leaf(tally: &mut MacroSummary, places: &NamePlaces, depth: u32, factor: Factor)
     ensures { Gains places.now tally.old tally.new (λ ws. sums.share depth (weighing.leaf Sort.Bool factor)) }
 {
     tally.raise(Share::of(Weight::leaf(Sort::Bool, factor), depth))
@@ -103,7 +103,7 @@ fn leaf(tally: &mut Tally, places: &Places, depth: u32, factor: Factor)
 
 /// A parameter, or a constant.
 #[inline(never)]
-fn tally_name(tally: &mut Tally, places: &Places, depth: u32, name: &Name)
+fn tally_name(tally: &mut MacroSummary, places: &NamePlaces, depth: u32, name: &Name)
     ensures { Gains places.now tally.old tally.new (λ ws. sums.share depth (sums.part_named places.now ws name.now)) }
 {
     match places.get(name) {
@@ -113,7 +113,7 @@ fn tally_name(tally: &mut Tally, places: &Places, depth: u32, name: &Name)
 }
 
 /// A length of this is an unknown, but of a literal.
-fn measure(tally: &mut Tally, places: &Places, term: &Term)
+fn measure(tally: &mut MacroSummary, places: &NamePlaces, term: &Term)
     ensures { Gains places.now tally.old tally.new (λ ws. sums.unknown_if (not (weighing.is_literal (sums.part places.now ws term.now).factor))) }
 {
     match term {
@@ -133,7 +133,7 @@ fn measure(tally: &mut Tally, places: &Places, term: &Term)
 
 /// An unknown that is none of the parts: a length, but of a literal.
 #[inline(never)]
-fn measure_all(tally: &mut Tally, places: &Places, op: Op, terms: &[Term])
+fn measure_all(tally: &mut MacroSummary, places: &NamePlaces, op: Op, terms: &[Term])
     ensures { Gains places.now tally.old tally.new (λ ws. sums.unknown_if (sums.is_measure op (map (λ x. x.factor) (map (sums.part places.now ws) terms.now)))) }
 {
     match op {
@@ -149,8 +149,8 @@ fn measure_all(tally: &mut Tally, places: &Places, op: Op, terms: &[Term])
 #[inline(never)]
 fn tally_regex(
     alloc: Global,
-    tally: &mut Tally,
-    places: &Places,
+    tally: &mut MacroSummary,
+    places: &NamePlaces,
     depth: u32,
     regex: &Regex,
 ) -> Result<(), AllocError>
@@ -164,8 +164,8 @@ fn tally_regex(
 #[cycle(tally_term)]
 fn tally_term(
     alloc: Global,
-    tally: &mut Tally,
-    places: &Places,
+    tally: &mut MacroSummary,
+    places: &NamePlaces,
     depth: u32,
     term: &Term,
 ) -> Result<(), AllocError>
@@ -201,8 +201,8 @@ fn tally_term(
 #[cycle(tally_term)]
 fn tally_all(
     alloc: Global,
-    tally: &mut Tally,
-    places: &Places,
+    tally: &mut MacroSummary,
+    places: &NamePlaces,
     depth: u32,
     terms: &[Term],
 ) -> Result<(), AllocError>
@@ -218,12 +218,12 @@ fn tally_all(
 pub fn tally_of(
     alloc: Global,
     parameters: usize,
-    places: &Places,
+    places: &NamePlaces,
     term: &Term,
-) -> Result<Tally, AllocError>
+) -> Result<MacroSummary, AllocError>
     ensures { IfOk result (λ t. Gains places.now (sums.empty parameters) t (λ ws. sums.share 0 (sums.part places.now ws term.now))) }
 {
-    let mut all = Tally::empty(alloc, parameters)?;
+    let mut all = MacroSummary::empty(alloc, parameters)?;
     tally_term(alloc, &mut all, places, 0, term)?;
     Ok(all)
 }

@@ -4,7 +4,6 @@ ghost use Rattle.term_weight.specs.Bodies as b;
 ghost use Rattle.term_weight.specs.Sizes as z;
 ghost use Rattle.term_weight.specs.Weights as w;
 
-use smt_names::Sense;
 use sv_terms::{MOST_NESTING, MOST_NODES, Op, Sort};
 
 /// What a factor of a product is: a literal word, something without unknowns, or something that

@@ -17,7 +17,7 @@ use Rattle.machine_core.specs.declared.graph.Graph.{Graph}
 use Rattle.sv_word.specs.Ranges.{in_ranges}
 use Rattle.transducer_core.specs.Built.{IsAnyStep, IsBuilt, IsStep}
 use Rattle.transducer_core.specs.Nodes.{NodeSpells, Spells}
-use Rattle.transducer_core.specs.declared.node.Node.{Node}
+use Rattle.transducer_core.specs.declared.node.OutputNode.{OutputNode}
 use Rattle.transducer_core.proofs.NodeLemmas.{only_one}
 
 some_same : {X : Type 0} (a b : X) → Some a ≡ Some b → a ≡ b
@@ -62,24 +62,24 @@ end_added old new cost0 state z e s cost = (
 )
 
 -- the node that is at a place of one more
-which : (ns : List Node) (n m : Node) (s : ℕ) → slice_get (ns ++ n ∷ []) s ≡ Some m → (slice_get ns s ≡ Some m) ⊎ ((length ns ≡ s) × (n ≡ m))
+which : (ns : List OutputNode) (n m : OutputNode) (s : ℕ) → slice_get (ns ++ n ∷ []) s ≡ Some m → (slice_get ns s ≡ Some m) ⊎ ((length ns ≡ s) × (n ≡ m))
 which [] n m zero e = inr (refl, some_same n m e)
 which [] n m (suc s) e = absurd (cc)
 which (x ∷ ns) n m zero e = inl e
 which (x ∷ ns) n m (suc s) e = ⊎_elim inl (λ r. inr (ap suc r.0, r.1)) (which ns n m s e)
 
-pub built_more : (g h : Graph) (ns : List Node) (n : Node) (state : ℕ) → state ≡ length ns → IsBuilt g ns
+pub built_more : (g h : Graph) (ns : List OutputNode) (n : OutputNode) (state : ℕ) → state ≡ length ns → IsBuilt g ns
     → ((s d : ℕ) (cost : List ℕ) (to : ℕ) → StepsBy h.edges s d cost to ↔ (StepsBy g.edges s d cost to ⊎ IsAnyStep state n.firsts s d cost to))
     → ((s : ℕ) (cost : List ℕ) → EndsAt h.ends s cost ↔ (EndsAt g.ends s cost ⊎ ((state ≡ s) × IsTrue n.ends × (cost ≡ []))))
     → IsBuilt h (ns ++ n ∷ [])
 built_more g h ns n state at b steps ends = record {
   ends = λ s cost. (
     λ k. ⊎_elim (λ a. let o = (b.ends s cost).0 a in (o.0, slice_get-append ns (n ∷ []) s o.0 o.1, o.2, o.3)) (λ x. (n, last s x.0, x.1, x.2)) ((ends s cost).0 k),
-    λ k. (ends s cost).1 (⊎_elim (λ o. inl ((b.ends s cost).1 (k.0, o, k.2, k.3))) (λ r. inr (at ∙ r.0, subst (λ (x : Node). IsTrue x.ends) (sym r.1) k.2, k.3)) (which ns n k.0 s k.1)),
+    λ k. (ends s cost).1 (⊎_elim (λ o. inl ((b.ends s cost).1 (k.0, o, k.2, k.3))) (λ r. inr (at ∙ r.0, subst (λ (x : OutputNode). IsTrue x.ends) (sym r.1) k.2, k.3)) (which ns n k.0 s k.1)),
   );
   steps = λ s c cost to. (
     λ k. ⊎_elim (λ a. let o = (b.steps s c cost to).0 a in (o.0, slice_get-append ns (n ∷ []) s o.0 o.1, o.2)) (λ x. (n, last s x.2.0, (x.0, x.1, (refl, x.2.1, x.2.2, x.2.3)))) ((steps s c cost to).0 k),
-    λ k. (steps s c cost to).1 (⊎_elim (λ o. inl ((b.steps s c cost to).1 (k.0, o, k.2))) (λ r. inr (k.2.0, subst (λ (x : Node). Contains {X = ℕ × ℕ} x.firsts k.2.0) (sym r.1) k.2.1, (at ∙ r.0, k.2.2.1, k.2.2.2, k.2.2.3))) (which ns n k.0 s k.1)),
+    λ k. (steps s c cost to).1 (⊎_elim (λ o. inl ((b.steps s c cost to).1 (k.0, o, k.2))) (λ r. inr (k.2.0, subst (λ (x : OutputNode). Contains {X = ℕ × ℕ} x.firsts k.2.0) (sym r.1) k.2.1, (at ∙ r.0, k.2.2.1, k.2.2.2, k.2.2.3))) (which ns n k.0 s k.1)),
   );
 }
   where
@@ -99,12 +99,12 @@ built_none g e f = record {
 }
 
 -- the words of the machine
-module _ (g : Graph) (first : Node) (ns : List Node) (b : IsBuilt g (first ∷ ns)) where
+module _ (g : Graph) (first : OutputNode) (ns : List OutputNode) (b : IsBuilt g (first ∷ ns)) where
   free : (w : List ℕ) (s : ℕ) (cost : List ℕ) → RunsFrom (EndsAt g.ends) (StepsBy g.edges) s w cost → cost ≡ []
   free [] s cost r = ((b.ends s cost).0 r).3
   free (c ∷ w) s cost r = (let k = (b.steps s c r.0 r.1).0 r.3 in r.5 ∙ ap (λ x. add_costs x r.2) k.2.2.2)
 
-  to_node : (w : List ℕ) (s : ℕ) (cost : List ℕ) → RunsFrom (EndsAt g.ends) (StepsBy g.edges) s w cost → (n : Node) × (slice_get (first ∷ ns) s ≡ Some n) × NodeSpells ns w n
+  to_node : (w : List ℕ) (s : ℕ) (cost : List ℕ) → RunsFrom (EndsAt g.ends) (StepsBy g.edges) s w cost → (n : OutputNode) × (slice_get (first ∷ ns) s ≡ Some n) × NodeSpells ns w n
   to_node [] s cost r = (let k = (b.ends s cost).0 r in (k.0, k.1, k.2))
   to_node (c ∷ w) s cost r =
       let k = (b.steps s c r.0 r.1).0 r.3 in
@@ -113,7 +113,7 @@ module _ (g : Graph) (first : Node) (ns : List Node) (b : IsBuilt g (first ∷ n
       let at : slice_get ns k.2.0.1 ≡ Some m.0 = subst (λ x. slice_get (first ∷ ns) x ≡ Some m.0) up m.1 in
       (k.0, k.1, (k.2.0.1, m.0, subst (λ x. Contains {X = ℕ × ℕ} k.0.firsts (x, k.2.0.1)) k.2.2.1 k.2.1, at, m.2))
 
-  from_node : (w : List ℕ) (s : ℕ) (n : Node) → slice_get (first ∷ ns) s ≡ Some n → NodeSpells ns w n → RunsFrom (EndsAt g.ends) (StepsBy g.edges) s w []
+  from_node : (w : List ℕ) (s : ℕ) (n : OutputNode) → slice_get (first ∷ ns) s ≡ Some n → NodeSpells ns w n → RunsFrom (EndsAt g.ends) (StepsBy g.edges) s w []
   from_node [] s n at h = (b.ends s []).1 (n, at, h, refl)
   from_node (c ∷ w) s n at h =
       let up : h.0 + 1 ≡ suc h.0 = omega arith in
@@ -128,13 +128,13 @@ at_there xs i d h = (i, h, get_or_default xs i (get_or xs i d) d h)
 pub item_there : {X : Type 0} (xs : List X) (i : ℕ) (x : X) → i < length xs → x ≡ get_or xs i x → Contains xs x
 item_there xs i x h e = (i, h, sym e)
 
-pub built_one : (g : Graph) (ns : List Node) (m n : Node) (k : ℕ) → IsBuilt g (m ∷ []) → k < length ns → m ≡ get_or ns k m → slice_get ns k ≡ Some n → IsBuilt g (n ∷ [])
+pub built_one : (g : Graph) (ns : List OutputNode) (m n : OutputNode) (k : ℕ) → IsBuilt g (m ∷ []) → k < length ns → m ≡ get_or ns k m → slice_get ns k ≡ Some n → IsBuilt g (n ∷ [])
 built_one g ns m n k b h e at = subst (λ x. IsBuilt g (x ∷ [])) (e ∙ get_or_from_slice_get ns k n m at) b
 
-abbrev none : Node
+abbrev none : OutputNode
 none = record { firsts = []; ends = false }
 
-pub machine_words : (g : Graph) (ns : List Node) (k : ℕ) → k < length ns → ((n : Node) → slice_get ns k ≡ Some n → IsBuilt g (n ∷ ns)) → (w : List ℕ) → Accepts g w [] ↔ Spells ns k w
+pub machine_words : (g : Graph) (ns : List OutputNode) (k : ℕ) → k < length ns → ((n : OutputNode) → slice_get ns k ≡ Some n → IsBuilt g (n ∷ ns)) → (w : List ℕ) → Accepts g w [] ↔ Spells ns k w
 machine_words g ns k h b w =
     let n = get_or ns k none in
     let at = slice_get-get_or ns k none h in

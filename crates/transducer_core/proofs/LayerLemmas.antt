@@ -8,7 +8,7 @@ use Rattle.sv_terms.specs.Transduction.{Transduces, Leads, Follows, Pairs, IsTra
 use Rattle.sv_terms.specs.declared.transducer.TransEdge.{TransEdge}
 use Rattle.sv_terms.specs.declared.transducer.Transducer.{Transducer}
 use Rattle.transducer_core.specs.declared.reached.Reached.{Reached}
-use Rattle.transducer_core.specs.Layers.{ComesFrom, IsTaken, IsPartLayer, IsLayer, AreLayers, last_layer, LedTo, first_of, IsSearched, IsWalk, IsWalking, HasEntry, IsEntry}
+use Rattle.transducer_core.specs.Layers.{ComesFrom, IsTaken, IsPartLayer, IsLayer, AreLayers, last_layer, LedTo, first_of, AreSearchLayers, IsBackWalk, IsWalking, HasEntry, IsEntry}
 
 pub some_same : {X : Type 0} (a b : X) → Some a ≡ Some b → a ≡ b
 some_same a b e = cc
@@ -191,26 +191,26 @@ first_done t w r (zero, lt, e) = subst (λ (x : Reached). x.done ≤ length w) e
 first_done t w r (suc k, lt, e) = absurd (omega (arith, lt))
 
 -- the search, one character further
-pub searched_none : (t : Transducer) (w : List ℕ) (layers : List (List Reached)) → layers ≡ (first_of t ∷ []) ∷ [] → IsSearched t [] w layers
+pub searched_none : (t : Transducer) (w : List ℕ) (layers : List (List Reached)) → layers ≡ (first_of t ∷ []) ∷ [] → AreSearchLayers t [] w layers
 searched_none t w layers e = record { later = []; is = e; are = refl }
 
-pub searched_last : (t : Transducer) (read w : List ℕ) (layers : List (List Reached)) (n : ℕ) (layer : List Reached) (s : IsSearched t read w layers) → n ≡ length read → slice_get layers n ≡ Some layer
+pub searched_last : (t : Transducer) (read w : List ℕ) (layers : List (List Reached)) (n : ℕ) (layer : List Reached) (s : AreSearchLayers t read w layers) → n ≡ length read → slice_get layers n ≡ Some layer
     → layer ≡ last_layer (first_of t ∷ []) s.later
 searched_last t read w layers n layer s e g =
     let k = layers_length t w (first_of t ∷ []) read s.later s.are in
     let same : n ≡ length s.later = omega (arith, e, k) in
     some_same layer (last_layer (first_of t ∷ []) s.later) (sym g ∙ ap (λ m. slice_get layers m) same ∙ ap (λ (ls : List (List Reached)). slice_get ls (length s.later)) s.is ∙ last_at (first_of t ∷ []) s.later)
 
-pub searched_done : (t : Transducer) (read w : List ℕ) (layers : List (List Reached)) (n : ℕ) (layer : List Reached) → IsSearched t read w layers → n ≡ length read → slice_get layers n ≡ Some layer
+pub searched_done : (t : Transducer) (read w : List ℕ) (layers : List (List Reached)) (n : ℕ) (layer : List Reached) → AreSearchLayers t read w layers → n ≡ length read → slice_get layers n ≡ Some layer
     → (r : Reached) → Contains layer r → r.done ≤ length w
 searched_done t read w layers n layer s e g r h =
     layers_done t w (first_of t ∷ []) read s.later s.are (first_done t w) r (subst (λ (l : List Reached). Contains l r) (searched_last t read w layers n layer s e g) h)
 
-pub searched_length : (t : Transducer) (read w : List ℕ) (layers : List (List Reached)) → IsSearched t read w layers → length layers ≡ suc (length read)
+pub searched_length : (t : Transducer) (read w : List ℕ) (layers : List (List Reached)) → AreSearchLayers t read w layers → length layers ≡ suc (length read)
 searched_length t read w layers s = ap length s.is ∙ ap suc (layers_length t w (first_of t ∷ []) read s.later s.are)
 
-pub searched_more : (t : Transducer) (read w : List ℕ) (layers new : List (List Reached)) (n c : ℕ) (layer next : List Reached) (s : IsSearched t read w layers) → n ≡ length read → slice_get layers n ≡ Some layer
-    → IsLayer t w c layer next → new ≡ layers ++ next ∷ [] → IsSearched t (read ++ c ∷ []) w new
+pub searched_more : (t : Transducer) (read w : List ℕ) (layers new : List (List Reached)) (n c : ℕ) (layer next : List Reached) (s : AreSearchLayers t read w layers) → n ≡ length read → slice_get layers n ≡ Some layer
+    → IsLayer t w c layer next → new ≡ layers ++ next ∷ [] → AreSearchLayers t (read ++ c ∷ []) w new
 searched_more t read w layers new n c layer next s e g is f = record {
   later = s.later ++ next ∷ [];
   is = f ∙ ap (λ (ls : List (List Reached)). ls ++ next ∷ []) s.is;
@@ -218,7 +218,7 @@ searched_more t read w layers new n c layer next s e g is f = record {
 }
 
 -- where no entry of the last layer may end there, the words aren't related
-pub searched_total : (t : Transducer) (read w : List ℕ) (layers : List (List Reached)) (n : ℕ) (layer : List Reached) → IsSearched t read w layers → n ≡ length read → slice_get layers n ≡ Some layer
+pub searched_total : (t : Transducer) (read w : List ℕ) (layers : List (List Reached)) (n : ℕ) (layer : List Reached) → AreSearchLayers t read w layers → n ≡ length read → slice_get layers n ≡ Some layer
     → ((r : Reached) → Contains layer r → Contains t.ends (r.state, drop r.done w) → ⊥) → Pairs t read w → ⊥
 searched_total t read w layers n layer s e g none p =
     let start : drop 0 w ≡ p.1 ++ p.2 = drop_none w ∙ p.5 in
@@ -243,7 +243,7 @@ walking_first t w read layers n at layer r e g h ends = record {
 pub walking_entry : (t : Transducer) (w read : List ℕ) (layers : List (List Reached)) (i at : ℕ) (back : List ℕ) → IsWalking t w read layers i at back → HasEntry layers i at
 walking_entry t w read layers i at back k = record { layer = k.walk.layer; is_layer = k.walk.is_layer; within = slice_get_within k.walk.layer at k.walk.entry k.walk.is_entry }
 
-same_entry : (t : Transducer) (w read : List ℕ) (layers : List (List Reached)) (final : Reached) (i at : ℕ) (places : List ℕ) (r : Reached) (k : IsWalk t w read layers final i at places) → IsEntry layers i at r → k.entry ≡ r
+same_entry : (t : Transducer) (w read : List ℕ) (layers : List (List Reached)) (final : Reached) (i at : ℕ) (places : List ℕ) (r : Reached) (k : IsBackWalk t w read layers final i at places) → IsEntry layers i at r → k.entry ≡ r
 same_entry t w read layers final i at places r k e =
     some_same k.entry r (sym k.is_entry ∙ ap (λ (l : List Reached). slice_get l at) (some_same k.layer e.layer (sym k.is_layer ∙ e.is_layer)) ∙ e.is_entry)
 
@@ -269,7 +269,7 @@ pub record IsStepBack (t : Transducer) (w read : List ℕ) (layers : List (List 
   pub is_layer : slice_get layers i ≡ Some layer
   pub comes : ComesFrom t w c layer r
 
-step_back : (t : Transducer) (w read : List ℕ) (layers : List (List Reached)) (i at : ℕ) (r : Reached) → IsSearched t read w layers → i < length read → IsEntry layers (suc i) at r → IsStepBack t w read layers i r
+step_back : (t : Transducer) (w read : List ℕ) (layers : List (List Reached)) (i at : ℕ) (r : Reached) → AreSearchLayers t read w layers → i < length read → IsEntry layers (suc i) at r → IsStepBack t w read layers i r
 step_back t w read layers i at r s h e =
     let n = layers_length t w (first_of t ∷ []) read s.later s.are in
     let c = here_in read i h in
@@ -285,7 +285,7 @@ step_back t w read layers i at r s h e =
     }
 
 walk_back : (t : Transducer) (w read : List ℕ) (layers : List (List Reached)) (final : Reached) (i at : ℕ) (places : List ℕ) (r : Reached) → IsStepBack t w read layers i r
-    → (k : IsWalk t w read layers final (suc i) at places) → k.entry ≡ r → IsWalk t w read layers final i r.before (r.edge ∷ places)
+    → (k : IsBackWalk t w read layers final (suc i) at places) → k.entry ≡ r → IsBackWalk t w read layers final i r.before (r.edge ∷ places)
 walk_back t w read layers final i at places r s k e =
     let m = s.comes in
     record {
@@ -299,11 +299,11 @@ walk_back t w read layers final i at places r s k e =
       rest = m.rest ∙ ap (λ (v : List ℕ). m.text ++ v) (ap (λ (x : Reached). drop x.done w) (sym e) ∙ k.rest) ∙ sym (append_assoc m.text k.path (drop final.done w));
     }
 
-pub walking_edge : (t : Transducer) (w read : List ℕ) (layers : List (List Reached)) (i at : ℕ) (r : Reached) → IsSearched t read w layers → 0 < i → i ≤ length read → IsEntry layers i at r → r.edge < length t.edges
+pub walking_edge : (t : Transducer) (w read : List ℕ) (layers : List (List Reached)) (i at : ℕ) (r : Reached) → AreSearchLayers t read w layers → 0 < i → i ≤ length read → IsEntry layers i at r → r.edge < length t.edges
 walking_edge t w read layers zero at r s h l e = absurd (omega (arith, h))
 walking_edge t w read layers (suc i) at r s h l e = let m = (step_back t w read layers i at r s (omega (arith, l)) e).comes in slice_get_within t.edges r.edge m.edge m.place
 
-pub walking_back : (t : Transducer) (w read : List ℕ) (layers : List (List Reached)) (i at : ℕ) (back new : List ℕ) (r : Reached) → IsSearched t read w layers → 0 < i → i ≤ length read → IsEntry layers i at r
+pub walking_back : (t : Transducer) (w read : List ℕ) (layers : List (List Reached)) (i at : ℕ) (back new : List ℕ) (r : Reached) → AreSearchLayers t read w layers → 0 < i → i ≤ length read → IsEntry layers i at r
     → IsWalking t w read layers i at back → new ≡ back ++ r.edge ∷ [] → IsWalking t w read layers (i - 1) r.before new
 walking_back t w read layers zero at back new r s h l e k f = absurd (omega (arith, h))
 walking_back t w read layers (suc i) at back new r s h l e k f =
@@ -315,14 +315,14 @@ walking_back t w read layers (suc i) at back new r s h l e k f =
     subst (λ n. IsWalking t w read layers n r.before new) one (record {
       final = k.final;
       ending = k.ending;
-      walk = subst (IsWalk t w read layers k.final i r.before) order walked;
+      walk = subst (IsBackWalk t w read layers k.final i r.before) order walked;
     })
 
 only_entry : (x r : Reached) (at : ℕ) → slice_get (x ∷ []) at ≡ Some r → x ≡ r
 only_entry x r zero e = some_same x r e
 only_entry x r (suc at) e = absurd (let k = slice_get_within (x ∷ []) (suc at) r e in omega (arith, k))
 
-pub walking_last : (t : Transducer) (w read : List ℕ) (layers : List (List Reached)) (i at : ℕ) (back : List ℕ) → IsSearched t read w layers → i ≡ 0 → IsWalking t w read layers i at back → IsTransduction t (reverse back) read w
+pub walking_last : (t : Transducer) (w read : List ℕ) (layers : List (List Reached)) (i at : ℕ) (back : List ℕ) → AreSearchLayers t read w layers → i ≡ 0 → IsWalking t w read layers i at back → IsTransduction t (reverse back) read w
 walking_last t w read layers i at back s z k =
     let m = k.walk in
     let first : m.layer ≡ first_of t ∷ [] = some_same m.layer (first_of t ∷ []) (sym m.is_layer ∙ ap (slice_get layers) z ∙ ap (λ (ls : List (List Reached)). slice_get ls 0) s.is) in
@@ -352,5 +352,5 @@ take_next xs i c e = take_more xs i c (slice_get_within xs i c e) ∙ ap (λ d. 
 pub taken_length : (xs : List ℕ) (i : ℕ) → i ≤ length xs → i ≡ length (take i xs)
 taken_length xs i h = sym (length-take-le i xs h)
 
-pub searched_within : (t : Transducer) (read w : List ℕ) (layers : List (List Reached)) (n : ℕ) → IsSearched t read w layers → n ≡ length read → n < length layers
+pub searched_within : (t : Transducer) (read w : List ℕ) (layers : List (List Reached)) (n : ℕ) → AreSearchLayers t read w layers → n ≡ length read → n < length layers
 searched_within t read w layers n s e = let k = searched_length t read w layers s in omega (arith, k, e)

@@ -6,9 +6,9 @@ use Rattle.std.proofs.lemmas.List.{append-nil, append_assoc, length-append, take
 use Rattle.std.proofs.lemmas.List.Elements.{Contains-append_left, Contains-append_right, Contains-append_cases}
 use Rattle.std.proofs.lemmas.Option.{get_or_from_slice_get}
 use Rattle.machine_core.specs.Lists.{slice_get-append, slice_get-end, slice_get-contains}
-use Rattle.transducer_core.specs.Nodes.{AddsText, AreClosed, AreGrown, IsChain, LeadsWithin, NodeSpells, Spells}
+use Rattle.transducer_core.specs.Nodes.{AddsText, LeadToNodes, AreGrown, IsChain, LeadsWithin, NodeSpells, Spells}
 use Rattle.sv_word.specs.Words.{IsWord, greatest_character}
-use Rattle.transducer_core.specs.declared.node.Node.{Node}
+use Rattle.transducer_core.specs.declared.node.OutputNode.{OutputNode}
 
 some_same : {X : Type 0} (a b : X) → Some a ≡ Some b → a ≡ b
 some_same a b e = cc
@@ -21,34 +21,34 @@ pub one_there : {X : Type 0} (x : X) → Contains (x ∷ []) x
 one_there x = (0, omega arith, refl)
 
 -- what stands at a place of the old nodes stands there still, and nothing else does
-front_back : (ns more : List Node) (k : ℕ) (n : Node) → k < length ns → slice_get (ns ++ more) k ≡ Some n → slice_get ns k ≡ Some n
+front_back : (ns more : List OutputNode) (k : ℕ) (n : OutputNode) → k < length ns → slice_get (ns ++ more) k ≡ Some n → slice_get ns k ≡ Some n
 front_back [] more k n h e = absurd (omega arith)
 front_back (x ∷ ns) more zero n h e = e
 front_back (x ∷ ns) more (suc k) n h e = front_back ns more k n (omega arith) e
 
-pub spells_more : (ns more : List Node) (w : List ℕ) (n : Node) → NodeSpells ns w n → NodeSpells (ns ++ more) w n
+pub spells_more : (ns more : List OutputNode) (w : List ℕ) (n : OutputNode) → NodeSpells ns w n → NodeSpells (ns ++ more) w n
 spells_more ns more [] n s = s
 spells_more ns more (c ∷ w) n s = (s.0, s.1, s.2, slice_get-append ns more s.0 s.1 s.3, spells_more ns more w s.1 s.4)
 
-pub spells_back : (ns more : List Node) → AreClosed ns → (w : List ℕ) (n : Node) → LeadsWithin (length ns) n → NodeSpells (ns ++ more) w n → NodeSpells ns w n
+pub spells_back : (ns more : List OutputNode) → LeadToNodes ns → (w : List ℕ) (n : OutputNode) → LeadsWithin (length ns) n → NodeSpells (ns ++ more) w n → NodeSpells ns w n
 spells_back ns more closed [] n l s = s
 spells_back ns more closed (c ∷ w) n l s =
     let at = front_back ns more s.0 s.1 (l c s.0 s.2).0 s.3 in
     (s.0, s.1, s.2, at, spells_back ns more closed w s.1 (closed s.1 (slice_get-contains ns s.0 s.1 at)) s.4)
 
-pub at_more : (ns more : List Node) (k : ℕ) (w : List ℕ) → Spells ns k w → Spells (ns ++ more) k w
+pub at_more : (ns more : List OutputNode) (k : ℕ) (w : List ℕ) → Spells ns k w → Spells (ns ++ more) k w
 at_more ns more k w s = (s.0, slice_get-append ns more k s.0 s.1, spells_more ns more w s.0 s.2)
 
-pub at_back : (ns more : List Node) → AreClosed ns → (k : ℕ) (w : List ℕ) → k < length ns → Spells (ns ++ more) k w → Spells ns k w
+pub at_back : (ns more : List OutputNode) → LeadToNodes ns → (k : ℕ) (w : List ℕ) → k < length ns → Spells (ns ++ more) k w → Spells ns k w
 at_back ns more closed k w h s =
     let at = front_back ns more k s.0 h s.1 in
     (s.0, at, spells_back ns more closed w s.0 (closed s.0 (slice_get-contains ns k s.0 at)) s.2)
 
 -- one more node that leads to those before it
-leads_more : (n m : ℕ) (x : Node) → n ≤ m → LeadsWithin n x → LeadsWithin m x
+leads_more : (n m : ℕ) (x : OutputNode) → n ≤ m → LeadsWithin n x → LeadsWithin m x
 leads_more n m x h l c to has = let k = l c to has in let a = k.0 in (omega (arith, a, h), k.1)
 
-pub closed_push : (ns : List Node) (n : Node) → AreClosed ns → LeadsWithin (length ns) n → AreClosed (ns ++ n ∷ [])
+pub closed_push : (ns : List OutputNode) (n : OutputNode) → LeadToNodes ns → LeadsWithin (length ns) n → LeadToNodes (ns ++ n ∷ [])
 closed_push ns n closed l x has =
     let long : length (ns ++ n ∷ []) ≡ length ns + 1 = length-append ns (n ∷ []) in
     let more : length ns ≤ length (ns ++ n ∷ []) = omega (arith, long) in
@@ -56,25 +56,25 @@ closed_push ns n closed l x has =
     (λ new. leads_more (length ns) (length (ns ++ n ∷ [])) x more (subst (LeadsWithin (length ns)) (only_one n x new) l))
     (Contains-append_cases ns (n ∷ []) x has)
 
-pub grown_none : (ns : List Node) → AreClosed ns → AreGrown ns ns
+pub grown_none : (ns : List OutputNode) → LeadToNodes ns → AreGrown ns ns
 grown_none ns closed = record { more = []; are = sym (append-nil ns); closed = closed }
 
-pub grown_push : (ns ms : List Node) (n : Node) (new : List Node) → AreGrown ns ms → LeadsWithin (length ms) n → new ≡ ms ++ n ∷ [] → AreGrown ns new
+pub grown_push : (ns ms : List OutputNode) (n : OutputNode) (new : List OutputNode) → AreGrown ns ms → LeadsWithin (length ms) n → new ≡ ms ++ n ∷ [] → AreGrown ns new
 grown_push ns ms n new g l e = record {
   more = g.more ++ n ∷ [];
   are = e ∙ ap (λ xs. xs ++ n ∷ []) g.are ∙ append_assoc ns g.more (n ∷ []);
-  closed = subst AreClosed (sym e) (closed_push ms n g.closed l);
+  closed = subst LeadToNodes (sym e) (closed_push ms n g.closed l);
 }
 
 -- a chain of no character, and of one more
-pub chain_none : (ns : List Node) (text : List ℕ) (target : ℕ) → text ≡ [] → AreClosed ns → target < length ns → IsChain ns ns text target target
+pub chain_none : (ns : List OutputNode) (text : List ℕ) (target : ℕ) → text ≡ [] → LeadToNodes ns → target < length ns → IsChain ns ns text target target
 chain_none ns text target e closed h = record {
   grown = grown_none ns closed;
   within = h;
   spells = λ w. (λ s. (w, ap (λ t. t ++ w) (sym e), s), λ k. subst (Spells ns target) (sym (k.1 ∙ ap (λ t. t ++ k.0) e)) k.2);
 }
 
-module _ (ns ms new : List Node) (text : List ℕ) (c target place : ℕ) (n : Node) (chain : IsChain ns ms text target place) (firsts : n.firsts ≡ (c, place) ∷ []) (ends : n.ends ≡ false) (e : new ≡ ms ++ n ∷ []) (low : c ≤ greatest_character) where
+module _ (ns ms new : List OutputNode) (text : List ℕ) (c target place : ℕ) (n : OutputNode) (chain : IsChain ns ms text target place) (firsts : n.firsts ≡ (c, place) ∷ []) (ends : n.ends ≡ false) (e : new ≡ ms ++ n ∷ []) (low : c ≤ greatest_character) where
   first_there : Contains {X = ℕ × ℕ} n.firsts (c, place)
   first_there = subst (λ fs. Contains {X = ℕ × ℕ} fs (c, place)) (sym firsts) (one_there (c, place))
 
@@ -91,10 +91,10 @@ module _ (ns ms new : List Node) (text : List ℕ) (c target place : ℕ) (n : N
       subst (λ xs. Spells xs (length ms) w) (sym e)
       (subst (Spells (ms ++ n ∷ []) (length ms)) (sym k.1) (n, slice_get-end ms n, (place, t.0, first_there, t.1, t.2)))
 
-  back : (w : List ℕ) (m : Node) → n ≡ m → NodeSpells (ms ++ n ∷ []) w m → (r : List ℕ) × (w ≡ (c ∷ text) ++ r) × Spells ns target r
-  back [] m q s = absurd (let f = sym s ∙ ap (λ (x : Node). x.ends) (sym q) ∙ ends in cc (f))
+  back : (w : List ℕ) (m : OutputNode) → n ≡ m → NodeSpells (ms ++ n ∷ []) w m → (r : List ℕ) × (w ≡ (c ∷ text) ++ r) × Spells ns target r
+  back [] m q s = absurd (let f = sym s ∙ ap (λ (x : OutputNode). x.ends) (sym q) ∙ ends in cc (f))
   back (d ∷ w) m q s =
-      let has : Contains {X = ℕ × ℕ} ((c, place) ∷ []) (d, s.0) = subst (λ fs. Contains {X = ℕ × ℕ} fs (d, s.0)) (ap (λ (x : Node). x.firsts) (sym q) ∙ firsts) s.2 in
+      let has : Contains {X = ℕ × ℕ} ((c, place) ∷ []) (d, s.0) = subst (λ fs. Contains {X = ℕ × ℕ} fs (d, s.0)) (ap (λ (x : OutputNode). x.firsts) (sym q) ∙ firsts) s.2 in
       let same : (c, place) ≡ (d, s.0) = only_one (c, place) (d, s.0) has in
       let at : place ≡ s.0 = ap (λ (p : ℕ × ℕ). p.1) same in
       let here : Spells (ms ++ n ∷ []) place w = (s.1, subst (λ k. slice_get (ms ++ n ∷ []) k ≡ Some s.1) (sym at) s.3, s.4) in
@@ -142,7 +142,7 @@ or_right true b h = refl
 or_right false b h = h
 
 -- a node that writes what another one did too
-module _ (ns : List Node) (closed : AreClosed ns) (old new other : Node) (target : ℕ) (l : LeadsWithin (length ns) old) (at : slice_get ns target ≡ Some other)
+module _ (ns : List OutputNode) (closed : LeadToNodes ns) (old new other : OutputNode) (target : ℕ) (l : LeadsWithin (length ns) old) (at : slice_get ns target ≡ Some other)
     (firsts : (f : ℕ × ℕ) → Contains new.firsts f ↔ (Contains old.firsts f ⊎ Contains other.firsts f)) (ends : new.ends ≡ old.ends || other.ends) where
   joined_within : LeadsWithin (length ns) new
   joined_within c to has = ⊎_elim (λ a. l c to a) (λ b. closed other (slice_get-contains ns target other at) c to b) ((firsts (c, to)).0 has)
@@ -155,9 +155,9 @@ module _ (ns : List Node) (closed : AreClosed ns) (old new other : Node) (target
   from_old [] s = ends ∙ or_left old.ends other.ends s
   from_old (c ∷ w) s = (s.0, s.1, (firsts (c, s.0)).1 (inl s.2), s.3, s.4)
 
-  from_other : (w : List ℕ) (m : Node) → other ≡ m → NodeSpells ns w m → NodeSpells ns w new
-  from_other [] m e s = ends ∙ or_right old.ends other.ends (ap (λ (x : Node). x.ends) e ∙ s)
-  from_other (c ∷ w) m e s = (s.0, s.1, (firsts (c, s.0)).1 (inr (subst (λ (x : Node). Contains {X = ℕ × ℕ} x.firsts (c, s.0)) (sym e) s.2)), s.3, s.4)
+  from_other : (w : List ℕ) (m : OutputNode) → other ≡ m → NodeSpells ns w m → NodeSpells ns w new
+  from_other [] m e s = ends ∙ or_right old.ends other.ends (ap (λ (x : OutputNode). x.ends) e ∙ s)
+  from_other (c ∷ w) m e s = (s.0, s.1, (firsts (c, s.0)).1 (inr (subst (λ (x : OutputNode). Contains {X = ℕ × ℕ} x.firsts (c, s.0)) (sym e) s.2)), s.3, s.4)
 
   pub text_joined : (text : List ℕ) → text ≡ [] → AddsText ns ns old new text target
   text_joined text e = subst (λ t. AddsText ns ns old new t target) (sym e) (record {
@@ -167,7 +167,7 @@ module _ (ns : List Node) (closed : AreClosed ns) (old new other : Node) (target
   })
 
 -- and one that writes a text too, by its first character and a chain for the others
-module _ (ns ms : List Node) (closed : AreClosed ns) (old new : Node) (c : ℕ) (text : List ℕ) (target k : ℕ) (l : LeadsWithin (length ns) old) (chain : IsChain ns ms text target k)
+module _ (ns ms : List OutputNode) (closed : LeadToNodes ns) (old new : OutputNode) (c : ℕ) (text : List ℕ) (target k : ℕ) (l : LeadsWithin (length ns) old) (chain : IsChain ns ms text target k)
     (firsts : (f : ℕ × ℕ) → Contains new.firsts f ↔ (Contains old.firsts f ⊎ ((c, k) ≡ f))) (ends : new.ends ≡ old.ends) (low : c ≤ greatest_character) where
   longer : length ns ≤ length ms
   longer = let e = ap length chain.grown.are ∙ length-append ns chain.grown.more in omega (arith, e)
@@ -229,23 +229,23 @@ some_text [] e = absurd (cc)
 some_text (c ∷ text) e = omega arith
 
 -- growth of growth, and what old places write then
-pub grown_again : (ns ms ls : List Node) → AreGrown ns ms → AreGrown ms ls → AreGrown ns ls
+pub grown_again : (ns ms ls : List OutputNode) → AreGrown ns ms → AreGrown ms ls → AreGrown ns ls
 grown_again ns ms ls g h = record {
   more = g.more ++ h.more;
   are = h.are ∙ ap (λ xs. xs ++ h.more) g.are ∙ append_assoc ns g.more h.more;
   closed = h.closed;
 }
 
-pub grown_long : (ns ms : List Node) → AreGrown ns ms → length ns ≤ length ms
+pub grown_long : (ns ms : List OutputNode) → AreGrown ns ms → length ns ≤ length ms
 grown_long ns ms g = let e = ap length g.are ∙ length-append ns g.more in omega (arith, e)
 
-pub grown_at : (ns ms : List Node) → AreClosed ns → AreGrown ns ms → (k : ℕ) (w : List ℕ) → k < length ns → Spells ms k w ↔ Spells ns k w
+pub grown_at : (ns ms : List OutputNode) → LeadToNodes ns → AreGrown ns ms → (k : ℕ) (w : List ℕ) → k < length ns → Spells ms k w ↔ Spells ns k w
 grown_at ns ms closed g k w h = (
   λ s. at_back ns g.more closed k w h (subst (λ xs. Spells xs k w) g.are s),
   λ s. subst (λ xs. Spells xs k w) (sym g.are) (at_more ns g.more k w s),
 )
 
-pub grown_node : (ns ms : List Node) → AreClosed ns → AreGrown ns ms → (n : Node) (w : List ℕ) → LeadsWithin (length ns) n → NodeSpells ms w n ↔ NodeSpells ns w n
+pub grown_node : (ns ms : List OutputNode) → LeadToNodes ns → AreGrown ns ms → (n : OutputNode) (w : List ℕ) → LeadsWithin (length ns) n → NodeSpells ms w n ↔ NodeSpells ns w n
 grown_node ns ms closed g n w l = (
   λ s. spells_back ns g.more closed w n l (subst (λ xs. NodeSpells xs w n) g.are s),
   λ s. subst (λ xs. NodeSpells xs w n) (sym g.are) (spells_more ns g.more w n s),

@@ -8,9 +8,9 @@ use Rattle.machine_core.specs.Lists.{slice_get-end}
 use Rattle.sv_terms.specs.Transduction.{Transduces, Writes}
 use Rattle.sv_terms.specs.declared.transducer.TransEdge.{TransEdge}
 use Rattle.sv_terms.specs.declared.transducer.Transducer.{Transducer}
-use Rattle.transducer_core.specs.Nodes.{AddsText, AreClosed, AreGrown, LeadsWithin, NodeSpells, Spells}
-use Rattle.transducer_core.specs.Outputs.{Adds, ArePlaces, EndsBy, IsBase, IsOutput, MakesNode, MakesPlaces, OverEdge, OverEdges}
-use Rattle.transducer_core.specs.declared.node.Node.{Node}
+use Rattle.transducer_core.specs.Nodes.{AddsText, LeadToNodes, AreGrown, LeadsWithin, NodeSpells, Spells}
+use Rattle.transducer_core.specs.Outputs.{AddsWords, ArePlaces, EndsBy, IsBase, IsOutput, MakesNode, MakesPlaces, OverEdge, OverEdges}
+use Rattle.transducer_core.specs.declared.node.OutputNode.{OutputNode}
 use Rattle.transducer_core.proofs.NodeLemmas.{grown_again, grown_at, grown_long, grown_node, grown_none, grown_push, only_one}
 
 never : false ≡ true → ⊥
@@ -22,7 +22,7 @@ some_same a b e = cc
 pub none_some : {X : Type 0} (o : Option X) (x : X) → o ≡ None → o ≡ Some x → ⊥
 none_some o x e f = cc (e, f)
 
-pub adds_none : (ns : List Node) (node : Node) (Q : List ℕ → Type 0) → AreClosed ns → LeadsWithin (length ns) node → ((w : List ℕ) → Q w → ⊥) → Adds ns ns node node Q
+pub adds_none : (ns : List OutputNode) (node : OutputNode) (Q : List ℕ → Type 0) → LeadToNodes ns → LeadsWithin (length ns) node → ((w : List ℕ) → Q w → ⊥) → AddsWords ns ns node node Q
 adds_none ns node Q closed l n = record {
   grown = grown_none ns closed;
   within = l;
@@ -30,15 +30,15 @@ adds_none ns node Q closed l n = record {
 }
 
 -- what a text adds, by any other telling of it
-pub adds_told : (ns ms : List Node) (old new : Node) (text : List ℕ) (target : ℕ) (Q : List ℕ → Type 0) → AddsText ns ms old new text target
-    → ((w : List ℕ) → Q w ↔ ((r : List ℕ) × (w ≡ text ++ r) × Spells ns target r)) → Adds ns ms old new Q
+pub adds_told : (ns ms : List OutputNode) (old new : OutputNode) (text : List ℕ) (target : ℕ) (Q : List ℕ → Type 0) → AddsText ns ms old new text target
+    → ((w : List ℕ) → Q w ↔ ((r : List ℕ) × (w ≡ text ++ r) × Spells ns target r)) → AddsWords ns ms old new Q
 adds_told ns ms old new text target Q a q = record {
   grown = a.grown;
   within = a.within;
   spells = λ w. (λ s. ⊎_elim inl (λ k. inr ((q w).1 k)) ((a.spells w).0 s), λ k. (a.spells w).1 (⊎_elim inl (λ x. inr ((q w).0 x)) k));
 }
 
-pub end_told : (ns : List Node) (e : ℕ × List ℕ) (s : ℕ) → IsBase ns → e.0 ≡ s → (w : List ℕ) → (e ≡ (s, w)) ↔ ((r : List ℕ) × (w ≡ e.1 ++ r) × Spells ns 0 r)
+pub end_told : (ns : List OutputNode) (e : ℕ × List ℕ) (s : ℕ) → IsBase ns → e.0 ≡ s → (w : List ℕ) → (e ≡ (s, w)) ↔ ((r : List ℕ) × (w ≡ e.1 ++ r) × Spells ns 0 r)
 end_told ns e s base h w = (
   λ q. ([], sym (ap (λ (p : ℕ × List ℕ). p.1) q) ∙ sym (append-nil e.1), (base.nothing []).1 refl),
   λ k. let none : k.0 ≡ [] = (base.nothing k.0).0 k.2 in
@@ -49,7 +49,7 @@ end_told ns e s base h w = (
 pub end_apart : (e : ℕ × List ℕ) (s : ℕ) → (e.0 ≡ s → ⊥) → (w : List ℕ) → e ≡ (s, w) → ⊥
 end_apart e s n w q = n (ap (λ (p : ℕ × List ℕ). p.0) q)
 
-pub edge_told : (ns : List Node) (places : List ℕ) (s c : ℕ) (e : TransEdge) (text : List ℕ) (target : ℕ) → Transduces s c text e → slice_get places e.to ≡ Some target
+pub edge_told : (ns : List OutputNode) (places : List ℕ) (s c : ℕ) (e : TransEdge) (text : List ℕ) (target : ℕ) → Transduces s c text e → slice_get places e.to ≡ Some target
     → (w : List ℕ) → OverEdge ns places s c e w ↔ ((r : List ℕ) × (w ≡ text ++ r) × Spells ns target r)
 edge_told ns places s c e text target m at w = (
   λ k.
@@ -68,7 +68,7 @@ ends_more ends i s e h at w =
       λ c. subst (λ xs. Contains {X = ℕ × List ℕ} xs (s, w)) (sym t) (⊎_elim (Contains-append_left (take i ends) (e ∷ []) (s, w)) (λ b. Contains-append_right (take i ends) (e ∷ []) (s, w) (0, omega arith, b)) c),
     )
 
-pub edges_more : (ns : List Node) (places : List ℕ) (edges : List TransEdge) (i s c : ℕ) (e : TransEdge) → i < length edges → e ≡ get_or edges i e → (w : List ℕ)
+pub edges_more : (ns : List OutputNode) (places : List ℕ) (edges : List TransEdge) (i s c : ℕ) (e : TransEdge) → i < length edges → e ≡ get_or edges i e → (w : List ℕ)
     → OverEdges ns places s c (take (i + 1) edges) w ↔ (OverEdges ns places s c (take i edges) w ⊎ OverEdge ns places s c e w)
 edges_more ns places edges i s c e h at w =
     let t : take (i + 1) edges ≡ take i edges ++ e ∷ [] = take_more edges i e h ∙ ap (λ y. take i edges ++ y ∷ []) (sym at) in (
@@ -78,22 +78,22 @@ edges_more ns places edges i s c e h at w =
     )
 
 -- the same over nodes that are more
-pub over_same : (ns ms : List Node) (places : List ℕ) (s c : ℕ) (e : TransEdge) → AreClosed ns → AreGrown ns ms → ArePlaces ns places → (w : List ℕ)
+pub over_same : (ns ms : List OutputNode) (places : List ℕ) (s c : ℕ) (e : TransEdge) → LeadToNodes ns → AreGrown ns ms → ArePlaces ns places → (w : List ℕ)
     → OverEdge ms places s c e w ↔ OverEdge ns places s c e w
 over_same ns ms places s c e closed g p w = (
   λ k. (k.0, k.1, k.2, k.3, k.4, k.5, (grown_at ns ms closed g k.2 k.1 (p e.to k.2 k.4)).0 k.6),
   λ k. (k.0, k.1, k.2, k.3, k.4, k.5, (grown_at ns ms closed g k.2 k.1 (p e.to k.2 k.4)).1 k.6),
 )
 
-pub over_all_same : (ns ms : List Node) (places : List ℕ) (s c : ℕ) (edges : List TransEdge) → AreClosed ns → AreGrown ns ms → ArePlaces ns places → (w : List ℕ)
+pub over_all_same : (ns ms : List OutputNode) (places : List ℕ) (s c : ℕ) (edges : List TransEdge) → LeadToNodes ns → AreGrown ns ms → ArePlaces ns places → (w : List ℕ)
     → OverEdges ms places s c edges w ↔ OverEdges ns places s c edges w
 over_all_same ns ms places s c edges closed g p w =
     (λ k. (k.0, k.1, (over_same ns ms places s c k.0 closed g p w).0 k.2), λ k. (k.0, k.1, (over_same ns ms places s c k.0 closed g p w).1 k.2))
 
-pub places_grown : (ns ms : List Node) (places : List ℕ) → AreGrown ns ms → ArePlaces ns places → ArePlaces ms places
+pub places_grown : (ns ms : List OutputNode) (places : List ℕ) → AreGrown ns ms → ArePlaces ns places → ArePlaces ms places
 places_grown ns ms places g p s k e = let h = p s k e in let l = grown_long ns ms g in omega (arith, h, l)
 
-pub base_grown : (ns ms : List Node) → IsBase ns → AreGrown ns ms → IsBase ms
+pub base_grown : (ns ms : List OutputNode) → IsBase ns → AreGrown ns ms → IsBase ms
 base_grown ns ms b g = record {
   closed = g.closed;
   some = (let l = grown_long ns ms g in let h = b.some in omega (arith, l, h));
@@ -104,7 +104,7 @@ pub none_there : {X : Type 0} (x : X) → Contains [] x → ⊥
 none_there x (k, h, e) = omega (arith, h)
 
 -- a node of no word, and one with more words
-pub made_none : (ns : List Node) (n : Node) (P : List ℕ → Type 0) → AreClosed ns → n.firsts ≡ [] → n.ends ≡ false → ((w : List ℕ) → P w → ⊥) → MakesNode ns ns n P
+pub made_none : (ns : List OutputNode) (n : OutputNode) (P : List ℕ → Type 0) → LeadToNodes ns → n.firsts ≡ [] → n.ends ≡ false → ((w : List ℕ) → P w → ⊥) → MakesNode ns ns n P
 made_none ns n P closed firsts ends none = record {
   grown = grown_none ns closed;
   within = λ c to has. absurd (nothing_there c to has);
@@ -118,7 +118,7 @@ made_none ns n P closed firsts ends none = record {
     no_word [] s = never (sym ends ∙ s)
     no_word (c ∷ w) s = nothing_there c s.0 s.2
 
-pub made_more : (ns ms ls : List Node) (old new : Node) (P Q R : List ℕ → Type 0) → MakesNode ns ms old P → Adds ms ls old new Q → ((w : List ℕ) → R w ↔ (P w ⊎ Q w)) → MakesNode ns ls new R
+pub made_more : (ns ms ls : List OutputNode) (old new : OutputNode) (P Q R : List ℕ → Type 0) → MakesNode ns ms old P → AddsWords ms ls old new Q → ((w : List ℕ) → R w ↔ (P w ⊎ Q w)) → MakesNode ns ls new R
 made_more ns ms ls old new P Q R m a r = record {
   grown = grown_again ns ms ls m.grown a.grown;
   within = a.within;
@@ -129,7 +129,7 @@ made_more ns ms ls old new P Q R m a r = record {
 }
 
 -- no place, and one place more
-pub places_none : (ns : List Node) (P : ℕ → List ℕ → Type 0) → AreClosed ns → MakesPlaces ns ns 0 [] P
+pub places_none : (ns : List OutputNode) (P : ℕ → List ℕ → Type 0) → LeadToNodes ns → MakesPlaces ns ns 0 [] P
 places_none ns P closed = record {
   grown = grown_none ns closed;
   many = refl;
@@ -137,7 +137,7 @@ places_none ns P closed = record {
   spells = λ s k e w. absurd (cc);
 }
 
-pub places_more : (ns ms ls new : List Node) (places more : List ℕ) (i k : ℕ) (n : Node) (P : ℕ → List ℕ → Type 0) (Q : List ℕ → Type 0)
+pub places_more : (ns ms ls new : List OutputNode) (places more : List ℕ) (i k : ℕ) (n : OutputNode) (P : ℕ → List ℕ → Type 0) (Q : List ℕ → Type 0)
     → MakesPlaces ns ms i places P → MakesNode ms ls n Q → ((w : List ℕ) → Q w ↔ P i w) → new ≡ ls ++ n ∷ [] → k ≡ length ls → more ≡ places ++ k ∷ [] → MakesPlaces ns new (i + 1) more P
 places_more ns ms ls new places more i k n P Q p m q e h f = record {
   grown = grown;
@@ -179,18 +179,18 @@ places_more ns ms ls new places more i k n P Q p m q e h f = record {
     own_back w s = subst (λ xs. Spells xs (length ls) w) (sym e) (n, slice_get-end ls n, (grown_node ls (ls ++ n ∷ []) m.grown.closed push n w m.within).1 s)
 
 -- the first node of all
-pub base_one : (ns : List Node) (n : Node) → ns ≡ n ∷ [] → n.firsts ≡ [] → n.ends ≡ true → IsBase ns
+pub base_one : (ns : List OutputNode) (n : OutputNode) → ns ≡ n ∷ [] → n.firsts ≡ [] → n.ends ≡ true → IsBase ns
 base_one ns n e firsts ends = subst IsBase (sym e) (record {
   closed = λ m has c to there. absurd (none_here m has c to there);
   some = omega arith;
   nothing = λ w. (λ s. only w s, λ q. (n, refl, subst (λ v. NodeSpells (n ∷ []) v n) (sym q) ends));
 })
   where
-    none_here : (m : Node) → Contains (n ∷ []) m → (c to : ℕ) → Contains {X = ℕ × ℕ} m.firsts (c, to) → ⊥
-    none_here m has c to there = none_there {X = ℕ × ℕ} (c, to) (subst (λ fs. Contains {X = ℕ × ℕ} fs (c, to)) (ap (λ (x : Node). x.firsts) (sym (only_one n m has)) ∙ firsts) there)
+    none_here : (m : OutputNode) → Contains (n ∷ []) m → (c to : ℕ) → Contains {X = ℕ × ℕ} m.firsts (c, to) → ⊥
+    none_here m has c to there = none_there {X = ℕ × ℕ} (c, to) (subst (λ fs. Contains {X = ℕ × ℕ} fs (c, to)) (ap (λ (x : OutputNode). x.firsts) (sym (only_one n m has)) ∙ firsts) there)
 
-    none_from : (m : Node) (c to : ℕ) → n ≡ m → Contains {X = ℕ × ℕ} m.firsts (c, to) → ⊥
-    none_from m c to q there = none_there {X = ℕ × ℕ} (c, to) (subst (λ fs. Contains {X = ℕ × ℕ} fs (c, to)) (ap (λ (x : Node). x.firsts) (sym q) ∙ firsts) there)
+    none_from : (m : OutputNode) (c to : ℕ) → n ≡ m → Contains {X = ℕ × ℕ} m.firsts (c, to) → ⊥
+    none_from m c to q there = none_there {X = ℕ × ℕ} (c, to) (subst (λ fs. Contains {X = ℕ × ℕ} fs (c, to)) (ap (λ (x : OutputNode). x.firsts) (sym q) ∙ firsts) there)
 
     only : (w : List ℕ) → Spells (n ∷ []) 0 w → w ≡ []
     only [] s = refl
@@ -210,7 +210,7 @@ writes_more t s a read text r e has m k =
     (k.0, text ++ k.1, k.2, (e, text, k.1, has, m, refl, k.3), k.4, ap (λ (x : List ℕ). text ++ x) k.5 ∙ sym (append_assoc text k.1 k.2))
 
 -- and else an edge is taken
-pub edges_write : (t : Transducer) (ns ms : List Node) (places read : List ℕ) (s c : ℕ) → MakesPlaces ns ms t.states places (λ q w. Writes t q read w) → ((e : TransEdge) → Contains t.edges e → e.to < t.states)
+pub edges_write : (t : Transducer) (ns ms : List OutputNode) (places read : List ℕ) (s c : ℕ) → MakesPlaces ns ms t.states places (λ q w. Writes t q read w) → ((e : TransEdge) → Contains t.edges e → e.to < t.states)
     → (w : List ℕ) → OverEdges ms places s c t.edges w ↔ Writes t s (c ∷ read) w
 edges_write t ns ms places read s c p to w = (
   λ k. subst (Writes t s (c ∷ read)) (sym k.2.5) (writes_more t s c read k.2.0 k.2.1 k.0 k.1 k.2.3 ((p.spells k.0.to k.2.2 k.2.4 k.2.1).0 k.2.6)),
@@ -233,7 +233,7 @@ edges_write t ns ms places read s c p to w = (
       ),
 )
 
-pub places_told : (ns ms ls : List Node) (count : ℕ) (places : List ℕ) (P Q : ℕ → List ℕ → Type 0) → AreGrown ns ms → MakesPlaces ms ls count places P → ((s : ℕ) (w : List ℕ) → P s w ↔ Q s w) → MakesPlaces ns ls count places Q
+pub places_told : (ns ms ls : List OutputNode) (count : ℕ) (places : List ℕ) (P Q : ℕ → List ℕ → Type 0) → AreGrown ns ms → MakesPlaces ms ls count places P → ((s : ℕ) (w : List ℕ) → P s w ↔ Q s w) → MakesPlaces ns ls count places Q
 places_told ns ms ls count places P Q g p q = record {
   grown = grown_again ns ms ls g p.grown;
   many = p.many;
@@ -241,7 +241,7 @@ places_told ns ms ls count places P Q g p q = record {
   spells = λ s k at w. (λ x. (q s w).0 ((p.spells s k at w).0 x), λ y. (p.spells s k at w).1 ((q s w).1 y));
 }
 
-pub places_fresh : (ns ms : List Node) (count : ℕ) (places : List ℕ) (P Q : ℕ → List ℕ → Type 0) → MakesPlaces ns ms count places P → ((s : ℕ) (w : List ℕ) → P s w ↔ Q s w) → MakesPlaces ms ms count places Q
+pub places_fresh : (ns ms : List OutputNode) (count : ℕ) (places : List ℕ) (P Q : ℕ → List ℕ → Type 0) → MakesPlaces ns ms count places P → ((s : ℕ) (w : List ℕ) → P s w ↔ Q s w) → MakesPlaces ms ms count places Q
 places_fresh ns ms count places P Q p q = record {
   grown = grown_none ms p.grown.closed;
   many = p.many;
@@ -256,7 +256,7 @@ drop_all (c ∷ read) = drop_all read
 pub ends_write : (t : Transducer) (read : List ℕ) (s : ℕ) (w : List ℕ) → EndsBy t.ends s w ↔ Writes t s (drop (length read) read) w
 ends_write t read s w = subst (λ r. EndsBy t.ends s w ↔ Writes t s r w) (sym (drop_all read)) (end_writes t s w)
 
-pub output_of : (t : Transducer) (read : List ℕ) (ns ms : List Node) (places : List ℕ) → MakesPlaces ns ms t.states places (λ s w. Writes t s read w) → t.start < t.states → IsOutput t read ms (get_or places t.start 0)
+pub output_of : (t : Transducer) (read : List ℕ) (ns ms : List OutputNode) (places : List ℕ) → MakesPlaces ns ms t.states places (λ s w. Writes t s read w) → t.start < t.states → IsOutput t read ms (get_or places t.start 0)
 output_of t read ns ms places p h =
     let low : t.start < length places = (let m = p.many in omega (arith, h, m)) in
     let at = slice_get-get_or places t.start 0 low in

@@ -56,13 +56,13 @@ abbrev pub first_of : Transducer → Reached
 first_of t = record { state = t.start; done = 0; edge = 0; before = 0 }
 
 -- the layers of a search over the whole word that is read
-pub record IsSearched (t : Transducer) (read written : List ℕ) (layers : List (List Reached)) : Type 0 where
+pub record AreSearchLayers (t : Transducer) (read written : List ℕ) (layers : List (List Reached)) : Type 0 where
   pub later : List (List Reached)
   pub is : layers ≡ (first_of t ∷ []) ∷ later
   pub are : AreLayers t written (first_of t ∷ []) read later
 
 -- a step back: the entry of the layer before, and the path from it
-pub record IsWalk (t : Transducer) (w read : List ℕ) (layers : List (List Reached)) (final : Reached) (i at : ℕ) (places : List ℕ) : Type 0 where
+pub record IsBackWalk (t : Transducer) (w read : List ℕ) (layers : List (List Reached)) (final : Reached) (i at : ℕ) (places : List ℕ) : Type 0 where
   pub layer : List Reached
   pub entry : Reached
   pub path : List ℕ
@@ -86,4 +86,4 @@ pub record IsEntry (layers : List (List Reached)) (i at : ℕ) (r : Reached) : T
 pub record IsWalking (t : Transducer) (w read : List ℕ) (layers : List (List Reached)) (i at : ℕ) (back : List ℕ) : Type 0 where
   pub final : Reached
   pub ending : Contains t.ends (final.state, drop final.done w)
-  pub walk : IsWalk t w read layers final i at (reverse back)
+  pub walk : IsBackWalk t w read layers final i at (reverse back)

@@ -1,6 +1,6 @@
-ghost use Rattle.std.specs.Prelude.{◌≡◌, ◌↔◌, ◌≤◌, ◌<◌, ◌^◌, ℕ, List, [], ◌∷◌, length, drop, reverse, slice_get, Some, Contains, IfOk, IsTrue, MatchOption};
+ghost use Rattle.std.specs.Prelude.{◌≡◌, ◌↔◌, ◌≤◌, ◌<◌, ◌^◌, [], ◌∷◌, length, drop, reverse, slice_get, Some, Contains, IfOk, IsTrue, MatchOption};
 ghost use Rattle.sv_terms.specs.Transduction.{Pairs, IsTransduction};
-ghost use Rattle.transducer_core.specs.Layers.{first_of, HasEntry, IsEntry, IsSearched, IsWalking};
+ghost use Rattle.transducer_core.specs.Layers.{first_of, HasEntry, IsEntry, AreSearchLayers, IsWalking};
 ghost use Rattle.transducer_core.specs.declared.reached.Reached.{Reached as AnyReached};
 
 use crate::layers::{entry_at, next_layer};
@@ -102,7 +102,7 @@ fn search(
     read: &Word,
     written: &Word,
 ) -> Result<Items<Items<Reached>>, AllocError>
-    ensures { IfOk result (IsSearched transducer.now read.now written.now) }
+    ensures { IfOk result (AreSearchLayers transducer.now read.now written.now) }
 {
     let mut layers = first_layers(alloc, transducer)?;
     for at in 0..read.len() {
@@ -144,7 +144,7 @@ fn places_back(
     at: usize,
 ) -> Result<Items<u32>, AllocError>
     requires small { length transducer.now.edges < 2 ^ 32 }
-    requires searched { IsSearched transducer.now read.now written.now layers.now }
+    requires searched { AreSearchLayers transducer.now read.now written.now layers.now }
     requires ended { IsWalking transducer.now written.now read.now layers.now (length read.now) at [] }
     ensures { IfOk result (λ places. IsTransduction transducer.now places read.now written.now) }
 {

@@ -1,5 +1,5 @@
 //! The search of a run, a layer for each character.
-ghost use Rattle.std.specs.Prelude.{◌≡◌, ◌≤◌, ◌<◌, ℕ, suc, List, [], ◌∷◌, ◌++◌, length, drop, slice_get, Some, Contains, IfOk, OnOk, IsTrue, MatchOption};
+ghost use Rattle.std.specs.Prelude.{◌≡◌, ◌≤◌, ◌<◌, ℕ, suc, List, ◌++◌, length, drop, slice_get, Some, Contains, IfOk, OnOk, IsTrue, MatchOption};
 ghost use Rattle.sv_terms.specs.Transduction.{Transduces};
 ghost use Rattle.transducer_core.specs.Layers.{IsPartLayer, IsLayer, LedTo};
 ghost use Rattle.transducer_core.specs.declared.reached.Reached.{Reached as AnyReached};

@@ -1,16 +1,16 @@
 //! The words that a transducer may write for one word, as a machine.
-ghost use Rattle.std.specs.Prelude.{◌≡◌, ◌↔◌, ◌≤◌, ◌<◌, ◌+◌, ℕ, List, [], ◌∷◌, ◌++◌, length, take, drop, slice_get, Some, Contains, IfOk, OnOk, IsTrue, false, ◌⊎◌, ◌||◌};
+ghost use Rattle.std.specs.Prelude.{◌≡◌, ◌↔◌, ◌≤◌, ◌<◌, ◌+◌, ℕ, List, [], ◌∷◌, ◌++◌, length, slice_get, Some, Contains, IfOk, OnOk, IsTrue, false, ◌⊎◌, ◌||◌};
 ghost use Rattle.machine_core.specs.Edges.{EndsAt, StepsBy};
 ghost use Rattle.machine_core.specs.Graphs.{Accepts};
-ghost use Rattle.sv_terms.specs.Transduction.{IsFormed, Pairs, Writes};
-ghost use Rattle.transducer_core.specs.Nodes.{AddsText, AreClosed, AreGrown, IsChain, LeadsWithin, NodeSpells, Spells};
-ghost use Rattle.transducer_core.specs.Outputs.{Adds, ArePlaces, EndsBy, IsBase, IsOutput, MakesNode, MakesPlaces, OverEdge, OverEdges};
+ghost use Rattle.sv_terms.specs.Transduction.{IsFormed, Pairs};
+ghost use Rattle.transducer_core.specs.Nodes.{AddsText, LeadToNodes, IsChain, LeadsWithin};
+ghost use Rattle.transducer_core.specs.Outputs.{AddsWords, ArePlaces, EndsBy, IsBase, IsOutput, MakesNode, MakesPlaces, OverEdge, OverEdges};
 ghost use Rattle.sv_word.specs.Words.{IsWord, greatest_character};
 ghost use Rattle.transducer_core.specs.Built.{IsAnyStep, IsBuilt, IsStep};
-ghost use Rattle.transducer_core.specs.declared.node.Node.{Node as AnyNode};
+ghost use Rattle.transducer_core.specs.declared.node.OutputNode.{OutputNode as AnyNode};
 ghost use Rattle.sv_terms.specs.declared.transducer.TransEdge.{TransEdge as AnyEdge};
 
-use crate::node::Node;
+use crate::node::OutputNode;
 use crate::writing::text_at;
 use machine_core::{Cost, Explicit};
 use std::alloc::{AllocError, Global};
@@ -19,7 +19,7 @@ use sv_terms::{TransEdge, Transducer};
 use sv_word::{Ranges, Word};
 
 // One node more; its place.
-fn push_node(nodes: &mut Items<Node>, node: Node) -> Result<u32, AllocError>
+fn push_node(nodes: &mut Items<OutputNode>, node: OutputNode) -> Result<u32, AllocError>
     ensures place { IfOk result (λ k. k ≡ length nodes.old) }
     ensures ok { OnOk result (nodes.new ≡ nodes.old ++ node ∷ []) }
 {
@@ -32,13 +32,13 @@ fn push_node(nodes: &mut Items<Node>, node: Node) -> Result<u32, AllocError>
 }
 
 // A node that writes one character and then what the node at a place writes.
-fn one_first(alloc: Global, c: u32, to: u32) -> Result<Node, AllocError>
+fn one_first(alloc: Global, c: u32, to: u32) -> Result<OutputNode, AllocError>
     ensures firsts { IfOk result (λ n. n.firsts ≡ (c, to) ∷ []) }
     ensures ends { IfOk result (λ n. n.ends ≡ false) }
 {
     let mut firsts = Items::new(alloc);
     firsts.push((c, to))?;
-    Ok(Node {
+    Ok(OutputNode {
         firsts,
         ends: false,
     })
@@ -47,11 +47,11 @@ fn one_first(alloc: Global, c: u32, to: u32) -> Result<Node, AllocError>
 // A place from which the text is written, and then what is written from `target` on.
 fn chain(
     alloc: Global,
-    nodes: &mut Items<Node>,
+    nodes: &mut Items<OutputNode>,
     text: &[u32],
     target: u32,
 ) -> Result<u32, AllocError>
-    requires closed { AreClosed nodes.old }
+    requires closed { LeadToNodes nodes.old }
     requires target { target < length nodes.old }
     requires text { IsWord text.now }
     ensures { IfOk result (IsChain nodes.old nodes.new text.now target) }
@@ -89,7 +89,7 @@ fn has_first(firsts: &[(u32, u32)], c: u32, to: u32) -> bool
 }
 
 // Adds a character and a place to those of a node, where they aren't among them.
-fn add_first(node: &mut Node, c: u32, to: u32) -> Result<(), AllocError>
+fn add_first(node: &mut OutputNode, c: u32, to: u32) -> Result<(), AllocError>
     ensures firsts { OnOk result ((f : ℕ × ℕ) → Contains node.new.firsts f ↔ (Contains node.old.firsts f ⊎ ((c, to) ≡ f))) }
     ensures ends { node.new.ends ≡ node.old.ends }
 {
@@ -101,7 +101,7 @@ fn add_first(node: &mut Node, c: u32, to: u32) -> Result<(), AllocError>
 }
 
 // Adds to a node the characters and places of another.
-fn add_firsts(node: &mut Node, firsts: &[(u32, u32)]) -> Result<(), AllocError>
+fn add_firsts(node: &mut OutputNode, firsts: &[(u32, u32)]) -> Result<(), AllocError>
     ensures firsts { OnOk result ((f : ℕ × ℕ) → Contains node.new.firsts f ↔ (Contains node.old.firsts f ⊎ Contains firsts.now f)) }
     ensures ends { node.new.ends ≡ node.old.ends }
 {
@@ -113,7 +113,7 @@ fn add_firsts(node: &mut Node, firsts: &[(u32, u32)]) -> Result<(), AllocError>
 }
 
 // Adds to a node what another writes.
-fn join(node: &mut Node, other: &Node) -> Result<(), AllocError>
+fn join(node: &mut OutputNode, other: &OutputNode) -> Result<(), AllocError>
     ensures firsts { OnOk result ((f : ℕ × ℕ) → Contains node.new.firsts f ↔ (Contains node.old.firsts f ⊎ Contains other.now.firsts f)) }
     ensures ends { OnOk result (node.new.ends ≡ node.old.ends || other.now.ends) }
 {
@@ -125,12 +125,12 @@ fn join(node: &mut Node, other: &Node) -> Result<(), AllocError>
 // Adds to a node the text, and then what is written from `target` on.
 fn add_text(
     alloc: Global,
-    nodes: &mut Items<Node>,
-    node: &mut Node,
+    nodes: &mut Items<OutputNode>,
+    node: &mut OutputNode,
     text: &[u32],
     target: u32,
 ) -> Result<(), AllocError>
-    requires closed { AreClosed nodes.old }
+    requires closed { LeadToNodes nodes.old }
     requires within { LeadsWithin (length nodes.old) node.old }
     requires target { target < length nodes.old }
     requires text { IsWord text.now }
@@ -145,11 +145,11 @@ fn add_text(
     Ok(())
 }
 
-fn empty(alloc: Global) -> Node
+fn empty(alloc: Global) -> OutputNode
     ensures firsts { result.firsts ≡ [] }
     ensures ends { result.ends ≡ false }
 {
-    Node {
+    OutputNode {
         firsts: Items::new(alloc),
         ends: false,
     }
@@ -158,14 +158,14 @@ fn empty(alloc: Global) -> Node
 // Adds to a node what an end writes in a state; the node at place 0 writes the empty word alone.
 fn add_end(
     alloc: Global,
-    nodes: &mut Items<Node>,
-    node: &mut Node,
+    nodes: &mut Items<OutputNode>,
+    node: &mut OutputNode,
     end: &(u32, Word),
     state: u32,
 ) -> Result<(), AllocError>
     requires base { IsBase nodes.old }
     requires within { LeadsWithin (length nodes.old) node.old }
-    ensures { OnOk result (Adds nodes.old nodes.new node.old node.new (λ w. end.now ≡ (state, w))) }
+    ensures { OnOk result (AddsWords nodes.old nodes.new node.old node.new (λ w. end.now ≡ (state, w))) }
 {
     if end.0 != state {
         return Ok(());
@@ -180,8 +180,8 @@ fn end_node(
     alloc: Global,
     ends: &[(u32, Word)],
     state: u32,
-    nodes: &mut Items<Node>,
-) -> Result<Node, AllocError>
+    nodes: &mut Items<OutputNode>,
+) -> Result<OutputNode, AllocError>
     requires { IsBase nodes.old }
     ensures { IfOk result (λ n. MakesNode nodes.old nodes.new n (EndsBy ends.now state)) }
 {
@@ -203,18 +203,18 @@ fn reads_over(edge: &TransEdge, state: u32, c: u32) -> bool
 // the state behind it.
 fn add_edge(
     alloc: Global,
-    nodes: &mut Items<Node>,
-    node: &mut Node,
+    nodes: &mut Items<OutputNode>,
+    node: &mut OutputNode,
     edge: &TransEdge,
     state: u32,
     c: u32,
     places: &[u32],
 ) -> Result<(), AllocError>
-    requires closed { AreClosed nodes.old }
+    requires closed { LeadToNodes nodes.old }
     requires within { LeadsWithin (length nodes.old) node.old }
     requires to { edge.now.to < length places.now }
     requires places { ArePlaces nodes.old places.now }
-    ensures { OnOk result (Adds nodes.old nodes.new node.old node.new (OverEdge nodes.old places.now state c edge.now)) }
+    ensures { OnOk result (AddsWords nodes.old nodes.new node.old node.new (OverEdge nodes.old places.now state c edge.now)) }
 {
     if !reads_over(edge, state, c) {
         return Ok(());
@@ -238,9 +238,9 @@ fn edge_node(
     state: u32,
     c: u32,
     places: &[u32],
-    nodes: &mut Items<Node>,
-) -> Result<Node, AllocError>
-    requires closed { AreClosed nodes.old }
+    nodes: &mut Items<OutputNode>,
+) -> Result<OutputNode, AllocError>
+    requires closed { LeadToNodes nodes.old }
     requires to { (e : AnyEdge) → Contains edges.now e → e.to < length places.now }
     requires places { ArePlaces nodes.old places.now }
     ensures { IfOk result (λ n. MakesNode nodes.old nodes.new n (OverEdges nodes.old places.now state c edges.now)) }
@@ -256,7 +256,7 @@ fn edge_node(
 fn end_places(
     alloc: Global,
     transducer: &Transducer,
-    nodes: &mut Items<Node>,
+    nodes: &mut Items<OutputNode>,
 ) -> Result<Items<u32>, AllocError>
     requires { IsBase nodes.old }
     ensures { IfOk result (λ places. MakesPlaces nodes.old nodes.new transducer.now.states places (EndsBy transducer.now.ends)) }
@@ -275,9 +275,9 @@ fn edge_places(
     transducer: &Transducer,
     c: u32,
     places: &[u32],
-    nodes: &mut Items<Node>,
+    nodes: &mut Items<OutputNode>,
 ) -> Result<Items<u32>, AllocError>
-    requires closed { AreClosed nodes.old }
+    requires closed { LeadToNodes nodes.old }
     requires to { (e : AnyEdge) → Contains transducer.now.edges e → e.to < length places.now }
     requires places { ArePlaces nodes.old places.now }
     ensures { IfOk result (λ more. MakesPlaces nodes.old nodes.new transducer.now.states more (λ s w. OverEdges nodes.old places.now s c transducer.now.edges w)) }
@@ -295,7 +295,7 @@ fn all_nodes(
     alloc: Global,
     transducer: &Transducer,
     read: &[u32],
-    nodes: &mut Items<Node>,
+    nodes: &mut Items<OutputNode>,
 ) -> Result<u32, AllocError>
     requires base { IsBase nodes.old }
     requires formed { IsFormed transducer.now }
@@ -372,7 +372,7 @@ fn add_state(
     alloc: Global,
     machine: &mut Explicit,
     state: u32,
-    node: &Node,
+    node: &OutputNode,
 ) -> Result<(), AllocError>
     requires state { state < machine.old.states }
     requires firsts { (c to : ℕ) → Contains node.now.firsts (c, to) → (to + 1 < machine.old.states) × (c ≤ greatest_character) }
@@ -387,8 +387,8 @@ fn add_state(
 }
 
 // The nodes as a machine: its start is the node at `first`, and the state k + 1 is the node at the place k.
-fn machine_of(alloc: Global, nodes: &[Node], first: u32) -> Result<Explicit, AllocError>
-    requires closed { AreClosed nodes.now }
+fn machine_of(alloc: Global, nodes: &[OutputNode], first: u32) -> Result<Explicit, AllocError>
+    requires closed { LeadToNodes nodes.now }
     requires first { first < length nodes.now }
     ensures registers { IfOk result (λ m. m.registers ≡ 0) }
     ensures built { IfOk result (λ m. (n : AnyNode) → slice_get nodes.now first ≡ Some n → IsBuilt m (n ∷ nodes.now)) }
@@ -406,11 +406,11 @@ fn machine_of(alloc: Global, nodes: &[Node], first: u32) -> Result<Explicit, All
 }
 
 // The node that writes the empty word alone.
-fn nothing(alloc: Global) -> Result<Items<Node>, AllocError>
+fn nothing(alloc: Global) -> Result<Items<OutputNode>, AllocError>
     ensures { IfOk result IsBase }
 {
     let mut nodes = Items::new(alloc);
-    nodes.push(Node {
+    nodes.push(OutputNode {
         firsts: Items::new(alloc),
         ends: true,
     })?;

@@ -1,5 +1,5 @@
 //! What an edge writes.
-ghost use Rattle.std.specs.Prelude.{◌≡◌, ◌↔◌, ◌≤◌, ◌+◌, ◌+ℤ◌, pos, ◌++◌, ℕ, List, length, drop, take, option_copied, IfOk, IsTrue};
+ghost use Rattle.std.specs.Prelude.{◌≡◌, ◌↔◌, ◌≤◌, ◌+◌, ◌+ℤ◌, pos, ◌++◌, length, drop, IfOk, IsTrue};
 ghost use Rattle.sv_terms.specs.Transduction.{character, written_at};
 
 use std::alloc::{AllocError, Global};

@@ -1,5 +1,5 @@
 // What a transducer writes at the end of a word, in its description.
-ghost use Rattle.std.specs.Prelude.{◌≡◌, ◌≤◌, length, map};
+ghost use Rattle.std.specs.Prelude.{◌≤◌, length, map};
 ghost use Rattle.smt_names.specs.Faults.{Answers};
 ghost use Rattle.smt_names.specs.Form.{forms, seen};
 ghost use Rattle.transducer_form.specs.Descriptions as d;

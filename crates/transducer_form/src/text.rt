@@ -1,5 +1,4 @@
 // Literals in a transducer's description.
-ghost use Rattle.std.specs.Prelude.{◌≡◌};
 ghost use Rattle.smt_names.specs.Faults.{Answers};
 ghost use Rattle.smt_names.specs.Form.{seen};
 ghost use Rattle.smt_names.specs.Tokens as t;

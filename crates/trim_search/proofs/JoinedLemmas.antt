@@ -9,19 +9,19 @@ use Rattle.machine_core.specs.CostLaws.{top_by-at, top_by-least}
 use Rattle.machine_core.specs.Lists.{Any-here, Any-append_left, Any-append_right, Any-push_cases, Any-contains, contained}
 use Rattle.machine_core.specs.Moves.{Moves}
 use Rattle.machine_core.specs.declared.machine.Move.{Move}
-use Rattle.trim_search.specs.declared.node.Node.{Node}
+use Rattle.trim_search.specs.declared.node.StateMoves.{StateMoves}
 use Rattle.trim_search.specs.Grown.{IsNodeOf}
-use Rattle.trim_search.specs.Joined.{AreJoined}
+use Rattle.trim_search.specs.Joined.{AreJoinedMoves}
 use Rattle.trim_search.specs.Nodes.{IsNode, node_top}
 
-pub joined-none : AreJoined [] []
+pub joined-none : AreJoinedMoves [] []
 joined-none = record { exact = λ c k t. (λ a. a, λ a. a); inhabited = λ m i. absurd (let l = i.1 in omega arith) }
 
-pub joined-same : (moves : List (Move ℕ)) → ((m : Move ℕ) → Contains moves m → IsInhabited m.on) → AreJoined moves moves
+pub joined-same : (moves : List (Move ℕ)) → ((m : Move ℕ) → Contains moves m → IsInhabited m.on) → AreJoinedMoves moves moves
 joined-same moves inhabited = record { exact = λ c k t. (λ a. a, λ a. a); inhabited = inhabited }
 
-pub joined-more : (moves old new : List (Move ℕ)) (m : Move ℕ) → AreJoined moves old
-    → ((c : ℕ) (k : List ℕ) (t : ℕ) → Any (Moves c k t) new ↔ (Any (Moves c k t) old ⊎ Moves c k t m)) → ((e : Move ℕ) → Contains new e → IsInhabited e.on) → AreJoined (moves ++ m ∷ []) new
+pub joined-more : (moves old new : List (Move ℕ)) (m : Move ℕ) → AreJoinedMoves moves old
+    → ((c : ℕ) (k : List ℕ) (t : ℕ) → Any (Moves c k t) new ↔ (Any (Moves c k t) old ⊎ Moves c k t m)) → ((e : Move ℕ) → Contains new e → IsInhabited e.on) → AreJoinedMoves (moves ++ m ∷ []) new
 joined-more moves old new m h adds inhabited = record {
   exact = λ c k t. let P = Moves c k t in (
     λ a. elim ((adds c k t).0 a) [
@@ -49,7 +49,7 @@ inhabited-push old new m made all some e i = elim (Contains-push_cases old m e (
 any-permutation : {X : Type 0} (P : X → Type 0) (xs ys : List X) → IsPermutation xs ys → Any P xs → Any P ys
 any-permutation P xs ys perm a = let h = contained P xs a in Any-contains P ys h.0 (Contains-permutation xs ys h.0 perm h.1) h.2
 
-pub joined-sorted : (moves sorted joined : List (Move ℕ)) → IsPermutation moves sorted → AreJoined sorted joined → AreJoined moves joined
+pub joined-sorted : (moves sorted joined : List (Move ℕ)) → IsPermutation moves sorted → AreJoinedMoves sorted joined → AreJoinedMoves moves joined
 joined-sorted moves sorted joined perm h = record {
   exact = λ c k t. let P = Moves c k t in (
     λ a. any-permutation P sorted moves (IsPermutation-sym moves sorted perm) ((h.exact c k t).0 a),
@@ -59,13 +59,13 @@ joined-sorted moves sorted joined perm h = record {
 }
 
 -- each joined move has the cost and the target of one of the moves
-joined-from : (moves joined : List (Move ℕ)) → AreJoined moves joined → (e : Move ℕ) → Contains joined e → (m : Move ℕ) × Contains moves m × (m.cost ≡ e.cost) × (m.to ≡ e.to)
+joined-from : (moves joined : List (Move ℕ)) → AreJoinedMoves moves joined → (e : Move ℕ) → Contains joined e → (m : Move ℕ) × Contains moves m × (m.cost ≡ e.cost) × (m.to ≡ e.to)
 joined-from moves joined h e i =
     let P = Moves (least_of e.on) e.cost e.to in
     let a = contained P moves ((h.exact (least_of e.on) e.cost e.to).0 (Any-contains P joined e i (h.inhabited e i, refl, refl))) in
     (a.0, a.1, a.2.1, a.2.2)
 
-module _ (node joined : Node) (ends : joined.ends ≡ node.ends) (edges : AreJoined node.edges joined.edges) where
+module _ (node joined : StateMoves) (ends : joined.ends ≡ node.ends) (edges : AreJoinedMoves node.edges joined.edges) where
   pub joined-node : {S : Type 0} (end : List ℕ → Type 0) (steps : ℕ → List ℕ → S → Type 0) (names : List S) → IsNodeOf end steps names node → IsNodeOf end steps names joined
   joined-node end steps names h = record {
     same_ends = subst (λ l. (cost : List ℕ) → end cost ↔ Any (λ e. e ≡ cost) l) (sym ends) h.same_ends;

@@ -12,6 +12,6 @@ pub record IsLike (moves : List (Move ℕ)) (further : Move ℕ) (at : ℕ) : Ty
   pub cost : earlier.cost ≡ further.cost
 
 -- the two lists read the same characters, at the same costs and to the same states, and each joined move reads some character
-pub record AreJoined (moves joined : List (Move ℕ)) : Type 0 where
+pub record AreJoinedMoves (moves joined : List (Move ℕ)) : Type 0 where
   pub exact : (c : ℕ) (cost : List ℕ) (to : ℕ) → Any (Moves c cost to) joined ↔ Any (Moves c cost to) moves
   pub inhabited : (m : Move ℕ) → Contains joined m → IsInhabited m.on

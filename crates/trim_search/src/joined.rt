@@ -1,9 +1,9 @@
 //! The moves of one state, those to one target at one cost as one.
-ghost use Rattle.std.specs.Prelude.{◌≡◌, ℕ, ◌↔◌, ◌⊎◌, Any, Contains, List, IfOk, OnOk, IfSome};
+ghost use Rattle.std.specs.Prelude.{ℕ, ◌↔◌, ◌⊎◌, Any, Contains, List, IfOk, OnOk, IfSome};
 ghost use Rattle.sv_word.specs.Ranges.{IsInhabited};
 ghost use Rattle.machine_core.specs.Moves.{Moves};
 ghost use Rattle.machine_core.specs.declared.machine.Move.{Move};
-ghost use Rattle.trim_search.specs.Joined.{IsLike, AreJoined};
+ghost use Rattle.trim_search.specs.Joined.{IsLike, AreJoinedMoves};
 
 use machine_core::Move;
 use std::alloc::{AllocError, Global};
@@ -13,7 +13,7 @@ use sv_list::Items;
 /// the states. One sort of the moves, and one merge of two sets for each move that goes.
 pub fn join_moves(alloc: Global, moves: Items<Move<u32>>) -> Result<Items<Move<u32>>, AllocError>
     requires { (m : Move ℕ) → Contains moves m → IsInhabited m.on }
-    ensures { IfOk result (AreJoined moves) }
+    ensures { IfOk result (AreJoinedMoves moves) }
 {
     if moves.len() < 2 {
         return Ok(moves);
@@ -26,7 +26,7 @@ pub fn join_moves(alloc: Global, moves: Items<Move<u32>>) -> Result<Items<Move<u
 // The same where the moves to one state stand together.
 fn join_sorted(alloc: Global, moves: Items<Move<u32>>) -> Result<Items<Move<u32>>, AllocError>
     requires { (m : Move ℕ) → Contains moves m → IsInhabited m.on }
-    ensures { IfOk result (AreJoined moves) }
+    ensures { IfOk result (AreJoinedMoves moves) }
 {
     let mut joined = Items::new(alloc);
     for step in moves.into_vec() {

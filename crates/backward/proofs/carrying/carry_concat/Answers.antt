@@ -1,4 +1,4 @@
-use Rattle.std.proofs.Common.{◌≡◌, ℕ, suc, ◌-◌, ◌<◌, ◌∷◌, length, drop, get_or, Some, slice_set, refl, sym, ap, ◌∙◌, subst, arith, Err}
+use Rattle.std.proofs.Common.{◌≡◌, suc, ◌-◌, ◌<◌, ◌∷◌, length, drop, get_or, Some, slice_set, refl, sym, ap, ◌∙◌, subst, arith, Err}
 use Rattle.machine_core.specs.declared.graph.Graph.{Graph}
 use Rattle.backward.specs.Families.{Family, HasMachine, without}
 use Rattle.backward.specs.Carried.{IsCarried}

@@ -1,4 +1,4 @@
-use Rattle.std.proofs.Common.{ℕ, ◌∷◌, sym, ap, ◌∙◌, subst}
+use Rattle.std.proofs.Common.{◌∷◌, sym, ap, ◌∙◌, subst}
 use Rattle.machine_core.specs.Costs.{zeros}
 use Rattle.backward.specs.Back.{AreBack}
 use Rattle.backward.specs.Families.{HasMachine, without}

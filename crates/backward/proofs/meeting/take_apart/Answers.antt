@@ -4,7 +4,7 @@ use Rattle.machine_core.specs.Costs.{total_of, add_costs, sum_costs}
 use Rattle.machine_core.specs.Graphs.{IsRunOf}
 use Rattle.machine_core.specs.declared.run.Run.{Run}
 use Rattle.machine_meet.specs.Products.{MeetEnds, MeetSteps, meet_width}
-use Rattle.machine_meet.specs.Splits.{AreRuns}
+use Rattle.machine_meet.specs.Splits.{ArePartRuns}
 use Rattle.backward.specs.Kept.{IsPartRun}
 use Rattle.backward.proofs.MeetingLemmas.{AreTwo, slice_ends, slice_steps, slice_first, slice_width}
 use Rattle.backward.proofs.KeptLemmas.{both-in, two-runs, two-costs, last-two}
@@ -42,7 +42,7 @@ returns c =
       ends = c.of-part.ensures.to;
       registers = c.requires.kept.registers;
     } in
-    let runs = subst (λ qs. AreRuns slice_ends slice_steps slice_first qs c.in_ok-pairs.pairs.word c.in_ok-runs.runs) c.of-meet.ensures.parts c.in_ok-runs.ensures.runs in
+    let runs = subst (λ qs. ArePartRuns slice_ends slice_steps slice_first qs c.in_ok-pairs.pairs.word c.in_ok-runs.runs) c.of-meet.ensures.parts c.in_ok-runs.ensures.runs in
     let costs = subst (λ qs. sum_costs (meet_width slice_width qs) (map (λ (r : Run ℕ). run_total r) c.in_ok-runs.runs) ≡ run_total c.in_ok-pairs.pairs) c.of-meet.ensures.parts c.in_ok-runs.ensures.costs in
     let both = two-runs w p c.args.machine.now c.args.target.now c.args.from c.args.to two c.in_ok-pairs.pairs.word c.in_ok-runs.runs runs in
     let one : c.in_ok-runs.runs ≡ c.pop.new.self ++ c.unwrap-second.result ∷ [] =

@@ -1,5 +1,5 @@
-use Rattle.std.proofs.Common.{◌≡◌, ℕ, suc, ◌+◌, subst, sym, ap, arith, Err}
-use Rattle.straight_line.specs.NumberLaws.{slope_of, base_of}
+use Rattle.std.proofs.Common.{◌≡◌, suc, ◌+◌, subst, sym, ap, arith, Err}
+use Rattle.cube_bounds.specs.NumberLaws.{slope_of, base_of}
 use Rattle.backward.specs.Definitions.{definition}
 use Rattle.backward.specs.States.{IsState}
 use Rattle.backward.proofs.StepLemmas.{place-below, reads-there, can-pass-with, can-pass-through, passed-at, passed-conf, passed-made}

@@ -5,7 +5,7 @@ use Rattle.std.specs.Int.{w128}
 use mir.Val.{SFits}
 use Rattle.bool_cubes.specs.Formed.{linears_of, steps_of}
 use Rattle.bool_cubes.specs.Linear.{joined_of, joined_steps, linear, of_number, steps}
-use Rattle.bool_cubes.specs.Numbered.{IsMadeBy, IsNumbered}
+use Rattle.bool_cubes.specs.Numbered.{IsFormOrPast, IsNumbered}
 use Rattle.bool_cubes.specs.Past.{ArePlain}
 use Rattle.bool_cubes.specs.Shapes.{seen}
 use Rattle.bool_cubes.specs.declared.roles.Joint.TheVariants as joint
@@ -19,7 +19,7 @@ pub several_form-returns-in_err-all-clause-form : goal.several_form-returns-in_e
 several_form-returns-in_err-all-clause-form t c =
     let two = c.requires.several in
     let e : c.from_residual.result ≡ Err c.in_err-all.field-0.0 = search rules in
-    subst (IsMadeBy c.term_form.new.unknowns.codes (joined_of c.args.joint (linears_of c.args.terms.now)) (steps_of c.args.terms.now ++ joined_steps c.args.joint (linears_of c.args.terms.now))) (sym e)
+    subst (IsFormOrPast c.term_form.new.unknowns.codes (joined_of c.args.joint (linears_of c.args.terms.now)) (steps_of c.args.terms.now ++ joined_steps c.args.joint (linears_of c.args.terms.now))) (sym e)
     (err_made c.term_form.new.unknowns.codes c.term_form.new.unknowns.codes (linear (seen c.index-terms-0.result)) (joined_of c.args.joint (linears_of c.args.terms.now)) (steps (seen c.index-terms-0.result)) (steps_of c.args.terms.now ++ joined_steps c.args.joint (linears_of c.args.terms.now)) c.in_err-all.field-0.0 (λ l r h. argument_past c.args.terms.now 0 c.index-terms-0.result (joined_steps c.args.joint (linears_of c.args.terms.now)) l r (omega arith) c.index-terms-0.is h) c.in_err-all.ensures.form)
 
 pub several_form-loop-i-init : goal.several_form-loop-i-init
@@ -31,13 +31,13 @@ several_form-loop-i-init t c = record {
 pub several_form-returns-in_err-next-clause-form : goal.several_form-returns-in_err-next-clause-form
 several_form-returns-in_err-next-clause-form t c =
     let e : c.from_residual-in_err-next.result ≡ Err c.in_err-next.field-0.0 = search rules in
-    subst (IsMadeBy c.term_form-in-loop-i.new.unknowns.codes (joined_of c.args.joint (linears_of c.args.terms.now)) (steps_of c.args.terms.now ++ joined_steps c.args.joint (linears_of c.args.terms.now))) (sym e)
+    subst (IsFormOrPast c.term_form-in-loop-i.new.unknowns.codes (joined_of c.args.joint (linears_of c.args.terms.now)) (steps_of c.args.terms.now ++ joined_steps c.args.joint (linears_of c.args.terms.now))) (sym e)
     (err_made c.term_form-in-loop-i.new.unknowns.codes c.term_form-in-loop-i.new.unknowns.codes (linear (seen c.index-terms-i.result)) (joined_of c.args.joint (linears_of c.args.terms.now)) (steps (seen c.index-terms-i.result)) (steps_of c.args.terms.now ++ joined_steps c.args.joint (linears_of c.args.terms.now)) c.in_err-next.field-0.0 (λ l r h. argument_past c.args.terms.now c.loop-i.i c.index-terms-i.result (joined_steps c.args.joint (linears_of c.args.terms.now)) l r (omega arith) c.index-terms-i.is h) c.in_err-next.ensures.form)
 
 pub several_form-returns-in_err-all-2-clause-form : goal.several_form-returns-in_err-all-2-clause-form
 several_form-returns-in_err-all-2-clause-form t c =
     let e : c.from_residual-in_err-all-2.result ≡ Err c.in_err-all-2.field-0.0 = search rules in
-    subst (IsMadeBy c.term_form-in-loop-i.new.unknowns.codes (joined_of c.args.joint (linears_of c.args.terms.now)) (steps_of c.args.terms.now ++ joined_steps c.args.joint (linears_of c.args.terms.now))) (sym e)
+    subst (IsFormOrPast c.term_form-in-loop-i.new.unknowns.codes (joined_of c.args.joint (linears_of c.args.terms.now)) (steps_of c.args.terms.now ++ joined_steps c.args.joint (linears_of c.args.terms.now))) (sym e)
     (joint_err c.loop-i.unknowns.codes c.term_form-in-loop-i.new.unknowns.codes c.args.joint c.args.terms.now c.loop-i.i c.index-terms-i.result c.loop-i.all c.in_ok-next.next c.in_err-all-2.field-0.0 (omega arith) (omega arith) c.requires.several c.index-terms-i.is c.in_ok-next.ensures.more c.loop-i.invariant.all c.in_ok-next.ensures.form.1 c.in_err-all-2.ensures)
 
 pub several_form-loop-i-preserved : goal.several_form-loop-i-preserved
@@ -55,13 +55,13 @@ pub single_form-returns-in_err-form-clause-form : goal.single_form-returns-in_er
 single_form-returns-in_err-form-clause-form t c =
     let one = c.requires.single in
     let e : c.from_residual.result ≡ Err c.in_err-form.field-0.0 = search rules in
-    subst (IsMadeBy c.term_form.new.unknowns.codes (joined_of c.args.joint (linears_of c.args.terms.now)) (steps_of c.args.terms.now ++ joined_steps c.args.joint (linears_of c.args.terms.now))) (sym e)
+    subst (IsFormOrPast c.term_form.new.unknowns.codes (joined_of c.args.joint (linears_of c.args.terms.now)) (steps_of c.args.terms.now ++ joined_steps c.args.joint (linears_of c.args.terms.now))) (sym e)
     (err_made c.term_form.new.unknowns.codes c.term_form.new.unknowns.codes (linear (seen c.index-terms-0.result)) (joined_of c.args.joint (linears_of c.args.terms.now)) (steps (seen c.index-terms-0.result)) (steps_of c.args.terms.now ++ joined_steps c.args.joint (linears_of c.args.terms.now)) c.in_err-form.field-0.0 (λ l r h. argument_past c.args.terms.now 0 c.index-terms-0.result (joined_steps c.args.joint (linears_of c.args.terms.now)) l r (omega arith) c.index-terms-0.is h) c.in_err-form.ensures.form)
 
 pub single_form-returns-in_err-scale-in-Difference-clause-form : goal.single_form-returns-in_err-scale-in-Difference-clause-form
 single_form-returns-in_err-scale-in-Difference-clause-form t c =
     let e : c.from_residual-in_err-scale-in-Difference.result ≡ Err c.in_err-scale-in-Difference.field-0.0 = search rules in
-    subst (IsMadeBy c.term_form.new.unknowns.codes (joined_of c.args.joint (linears_of c.args.terms.now)) (steps_of c.args.terms.now ++ joined_steps c.args.joint (linears_of c.args.terms.now))) (sym e)
+    subst (IsFormOrPast c.term_form.new.unknowns.codes (joined_of c.args.joint (linears_of c.args.terms.now)) (steps_of c.args.terms.now ++ joined_steps c.args.joint (linears_of c.args.terms.now))) (sym e)
     (joined_as c.term_form.new.unknowns.codes c.args.terms.now (Err c.in_err-scale-in-Difference.field-0.0) c.args.joint joint.Difference c.in-Difference.is
     (one_err c.term_form.new.unknowns.codes c.args.terms.now c.index-terms-0.result c.in_ok-form.form c.in_err-scale-in-Difference.field-0.0 c.requires.single c.index-terms-0.is c.in_ok-form.ensures.more.numbered c.in_ok-form.ensures.form.1 c.in_err-scale-in-Difference.ensures))
 

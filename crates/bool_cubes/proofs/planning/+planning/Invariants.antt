@@ -1,7 +1,7 @@
 use Rattle.std.proofs.Common.{◌-◌, ◌<◌, drop, length, take}
 use Rattle.bool_cubes.specs.Counting.{formulas_of, parts_of}
 use Rattle.bool_cubes.specs.Nodes.{IsLonger, IsPlanned}
-use Rattle.bool_cubes.specs.Planned.{AreBooleanSides, AreSides}
+use Rattle.bool_cubes.specs.Planned.{AreBooleanSides, AreNodePairs}
 use Rattle.bool_cubes.specs.Trees.{conjunction, disjunction, equal, exclusive, implied, negated, neighbours, pairs}
 use Rattle.bool_cubes.proofs.planning.+planning.Given as goal
 
@@ -23,7 +23,7 @@ invariant-implied_sides-loop-i l = record {
 abbrev pub invariant-boolean_sides-loop-term : goal.invariant-boolean_sides-loop-term
 invariant-boolean_sides-loop-term l = record {
   longer : IsLonger l.fn.plan.nodes l.plan.nodes;
-  sides : AreSides l.plan.nodes (take l.term-index l.terms) l.all;
+  sides : AreNodePairs l.plan.nodes (take l.term-index l.terms) l.all;
 }
 
 abbrev pub invariant-equal_sides-loop-i : goal.invariant-equal_sides-loop-i

@@ -1,7 +1,7 @@
 use Rattle.std.proofs.Common.{◌≡◌, ◌+◌, ◌++◌, ◌≤◌, List, drop, get_or}
 use Rattle.sv_terms.specs.declared.term.Term.{Term}
 use Rattle.bool_cubes.specs.Counting.{first_pairs}
-use Rattle.bool_cubes.specs.Nodes.{AreOf, IsLonger, IsPlanned, Stands}
+use Rattle.bool_cubes.specs.Nodes.{AreOf, IsLonger, IsPlanned, HasBothTrees}
 use Rattle.bool_cubes.specs.Planned.{AreBooleanSides}
 use Rattle.bool_cubes.specs.Trees.{Formula, conjunction}
 use Rattle.bool_cubes.proofs.planning.first_sides.Given as goal
@@ -12,5 +12,5 @@ invariant-loop-j l = record {
   longer : IsLonger l.fn.plan.nodes l.plan.nodes;
   within : AreOf l.plan.nodes l.all;
   sides : AreBooleanSides l.plan.nodes l.terms l.sides;
-  planned : (t : Term) (fs : List Formula) → t ≡ get_or l.terms l.i t → Stands l.fn.plan.nodes l.initial.all (conjunction fs) → IsPlanned l.fn.plan.nodes l.plan.nodes l.all (conjunction (first_pairs t (drop l.j l.terms) ++ fs));
+  planned : (t : Term) (fs : List Formula) → t ≡ get_or l.terms l.i t → HasBothTrees l.fn.plan.nodes l.initial.all (conjunction fs) → IsPlanned l.fn.plan.nodes l.plan.nodes l.all (conjunction (first_pairs t (drop l.j l.terms) ++ fs));
 }

@@ -1,7 +1,7 @@
 use Rattle.std.proofs.Common.{ℕ, ◌<◌, ◌≤◌, ◌∷◌, []}
-use Rattle.box_search.specs.Layers.{IsGood}
+use Rattle.box_search.specs.Layers.{AreGoodTotals}
 use Rattle.box_search.specs.Marks.{HasBit}
 use Rattle.box_search.proofs.by_marks.first_good.Given as goal
 
 abbrev pub invariant-loop-total : goal.invariant-loop-total
-invariant-loop-total l = (t : ℕ) → l.low ≤ t → t < l.total → HasBit l.words t → IsGood l.layers.rows.now l.layers.region.now (t ∷ []) → ⊥
+invariant-loop-total l = (t : ℕ) → l.low ≤ t → t < l.total → HasBit l.words t → AreGoodTotals l.layers.rows.now l.layers.region.now (t ∷ []) → ⊥

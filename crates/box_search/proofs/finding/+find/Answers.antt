@@ -2,7 +2,7 @@ use Rattle.std.proofs.Common.{rules, ◌≡◌, ◌∙◌, ◌<◌, ℤ, pos, �
 use Rattle.std.specs.Int.{w128}
 use Rattle.std.proofs.lemmas.Int.{to_z-of_z}
 use Rattle.box_search.specs.Regions.{AreWithin}
-use Rattle.box_search.specs.Boxes.{MeetAll, IsBox, IsFound}
+use Rattle.box_search.specs.Boxes.{MeetAll, IsBox, IsPointFound}
 use Rattle.box_search.proofs.FindLemmas.{widths}
 use Rattle.box_search.proofs.HalfLemmas.{side-below, lower-within, below-box, above-box, below-widths, above-widths, below-found, above-found, none-found}
 use Rattle.box_search.proofs.finding.+find.Goals as goal
@@ -38,8 +38,8 @@ returns-in-Some-2 t c =
     let a = rw (to_z-of_z w128 c.side_at-low.result.0 fl) at c.middle-half.ensures.low in
     let b = rw (to_z-of_z w128 c.side_at-low.result.1 fh) at c.middle-half.ensures.high in
     let e : c.as_slice.result.now ≡ slice_set c.args.sides.now c.in-Some.at (c.side_at-low.result.0, c.middle-half.result) = c.as_slice.ensures ∙ (rw (to_z-of_z w128 c.side_at-low.result.0 fl, to_z-of_z w128 c.middle-half.result fm) at c.in_ok-below.ensures) in
-    let h = subst (IsFound c.args.rows.now c.as_slice.result.now) c.in-Some-2.is c.in_ok-point.ensures in
-    below-found c.args.rows.now c.args.sides.now c.requires c.in-Some.at c.side_at-low.result.0 c.side_at-low.result.1 c.side_at-low.ensures c.middle-half.result a b c.in-Some-2.point (subst (λ l. IsFound c.args.rows.now l (Some c.in-Some-2.point)) e h)
+    let h = subst (IsPointFound c.args.rows.now c.as_slice.result.now) c.in-Some-2.is c.in_ok-point.ensures in
+    below-found c.args.rows.now c.args.sides.now c.requires c.in-Some.at c.side_at-low.result.0 c.side_at-low.result.1 c.side_at-low.ensures c.middle-half.result a b c.in-Some-2.point (subst (λ l. IsPointFound c.args.rows.now l (Some c.in-Some-2.point)) e h)
 
 pub with_side-requires-2 : goal.with_side-requires-2
 with_side-requires-2 t c = side-below c.args.sides.now c.in-Some.at c.in-Some.ensures.0 c.in-Some.ensures.1
@@ -65,8 +65,8 @@ returns-in-Some-3 t c =
     let b = rw (to_z-of_z w128 c.side_at-low.result.1 fh) at c.middle-half.ensures.high in
     let fn : FitsSigned w128 (c.middle-half.result +ℤ pos 1) = search rules in
     let g : c.as_slice-2.result.now ≡ slice_set c.args.sides.now c.in-Some.at (c.middle-half.result +ℤ pos 1, c.side_at-low.result.1) = c.as_slice-2.ensures ∙ (rw (to_z-of_z w128 c.middle-half.result fm, to_z-of_z w128 (c.middle-half.result +ℤ pos 1) fn, to_z-of_z w128 c.side_at-low.result.1 fh) at c.in_ok-above.ensures) in
-    let h = subst (IsFound c.args.rows.now c.as_slice-2.result.now) c.in-Some-3.is c.in_ok-point-2.ensures in
-    above-found c.args.rows.now c.args.sides.now c.requires c.in-Some.at c.side_at-low.result.0 c.side_at-low.result.1 c.side_at-low.ensures c.middle-half.result a b c.in-Some-3.point (subst (λ l. IsFound c.args.rows.now l (Some c.in-Some-3.point)) g h)
+    let h = subst (IsPointFound c.args.rows.now c.as_slice-2.result.now) c.in-Some-3.is c.in_ok-point-2.ensures in
+    above-found c.args.rows.now c.args.sides.now c.requires c.in-Some.at c.side_at-low.result.0 c.side_at-low.result.1 c.side_at-low.ensures c.middle-half.result a b c.in-Some-3.point (subst (λ l. IsPointFound c.args.rows.now l (Some c.in-Some-3.point)) g h)
 
 pub returns : goal.returns
 returns t c =
@@ -78,6 +78,6 @@ returns t c =
     let e : c.as_slice.result.now ≡ slice_set c.args.sides.now c.in-Some.at (c.side_at-low.result.0, c.middle-half.result) = c.as_slice.ensures ∙ (rw (to_z-of_z w128 c.side_at-low.result.0 fl, to_z-of_z w128 c.middle-half.result fm) at c.in_ok-below.ensures) in
     let fn : FitsSigned w128 (c.middle-half.result +ℤ pos 1) = search rules in
     let g : c.as_slice-2.result.now ≡ slice_set c.args.sides.now c.in-Some.at (c.middle-half.result +ℤ pos 1, c.side_at-low.result.1) = c.as_slice-2.ensures ∙ (rw (to_z-of_z w128 c.middle-half.result fm, to_z-of_z w128 (c.middle-half.result +ℤ pos 1) fn, to_z-of_z w128 c.side_at-low.result.1 fh) at c.in_ok-above.ensures) in
-    let low = subst (λ l. IsFound c.args.rows.now l None) e (subst (IsFound c.args.rows.now c.as_slice.result.now) c.in_default-2.is c.in_ok-point.ensures) in
-    let high = subst (λ l. IsFound c.args.rows.now l None) g (subst (IsFound c.args.rows.now c.as_slice-2.result.now) c.in-None.is c.in_ok-point-2.ensures) in
+    let low = subst (λ l. IsPointFound c.args.rows.now l None) e (subst (IsPointFound c.args.rows.now c.as_slice.result.now) c.in_default-2.is c.in_ok-point.ensures) in
+    let high = subst (λ l. IsPointFound c.args.rows.now l None) g (subst (IsPointFound c.args.rows.now c.as_slice-2.result.now) c.in-None.is c.in_ok-point-2.ensures) in
     none-found c.args.rows.now c.args.sides.now c.requires c.in-Some.at c.side_at-low.result.0 c.side_at-low.result.1 c.side_at-low.ensures c.middle-half.result a b low high

@@ -2,7 +2,7 @@ use Rattle.std.proofs.Common.{◌≡◌, ℕ, ℤ, ◌+◌, ◌+ℤ◌, ◌≤�
 use Rattle.sv_linear.specs.Terms.{terms_value}
 use Rattle.sv_linear.specs.Rows.{terms_weight}
 use Rattle.box_search.specs.Regions.{amounts}
-use Rattle.box_search.specs.Boxes.{AreAt, IsPoint}
+use Rattle.box_search.specs.Boxes.{AreAt, HoldsOne}
 use Rattle.box_search.proofs.finding.bounds.Given as goal
 
 abbrev pub invariant-loop-unknown : goal.invariant-loop-unknown
@@ -11,5 +11,5 @@ invariant-loop-unknown l = record {
   greatest_fits : unsigned_abs l.greatest + terms_weight (amounts l.sides) (drop l.unknown-index l.unknown-items) < 2 ^ 127;
   between : (x : ℕ → ℤ) → AreAt l.sides x → ((l.least +ℤ terms_value x (drop l.unknown-index l.unknown-items)) ≤ℤ (terms_value x l.form.coefficients +ℤ l.form.constant))
       × ((terms_value x l.form.coefficients +ℤ l.form.constant) ≤ℤ (l.greatest +ℤ terms_value x (drop l.unknown-index l.unknown-items)));
-  point : All IsPoint l.sides → l.least ≡ l.greatest;
+  point : All HoldsOne l.sides → l.least ≡ l.greatest;
 }

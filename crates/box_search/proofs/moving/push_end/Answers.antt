@@ -1,13 +1,13 @@
 use Rattle.std.proofs.Common.{◌≡◌, ◌+◌, suc, arith, map, [], ◌∷◌}
 use Rattle.machine_core.specs.Costs.{add_costs}
-use Rattle.box_search.specs.Layers.{AreBelow}
+use Rattle.box_search.specs.Layers.{AreWithinGreatest}
 use Rattle.box_search.specs.Moving.{end_moves}
 use Rattle.box_search.proofs.MoveLemmas.{one-end-unpaid, end-pushed, nothing-pushed}
 use Rattle.box_search.proofs.moving.push_end.Goals as goal
 
 pub returns-in_default : goal.returns-in_default
 returns-in_default c =
-    let none : AreBelow (add_costs c.args.at.now.spent c.args.cost.now) (map (λ s. s.1) c.args.sides.now) → ⊥ = rw (c.as_slice.ensures, c.as_slice-2.ensures, c.in_default.is) at c.in_ok-spent.ensures in
+    let none : AreWithinGreatest (add_costs c.args.at.now.spent c.args.cost.now) (map (λ s. s.1) c.args.sides.now) → ⊥ = rw (c.as_slice.ensures, c.as_slice-2.ensures, c.in_default.is) at c.in_ok-spent.ensures in
     nothing-pushed (map (λ s. s.1) c.args.sides.now) c.args.at.now c.args.all.now (end_moves (map (λ s. s.1) c.args.sides.now) c.args.on.now c.args.at.now (c.args.cost.now ∷ []))
     (one-end-unpaid (map (λ s. s.1) c.args.sides.now) c.args.at.now c.args.on.now c.args.cost.now none)
 

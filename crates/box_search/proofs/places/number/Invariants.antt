@@ -1,12 +1,12 @@
 use Rattle.std.proofs.Common.{◌≡◌, ◌≤◌, drop, length}
-use Rattle.box_search.specs.Layers.{AreBelow}
+use Rattle.box_search.specs.Layers.{AreWithinGreatest}
 use Rattle.box_search.specs.Places.{number_of}
 use Rattle.box_search.proofs.places.number.Given as goal
 
 abbrev pub invariant-loop-at : goal.invariant-loop-at
 invariant-loop-at l = record {
   within : l.at ≤ length l.totals;
-  below : AreBelow (drop l.at l.totals) (drop l.at l.uppers);
+  below : AreWithinGreatest (drop l.at l.totals) (drop l.at l.uppers);
   number : l.number ≡ number_of (drop l.at l.totals) (drop l.at l.uppers);
 }
 

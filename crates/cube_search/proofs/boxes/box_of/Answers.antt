@@ -1,5 +1,5 @@
 use Rattle.std.proofs.Common.{◌≡◌, ◌∙◌, ap, arith, false, map}
-use Rattle.straight_line.specs.Sides.{integer_sides, register_sides}
+use Rattle.cube_bounds.specs.Sides.{integer_sides, register_sides}
 use Rattle.cube_search.specs.Bounding.{integer_bounds, register_bounds}
 use Rattle.cube_search.proofs.BoxSides.{sides-long, sides-front, sides-back}
 use Rattle.cube_search.proofs.boxes.box_of.Goals as goal

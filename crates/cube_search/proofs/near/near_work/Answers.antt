@@ -1,6 +1,6 @@
 use Rattle.std.proofs.Common.{◌≡◌, ◌*◌, ◌^◌, ◌∙◌, ap, arith}
 use Rattle.sv_terms.specs.CutOff.{cut_off}
-use Rattle.straight_line.specs.Bounds.{sources, states}
+use Rattle.cube_bounds.specs.Bounds.{sources, states}
 use Rattle.cube_search.proofs.Works.{work-cut}
 use Rattle.cube_search.proofs.near.near_work.Goals as goal
 

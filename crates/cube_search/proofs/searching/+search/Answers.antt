@@ -1,4 +1,4 @@
-use Rattle.std.proofs.Common.{◌≡◌, ℕ, suc, ◌+◌, ◌-◌, ◌<◌, [], ◌∷◌, ◌++◌, length, Some, None, arith, sym, ap, ◌∙◌, subst, Ok, Err, IfOk, IfSome, OnOk, MatchOption, length-append, inr}
+use Rattle.std.proofs.Common.{◌≡◌, suc, ◌+◌, ◌-◌, ◌<◌, [], ◌∷◌, ◌++◌, length, arith, sym, ap, ◌∙◌, subst, Ok, Err, IfOk, IfSome, OnOk, MatchOption, length-append, inr}
 use Rattle.backward.specs.Families.{Conf}
 use Rattle.backward.specs.States.{IsState}
 use Rattle.backward.specs.Steps.{CanPassAt}

@@ -1,7 +1,7 @@
 use Rattle.std.proofs.Common.{◌+◌, [], ◌∷◌, length, length-append, inr, refl, sym, ap, ◌∙◌, subst, arith}
 use Rattle.std.specs.List.{AllByRecursion}
 use Rattle.decide.specs.Batches.{AreJobsOf}
-use Rattle.decide.specs.Jobs.{IsAsked}
+use Rattle.decide.specs.Jobs.{IsAskedCube}
 use Rattle.decide.proofs.Going.{one-more-job, is-none, is-some}
 use Rattle.decide.proofs.batch.next_batch.Goals as goal
 
@@ -22,5 +22,5 @@ loop-preserved c =
       subst (λ js. AreJobsOf c.args.shared.now.terms.now js c.args.cubes.now c.next.new.self) (sym p)
           (one-more-job c.args.shared.now.terms.now c.loop.jobs (c.args.shared.now.terms.now, c.in-Some.cube) c.in-Some.cube c.args.cubes.now c.loop.cubes c.next.new.self c.loop.invariant.0 e refl refl),
       ap length p ∙ length-append c.loop.jobs ((c.args.shared.now.terms.now, c.in-Some.cube) ∷ []) ∙ ap (λ n. n + 1) c.loop.invariant.1,
-      (subst (AllByRecursion (IsAsked c.args.shared.now.terms.now)) e c.loop.invariant.2).1,
+      (subst (AllByRecursion (IsAskedCube c.args.shared.now.terms.now)) e c.loop.invariant.2).1,
     )

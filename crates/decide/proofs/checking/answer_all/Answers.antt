@@ -3,7 +3,7 @@ use Rattle.std.specs.List.{AllByRecursion}
 use Rattle.std.specs.Option.{is_some}
 use Rattle.sv_terms.specs.Truth.{opaque_of}
 use Rattle.decide.specs.Batches.{AreAnswersOf}
-use Rattle.decide.specs.Jobs.{IsAsked, IsFoldOf, batch}
+use Rattle.decide.specs.Jobs.{IsAskedCube, IsFoldOf, batch}
 use Rattle.decide.proofs.Going.{asked-left, asked-over, start, step, finish, room, fewer, go-over, goes-on, no-more-over, pass-room, stops-of}
 use Rattle.decide.proofs.checking.answer_all.Goals as goal
 
@@ -24,7 +24,7 @@ returns-then-ends g c =
     (stops-of c.next_batch.new.cubes c.in_ok-jobs.jobs c.in_ok-jobs.ensures.size c.tally_all.new.tally.model (ap (λ n. nat_lt n batch || is_some c.tally_all.new.tally.model) (sym c.len.ensures) ∙ sym c.ends.ensures ∙ c.if-ends.true)))
 
 pub pass_over-requires-clause-asked : goal.pass_over-requires-clause-asked
-pass_over-requires-clause-asked g c = subst (AllByRecursion (IsAsked c.args.shared.now.terms.now)) c.requires.cubes c.requires.asked
+pass_over-requires-clause-asked g c = subst (AllByRecursion (IsAskedCube c.args.shared.now.terms.now)) c.requires.cubes c.requires.asked
 
 pub pass_over-requires-clause-room : goal.pass_over-requires-clause-room
 pass_over-requires-clause-room g c =

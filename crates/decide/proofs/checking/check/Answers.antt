@@ -1,25 +1,25 @@
-use Rattle.std.proofs.Common.{IsTrue, IfOk, List, Err, sym, ap, ◌∙◌, subst}
+use Rattle.std.proofs.Common.{IsTrue, IfOk, List, sym, ap, ◌∙◌, subst}
 use Rattle.std.specs.List.{AllByRecursion, list_all}
 use Rattle.bool_cubes.specs.Cubes.{cubes_of}
-use Rattle.bool_cubes.specs.Laws.{IsSorted}
+use Rattle.bool_cubes.specs.Laws.{IsClearBool}
 use Rattle.bool_cubes.specs.Past.{HasNoPast}
 use Rattle.decide.specs.Constants.{has_words}
 use Rattle.decide.specs.Verdicts.{RightVerdict, HasOnly}
 use Rattle.decide.specs.Completeness.{IsComplete}
 use Rattle.bool_cubes.specs.declared.literal.Cube.{Cube}
-use Rattle.decide.specs.Jobs.{IsAsked, IsFolded}
+use Rattle.decide.specs.Jobs.{IsAskedCube, IsFolded}
 use Rattle.decide.proofs.Assertions.{all-asked, clear-sorted, laws-of, refused-at, refused-complete, refused-folded, refused-only, refused-right}
 use Rattle.decide.proofs.Rightness.{right-of, complete-of, only-of, when-fold}
 use Rattle.decide.proofs.checking.check.Goals as goal
 
 pub new-requires : goal.new-requires
-new-requires g c = subst (AllByRecursion IsSorted) (sym (c.as_slice-2.ensures ∙ c.in_ok-clear.ensures)) (clear-sorted c.args.terms.now c.requires.sorted)
+new-requires g c = subst (AllByRecursion IsClearBool) (sym (c.as_slice-2.ensures ∙ c.in_ok-clear.ensures)) (clear-sorted c.args.terms.now c.requires.sorted)
 
 pub answer_all-requires-clause-asked : goal.answer_all-requires-clause-asked
 answer_all-requires-clause-asked g c κs within =
     let first = c.as_slice.ensures ∙ c.in_ok-clear.ensures in
     let again = c.as_slice-2.ensures ∙ c.in_ok-clear.ensures in
-    subst (AllByRecursion (IsAsked c.args.terms.now)) (sym (c.in-Ok.ensures.cubes ∙ ap cubes_of again))
+    subst (AllByRecursion (IsAskedCube c.args.terms.now)) (sym (c.in-Ok.ensures.cubes ∙ ap cubes_of again))
     (all-asked c.literals_fit.ensures c.literals_pass.ensures c.literals_have_values.ensures c.transducers_are_bounded.ensures.formed c.args.terms.now c.requires.sorted c.requires.formed c.requires.sorts
     (subst (λ ts. IsTrue (list_all has_words ts)) first c.all_words.ensures) (subst HasNoPast again c.in-Ok.ensures.refused.0))
 
@@ -55,4 +55,4 @@ returns-clause-folded g c = subst (λ r. IfOk r (IsFolded c.args.terms.now)) (sy
 
 pub answer_all-requires-clause-sorted : goal.answer_all-requires-clause-sorted
 answer_all-requires-clause-sorted g c κs within =
-    subst (AllByRecursion IsSorted) (sym (c.as_slice-in-Ok-2.ensures ∙ c.in_ok-clear.ensures)) (clear-sorted c.args.terms.now c.requires.sorted)
+    subst (AllByRecursion IsClearBool) (sym (c.as_slice-in-Ok-2.ensures ∙ c.in_ok-clear.ensures)) (clear-sorted c.args.terms.now c.requires.sorted)

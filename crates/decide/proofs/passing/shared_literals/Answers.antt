@@ -1,14 +1,14 @@
 use Rattle.std.proofs.Common.{drop, sym, ap, ◌∙◌, subst}
 use Rattle.std.specs.List.{AllByRecursion}
 use Rattle.bool_cubes.specs.Cubes.{cubes_of}
-use Rattle.bool_cubes.specs.Laws.{IsSorted}
+use Rattle.bool_cubes.specs.Laws.{IsClearBool}
 use Rattle.decide.specs.Passing.{shared_of}
 use Rattle.decide.proofs.Going.{LeftBy}
 use Rattle.decide.proofs.Sharing.{next-one, shared-each}
 use Rattle.decide.proofs.passing.shared_literals.Goals as goal
 
 pub new-requires : goal.new-requires
-new-requires c = subst (AllByRecursion IsSorted) (sym (c.as_slice.ensures ∙ c.in_ok-shared.ensures)) (shared-each IsSorted c.args.first c.args.terms.now c.requires)
+new-requires c = subst (AllByRecursion IsClearBool) (sym (c.as_slice.ensures ∙ c.in_ok-shared.ensures)) (shared-each IsClearBool c.args.first c.args.terms.now c.requires)
 
 pub returns-in-Ok : goal.returns-in-Ok
 returns-in-Ok c =

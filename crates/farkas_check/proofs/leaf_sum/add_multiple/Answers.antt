@@ -1,8 +1,8 @@
-use Rattle.std.proofs.Common.{rules, ◌≡◌, ℤ, pos, get_or, ap, sym, ◌∙◌, subst, arith}
+use Rattle.std.proofs.Common.{rules}
 use Rattle.std.specs.Int.{w128}
-use Rattle.std.proofs.lemmas.Int.{ints, to_z-of_z}
+use Rattle.std.proofs.lemmas.Int.{to_z-of_z}
 use mir.Val.{SFits}
-use Rattle.sv_linear.specs.declared.column.Column.TheVariants.{Unknown, Constant}
+use Rattle.sv_linear.specs.declared.column.Column.TheVariants.{Unknown}
 use Rattle.farkas_check.proofs.LeafSums.{columns_added}
 use Rattle.farkas_check.proofs.leaf_sum.add_multiple.Goals as goal
 

@@ -1,10 +1,10 @@
-use Rattle.std.proofs.Common.{rules, ◌≡◌, ◌+◌, ◌<◌, ℤ, pos, length, take, get_or, ap, sym, ◌∙◌, subst, arith}
+use Rattle.std.proofs.Common.{rules, ◌+◌, pos, length, take, get_or, ap, sym, ◌∙◌, subst, arith}
 use Rattle.std.specs.Int.{w128}
-use Rattle.std.proofs.lemmas.Int.{ints, to_z-of_z}
+use Rattle.std.proofs.lemmas.Int.{to_z-of_z}
 use Rattle.std.proofs.lemmas.List.{take_all}
 use mir.Val.{SFits}
-use Rattle.farkas_check.specs.Sums.{AreAdded, IsAddedAt, IsNotAddedAt}
-use Rattle.farkas_check.proofs.Dense.{term_below, untouched, added_more, not_added, set_length}
+use Rattle.farkas_check.specs.Sums.{AreColumnsAdded}
+use Rattle.farkas_check.proofs.Dense.{term_below, added_more, not_added, set_length}
 use Rattle.farkas_check.proofs.leaf_sum.add_terms.Goals as goal
 
 pub bounds-as_slice-at : goal.bounds-as_slice-at
@@ -40,11 +40,11 @@ loop-unknown-preserved c =
     rw by
     (record {
       size = ap length set ∙ set_length c.loop-unknown.numbers (get_or c.args.terms.now c.loop-unknown.unknown-index (0, pos 0)).0 c.in-Some.next ∙ size;
-      added = subst (AreAdded c.args.numbers.now (take (c.loop-unknown.unknown-index + 1) c.args.terms.now) c.args.by) (sym set)
+      added = subst (AreColumnsAdded c.args.numbers.now (take (c.loop-unknown.unknown-index + 1) c.args.terms.now) c.args.by) (sym set)
           (added_more c.args.numbers.now c.args.terms.now (length c.args.numbers.now) c.loop-unknown.unknown-index c.args.by c.loop-unknown.numbers c.requires.ascends c.loop-unknown-test.true s c.in-Some.next (omega (arith, low, size)) i);
     })
 
 pub returns-clause-added : goal.returns-clause-added
 returns-clause-added c = λ t.
     let s = rw (to_z-of_z w128 c.args.by c.ranges.by) at c.loop-unknown.invariant.added in
-    subst (λ l. AreAdded c.args.numbers.now l c.args.by c.loop-unknown.numbers) (take_all c.loop-unknown.unknown-index c.args.terms.now (omega (arith, c.loop-unknown-test.false))) s
+    subst (λ l. AreColumnsAdded c.args.numbers.now l c.args.by c.loop-unknown.numbers) (take_all c.loop-unknown.unknown-index c.args.terms.now (omega (arith, c.loop-unknown-test.false))) s

@@ -1,9 +1,8 @@
-use Rattle.std.proofs.Common.{rules, ◌≡◌, ℕ, pos, get_or, map, length, ◌<◌, refl, ap, sym, ◌∙◌, subst, arith}
+use Rattle.std.proofs.Common.{rules, pos, get_or, map, ◌<◌, refl, ◌∙◌, subst, arith}
 use Rattle.std.specs.Int.{w128}
 use Rattle.std.proofs.lemmas.Int.{to_z-of_z}
 use mir.Val.{SFits}
 use Rattle.farkas_check.specs.Systems.{constraint_of}
-use Rattle.farkas_check.specs.Columns.{part_at}
 use Rattle.farkas_check.proofs.LeafSums.{rows_size, all-row, all-not, all-more, all-done}
 use Rattle.farkas_check.proofs.leaf_sum.sum_of.Goals as goal
 

@@ -1,6 +1,6 @@
 use Rattle.std.proofs.Common.{◌+◌, length, take, true, ⊎_elim, get_or, ap, sym, ◌∙◌, subst}
 use Rattle.std.proofs.lemmas.Bool.{cases_lt}
-use Rattle.lia_branch.specs.EdgeSums.{AreMarks}
+use Rattle.lia_branch.specs.EdgeSums.{AreSetMarks}
 use Rattle.lia_branch.proofs.EdgeRows.{marked_more, marked_beyond, length_set}
 use Rattle.lia_branch.proofs.edge_sums.marks_of.Goals as goal
 
@@ -12,8 +12,8 @@ loop-state-preserved c =
     ⊎_elim
     (λ low.
     let e = c.mark.ensures.within low in
-    (ap length e ∙ length_set marks (get_or c.args.set.now i 0) true ∙ inv.0, subst (AreMarks c.args.states (take (i + 1) c.args.set.now)) (sym e) (marked_more c.args.states c.args.set.now i marks c.loop-state-test.true inv.0 inv.1 low)))
+    (ap length e ∙ length_set marks (get_or c.args.set.now i 0) true ∙ inv.0, subst (AreSetMarks c.args.states (take (i + 1) c.args.set.now)) (sym e) (marked_more c.args.states c.args.set.now i marks c.loop-state-test.true inv.0 inv.1 low)))
     (λ high.
     let e = c.mark.ensures.beyond high in
-    (ap length e ∙ inv.0, subst (AreMarks c.args.states (take (i + 1) c.args.set.now)) (sym e) (marked_beyond c.args.states c.args.set.now i marks c.loop-state-test.true inv.0 inv.1 high)))
+    (ap length e ∙ inv.0, subst (AreSetMarks c.args.states (take (i + 1) c.args.set.now)) (sym e) (marked_beyond c.args.states c.args.set.now i marks c.loop-state-test.true inv.0 inv.1 high)))
     (cases_lt (get_or c.args.set.now i 0) (length marks))

@@ -3,7 +3,7 @@ use Rattle.farkas_check.specs.declared.tree.Tree.{Tree}
 use Rattle.lia_branch.specs.Nodes.{root_of}
 use Rattle.lia_branch.specs.EvidenceHolds.{split_limit}
 use Rattle.lia_branch.specs.Founds.{IsNodeStop}
-use Rattle.lia_branch.specs.declared.level.Level.{Level}
+use Rattle.lia_branch.specs.declared.level.SplitLevel.{SplitLevel}
 use Rattle.lia_branch.specs.Forks.{IsStopping}
 use Rattle.lia_branch.proofs.Paths.{stopping_first, stopping_second, stopping_top}
 use Rattle.lia_branch.proofs.level.give_up.Goals as goal
@@ -21,10 +21,10 @@ up-preserved c = record {
       elim c.match-level.branch [
         | in-First+in_ok-tree-in-First w ↦
             subst (λ (x : Tree). IsStopping s c.pop.new.self x c.args.stop) (sym (w.tree-is ∙ w.in_ok-tree-in-First.ensures))
-            (stopping_first s c.up.levels c.pop.new.self w.in-First.fork w.in-First._packed c.up.tree c.args.stop (c.in-Some.ensures ∙ ap (λ (l : Level). c.pop.new.self ++ l ∷ []) w.in-First.is) (c.up.invariant.stopping s k))
+            (stopping_first s c.up.levels c.pop.new.self w.in-First.fork w.in-First._packed c.up.tree c.args.stop (c.in-Some.ensures ∙ ap (λ (l : SplitLevel). c.pop.new.self ++ l ∷ []) w.in-First.is) (c.up.invariant.stopping s k))
         | in-Second+in_ok-tree-in-Second w ↦
             subst (λ (x : Tree). IsStopping s c.pop.new.self x c.args.stop) (sym (w.tree-is ∙ w.in_ok-tree-in-Second.ensures))
-            (stopping_second s c.up.levels c.pop.new.self w.in-Second.fork w.in-Second.first c.up.tree c.args.stop (c.in-Some.ensures ∙ ap (λ (l : Level). c.pop.new.self ++ l ∷ []) w.in-Second.is) (c.up.invariant.stopping s k))
+            (stopping_second s c.up.levels c.pop.new.self w.in-Second.fork w.in-Second.first c.up.tree c.args.stop (c.in-Some.ensures ∙ ap (λ (l : SplitLevel). c.pop.new.self ++ l ∷ []) w.in-Second.is) (c.up.invariant.stopping s k))
       ];
   same = c.up.invariant.same;
 }

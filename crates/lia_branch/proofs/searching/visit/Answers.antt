@@ -3,13 +3,13 @@ use Rattle.std.specs.Prelude.{MatchOption, All, ℤ, pos, ◌≤ℤ◌}
 use Rattle.std.specs.Int.{w128}
 use Rattle.std.proofs.lemmas.Int.{to_z-of_z}
 use mir.Val.{SFits}
-use Rattle.farkas_check.specs.Cuts.{values_of, IsCut, IsCutAnswer}
+use Rattle.farkas_check.specs.Cuts.{values_of, IsNetCut, IsCutAnswer}
 use Rattle.farkas_check.specs.Systems.{Joined}
 use Rattle.farkas_check.specs.declared.net.Net.{Net}
 use Rattle.lia_tableau.specs.Shown.{IsStatus}
 use Rattle.sv_linear.specs.declared.row.Row.{Row}
 use Rattle.lia_branch.specs.DueSplits.{IsWholeAt}
-use Rattle.lia_branch.specs.Founds.{IsReady, IsNodeOf, IsFraction}
+use Rattle.lia_branch.specs.Founds.{IsReadyTableau, IsSystemNode, IsFraction}
 use Rattle.lia_branch.proofs.Branching.{ready_after, node_after, comes_to, past_in_pivot}
 use Rattle.lia_branch.proofs.WholePoints.{not_negative, node_solution}
 use Rattle.lia_branch.proofs.searching.visit.Goals as goal
@@ -56,19 +56,19 @@ returns-in-Err-clause-found g c = λ node k b.
 
 pub divisor_leaf-requires-clause-ready : goal.divisor_leaf-requires-clause-ready
 divisor_leaf-requires-clause-ready g c =
-    subst (λ (rs : List Row). IsReady c.args.system.now rs c.settle.new.tableau) (sym c.rows.ensures) (ready_after c.args.system.now c.args.tableau.now c.settle.new.tableau c.requires.ready c.settle.ensures.trail)
+    subst (λ (rs : List Row). IsReadyTableau c.args.system.now rs c.settle.new.tableau) (sym c.rows.ensures) (ready_after c.args.system.now c.args.tableau.now c.settle.new.tableau c.requires.ready c.settle.ensures.trail)
 
 pub conflict_leaf-requires-clause-ready : goal.conflict_leaf-requires-clause-ready
 conflict_leaf-requires-clause-ready g c =
-    subst (λ (rs : List Row). IsReady c.args.system.now rs c.settle.new.tableau) (sym c.rows-in-Conflict.ensures) (ready_after c.args.system.now c.args.tableau.now c.settle.new.tableau c.requires.ready c.settle.ensures.trail)
+    subst (λ (rs : List Row). IsReadyTableau c.args.system.now rs c.settle.new.tableau) (sym c.rows-in-Conflict.ensures) (ready_after c.args.system.now c.args.tableau.now c.settle.new.tableau c.requires.ready c.settle.ensures.trail)
 
 pub returns-in-Divisor-clause-found : goal.returns-in-Divisor-clause-found
 returns-in-Divisor-clause-found g c = λ node k b.
-    c.divisor_leaf.ensures node (subst (λ (rs : List Row). IsNodeOf c.args.system.now rs node) (sym c.rows.ensures) (node_after c.args.system.now c.args.tableau.now c.settle.new.tableau node k c.settle.ensures.trail)) (comes_to node c.args.tableau.now c.settle.new.tableau b c.settle.ensures.trail)
+    c.divisor_leaf.ensures node (subst (λ (rs : List Row). IsSystemNode c.args.system.now rs node) (sym c.rows.ensures) (node_after c.args.system.now c.args.tableau.now c.settle.new.tableau node k c.settle.ensures.trail)) (comes_to node c.args.tableau.now c.settle.new.tableau b c.settle.ensures.trail)
 
 pub returns-in-Conflict-clause-found : goal.returns-in-Conflict-clause-found
 returns-in-Conflict-clause-found g c = λ node k b.
-    c.conflict_leaf.ensures node (subst (λ (rs : List Row). IsNodeOf c.args.system.now rs node) (sym c.rows-in-Conflict.ensures) (node_after c.args.system.now c.args.tableau.now c.settle.new.tableau node k c.settle.ensures.trail)) (comes_to node c.args.tableau.now c.settle.new.tableau b c.settle.ensures.trail)
+    c.conflict_leaf.ensures node (subst (λ (rs : List Row). IsSystemNode c.args.system.now rs node) (sym c.rows-in-Conflict.ensures) (node_after c.args.system.now c.args.tableau.now c.settle.new.tableau node k c.settle.ensures.trail)) (comes_to node c.args.tableau.now c.settle.new.tableau b c.settle.ensures.trail)
 
 pub first_fraction-requires : goal.first_fraction-requires
 first_fraction-requires g c = (ready_after c.args.system.now c.args.tableau.now c.settle.new.tableau c.requires.ready c.settle.ensures.trail).unknowns
@@ -109,8 +109,8 @@ returns-in-Some-2-clause-found g c = λ node k b.
         x = values_of c.in_ok-point-in-None.point;
         whole = c.in_ok-point-in-None.ensures.value;
         cut =
-            subst (λ (ns : List Net). IsCut (values_of c.in_ok-point-in-None.point) ns c.in-Some-2.net c.in-Some-2.states) c.requires.cutter
-            (subst (λ (ps : List ℤ). IsCut (values_of ps) (g.C.Cutter.nets c.args.cutter.now) c.in-Some-2.net c.in-Some-2.states) c.as_slice.ensures
+            subst (λ (ns : List Net). IsNetCut (values_of c.in_ok-point-in-None.point) ns c.in-Some-2.net c.in-Some-2.states) c.requires.cutter
+            (subst (λ (ps : List ℤ). IsNetCut (values_of ps) (g.C.Cutter.nets c.args.cutter.now) c.in-Some-2.net c.in-Some-2.states) c.as_slice.ensures
             (subst (IsCutAnswer (values_of c.as_slice.result.now) (g.C.Cutter.nets c.args.cutter.now)) c.in-Some-2.is c.in_ok-cut-in-None.ensures));
       };
     }

@@ -1,9 +1,7 @@
-use Rattle.std.proofs.Common.{rules, ◌≡◌, ◌≢◌, ◌+ℤ◌, pos, neg_ℤ, ◌^◌, ◌++◌, ◌∷◌, [], map, FitsSigned, ap, sym, ◌∙◌, subst, arith}
+use Rattle.std.proofs.Common.{rules, ◌+ℤ◌, pos, neg_ℤ, ◌++◌, ◌∷◌, [], map, FitsSigned, sym, subst, arith}
 use Rattle.std.specs.Int.{w128}
 use Rattle.std.proofs.lemmas.Int.{ints, to_z-of_z}
 use mir.Val.{SFits}
-use Rattle.farkas_check.specs.Closings.{FarkasRule, DivisorRule, at_most, at_least}
-use Rattle.farkas_check.specs.Fitting.{LeafFits}
 use Rattle.farkas_check.specs.NodeLaws.{Told, split_closed, farkas_closed, divisor_closed}
 use Rattle.farkas_check.specs.Systems.{Constraint, constraint_of}
 use Rattle.lia_quick.proofs.accepting.+accepts_over.Goals as goal

@@ -1,6 +1,6 @@
 use Rattle.std.proofs.Common.{rules, ◌≡◌, false, true, ◌+◌, sym, ◌∙◌, subst, arith}
 use Rattle.lia_tableau.specs.Pivoting.{IsPastPivot}
-use Rattle.lia_tableau.specs.Crossing.{IsPast}
+use Rattle.lia_tableau.specs.Crossing.{IsPastFault}
 use Rattle.lia_tableau.specs.declared.table.Table.{Table}
 use Rattle.lia_tableau.specs.Trails.{stay}
 use Rattle.lia_tableau.proofs.TrailLengths.{trail_ends, extended, extended_length}
@@ -33,7 +33,7 @@ pivots-preserved c =
 
 pub returns-in_err-pivot-clause-past : goal.returns-in_err-pivot-clause-past
 returns-in_err-pivot-clause-past c =
-    let p = subst (λ (t : Table). IsPast (IsPastPivot t) c.in_err-pivot.field-0.0) (sym c.in_err-pivot.ensures.unchanged) c.in_err-pivot.ensures.past in
+    let p = subst (λ (t : Table). IsPastFault (IsPastPivot t) c.in_err-pivot.field-0.0) (sym c.in_err-pivot.ensures.unchanged) c.in_err-pivot.ensures.past in
     search (rules, p)
 
 pub returns-clause-settled : goal.returns-clause-settled

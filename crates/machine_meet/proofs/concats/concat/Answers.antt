@@ -3,7 +3,7 @@ use Rattle.std.proofs.lemmas.List.{take_all}
 use Rattle.machine_core.specs.Costs.{IsCost}
 use Rattle.machine_core.specs.EdgeLaws.{end_cost}
 use Rattle.machine_core.specs.Graphs.{graph_top}
-use Rattle.machine_meet.specs.Builds.{placed_edge, placed_end, GoesOn}
+use Rattle.machine_meet.specs.Builds.{placed_edge, placed_end, AddsPart}
 use Rattle.machine_meet.proofs.BuildEdges.{read-in}
 use Rattle.machine_meet.proofs.ConcatEdges.{goes-on-start, goes-on-next, can-add-within, concat-language, concat-top}
 use Rattle.machine_meet.proofs.concats.concat.Goals as goal
@@ -83,7 +83,7 @@ returns c =
     let w4 = c.loop-end.whole in
     let at : n ≡ a.states = c.states-first.ensures in
     let taken = take_all c.loop-end.end-index a.ends (rw c.finals-end-items.ensures at c.loop-end-test.false) in
-    let on : GoesOn w3 w4 b a.ends a.states = subst (GoesOn w3 w4 b a.ends) at (subst (λ l. GoesOn w3 w4 b l n) taken c.loop-end.invariant) in
+    let on : AddsPart w3 w4 b a.ends a.states = subst (AddsPart w3 w4 b a.ends) at (subst (λ l. AddsPart w3 w4 b l n) taken c.loop-end.invariant) in
     let edges : w3.edges ≡ map (placed_edge 0) a.edges ++ map (placed_edge a.states) b.edges =
     c.in_ok-place_ends.ensures.edges ∙ c.in_ok-place_edges-2.ensures.edges ∙ ap (λ l. l ++ map (placed_edge n) b.edges) (c.in_ok-place_edges.ensures.edges ∙ ap (λ l. l ++ map (placed_edge 0) a.edges) c.in_ok-whole.ensures.edges)
     ∙ ap (λ x. map (placed_edge 0) a.edges ++ map (placed_edge x) b.edges) at in

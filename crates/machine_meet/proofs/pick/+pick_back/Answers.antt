@@ -1,6 +1,6 @@
 use Rattle.std.proofs.Common.{◌≡◌, ◌-◌, length, take, drop, ◌∷◌, IfOk, sym, ap, ◌∙◌, subst}
 use Rattle.std.proofs.lemmas.List.{take_all}
-use Rattle.machine_meet.specs.Splits.{AreWide, IsPick, IsLeft, IsRest, turned}
+use Rattle.machine_meet.specs.Splits.{AreCostsWide, IsPick, IsLeft, IsRest, turned}
 use Rattle.machine_meet.proofs.PlaceLemmas.{first-and-rest}
 use Rattle.machine_meet.proofs.PickLemmas.{NoneOf, none-of-start, none-of-next, none-of-all, after-none, after-left, after-turned}
 use Rattle.machine_meet.proofs.pick.+pick_back.Goals as goal
@@ -10,7 +10,7 @@ pick_back-returns-in-len1-up t c =
     let rest = take (length c.args.options.now - 1) (drop 1 c.args.options.now) in
     let whole : (c.as_slice.result.now ∷ rest) ≡ c.args.options.now =
     ap (λ x. x ∷ rest) c.as_slice.ensures ∙ first-and-rest c.args.options.now c.first-item.result c.in-len1-up.len_at_least c.first-item.is in
-    subst (λ os. IfOk c.pick_one_of.result (λ picked. AreWide (length c.args.want.now) os → IsPick os c.args.want.now (turned picked))) whole c.pick_one_of.ensures
+    subst (λ os. IfOk c.pick_one_of.result (λ picked. AreCostsWide (length c.args.want.now) os → IsPick os c.args.want.now (turned picked))) whole c.pick_one_of.ensures
 
 pub pick_after-returns-in-None : goal.pick_after-returns-in-None
 pick_after-returns-in-None t c = λ e wide.
@@ -19,7 +19,7 @@ pick_after-returns-in-None t c = λ e wide.
 pub pick_after-returns-in-None-2 : goal.pick_after-returns-in-None-2
 pick_after-returns-in-None-2 t c = λ e wide.
     let l : IsRest c.args.want.now c.args.cost.now c.in-Some.left = subst (IsLeft c.args.want.now c.args.cost.now) c.in-Some.is (c.in_ok-left_of.ensures e) in
-    let others = subst (λ n. AreWide n c.args.rest.now) (sym l.0) wide in
+    let others = subst (λ n. AreCostsWide n c.args.rest.now) (sym l.0) wide in
     after-left c.args.cost.now c.args.want.now c.in-Some.left c.args.rest.now e wide l (subst (λ o. IsPick c.args.rest.now c.in-Some.left (turned o)) c.in-None-2.is (c.in_ok-pick_back-in-Some.ensures others))
 
 pub pick_one_of-loop-cost-init : goal.pick_one_of-loop-cost-init
@@ -37,6 +37,6 @@ pick_one_of-returns t c = λ wide.
 pub pick_after-returns : goal.pick_after-returns
 pick_after-returns t c = λ e wide.
     let l : IsRest c.args.want.now c.args.cost.now c.in-Some.left = subst (IsLeft c.args.want.now c.args.cost.now) c.in-Some.is (c.in_ok-left_of.ensures e) in
-    let others = subst (λ n. AreWide n c.args.rest.now) (sym l.0) wide in
+    let others = subst (λ n. AreCostsWide n c.args.rest.now) (sym l.0) wide in
     after-turned c.args.cost.now c.args.want.now c.in-Some.left c.args.rest.now c.in-Some-2.costs c.in_ok-add_last-in-Some-2.field-0 l
     (subst (λ o. IsPick c.args.rest.now c.in-Some.left (turned o)) c.in-Some-2.is (c.in_ok-pick_back-in-Some.ensures others)) c.in_ok-add_last-in-Some-2.ensures

@@ -3,7 +3,7 @@ use Rattle.machine_meet.specs.Products.{AreStates, MeetSteps, meet_width}
 use Rattle.machine_core.specs.Costs.{sum_costs}
 use Rattle.machine_meet.proofs.PlaceLemmas.{all-got, count-push}
 use Rattle.machine_meet.proofs.SplitLemmas.{run-goes, run-lengths, run-step, read-step, rows-start, rows-push, row-is, AreRows}
-use Rattle.machine_meet.specs.Splits.{IsRow}
+use Rattle.machine_meet.specs.Splits.{IsSplitRow}
 use Rattle.machine_meet.proofs.split.pick_steps.Goals as goal
 
 pub pick_step-requires : goal.pick_step-requires
@@ -68,7 +68,7 @@ loop-i-preserved g c =
     let sum = subst (λ n. sum_costs n c.in_ok-pick_step.field-0 ≡ c.cost-item.result) wide c.in_ok-pick_step.ensures.sum in
     let row = row-is g.P.Machine.steps_to (meet_width g.P.Machine.width c.args.meet.now.parts.now) c.args.meet.now.parts.now c.args.run.now
     c.loop-i.i c.as_slice-from.result.now c.as_slice-to.result.now (get_or c.as_slice-word.result.now c.loop-i.i 0) c.cost-item.result c.in_ok-pick_step.field-0 reads c.in_ok-pick_step.ensures.steps sum in
-    let at = subst (λ n. IsRow g.P.Machine.steps_to (meet_width g.P.Machine.width c.args.meet.now.parts.now) c.args.meet.now.parts.now c.args.run.now n c.in_ok-pick_step.field-0) (sym c.loop-i.invariant.count) row in
+    let at = subst (λ n. IsSplitRow g.P.Machine.steps_to (meet_width g.P.Machine.width c.args.meet.now.parts.now) c.args.meet.now.parts.now c.args.run.now n c.in_ok-pick_step.field-0) (sym c.loop-i.invariant.count) row in
     record {
       count = count-push c.loop-i.rows c.push.new.self c.in_ok-pick_step.field-0 c.loop-i.i c.loop-i.invariant.count c.in_ok-push.ensures.ok;
       rows = subst (AreRows g.P.Machine.steps_to (meet_width g.P.Machine.width c.args.meet.now.parts.now) c.args.meet.now.parts.now c.args.run.now) (sym c.in_ok-push.ensures.ok)

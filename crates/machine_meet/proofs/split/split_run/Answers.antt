@@ -2,7 +2,7 @@ use Rattle.std.proofs.Common.{◌≡◌, ◌<◌, length, sym, ap, ◌∙◌, su
 use Rattle.std.proofs.lemmas.List.{take_all}
 use Rattle.machine_meet.specs.Products.{AreStates, MeetEnds, meet_width}
 use Rattle.machine_core.specs.Costs.{sum_costs}
-use Rattle.machine_meet.specs.Splits.{AreRuns, AreSteps, IsColumn, as_step}
+use Rattle.machine_meet.specs.Splits.{ArePartRuns, AreSteps, IsColumn, as_step}
 use Rattle.machine_meet.proofs.ProductLemmas.{states-length}
 use Rattle.machine_meet.proofs.PlaceLemmas.{all-got, all-each, beside, same_some}
 use Rattle.machine_meet.proofs.SplitLemmas.{run-goes, run-lengths, run-end, read-end, part-runs, runs-next, totals, totals-at, totals-next, all-add-up}
@@ -60,7 +60,7 @@ loop-place-preserved g c =
 
 pub returns-clause-runs : goal.returns-clause-runs
 returns-clause-runs g c =
-    subst (λ ps. AreRuns g.P.Machine.ends_with g.P.Machine.steps_to g.P.Machine.first ps c.args.run.now.word c.loop-place.runs) (take_all c.loop-place.place c.args.meet.now.parts.now c.loop-place-test.false) c.loop-place.invariant.runs
+    subst (λ ps. ArePartRuns g.P.Machine.ends_with g.P.Machine.steps_to g.P.Machine.first ps c.args.run.now.word c.loop-place.runs) (take_all c.loop-place.place c.args.meet.now.parts.now c.loop-place-test.false) c.loop-place.invariant.runs
 
 pub returns-clause-costs : goal.returns-clause-costs
 returns-clause-costs g c =

@@ -1,5 +1,5 @@
 use Rattle.std.proofs.Common.{◌≡◌, [], ◌<◌, ◌-◌, suc, drop, length, subst, sym, arith}
-use Rattle.machine_meet.specs.Products.{AreEnds}
+use Rattle.machine_meet.specs.Products.{AreEndCosts}
 use Rattle.machine_meet.proofs.ProductLemmas.{states-length, states-at}
 use Rattle.machine_meet.proofs.SumLemmas.{ends-start, ends-at, ends-stuck, can-end-at}
 use Rattle.machine_meet.proofs.sums.end_product.Goals as goal
@@ -36,7 +36,7 @@ sum_all-requires g c =
     let positive = c.loop-i-test.true in
     let lt : c.loop-i.i - 1 < length c.args.parts.now = omega arith in
     let next : suc (c.loop-i.i - 1) ≡ c.loop-i.i = omega arith in
-    let tail = subst (λ n. AreEnds g.P.Machine.ends_with c.args.width (drop n c.args.parts.now) (drop n c.args.at.now) c.loop-i.all) (sym next) inv.exact in
+    let tail = subst (λ n. AreEndCosts g.P.Machine.ends_with c.args.width (drop n c.args.parts.now) (drop n c.args.at.now) c.loop-i.all) (sym next) inv.exact in
     rw (c.as_slice.ensures, c.as_slice-in-loop-i.ensures) (can-end-at g.P.Machine.is_state g.P.Machine.ends_with g.P.Machine.width g.P.Machine.top g.met.P.Machine.end_cost c.args.width c.args.parts.now c.requires.width c.requires.fits
     c.args.at.now c.requires.states (c.loop-i.i - 1) c.index-parts-i.result c.index-at-i.result lt c.index-parts-i.is c.index-at-i.is
     c.in_ok-heads.heads c.loop-i.all c.in_ok-heads.ensures tail)
@@ -47,7 +47,7 @@ loop-i-preserved g c =
     let positive = c.loop-i-test.true in
     let lt : c.loop-i.i - 1 < length c.args.parts.now = omega arith in
     let next : suc (c.loop-i.i - 1) ≡ c.loop-i.i = omega arith in
-    let tail = subst (λ n. AreEnds g.P.Machine.ends_with c.args.width (drop n c.args.parts.now) (drop n c.args.at.now) c.loop-i.all) (sym next) inv.exact in
+    let tail = subst (λ n. AreEndCosts g.P.Machine.ends_with c.args.width (drop n c.args.parts.now) (drop n c.args.at.now) c.loop-i.all) (sym next) inv.exact in
     let sums = rw (c.as_slice.ensures, c.as_slice-in-loop-i.ensures) at c.in_ok-all.ensures in
     record {
       room = omega arith;
@@ -61,10 +61,10 @@ returns-then-is_empty g c =
     let positive = c.loop-i-test.true in
     let lt : c.loop-i.i - 1 < length c.args.parts.now = omega arith in
     let next : suc (c.loop-i.i - 1) ≡ c.loop-i.i = omega arith in
-    let tail = subst (λ n. AreEnds g.P.Machine.ends_with c.args.width (drop n c.args.parts.now) (drop n c.args.at.now) c.loop-i.all) (sym next) inv.exact in
+    let tail = subst (λ n. AreEndCosts g.P.Machine.ends_with c.args.width (drop n c.args.parts.now) (drop n c.args.at.now) c.loop-i.all) (sym next) inv.exact in
     let sums = rw (c.as_slice.ensures, c.as_slice-in-loop-i.ensures) at c.in_ok-all.ensures in
     let none : c.in_ok-all.all ≡ [] = c.is_empty.ensures.0 c.if-is_empty.true in
     let here = ends-at g.P.Machine.ends_with c.args.width c.args.parts.now c.args.at.now (c.loop-i.i - 1) c.index-parts-i.result c.index-at-i.result c.in_ok-heads.heads c.loop-i.all c.in_ok-all.all
     lt (states-length g.P.Machine.is_state c.args.parts.now c.args.at.now c.requires.states) c.index-parts-i.is c.index-at-i.is c.in_ok-heads.ensures tail sums in
-    subst (AreEnds g.P.Machine.ends_with c.args.width c.args.parts.now c.args.at.now) (sym none) (ends-stuck g.P.Machine.ends_with c.args.width c.args.parts.now c.args.at.now (c.loop-i.i - 1)
-    (subst (AreEnds g.P.Machine.ends_with c.args.width (drop (c.loop-i.i - 1) c.args.parts.now) (drop (c.loop-i.i - 1) c.args.at.now)) none here))
+    subst (AreEndCosts g.P.Machine.ends_with c.args.width c.args.parts.now c.args.at.now) (sym none) (ends-stuck g.P.Machine.ends_with c.args.width c.args.parts.now c.args.at.now (c.loop-i.i - 1)
+    (subst (AreEndCosts g.P.Machine.ends_with c.args.width (drop (c.loop-i.i - 1) c.args.parts.now) (drop (c.loop-i.i - 1) c.args.at.now)) none here))

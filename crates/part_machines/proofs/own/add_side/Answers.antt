@@ -1,5 +1,5 @@
 use Rattle.std.proofs.Common.{inl, inr, refl, sym, ap, arith, Err}
-use Rattle.straight_line.specs.Bounds.{part_bound}
+use Rattle.cube_bounds.specs.Bounds.{part_bound}
 use Rattle.sv_terms.specs.CutOff.{below-power}
 use Rattle.sv_terms.specs.Bounds.{size}
 use Rattle.part_machines.proofs.own.add_side.Goals as goal

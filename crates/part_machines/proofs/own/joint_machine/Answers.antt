@@ -1,7 +1,7 @@
-use Rattle.std.proofs.Common.{ℕ, zero, suc, ◌∷◌, true, sym, ap, ◌∙◌, subst, arith, Err}
+use Rattle.std.proofs.Common.{◌∷◌, true, sym, ap, ◌∙◌, subst, arith, Err}
 use Rattle.std.proofs.Common.{map}
 use Rattle.machine_meet.specs.Products.{multiplied}
-use Rattle.regex_machine.specs.Joined.{ArePlain, WordsOf}
+use Rattle.regex_machine.specs.Joined.{HaveNoRegisters, WordsOf}
 use Rattle.regex_machine.specs.Kinds.{states_of}
 use Rattle.sv_terms.specs.Bounds.{from_left, without_size}
 use Rattle.sv_terms.specs.Language.{InAllOf, InFirstOnly}
@@ -11,7 +11,7 @@ use Rattle.part_machines.proofs.own.joint_machine.Goals as goal
 
 pub all_of-requires : goal.all_of-requires
 all_of-requires c =
-    subst ArePlain (sym c.as_slice.ensures) (of-plain c.in_ok-within.ensures.sides.met c.in_ok-within.field-0.within c.in_ok-within.ensures.sides.of_met)
+    subst HaveNoRegisters (sym c.as_slice.ensures) (of-plain c.in_ok-within.ensures.sides.met c.in_ok-within.field-0.within c.in_ok-within.ensures.sides.of_met)
 
 pub returns-in_err-met-clause-refused : goal.returns-in_err-met-clause-refused
 returns-in_err-met-clause-refused c = λ n e.

@@ -1,5 +1,5 @@
 use Rattle.std.proofs.Common.{rules, None, Any, ◌≡◌, Contains, MatchOption, sym, subst, arith}
-use Rattle.pre_image.specs.Leading.{Closes}
+use Rattle.pre_image.specs.Leading.{EndsInPair}
 use Rattle.sv_terms.specs.Language.{Word}
 use Rattle.pre_image.specs.Lifts.{IsWay}
 use Rattle.pre_image.specs.Parts.{IsClosingPart}
@@ -19,7 +19,7 @@ returns-in-Some c =
     let p = c.args.pre.now in
     let e = c.end-item.result in
     let part = c.in-Some.part in
-    let is = subst (λ o. MatchOption o (Closes p.target.now c.args.at.now c.args.cost.now e → ⊥) (IsClosingPart p.target.now c.args.at.now e c.args.cost.now)) c.in-Some.is c.in_ok-found.ensures in
+    let is = subst (λ o. MatchOption o (EndsInPair p.target.now c.args.at.now c.args.cost.now e → ⊥) (IsClosingPart p.target.now c.args.at.now e c.args.cost.now)) c.in-Some.is c.in_ok-found.ensures in
     let there = subst (λ l. Contains l e) c.as_slice-end-items.ensures (c.loop-end.end-index, c.loop-end-test.true, sym c.end-item.is) in
     record {
       stop = is.whole.stop;
@@ -34,12 +34,12 @@ pub loop-end-preserved : goal.loop-end-preserved
 loop-end-preserved c =
     let p = c.args.pre.now in
     let none : c.in_ok-found.found ≡ None = search rules in
-    let not_so = subst (λ o. MatchOption o (Closes p.target.now c.args.at.now c.args.cost.now c.end-item.result → ⊥) (IsClosingPart p.target.now c.args.at.now c.end-item.result c.args.cost.now)) none c.in_ok-found.ensures in
-    more-none (Closes p.target.now c.args.at.now c.args.cost.now) c.as_slice-end-items.result.now c.loop-end.end-index c.end-item.result c.loop-end-test.true c.end-item.is ⊥ c.loop-end.invariant not_so
+    let not_so = subst (λ o. MatchOption o (EndsInPair p.target.now c.args.at.now c.args.cost.now c.end-item.result → ⊥) (IsClosingPart p.target.now c.args.at.now c.end-item.result c.args.cost.now)) none c.in_ok-found.ensures in
+    more-none (EndsInPair p.target.now c.args.at.now c.args.cost.now) c.as_slice-end-items.result.now c.loop-end.end-index c.end-item.result c.loop-end-test.true c.end-item.is ⊥ c.loop-end.invariant not_so
 
 pub unreachable-requires : goal.unreachable-requires
 unreachable-requires c =
     let p = c.args.pre.now in
     let some = (all-ends p.through.now p.target.now c.args.at.now c.args.cost.now).1 c.requires.end in
-    (all-alone (Closes p.target.now c.args.at.now c.args.cost.now) c.as_slice-end-items.result.now c.loop-end.end-index c.loop-end-test.false ⊥ c.loop-end.invariant).1
-    (subst (Any (Closes p.target.now c.args.at.now c.args.cost.now)) (sym c.as_slice-end-items.ensures) some)
+    (all-alone (EndsInPair p.target.now c.args.at.now c.args.cost.now) c.as_slice-end-items.result.now c.loop-end.end-index c.loop-end-test.false ⊥ c.loop-end.invariant).1
+    (subst (Any (EndsInPair p.target.now c.args.at.now c.args.cost.now)) (sym c.as_slice-end-items.ensures) some)

@@ -1,16 +1,16 @@
 use Rattle.std.proofs.Common.{◌≡◌, ℕ, ◌↔◌, List, Any, subst}
 use Rattle.std.proofs.lemmas.List.{take_all}
 use Rattle.machine_core.specs.Places.{pick}
-use Rattle.pre_image.specs.Leading.{Closes}
+use Rattle.pre_image.specs.Leading.{EndsInPair}
 use Rattle.pre_image.proofs.RowLemmas.{row-step}
 use Rattle.pre_image.proofs.pre.costs_of.Goals as goal
 
 pub loop-place-preserved : goal.loop-place-preserved
 loop-place-preserved c cost =
-    row-step (Closes c.args.target.now c.args.at.now cost) c.args.ends.now c.args.places.now c.loop-place.place-index c.index-ends-place.result
+    row-step (EndsInPair c.args.target.now c.args.at.now cost) c.args.ends.now c.args.places.now c.loop-place.place-index c.index-ends-place.result
     c.requires.within c.loop-place-test.true c.index-ends-place.is _ _ (c.loop-place.invariant cost) (c.in_ok-add_end.ensures cost)
 
 pub returns : goal.returns
 returns c cost =
-    subst (λ (l : List ℕ). Any (λ e. e ≡ cost) c.loop-place.all ↔ Any (Closes c.args.target.now c.args.at.now cost) (pick c.args.ends.now l))
+    subst (λ (l : List ℕ). Any (λ e. e ≡ cost) c.loop-place.all ↔ Any (EndsInPair c.args.target.now c.args.at.now cost) (pick c.args.ends.now l))
     (take_all c.loop-place.place-index c.args.places.now c.loop-place-test.false) (c.loop-place.invariant cost)

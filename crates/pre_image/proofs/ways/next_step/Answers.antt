@@ -1,5 +1,5 @@
 use Rattle.std.proofs.Common.{rules, None, ℕ, Any, ◌≡◌, List, Contains, MatchOption, sym, ◌∙◌, subst}
-use Rattle.pre_image.specs.Lifts.{IsLeft, IsTried, Works}
+use Rattle.pre_image.specs.Lifts.{GoesOnAt, IsTried, Works}
 use Rattle.pre_image.proofs.MoreLemmas.{more-none, all-alone}
 use Rattle.pre_image.proofs.WayLemmas.{move-steps, some-works, tried-next}
 use Rattle.pre_image.proofs.ways.next_step.Goals as goal
@@ -19,13 +19,13 @@ returns-in-Some c =
     tried-next c.args.target.now c.args.at c.args.c c.in_ok-steps.steps c.in_ok-steps.ensures.exact c.step-item.result
     (subst (λ l. Contains l c.step-item.result) c.as_slice-step-items.ensures (c.loop-step.step-index, c.loop-step-test.true, sym c.step-item.is))
     (sym c.holds.ensures ∙ c.if-not-holds.false) c.args.rest.now c.args.to c.args.cost.now c.in-Some.next
-    (subst (λ o. MatchOption o ((left : List ℕ) → IsLeft c.args.target.now c.step-item.result c.args.rest.now c.args.to c.args.cost.now left → ⊥) (IsTried c.args.target.now c.step-item.result c.args.rest.now c.args.to c.args.cost.now)) c.in-Some.is c.in_ok-found.ensures)
+    (subst (λ o. MatchOption o ((left : List ℕ) → GoesOnAt c.args.target.now c.step-item.result c.args.rest.now c.args.to c.args.cost.now left → ⊥) (IsTried c.args.target.now c.step-item.result c.args.rest.now c.args.to c.args.cost.now)) c.in-Some.is c.in_ok-found.ensures)
 
 pub loop-step-preserved : goal.loop-step-preserved
 loop-step-preserved c =
     let m = c.args.target.now in
     let none : c.in_ok-found.found ≡ None = search rules in
-    let not_so = subst (λ o. MatchOption o ((left : List ℕ) → IsLeft m c.step-item.result c.args.rest.now c.args.to c.args.cost.now left → ⊥) (IsTried m c.step-item.result c.args.rest.now c.args.to c.args.cost.now)) none c.in_ok-found.ensures in
+    let not_so = subst (λ o. MatchOption o ((left : List ℕ) → GoesOnAt m c.step-item.result c.args.rest.now c.args.to c.args.cost.now left → ⊥) (IsTried m c.step-item.result c.args.rest.now c.args.to c.args.cost.now)) none c.in_ok-found.ensures in
     more-none (Works m c.args.c c.args.rest.now c.args.to c.args.cost.now) c.as_slice-step-items.result.now c.loop-step.step-index c.step-item.result c.loop-step-test.true c.step-item.is ⊥ c.loop-step.invariant
     (λ w. not_so w.1 w.2)
 

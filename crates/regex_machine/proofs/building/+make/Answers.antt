@@ -1,12 +1,12 @@
-use Rattle.std.proofs.Common.{◌≡◌, ℕ, suc, false, ◌+◌, ◌-◌, ◌<◌, ◌^◌, ◌∷◌, [], min, max, length, Err, ap, refl, sym, ◌∙◌, subst, arith}
+use Rattle.std.proofs.Common.{◌≡◌, suc, false, ◌+◌, ◌-◌, ◌<◌, ◌^◌, [], min, max, length, Err, ap, refl, sym, ◌∙◌, subst, arith}
 use Rattle.sv_word.specs.Words.{IsWord, greatest_character}
 use Rattle.sv_terms.specs.declared.regex.Regex.TheVariants as v
 use Rattle.sv_terms.specs.Opened.{In-Empty, In-All, In-AnyChar, In-Text, In-Range}
 use Rattle.sv_terms.specs.Language.{In, InOneOf}
 use Rattle.sv_terms.specs.Bounds.{size}
 use Rattle.regex_machine.specs.Copied.{InCopies, copies_size}
-use Rattle.regex_machine.specs.Joined.{ArePlain, AreMade}
-use Rattle.regex_machine.specs.declared.kind.Kind.TheVariants as kind
+use Rattle.regex_machine.specs.Joined.{HaveNoRegisters, AreMade}
+use Rattle.regex_machine.specs.declared.kind.JoinKind.TheVariants as kind
 use Rattle.regex_machine.proofs.BuiltLemmas.{builds-as, builds-form, builds-err, builds-more, built-beyond, onok-as}
 use Rattle.regex_machine.proofs.FormLemmas.{builds-list, builds-Diff, builds-Star, builds-Plus, builds-Opt, builds-Comp, builds-Loop, complement-made, copies-made, difference-made, loop-made, list-made, copies-least}
 use Rattle.regex_machine.proofs.KindLemmas.{formed, power-above, first-size, part-size, inner-size, adds-none, adds-next, adds-all, adds-inner, adds-plain}
@@ -15,7 +15,7 @@ use Rattle.sv_terms.specs.BoundLaws.{size-Empty, size-All, size-AnyChar, size-Te
 use Rattle.regex_machine.proofs.WeaveLemmas.{begun-end, finished, before-form, before-letter, before-inner, some-parts, IsWritten, IsChosen, each-last, each-step, each-all, one-none, one-step, one-all}
 use Rattle.regex_machine.proofs.OnwardLemmas.{unmade-most}
 use Rattle.regex_machine.proofs.LetterLemmas.{range-words}
-use Rattle.regex_machine.specs.Onwards.{Precedes, unmade}
+use Rattle.regex_machine.specs.Onwards.{PrecedesRest, unmade}
 use Rattle.std.proofs.lemmas.Result.{IfOk-weaker}
 use Rattle.machine_meet.specs.Products.{summed}
 use Rattle.regex_machine.proofs.building.+make.Goals as goal
@@ -99,7 +99,7 @@ pub make_copies-returns-in-Ok : goal.make_copies-returns-in-Ok
 make_copies-returns-in-Ok t c = copies-made c.args.limit c.repeat.result c.args.r.now c.in-Ok.part c.args.least c.args.most c.args.again c.in-Ok.ensures.0 c.in-Ok.ensures.1 c.repeat.ensures
 
 pub make_difference-difference-requires : goal.make_difference-difference-requires
-make_difference-difference-requires t c = subst ArePlain (sym c.as_slice.ensures) (made-plain _ _ c.in_ok-parts.ensures.made)
+make_difference-difference-requires t c = subst HaveNoRegisters (sym c.as_slice.ensures) (made-plain _ _ c.in_ok-parts.ensures.made)
 
 pub make_difference-returns : goal.make_difference-returns
 make_difference-returns t c = difference-made c.args.limit c.difference.result c.args.rs.now c.in_ok-parts.parts c.as_slice.result.now c.as_slice.ensures c.in_ok-parts.ensures.made c.difference.ensures
@@ -319,5 +319,5 @@ before_one-loop-r-preserved t c begun =
 
 pub before_one-returns-clause-ok : goal.before_one-returns-clause-ok
 before_one-returns-clause-ok t c begun =
-    subst (Precedes (InOneOf In c.args.rs.now) (length c.args.states.now + max 1 (summed (λ q. size q + 1) c.args.rs.now - 1)) c.args.states.now c.args.rest.now c.loop-r.states c.loop-r.rest) (sym c.alone.ensures.whole)
+    subst (PrecedesRest (InOneOf In c.args.rs.now) (length c.args.states.now + max 1 (summed (λ q. size q + 1) c.args.rs.now - 1)) c.args.states.now c.args.rest.now c.loop-r.states c.loop-r.rest) (sym c.alone.ensures.whole)
     (one-all c.args.rs.now c.args.states.now c.args.rest.now begun c.loop-r.r-index c.loop-r.states c.loop-r.rest c.loop-r.moves c.loop-r.may_end c.loop-r-test.false c.if-rs-eq1.false (c.loop-r.invariant begun))

@@ -1,7 +1,7 @@
 use Rattle.std.proofs.Common.{◌<◌, length, take}
 use Rattle.regex_machine.specs.Joined.{AreMade}
 use Rattle.regex_machine.specs.Parts.{AddsParts}
-use Rattle.regex_machine.specs.declared.kind.Kind.TheVariants.{All}
+use Rattle.regex_machine.specs.declared.kind.JoinKind.TheVariants.{All}
 use Rattle.regex_machine.specs.Onwards.{AreBegun}
 use Rattle.regex_machine.proofs.WeaveLemmas.{IsWritten, IsChosen}
 use Rattle.regex_machine.proofs.building.+make.Given as goal

@@ -1,6 +1,6 @@
-use Rattle.std.proofs.Common.{◌≡◌, ◌<◌, ◌+◌, ◌-◌, ℕ, suc, drop, length, Some, slice_get, get_or, subst, arith}
+use Rattle.std.proofs.Common.{◌≡◌, ◌<◌, ◌+◌, ◌-◌, suc, drop, length, Some, slice_get, get_or, subst, arith}
 use Rattle.std.proofs.lemmas.Option.{slice_get-get_or}
-use Rattle.regex_machine.specs.Onwards.{Precedes, unmade}
+use Rattle.regex_machine.specs.Onwards.{PrecedesRest, unmade}
 use Rattle.regex_machine.proofs.LetterLemmas.{character-at}
 use Rattle.regex_machine.proofs.OnwardLemmas.{nothing-before, text-none, text-step, text-all}
 use Rattle.regex_machine.proofs.written.text.Goals as goal
@@ -33,7 +33,7 @@ loop-at-preserved c =
     record {
       room = omega arith;
       front = λ begun. text-step l (c.loop-at.at - 1) k 0 c.in_ok-on.on c.args.states.now c.loop-at.states c.letter.new.states c.args.rest.now c.state_of.new.rest c.loop-at.front c.letter.new.rest c.in_ok-before.before below
-          c.in_ok-on.ensures.set (subst (λ n. Precedes (λ w. w ≡ drop n l) (k + (length l - n)) c.args.states.now c.args.rest.now c.loop-at.states c.state_of.new.rest c.loop-at.front) next (c.loop-at.invariant.front begun))
+          c.in_ok-on.ensures.set (subst (λ n. PrecedesRest (λ w. w ≡ drop n l) (k + (length l - n)) c.args.states.now c.args.rest.now c.loop-at.states c.state_of.new.rest c.loop-at.front) next (c.loop-at.invariant.front begun))
           c.in_ok-before.ensures;
     }
 

@@ -1,5 +1,5 @@
 use Rattle.sort_check.specs.Checking.{checked, asked_term}
-use Rattle.sort_check.specs.WellFormed.{IsWritten}
+use Rattle.sort_check.specs.WellFormed.{IsOfWrittenSort}
 use Rattle.sort_check.specs.declared.commands.Command.TheVariants as command
 use Rattle.sort_check.proofs.WellCommands.{IsSound, asked-sound, checked-sound}
 use Rattle.smt_names.specs.Giving.{gave}
@@ -9,4 +9,4 @@ pub returns-clause-asserted : goal.returns-clause-asserted
 returns-clause-asserted c symbols item term wf e = gave (IsSound symbols) (checked symbols item) (command.Assert term) (checked-sound symbols item wf) e
 
 pub returns-clause-asked : goal.returns-clause-asked
-returns-clause-asked c symbols item term wf e = gave (IsWritten symbols) (asked_term symbols item) term (asked-sound symbols wf item) e
+returns-clause-asked c symbols item term wf e = gave (IsOfWrittenSort symbols) (asked_term symbols item) term (asked-sound symbols wf item) e

@@ -5,17 +5,17 @@ use Rattle.straight_line.proofs.Numbered.{rows_numbered}
 use Rattle.straight_line.proofs.Rowed.{counted, excess_is, integers_are, register_count, registers_are, rows_are}
 use Rattle.straight_line.proofs.rowing.settle_rows.Goals as goal
 
-pub returns-then-registers-gt64-clause-exact : goal.returns-then-registers-gt64-clause-exact
-returns-then-registers-gt64-clause-exact c = λ ts bs z.
+pub returns-then-registers-gt-MOST_REGISTERS-clause-exact : goal.returns-then-registers-gt-MOST_REGISTERS-clause-exact
+returns-then-registers-gt-MOST_REGISTERS-clause-exact c = λ ts bs z.
     let count = ap length c.as_slice.ensures ∙ c.in_ok-used.ensures.count ∙ c.len.ensures in
     let exact : (u : ℕ) → u < length c.args.quantities → get_or c.as_slice.result.now u false ≡ has_entry c.args.rows.now u = λ u l. ap (λ z. get_or z u false) c.as_slice.ensures ∙ c.in_ok-used.ensures.exact u (subst (λ z. u < z) (sym c.len.ensures) l) in
-    excess_is c.args.of.now ts bs c.args.quantities c.len-registers.result c.excess.result (inl (c.len-registers.ensures ∙ register_count (λ i. get_or c.args.of.now i 0) c.args.quantities c.as_slice.result.now c.in_ok-kept.kept c.in_ok-kept.ensures ts bs c.args.rows.now z count exact)) c.if-registers-gt64.true c.excess.ensures
+    excess_is c.args.of.now ts bs c.args.quantities c.len-registers.result c.excess.result (inl (c.len-registers.ensures ∙ register_count (λ i. get_or c.args.of.now i 0) c.args.quantities c.as_slice.result.now c.in_ok-kept.kept c.in_ok-kept.ensures ts bs c.args.rows.now z count exact)) c.if-registers-gt-MOST_REGISTERS.true c.excess.ensures
 
-pub returns-then-integers-gt64-clause-exact : goal.returns-then-integers-gt64-clause-exact
-returns-then-integers-gt64-clause-exact c = λ ts bs z.
+pub returns-then-integers-gt-MOST_REGISTERS-clause-exact : goal.returns-then-integers-gt-MOST_REGISTERS-clause-exact
+returns-then-integers-gt-MOST_REGISTERS-clause-exact c = λ ts bs z.
     let count = ap length c.as_slice.ensures ∙ c.in_ok-used.ensures.count ∙ c.len.ensures in
     let exact : (u : ℕ) → u < length c.args.quantities → get_or c.as_slice.result.now u false ≡ has_entry c.args.rows.now u = λ u l. ap (λ z. get_or z u false) c.as_slice.ensures ∙ c.in_ok-used.ensures.exact u (subst (λ z. u < z) (sym c.len.ensures) l) in
-    excess_is c.args.of.now ts bs c.args.quantities c.len-integers.result c.excess-then-integers-gt64.result (inr (c.len-integers.ensures ∙ ap length (integers_are (λ i. get_or c.args.of.now i 0) c.args.quantities c.as_slice.result.now c.in_ok-kept.kept c.in_ok-kept.ensures ts bs c.args.rows.now z count exact))) c.if-integers-gt64.true c.excess-then-integers-gt64.ensures
+    excess_is c.args.of.now ts bs c.args.quantities c.len-integers.result c.excess-then-integers-gt-MOST_REGISTERS.result (inr (c.len-integers.ensures ∙ ap length (integers_are (λ i. get_or c.args.of.now i 0) c.args.quantities c.as_slice.result.now c.in_ok-kept.kept c.in_ok-kept.ensures ts bs c.args.rows.now z count exact))) c.if-integers-gt-MOST_REGISTERS.true c.excess-then-integers-gt-MOST_REGISTERS.ensures
 
 pub renumber_all-requires-clause-integers_rise : goal.renumber_all-requires-clause-integers_rise
 renumber_all-requires-clause-integers_rise c = subst (λ z. Rises z) (sym c.as_slice-2.ensures) (counted (λ i. get_or c.args.of.now i 0) c.args.quantities c.as_slice.result.now c.in_ok-kept.kept c.in_ok-kept.ensures).0.rising
@@ -29,7 +29,7 @@ renumber_all-requires-clause-integers_within c = subst (λ z. AreNumbersWithin z
 pub renumber_all-requires-clause-registers_within : goal.renumber_all-requires-clause-registers_within
 renumber_all-requires-clause-registers_within c =
     let w = subst (λ z. AreNumbersWithin (length c.in_ok-kept.kept.registers) z) (sym c.as_slice-3.ensures) (counted (λ i. get_or c.args.of.now i 0) c.args.quantities c.as_slice.result.now c.in_ok-kept.kept c.in_ok-kept.ensures).1.within in
-    λ u k e. let l = w u k e in let n = c.len-registers.ensures in let m = c.if-registers-gt64.false in omega arith
+    λ u k e. let l = w u k e in let n = c.len-registers.ensures in let m = c.if-registers-gt-MOST_REGISTERS.false in omega arith
 
 pub returns-clause-exact : goal.returns-clause-exact
 returns-clause-exact c = λ ts bs z.
@@ -43,8 +43,8 @@ returns-clause-exact c = λ ts bs z.
       integers = integers_are (λ i. get_or c.args.of.now i 0) c.args.quantities c.as_slice.result.now c.in_ok-kept.kept c.in_ok-kept.ensures ts bs c.args.rows.now z count exact;
       registers = registers_are (λ i. get_or c.args.of.now i 0) c.args.quantities c.as_slice.result.now c.in_ok-kept.kept c.in_ok-kept.ensures ts bs c.args.rows.now z count exact;
       rows = rows_are (λ i. get_or c.args.of.now i 0) c.args.quantities c.as_slice.result.now c.in_ok-kept.kept c.in_ok-kept.ensures ts bs c.args.rows.now z count exact c.in_ok-rows.rows g3;
-      few_registers = let n = c.len-registers.ensures in let m = c.if-registers-gt64.false in omega arith;
-      few_integers = let n = c.len-integers.ensures in let m = c.if-integers-gt64.false in omega arith;
+      few_registers = let n = c.len-registers.ensures in let m = c.if-registers-gt-MOST_REGISTERS.false in omega arith;
+      few_integers = let n = c.len-integers.ensures in let m = c.if-integers-gt-MOST_REGISTERS.false in omega arith;
     }
 
 pub returns-clause-numbered : goal.returns-clause-numbered

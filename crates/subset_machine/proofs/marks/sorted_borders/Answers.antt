@@ -2,12 +2,12 @@ use Rattle.std.proofs.Common.{◌+◌, ◌≡◌, take, get_or, refl, subst, ari
 use Rattle.std.proofs.lemmas.List.{take_all}
 use Rattle.std.proofs.lemmas.List.Elements.{Contains-get_or}
 use Rattle.std.proofs.lemmas.List.Sorted.{IsNonDecreasingBy-from_sort}
-use Rattle.subset_machine.specs.declared.leaving.Leg.{Leg}
+use Rattle.subset_machine.specs.declared.leaving.EdgeRange.{EdgeRange}
 use Rattle.subset_machine.proofs.HitLemmas.{one-more}
 use Rattle.subset_machine.proofs.MarkLemmas.{AreListed, listed-none, listed-more, borders-made}
 use Rattle.subset_machine.proofs.marks.sorted_borders.Goals as goal
 
-abbrev none : Leg
+abbrev none : EdgeRange
 none = record { low = 0; high = 0; to = 0 }
 
 pub overflow_add-leg : goal.overflow_add-leg

@@ -1,7 +1,7 @@
 use Rattle.std.proofs.Common.{[], inl, inr, take, get_or, Contains, refl, sym, ◌∙◌, subst}
 use Rattle.std.proofs.lemmas.List.{take_all}
 use Rattle.std.proofs.lemmas.List.Elements.{Contains-get_or, Contains-push_cases}
-use Rattle.machine_core.specs.Edges.{EndsAt, IsFormed}
+use Rattle.machine_core.specs.Edges.{EndsAt, AreEdgesAndEnds}
 use Rattle.machine_core.specs.Lists.{Any-contains, contained}
 use Rattle.subset_machine.proofs.AscendingLemmas.{nothing}
 use Rattle.subset_machine.proofs.HitLemmas.{one-more}
@@ -32,7 +32,7 @@ returns-then-not-is_empty c =
     let list = c.args.list.now in
     let at = get_or list c.loop-s.s-index 0 in
     let p = some-in c.ends_at.result.now (sym c.is_empty.ensures ∙ c.if-not-is_empty.true) in
-    let formed = subst (λ n. IsFormed m.states n m.edges m.ends) c.requires.plain m.formed in
+    let formed = subst (λ n. AreEdgesAndEnds m.states n m.edges m.ends) c.requires.plain m.formed in
     let found = ends-found m.ends (ends-free m.states m.edges m.ends formed) at p.0 (subst (λ l. Contains l p.0) c.ends_at.ensures p.1) in
     (λ e. Any-contains (λ s. EndsAt m.ends s []) list at (Contains-get_or list c.loop-s.s-index 0 c.loop-s-test.true) found, λ a. refl)
 

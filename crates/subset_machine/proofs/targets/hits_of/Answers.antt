@@ -1,11 +1,11 @@
 use Rattle.std.proofs.Common.{get_or, refl}
-use Rattle.subset_machine.specs.declared.leaving.Leg.{Leg}
+use Rattle.subset_machine.specs.declared.leaving.EdgeRange.{EdgeRange}
 use Rattle.subset_machine.proofs.HitLemmas.{hits-more, hits-done}
 use Rattle.subset_machine.proofs.targets.hits_of.Goals as goal
 
 pub loop-leg-preserved : goal.loop-leg-preserved
 loop-leg-preserved c =
-    let none : Leg = record { low = 0; high = 0; to = 0 } in
+    let none : EdgeRange = record { low = 0; high = 0; to = 0 } in
     hits-more c.args.legs.now c.args.marks.now c.between.result.now c.loop-leg.hits.items c.push_hits.new.hits.items c.loop-leg.leg-index
     (get_or c.args.legs.now c.loop-leg.leg-index none) none c.loop-leg-test.true refl c.between.ensures c.in_ok-push_hits.ensures c.loop-leg.invariant
 

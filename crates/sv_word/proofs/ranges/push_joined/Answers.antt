@@ -1,4 +1,4 @@
-use Rattle.std.proofs.Common.{◌≡◌, ◌≤◌, ◌∙◌, ap, ◌++◌, ◌∷◌, [], arith}
+use Rattle.std.proofs.Common.{◌∙◌, ap, ◌++◌, ◌∷◌, [], arith}
 use Rattle.sv_word.proofs.JoinLemmas.{joined-touching, joined-behind, ends-last}
 use Rattle.sv_word.specs.Words.{greatest_character}
 use Rattle.sv_word.proofs.ranges.push_joined.Goals as goal

@@ -1,7 +1,7 @@
 use Rattle.std.proofs.Common.{rules, ◌≡◌, IfOk, length, sym, ap, ◌∙◌, subst, ◌+◌, ◌<◌, ◌≤◌, take, map, arith}
 use Rattle.sv_terms.specs.declared.entry.Body.{Body}
 use Rattle.sv_terms.specs.declared.term.Term.{Term}
-use Rattle.term_draft.specs.declared.draft.Part.{Part}
+use Rattle.term_draft.specs.declared.draft.DraftPart.{DraftPart}
 use Rattle.term_weight.specs.Bodies.{called, put_in}
 use Rattle.term_draft.specs.Drafts.{at_places, sense, senses, term_found}
 use Rattle.term_weight.specs.Sizes.{total}
@@ -12,7 +12,7 @@ use Rattle.term_draft.proofs.building.+build.Goals as goal
 pub build-build_node-requires : goal.build-build_node-requires
 build-build_node-requires t c =
     let here : c.args.place < length c.args.parts.now = omega arith in
-    let h : cost (take c.args.place c.args.parts.now) + node_cost c.index-parts-place.result.node < cost c.args.parts.now = subst (λ (p : Part). cost (take c.args.place c.args.parts.now) + node_cost p.node < cost c.args.parts.now) (sym c.index-parts-place.is) (cost-before c.args.parts.now c.args.place c.index-parts-place.result here) in
+    let h : cost (take c.args.place c.args.parts.now) + node_cost c.index-parts-place.result.node < cost c.args.parts.now = subst (λ (p : DraftPart). cost (take c.args.place c.args.parts.now) + node_cost p.node < cost c.args.parts.now) (sym c.index-parts-place.is) (cost-before c.args.parts.now c.args.place c.index-parts-place.result here) in
     search rules
 
 pub build_node-returns-in-Term : goal.build_node-returns-in-Term

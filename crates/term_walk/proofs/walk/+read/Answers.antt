@@ -7,7 +7,7 @@ use Rattle.term_walk.specs.Meant.{Head, any_size, head, in_parentheses, meant, m
 use Rattle.term_walk.specs.Heads.{kept}
 use Rattle.smt_names.specs.declared.check_fault.CheckFault.{CheckFault}
 use Rattle.smt_names.specs.Signature.{Name}
-use Rattle.term_walk.specs.Walks.{Each, Bound, Read, Here, Reads}
+use Rattle.term_walk.specs.Walks.{Each, Bound, Read, Here, ReadsMeaning}
 use Rattle.term_walk.proofs.Reading.{fault-first, gathered, single, each-grow, each-append, bound-grow, bound-append}
 use Rattle.smt_names.specs.Shapes.{two-seen, seen-List, seen-Atom}
 use Rattle.term_walk.proofs.Termwise.{atom-read, list-read, arm-read, annotated-read, count-seen, application-read, application-fault, go-on, gather-none, gather-next, gather-fault, gather-end, single-read, single-fault, all-read, values-read, rest-seen, within-read, quantifier-read, quantifier-fault, let-few, let-many, quantifier-few, quantifier-many, empty-shape, binding-seen, value-read, value-fault, value-few, value-many, let-read, let-fault, at-least}
@@ -42,11 +42,11 @@ pub read_application-returns-in-Ok-read_all : goal.read_application-returns-in-O
 read_application-returns-in-Ok-read_all t c =
     λ s b.
     let a = c.in-Ok-read_all.ensures s b in
-    subst (λ (r : Result Head CheckFault). Reads Here (λ t. in_parentheses r (length c.args.rest.now) (meant_all t c.args.symbols.now s (forms (map seen c.args.rest.now)))) c.args.walk.now c.apply.new.walk c.apply.result) (sym c.in-Ok.ensures)
+    subst (λ (r : Result Head CheckFault). ReadsMeaning Here (λ t. in_parentheses r (length c.args.rest.now) (meant_all t c.args.symbols.now s (forms (map seen c.args.rest.now)))) c.args.walk.now c.apply.new.walk c.apply.result) (sym c.in-Ok.ensures)
     (application-read c.args.symbols.now s c.args.walk.now c.read_all.new.walk c.apply.new.walk (forms (map seen c.args.rest.now)) (length c.args.rest.now) (kept c.in-Ok.head) c.in-Ok-read_all.places c.apply.result (at-least c.args.rest.now (sym c.is_empty.ensures ∙ c.if-is_empty.false)) (sym c.takes_count.ensures ∙ c.if-not-takes_count.false) a c.apply.ensures)
 
 pub read_application-returns-in-Err-read_all : goal.read_application-returns-in-Err-read_all
-read_application-returns-in-Err-read_all t c = λ s b. subst (λ (r : Result Head CheckFault). Reads Here (λ t. in_parentheses r (length c.args.rest.now) (meant_all t c.args.symbols.now s (forms (map seen c.args.rest.now)))) c.args.walk.now c.read_all.new.walk (Err c.in-Err-read_all.fault)) (sym c.in-Ok.ensures) (application-fault c.args.symbols.now s c.args.walk.now c.read_all.new.walk c.read_all.new.walk (forms (map seen c.args.rest.now)) (length c.args.rest.now) (kept c.in-Ok.head) c.in-Err-read_all.fault (at-least c.args.rest.now (sym c.is_empty.ensures ∙ c.if-is_empty.false)) (sym c.takes_count.ensures ∙ c.if-not-takes_count.false) (c.in-Err-read_all.ensures s b))
+read_application-returns-in-Err-read_all t c = λ s b. subst (λ (r : Result Head CheckFault). ReadsMeaning Here (λ t. in_parentheses r (length c.args.rest.now) (meant_all t c.args.symbols.now s (forms (map seen c.args.rest.now)))) c.args.walk.now c.read_all.new.walk (Err c.in-Err-read_all.fault)) (sym c.in-Ok.ensures) (application-fault c.args.symbols.now s c.args.walk.now c.read_all.new.walk c.read_all.new.walk (forms (map seen c.args.rest.now)) (length c.args.rest.now) (kept c.in-Ok.head) c.in-Err-read_all.fault (at-least c.args.rest.now (sym c.is_empty.ensures ∙ c.if-is_empty.false)) (sym c.takes_count.ensures ∙ c.if-not-takes_count.false) (c.in-Err-read_all.ensures s b))
 
 pub read_let-returns-in-Ok : goal.read_let-returns-in-Ok
 read_let-returns-in-Ok t c =
@@ -129,7 +129,7 @@ pub read-returns-in-Identifier : goal.read-returns-in-Identifier
 read-returns-in-Identifier t c = λ s b. list-read c.args.symbols.now s c.args.walk.now c.read_identifier.new.walk c.read_identifier.result c.args.item.now c.in-List.items c.as_slice-in-List.result.now c.in-List.is c.as_slice-in-List.ensures (arm-read c.args.symbols.now s c.args.walk.now c.read_identifier.new.walk c.read_identifier.result (forms (map seen c.as_slice-in-List.result.now)) (forms (map seen (take (length c.as_slice-in-List.result.now - 1) (drop 1 c.as_slice-in-List.result.now)))) (seen c.first-item.result) o.Identifier (rest-seen c.as_slice-in-List.result.now c.first-item.result c.in-len1-up.len_at_least c.first-item.is) (sym c.opening.ensures ∙ c.in-Identifier.is) c.read_identifier.ensures)
 
 pub read-returns-in-Application : goal.read-returns-in-Application
-read-returns-in-Application t c = λ s b. list-read c.args.symbols.now s c.args.walk.now c.read_application.new.walk c.read_application.result c.args.item.now c.in-List.items c.as_slice-in-List.result.now c.in-List.is c.as_slice-in-List.ensures (arm-read c.args.symbols.now s c.args.walk.now c.read_application.new.walk c.read_application.result (forms (map seen c.as_slice-in-List.result.now)) (forms (map seen (take (length c.as_slice-in-List.result.now - 1) (drop 1 c.as_slice-in-List.result.now)))) (seen c.first-item.result) o.Application (rest-seen c.as_slice-in-List.result.now c.first-item.result c.in-len1-up.len_at_least c.first-item.is) (sym c.opening.ensures ∙ c.in-Application.is) (subst (λ (n : ℕ). Reads Here (λ t. in_parentheses (head c.args.symbols.now (seen c.first-item.result)) n (meant_all t c.args.symbols.now s (forms (map seen (take (length c.as_slice-in-List.result.now - 1) (drop 1 c.as_slice-in-List.result.now)))))) c.args.walk.now c.read_application.new.walk c.read_application.result) (sym (count-seen (take (length c.as_slice-in-List.result.now - 1) (drop 1 c.as_slice-in-List.result.now)))) (c.read_application.ensures s b)))
+read-returns-in-Application t c = λ s b. list-read c.args.symbols.now s c.args.walk.now c.read_application.new.walk c.read_application.result c.args.item.now c.in-List.items c.as_slice-in-List.result.now c.in-List.is c.as_slice-in-List.ensures (arm-read c.args.symbols.now s c.args.walk.now c.read_application.new.walk c.read_application.result (forms (map seen c.as_slice-in-List.result.now)) (forms (map seen (take (length c.as_slice-in-List.result.now - 1) (drop 1 c.as_slice-in-List.result.now)))) (seen c.first-item.result) o.Application (rest-seen c.as_slice-in-List.result.now c.first-item.result c.in-len1-up.len_at_least c.first-item.is) (sym c.opening.ensures ∙ c.in-Application.is) (subst (λ (n : ℕ). ReadsMeaning Here (λ t. in_parentheses (head c.args.symbols.now (seen c.first-item.result)) n (meant_all t c.args.symbols.now s (forms (map seen (take (length c.as_slice-in-List.result.now - 1) (drop 1 c.as_slice-in-List.result.now)))))) c.args.walk.now c.read_application.new.walk c.read_application.result) (sym (count-seen (take (length c.as_slice-in-List.result.now - 1) (drop 1 c.as_slice-in-List.result.now)))) (c.read_application.ensures s b)))
 
 pub read-returns-in-empty : goal.read-returns-in-empty
 read-returns-in-empty t c = λ s b. ap (λ z. meant any_size c.args.symbols.now s (seen z)) (c.in-List.is ∙ ap v.List (sym c.as_slice-in-List.ensures)) ∙ ap (meant any_size c.args.symbols.now s) (seen-List c.as_slice-in-List.result.now) ∙ empty-shape any_size c.args.symbols.now s c.as_slice-in-List.result.now c.in-empty.len_below

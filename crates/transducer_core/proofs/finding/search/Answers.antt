@@ -1,5 +1,5 @@
 use Rattle.std.proofs.Common.{subst, sym, take, arith}
-use Rattle.transducer_core.specs.Layers.{IsSearched}
+use Rattle.transducer_core.specs.Layers.{AreSearchLayers}
 use Rattle.transducer_core.proofs.LayerLemmas.{searched_within, searched_done, searched_more, taken_length, take_next}
 use Rattle.transducer_core.proofs.finding.search.Goals as goal
 
@@ -16,7 +16,7 @@ next_layer-requires c =
 
 pub loop-at-preserved : goal.loop-at-preserved
 loop-at-preserved c =
-    subst (λ v. IsSearched c.args.transducer.now v c.args.written.now c.push.new.self) (sym (take_next c.args.read.now c.loop-at.at c.character_at-c.result (rw c.as_slice.ensures at c.character_at-c.ensures)))
+    subst (λ v. AreSearchLayers c.args.transducer.now v c.args.written.now c.push.new.self) (sym (take_next c.args.read.now c.loop-at.at c.character_at-c.result (rw c.as_slice.ensures at c.character_at-c.ensures)))
     (searched_more c.args.transducer.now (take c.loop-at.at c.args.read.now) c.args.written.now c.loop-at.layers c.push.new.self c.loop-at.at c.character_at-c.result c.layer_at.result.now _ c.loop-at.invariant
     (taken_length c.args.read.now c.loop-at.at (omega (arith, c.loop-at-test.true, c.len-at-end.ensures)))
     (rw c.as_slice-in-loop-at.ensures at c.layer_at.ensures)

@@ -1,11 +1,11 @@
 use Rattle.std.proofs.Common.{sym, subst}
-use Rattle.transducer_core.specs.Nodes.{AreClosed}
+use Rattle.transducer_core.specs.Nodes.{LeadToNodes}
 use Rattle.transducer_core.specs.Outputs.{IsOutput}
 use Rattle.transducer_core.proofs.BuiltLemmas.{machine_words}
 use Rattle.transducer_core.proofs.output_words.outputs.Goals as goal
 
 pub machine_of-requires-clause-closed : goal.machine_of-requires-clause-closed
-machine_of-requires-clause-closed c = subst AreClosed (sym c.as_slice-2.ensures) c.in_ok-first.ensures.closed
+machine_of-requires-clause-closed c = subst LeadToNodes (sym c.as_slice-2.ensures) c.in_ok-first.ensures.closed
 
 pub returns-clause-words : goal.returns-clause-words
 returns-clause-words c w =

@@ -8,21 +8,21 @@ use Rattle.trim_search.proofs.explore.look_at.Goals as goal
 
 pub returns-in_err-edges-clause-valid : goal.returns-in_err-edges-clause-valid
 returns-in_err-edges-clause-valid g c =
-    let here = slice_get-read (g.N.Numbering.named c.args.numbers.now) c.names.result.now c.args.at c.index-names-at.result c.requires.at c.names.ensures.items c.index-names-at.is in
+    let here = slice_get-read (g.N.StateNumbering.named c.args.numbers.now) c.names.result.now c.args.at c.index-names-at.result c.requires.at c.names.ensures.items c.index-names-at.is in
     grown-valid (g.M.Machine.is_state c.args.machine.now) (g.M.Machine.ends_with c.args.machine.now) (g.M.Machine.steps_to c.args.machine.now) (g.M.Machine.width c.args.machine.now) (g.M.Machine.top c.args.machine.now)
     (g.met.M.Machine.step_is_state c.args.machine.now) (g.met.M.Machine.end_cost c.args.machine.now) (g.met.M.Machine.step_cost c.args.machine.now)
-    c.index-names-at.result (c.requires.valid _ _ here) c.in_ok-moves.moves c.in_ok-moves.ensures.exact c.in_ok-moves.ensures.inhabited (g.N.Numbering.named c.args.numbers.now) (g.N.Numbering.named c.rename.new.numbers) c.rename.ensures.grows c.requires.valid
+    c.index-names-at.result (c.requires.valid _ _ here) c.in_ok-moves.moves c.in_ok-moves.ensures.exact c.in_ok-moves.ensures.inhabited (g.N.StateNumbering.named c.args.numbers.now) (g.N.StateNumbering.named c.rename.new.numbers) c.rename.ensures.grows c.requires.valid
 
 pub returns-clause-valid : goal.returns-clause-valid
 returns-clause-valid g c =
-    let here = slice_get-read (g.N.Numbering.named c.args.numbers.now) c.names.result.now c.args.at c.index-names-at.result c.requires.at c.names.ensures.items c.index-names-at.is in
+    let here = slice_get-read (g.N.StateNumbering.named c.args.numbers.now) c.names.result.now c.args.at c.index-names-at.result c.requires.at c.names.ensures.items c.index-names-at.is in
     grown-valid (g.M.Machine.is_state c.args.machine.now) (g.M.Machine.ends_with c.args.machine.now) (g.M.Machine.steps_to c.args.machine.now) (g.M.Machine.width c.args.machine.now) (g.M.Machine.top c.args.machine.now)
     (g.met.M.Machine.step_is_state c.args.machine.now) (g.met.M.Machine.end_cost c.args.machine.now) (g.met.M.Machine.step_cost c.args.machine.now)
-    c.index-names-at.result (c.requires.valid _ _ here) c.in_ok-moves.moves c.in_ok-moves.ensures.exact c.in_ok-moves.ensures.inhabited (g.N.Numbering.named c.args.numbers.now) (g.N.Numbering.named c.rename.new.numbers) c.rename.ensures.grows c.requires.valid
+    c.index-names-at.result (c.requires.valid _ _ here) c.in_ok-moves.moves c.in_ok-moves.ensures.exact c.in_ok-moves.ensures.inhabited (g.N.StateNumbering.named c.args.numbers.now) (g.N.StateNumbering.named c.rename.new.numbers) c.rename.ensures.grows c.requires.valid
 
 pub returns-in_err-edges-clause-added : goal.returns-in_err-edges-clause-added
 returns-in_err-edges-clause-added g c = λ n t e.
-    let here = slice_get-read (g.N.Numbering.named c.args.numbers.now) c.names.result.now c.args.at c.index-names-at.result c.requires.at c.names.ensures.items c.index-names-at.is in
+    let here = slice_get-read (g.N.StateNumbering.named c.args.numbers.now) c.names.result.now c.args.at c.index-names-at.result c.requires.at c.names.ensures.items c.index-names-at.is in
     elim (c.rename.ensures.grows.added n t e) [
       | inl k ↦ inl k
       | inr k ↦ inr (
@@ -36,7 +36,7 @@ returns-in_err-edges-clause-added g c = λ n t e.
 
 pub returns-clause-added : goal.returns-clause-added
 returns-clause-added g c = λ n t e.
-    let here = slice_get-read (g.N.Numbering.named c.args.numbers.now) c.names.result.now c.args.at c.index-names-at.result c.requires.at c.names.ensures.items c.index-names-at.is in
+    let here = slice_get-read (g.N.StateNumbering.named c.args.numbers.now) c.names.result.now c.args.at c.index-names-at.result c.requires.at c.names.ensures.items c.index-names-at.is in
     elim (c.rename.ensures.grows.added n t e) [
       | inl k ↦ inl k
       | inr k ↦ inr (
@@ -50,32 +50,32 @@ returns-clause-added g c = λ n t e.
 
 pub returns-clause-node : goal.returns-clause-node
 returns-clause-node g c = λ s e.
-    let here = slice_get-read (g.N.Numbering.named c.args.numbers.now) c.names.result.now c.args.at c.index-names-at.result c.requires.at c.names.ensures.items c.index-names-at.is in
+    let here = slice_get-read (g.N.StateNumbering.named c.args.numbers.now) c.names.result.now c.args.at c.index-names-at.result c.requires.at c.names.ensures.items c.index-names-at.is in
     let eq : c.index-names-at.result ≡ s = cc in
-    subst (λ (x : _). IsNodeOf (g.M.Machine.ends_with c.args.machine.now x) (g.M.Machine.steps_to c.args.machine.now x) (g.N.Numbering.named c.rename.new.numbers) (record { ends = c.in_ok-ends.ends; edges = c.in_ok-edges.edges })) eq
+    subst (λ (x : _). IsNodeOf (g.M.Machine.ends_with c.args.machine.now x) (g.M.Machine.steps_to c.args.machine.now x) (g.N.StateNumbering.named c.rename.new.numbers) (record { ends = c.in_ok-ends.ends; edges = c.in_ok-edges.edges })) eq
     (node-of (g.M.Machine.is_state c.args.machine.now) (g.M.Machine.ends_with c.args.machine.now) (g.M.Machine.steps_to c.args.machine.now) (g.M.Machine.width c.args.machine.now) (g.M.Machine.top c.args.machine.now)
     (g.met.M.Machine.step_is_state c.args.machine.now) (g.met.M.Machine.end_cost c.args.machine.now) (g.met.M.Machine.step_cost c.args.machine.now)
-    c.index-names-at.result (c.requires.valid _ _ here) c.in_ok-moves.moves c.in_ok-moves.ensures.exact c.in_ok-moves.ensures.inhabited (g.N.Numbering.named c.rename.new.numbers) (record { ends = c.in_ok-ends.ends; edges = c.in_ok-edges.edges }) c.in_ok-ends.ensures c.in_ok-edges.ensures.ok)
+    c.index-names-at.result (c.requires.valid _ _ here) c.in_ok-moves.moves c.in_ok-moves.ensures.exact c.in_ok-moves.ensures.inhabited (g.N.StateNumbering.named c.rename.new.numbers) (record { ends = c.in_ok-ends.ends; edges = c.in_ok-edges.edges }) c.in_ok-ends.ensures c.in_ok-edges.ensures.ok)
 
 pub returns-clause-formed : goal.returns-clause-formed
 returns-clause-formed g c =
-    let here = slice_get-read (g.N.Numbering.named c.args.numbers.now) c.names.result.now c.args.at c.index-names-at.result c.requires.at c.names.ensures.items c.index-names-at.is in
+    let here = slice_get-read (g.N.StateNumbering.named c.args.numbers.now) c.names.result.now c.args.at c.index-names-at.result c.requires.at c.names.ensures.items c.index-names-at.is in
     node-formed (g.M.Machine.is_state c.args.machine.now) (g.M.Machine.ends_with c.args.machine.now) (g.M.Machine.steps_to c.args.machine.now) (g.M.Machine.width c.args.machine.now) (g.M.Machine.top c.args.machine.now)
     (g.met.M.Machine.step_is_state c.args.machine.now) (g.met.M.Machine.end_cost c.args.machine.now) (g.met.M.Machine.step_cost c.args.machine.now)
-    c.index-names-at.result (c.requires.valid _ _ here) c.in_ok-moves.moves c.in_ok-moves.ensures.exact c.in_ok-moves.ensures.inhabited (g.N.Numbering.named c.rename.new.numbers) (record { ends = c.in_ok-ends.ends; edges = c.in_ok-edges.edges }) c.in_ok-ends.ensures c.in_ok-edges.ensures.ok
+    c.index-names-at.result (c.requires.valid _ _ here) c.in_ok-moves.moves c.in_ok-moves.ensures.exact c.in_ok-moves.ensures.inhabited (g.N.StateNumbering.named c.rename.new.numbers) (record { ends = c.in_ok-ends.ends; edges = c.in_ok-edges.edges }) c.in_ok-ends.ensures c.in_ok-edges.ensures.ok
 
 pub returns-clause-top : goal.returns-clause-top
 returns-clause-top g c =
-    let here = slice_get-read (g.N.Numbering.named c.args.numbers.now) c.names.result.now c.args.at c.index-names-at.result c.requires.at c.names.ensures.items c.index-names-at.is in
+    let here = slice_get-read (g.N.StateNumbering.named c.args.numbers.now) c.names.result.now c.args.at c.index-names-at.result c.requires.at c.names.ensures.items c.index-names-at.is in
     node-top (g.M.Machine.is_state c.args.machine.now) (g.M.Machine.ends_with c.args.machine.now) (g.M.Machine.steps_to c.args.machine.now) (g.M.Machine.width c.args.machine.now) (g.M.Machine.top c.args.machine.now)
     (g.met.M.Machine.step_is_state c.args.machine.now) (g.met.M.Machine.end_cost c.args.machine.now) (g.met.M.Machine.step_cost c.args.machine.now)
-    c.index-names-at.result (c.requires.valid _ _ here) c.in_ok-moves.moves c.in_ok-moves.ensures.exact c.in_ok-moves.ensures.inhabited (g.N.Numbering.named c.rename.new.numbers) (record { ends = c.in_ok-ends.ends; edges = c.in_ok-edges.edges }) c.in_ok-ends.ensures c.in_ok-edges.ensures.ok
+    c.index-names-at.result (c.requires.valid _ _ here) c.in_ok-moves.moves c.in_ok-moves.ensures.exact c.in_ok-moves.ensures.inhabited (g.N.StateNumbering.named c.rename.new.numbers) (record { ends = c.in_ok-ends.ends; edges = c.in_ok-edges.edges }) c.in_ok-ends.ensures c.in_ok-edges.ensures.ok
 
 pub returns-in_err-edges-clause-full : goal.returns-in_err-edges-clause-full
 returns-in_err-edges-clause-full g c = λ n e.
-    let here = slice_get-read (g.N.Numbering.named c.args.numbers.now) c.names.result.now c.args.at c.index-names-at.result c.requires.at c.names.ensures.items c.index-names-at.is in
+    let here = slice_get-read (g.N.StateNumbering.named c.args.numbers.now) c.names.result.now c.args.at c.index-names-at.result c.requires.at c.names.ensures.items c.index-names-at.is in
     let d = rw e at c.from_residual-in_err-edges.ensures.1 in
-    full-weaker (IsTarget c.in_ok-moves.moves) _ c.args.limit n (g.N.Numbering.named c.rename.new.numbers)
+    full-weaker (IsTarget c.in_ok-moves.moves) _ c.args.limit n (g.N.StateNumbering.named c.rename.new.numbers)
     (λ t k. (
       c.index-names-at.result,
       here,

@@ -1,6 +1,6 @@
 use Rattle.std.proofs.Common.{◌≡◌, ◌++◌}
 use Rattle.std.specs.Vec.Iter.{into_iter_items}
-use Rattle.trim_search.specs.Joined.{AreJoined}
+use Rattle.trim_search.specs.Joined.{AreJoinedMoves}
 use Rattle.trim_search.proofs.joined.join_sorted.Given as goal
 
 abbrev pub invariant-loop-step : goal.invariant-loop-step
@@ -8,5 +8,5 @@ invariant-loop-step l = record {
   can : goal.iterator-loop-step.can_next l.step-iterator;
   finite : goal.iterator-loop-step.is_finite l.step-iterator;
   split : l.fn.moves ≡ l.yielded ++ into_iter_items l.step-iterator;
-  joined : AreJoined l.yielded l.joined;
+  joined : AreJoinedMoves l.yielded l.joined;
 }

@@ -1,5 +1,4 @@
-use Rattle.std.proofs.Common.{◌≡◌, ◌<◌, ◌+◌, ◌∷◌, [], ℕ, Some, length, slice_get, get_or, replicate, subst, sym, ap, ◌∙◌, refl, arith}
-use Rattle.machine_core.specs.Lists.{slice_get-contains}
+use Rattle.std.proofs.Common.{◌≡◌, ◌<◌, length, get_or, replicate, subst, ap, ◌∙◌, arith}
 use Rattle.trim_search.specs.Incoming.{AreIncoming}
 use Rattle.trim_search.proofs.Gets.{slice_get-read}
 use Rattle.trim_search.proofs.RestLemmas.{incoming-none, incoming-pushed, read-in, edge-inside}

@@ -1,5 +1,4 @@
-use Rattle.std.proofs.Common.{Some, false, true, get_or, slice_get, sym, ◌∙◌, ap, ◌≡◌, subst, arith, slice_set, ◌++◌, ◌∷◌, []}
-use Rattle.trim_search.specs.Incoming.{AreMarkedToo}
+use Rattle.std.proofs.Common.{false, true}
 use Rattle.trim_search.proofs.RestLemmas.{too-old, too-new, read-mark}
 use Rattle.trim_search.proofs.rests.mark.Goals as goal
 

@@ -1,4 +1,4 @@
-use Rattle.std.proofs.Common.{◌≡◌, ◌↔◌, ◌+◌, ℕ, take, Any, refl, subst, sym, arith}
+use Rattle.std.proofs.Common.{◌≡◌, ◌+◌, take, Any, refl, subst, sym}
 use Rattle.machine_core.specs.Lists.{Any-none}
 use Rattle.trim_search.specs.Incoming.{AreMarkedToo}
 use Rattle.trim_search.proofs.SearchLemmas.{take-full}

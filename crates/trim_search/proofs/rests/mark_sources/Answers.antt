@@ -1,4 +1,4 @@
-use Rattle.std.proofs.Common.{◌≡◌, ◌<◌, ◌-◌, [], get_or, length, refl, subst, arith}
+use Rattle.std.proofs.Common.{◌≡◌, ◌-◌, get_or, length, subst, arith}
 use Rattle.trim_search.proofs.RestLemmas.{IsFollowingBack, read-in, back-start, back-next, back-end, back-smaller, marked-from}
 use Rattle.trim_search.proofs.rests.mark_sources.Goals as goal
 

@@ -1,4 +1,4 @@
-use Rattle.std.proofs.Common.{◌≡◌, ℕ, take, false, get_or, refl, subst, slice_get, Some}
+use Rattle.std.proofs.Common.{take, false, get_or, refl, subst}
 use Rattle.std.proofs.lemmas.List.{take_more}
 use Rattle.machine_core.specs.Lists.{slice_get-contains}
 use Rattle.trim_search.specs.Useful.{AreKept}

@@ -3,7 +3,7 @@ use Rattle.std.specs.Int.{w128}
 use Rattle.std.proofs.lemmas.Int.{to_z-of_z}
 use mir.Val.{SFits, to_z, of_z}
 use Rattle.bool_cubes.specs.Linear.{scaled, scaling}
-use Rattle.bool_cubes.specs.Numbered.{IsMadeBy, IsNumbered}
+use Rattle.bool_cubes.specs.Numbered.{IsFormOrPast, IsNumbered}
 use Rattle.bool_cubes.specs.Past.{ArePlain}
 use Rattle.std.specs.Prelude.{[], ◌∷◌}
 use Rattle.bool_cubes.proofs.Formed.{scaled_err, scaled_formed, scaled_plain, term_form_of}
@@ -18,5 +18,5 @@ returns-in-Ok c us a n h =
 pub returns-in-Err : goal.returns-in-Err
 returns-in-Err c us a n h =
     let f : SFits w128 c.args.by = search rules in
-    subst (λ z. IsMadeBy us (scaled a z) (scaling a z ∷ []) (Err c.cube_fault.result)) (to_z-of_z w128 c.args.by f)
+    subst (λ z. IsFormOrPast us (scaled a z) (scaling a z ∷ []) (Err c.cube_fault.result)) (to_z-of_z w128 c.args.by f)
     (scaled_err us a c.args.self.now (to_z w128 (of_z w128 c.args.by)) n h c.in-Err.fault c.cube_fault.result c.cube_fault.ensures c.in-Err.ensures.past)

@@ -6,7 +6,7 @@ use Rattle.machine_core.specs.declared.machine.Move.{Move}
 use Rattle.machine_core.specs.Lists.{slice_get-contains}
 use Rattle.machine_core.specs.Moves.{Moves}
 use Rattle.box_search.specs.declared.layer.Layer.{Layer}
-use Rattle.box_search.specs.Layers.{uppers_of, IsGood, LayerStep}
+use Rattle.box_search.specs.Layers.{uppers_of, AreGoodTotals, LayerStep}
 use Rattle.box_search.specs.Moving.{step_moves, end_moves}
 use Rattle.box_search.proofs.ExactLemmas.{moves-exact, move-width, end-width, moves-some}
 use Rattle.box_search.proofs.SideLemmas.{spent-length}
@@ -47,8 +47,8 @@ returns-clause-exact c = λ read cost to.
     ∙ ap (λ l. step_moves (map (λ s. s.1) l) c.args.at.now c.as_slice.result.now ++ end_moves (map (λ s. s.1) l) c.in_ok-on.on c.args.at.now c.as_slice-2.result.now) c.as_slice-sides.ensures
     ∙ ap (λ l. step_moves (uppers_of c.args.self.now.region.now) c.args.at.now l ++ end_moves (uppers_of c.args.self.now.region.now) c.in_ok-on.on c.args.at.now c.as_slice-2.result.now) c.as_slice.ensures
     ∙ ap (λ l. step_moves (uppers_of c.args.self.now.region.now) c.args.at.now c.in_ok-inner.inner ++ end_moves (uppers_of c.args.self.now.region.now) c.in_ok-on.on c.args.at.now l) c.as_slice-2.ensures in
-    subst (λ (l : List (Move Layer)). LayerStep c.args.self.now.machines.now (uppers_of c.args.self.now.region.now) (IsGood c.args.self.now.rows.now c.args.self.now.region.now) c.args.at.now read cost to ↔ Any (Moves read cost to) l) (sym e)
-    (moves-exact c.args.self.now.machines.now (uppers_of c.args.self.now.region.now) (IsGood c.args.self.now.rows.now c.args.self.now.region.now) c.args.at.now c.machine_at-machine.result.now c.machine_at-machine.ensures c.in_ok-inner.inner c.in_ok-last.last c.in_ok-on.on c.in_ok-inner.ensures.exact c.in_ok-last.ensures c.in_ok-on.ensures.set read cost to)
+    subst (λ (l : List (Move Layer)). LayerStep c.args.self.now.machines.now (uppers_of c.args.self.now.region.now) (AreGoodTotals c.args.self.now.rows.now c.args.self.now.region.now) c.args.at.now read cost to ↔ Any (Moves read cost to) l) (sym e)
+    (moves-exact c.args.self.now.machines.now (uppers_of c.args.self.now.region.now) (AreGoodTotals c.args.self.now.rows.now c.args.self.now.region.now) c.args.at.now c.machine_at-machine.result.now c.machine_at-machine.ensures c.in_ok-inner.inner c.in_ok-last.last c.in_ok-on.on c.in_ok-inner.ensures.exact c.in_ok-last.ensures c.in_ok-on.ensures.set read cost to)
 
 pub returns-clause-inhabited : goal.returns-clause-inhabited
 returns-clause-inhabited c =

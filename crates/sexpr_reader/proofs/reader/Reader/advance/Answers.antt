@@ -1,15 +1,15 @@
 use Rattle.std.proofs.Common.{sym, subst, not, append-nil, ◌==◌}
 use Rattle.sexpr_reader.specs.Bytes.{is_border}
-use Rattle.sexpr_reader.specs.Standing.{Stands}
+use Rattle.sexpr_reader.specs.Standing.{HasGiven}
 use Rattle.sexpr_reader.proofs.Moves.{not_false}
 use Rattle.sexpr_reader.proofs.Shapes.{run_ends, literal_ends, ends_by}
 use Rattle.sexpr_reader.proofs.reader.Reader.advance.Goals as goal
 
 pub returns-in-Skip-clause-steps : goal.returns-in-Skip-clause-steps
-returns-in-Skip-clause-steps c = λ ended bytes given s. subst (Stands ended c.skip.new.self bytes) (sym (append-nil given)) (c.skip.ensures.stands ended bytes given (record { at = s.at }))
+returns-in-Skip-clause-steps c = λ ended bytes given s. subst (HasGiven ended c.skip.new.self bytes) (sym (append-nil given)) (c.skip.ensures.stands ended bytes given (record { at = s.at }))
 
 pub returns-in-Take-clause-steps : goal.returns-in-Take-clause-steps
-returns-in-Take-clause-steps c = λ ended bytes given s. subst (Stands ended c.take.new.self bytes) (sym (append-nil given)) (c.take.ensures.stands ended bytes given (record { at = s.at }))
+returns-in-Take-clause-steps c = λ ended bytes given s. subst (HasGiven ended c.take.new.self bytes) (sym (append-nil given)) (c.take.ensures.stands ended bytes given (record { at = s.at }))
 
 pub returns-in-EndRun-clause-steps : goal.returns-in-EndRun-clause-steps
 returns-in-EndRun-clause-steps c = λ ended bytes given s.

@@ -1,5 +1,5 @@
 use Rattle.std.proofs.Common.{◌+◌, ◌-◌, ◌++◌, refl, sym, ap, ◌∙◌, subst, ℕ, Some, take, drop, arith, get_or}
-use Rattle.sexpr_reader.specs.declared.kind.Kind.TheVariants.{Quoted}
+use Rattle.sexpr_reader.specs.declared.kind.TokenKind.TheVariants.{Quoted}
 use Rattle.sexpr_reader.specs.Items.{tokens_of_all, open_tokens}
 use Rattle.sexpr_reader.specs.Tokens.{Atomic, IsQuoted}
 use Rattle.sexpr_reader.proofs.Levels.{levels-word}

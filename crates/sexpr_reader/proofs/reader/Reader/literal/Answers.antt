@@ -1,6 +1,6 @@
 use Rattle.std.proofs.Common.{◌≡◌, ◌-◌, ◌++◌, ◌∷◌, [], refl, sym, ap, ◌∙◌, List, ℕ, true, false, Some, take, drop, append_assoc}
 use Rattle.sexpr_reader.specs.declared.syntax_fault.SyntaxFault.TheVariants as f
-use Rattle.sexpr_reader.specs.declared.kind.Kind.TheVariants.{Literal}
+use Rattle.sexpr_reader.specs.declared.kind.TokenKind.TheVariants.{Literal}
 use Rattle.sexpr_reader.specs.Items.{tokens_of_all, open_tokens}
 use Rattle.sexpr_reader.specs.Tokens.{Atomic, IsLiteral, doubled, is_readable}
 use Rattle.sexpr_reader.proofs.Levels.{levels-word}

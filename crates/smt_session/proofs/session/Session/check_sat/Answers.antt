@@ -6,8 +6,8 @@ use Rattle.decide.specs.Completeness.{MustDecide, IsComplete}
 use Rattle.sort_check.specs.WellFormed.{is_well_formed, IsTermOf}
 use Rattle.sv_terms.specs.declared.sort.Sort.TheVariants as sort
 use Rattle.smt_session.specs.Steps.{State, with_verdict, kept_of}
-use Rattle.smt_session.specs.declared.session.Kept.TheVariants as kept
-use Rattle.smt_session.specs.Verdicts.{Covers, constants_of}
+use Rattle.smt_session.specs.declared.session.LastVerdict.TheVariants as kept
+use Rattle.smt_session.specs.Verdicts.{IsVerdictFor, constants_of}
 use Rattle.smt_session.proofs.Models.{given}
 use Rattle.smt_session.proofs.Soundness.{sound-formed, sound-live}
 use Rattle.smt_session.proofs.session.Session.check_sat.Goals as goal
@@ -22,7 +22,7 @@ verdict_of-requires-clause-terms g c κs within =
 
 pub invariant_of-self : goal.invariant_of-self
 invariant_of-self g c =
-    let covers = subst (Covers c.symbols.result.now c.live.result.now) c.in-Sat.is c.in_ok-model.ensures.covers in (
+    let covers = subst (IsVerdictFor c.symbols.result.now c.live.result.now) c.in-Sat.is c.in_ok-model.ensures.covers in (
       c.self.invariant.0,
       given c.entries_are_well_formed.ensures.found c.in-Sat.model (symbols_of c.self.inside.stack) (sound-formed c.self.inside.stack c.self.invariant.0) (covers.covers ∙ ap constants_of c.symbols.ensures),
       c.self.invariant.2,
@@ -39,6 +39,6 @@ returns-in-Unsat-clause-ok g c =
       told = (_, c.in-Unsat.is);
       right = subst (λ l. RightVerdict l answer) all c.in_ok-model.ensures.right;
       complete = λ must. subst (λ l. IsComplete l answer) all (c.in_ok-model.ensures.complete (subst MustDecide (sym all) must));
-      covers = subst (λ z. Covers z (live c.args.self.now.levels) answer) symbols (subst (λ l. Covers c.symbols.result.now l answer) all c.in_ok-model.ensures.covers);
+      covers = subst (λ z. IsVerdictFor z (live c.args.self.now.levels) answer) symbols (subst (λ l. IsVerdictFor c.symbols.result.now l answer) all c.in_ok-model.ensures.covers);
       after = ap (with_verdict kept.Unsat) c.self.view_is ∙ ap (λ k. with_verdict k c.args.self.now) (sym (ap kept_of c.in-Unsat.is));
     }

@@ -2,7 +2,7 @@ use Rattle.std.proofs.Common.{ap, sym, ◌∙◌, subst}
 use Rattle.assert_stack.specs.Levels.{symbols_of}
 use Rattle.sort_check.specs.Checking.{checked}
 use Rattle.smt_names.specs.Form.{seen}
-use Rattle.smt_session.specs.Standing.{Fits}
+use Rattle.smt_session.specs.Standing.{FitsLevels}
 use Rattle.smt_session.specs.Steps.{State, Performs}
 use Rattle.smt_session.proofs.Names.{if-ok}
 use Rattle.smt_session.proofs.Soundness.{fits}
@@ -12,7 +12,7 @@ pub perform-requires-clause-fits : goal.perform-requires-clause-fits
 perform-requires-clause-fits g c κs within =
     let stack = c.self.inside.stack in
     let is = sym (ap (λ z. checked z (seen c.args.item.now)) c.symbols.ensures) ∙ c.in-Ok.ensures in
-    subst (λ ls. Fits ls c.in-Ok.command) (ap (λ (s : State). s.levels) c.self.view_is)
+    subst (λ ls. FitsLevels ls c.in-Ok.command) (ap (λ (s : State). s.levels) c.self.view_is)
     (fits c.terms_are_sorted.ensures.asserted c.terms_are_taken_one_by_one.ensures c.additions_are_well_formed.ensures.declared c.additions_are_well_formed.ensures.defined stack c.args.item.now c.in-Ok.command c.self.invariant.0 is)
 
 pub returns-in-Ok-clause-ok : goal.returns-in-Ok-clause-ok

@@ -1,6 +1,6 @@
 use Rattle.std.proofs.Common.{◌≡◌, ◌≤◌, ℕ, ◌∙◌, ap, subst, sym, get_or, length, ◌<◌}
 use Rattle.std.proofs.lemmas.Result.{on_ok_weaker}
-use Rattle.straight_line.specs.Bounds.{used}
+use Rattle.straight_line.specs.Using.{used}
 use Rattle.straight_line.specs.Straight.{AreBelow}
 use Rattle.straight_line.specs.Waiting.{IsAhead}
 use Rattle.straight_line.proofs.Sorted.{files_free, files_waiting, get_item}

@@ -1,4 +1,4 @@
-use Rattle.std.proofs.Common.{◌≡◌, ◌∙◌, ◌≤◌, ◌+◌, length, drop, take, arith, rules}
+use Rattle.std.proofs.Common.{◌≡◌, ◌∙◌, ◌≤◌, ◌+◌, length, drop, arith, rules}
 use Rattle.std.proofs.lemmas.List.{drop_all}
 use Rattle.sv_io.proofs.Given.{given_front}
 use Rattle.sv_io.proofs.memory_source.MemSourceSource.read.Goals as goal

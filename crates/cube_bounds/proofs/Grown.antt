@@ -1,0 +1,94 @@
+-- Growths, cut off at each step or in the end.
+use Rattle.std.proofs.Common.{◌≡◌, refl, sym, ap, ◌∙◌, ℕ, zero, suc, ◌+◌, ◌-◌, ◌*◌, ◌/◌, ◌<◌, ◌≤◌, max, inl, inr, List, [], ◌∷◌, ◌++◌, map, length, get_or, set, take, drop, drop-cons, arith}
+use Rattle.std.specs.List.{range_with_len}
+use Rattle.std.proofs.lemmas.List.{length-map, take_more}
+use Rattle.sv_terms.specs.CutOff.{cut_off, cut-add}
+use Rattle.std.proofs.Math.Nat.{div-eq_of_lt}
+use Rattle.std.proofs.lemmas.Bool.{cases_lt}
+use Rattle.cube_bounds.specs.Bounds.{greatest}
+use Rattle.cube_bounds.specs.Growth.{growth_by, grown, longest_word}
+use Rattle.straight_line.specs.declared.definition.Definition.{Definition}
+use Rattle.cube_bounds.proofs.Multiplied.{cut_product, map_set}
+
+cut_sum : (a b : ℕ) → cut_off (cut_off a + cut_off b) ≡ cut_off (a + b)
+cut_sum a b = cut-add 18446744073709551615 a b
+
+cut_max : (a b : ℕ) → max (cut_off a) (cut_off b) ≡ cut_off (max a b)
+cut_max a b = omega arith
+
+pub first_of : {X : Type 0} (xs : List X) (x : X) (i : ℕ) → 0 < i → i ≤ length xs → x ≡ get_or xs (i - 1) x → drop (i - 1) xs ≡ x ∷ drop i xs
+first_of xs x i o l e =
+    let up : suc (i - 1) ≡ i = omega arith in
+    drop-cons xs (i - 1) x (omega arith) ∙ (λ j. sym e j ∷ drop (up j) xs)
+
+-- the number at a place
+pub cut_at : (ms : List ℕ) (v : ℕ) → get_or (map cut_off ms) v 1 ≡ cut_off (get_or ms v 1)
+cut_at [] v = omega arith
+cut_at (m ∷ ms) zero = refl
+cut_at (m ∷ ms) (suc v) = cut_at ms v
+
+pub growth_here : (ns ms : List ℕ) (v n : ℕ) → ns ≡ map cut_off ms → n ≡ get_or ns v 1 → n ≡ cut_off (get_or ms v 1)
+growth_here ns ms v n e f = f ∙ ap (λ l. get_or l v 1) e ∙ cut_at ms v
+
+-- the four ways
+pub first_growth : (g n p u : ℕ) → n ≡ cut_off g → cut_off (cut_off (n + p) + u) ≡ cut_off (g + p + u)
+first_growth g n p u e = ap (λ x. cut_off (cut_off (x + p) + u)) e ∙ omega arith
+
+pub all_growth : (g n p u : ℕ) → n ≡ cut_off g → u ≤ 18446744073709551615 → cut_off (cut_off (n + p) * max u 1) ≡ cut_off ((g + p) * max 1 u)
+all_growth g n p u e l =
+    let a : cut_off (cut_off g + p) ≡ cut_off (g + p) = omega arith in
+    let b : max u 1 ≡ cut_off (max 1 u) = omega arith in
+    ap (λ x. cut_off (cut_off (x + p) * max u 1)) e ∙ (λ i. cut_off (a i * b i)) ∙ cut_product (g + p) (max 1 u)
+
+pub through_growth : (g n a b x y : ℕ) → n ≡ cut_off g → x ≡ cut_off a → y ≡ cut_off b → max n (cut_off (cut_off (n * x) + y)) ≡ cut_off (max g (g * a + b))
+through_growth g n a b x y e p q =
+    (λ i. max (e i) (cut_off (cut_off (e i * p i) + q i))) ∙ ap (λ z. max (cut_off g) (cut_off (z + cut_off b))) (cut_product g a) ∙ ap (max (cut_off g)) (cut_sum (g * a) b) ∙ cut_max g (g * a + b)
+
+set_past : (xs : List ℕ) (i y : ℕ) → length xs ≤ i → set xs i y ≡ xs
+set_past [] i y h = refl
+set_past (x ∷ xs) zero y h = absurd (omega arith)
+set_past (x ∷ xs) (suc i) y h = ap (λ l. x ∷ l) (set_past xs i y (omega arith))
+
+-- one definition
+pub grown_here : (ns ms : List ℕ) (v n g : ℕ) → ns ≡ map cut_off ms → n ≡ cut_off g → set ns v n ≡ map cut_off (set ms v g)
+grown_here ns ms v n g e f = (λ i. set (e i) v (f i)) ∙ sym (map_set cut_off ms v g)
+
+pub grown_past : (ns ms : List ℕ) (v g : ℕ) → ns ≡ map cut_off ms → length ns ≤ v → ns ≡ map cut_off (set ms v g)
+grown_past ns ms v g e l =
+    let h : length ns ≡ length ms = ap length e ∙ length-map ms cut_off in
+    e ∙ ap (map cut_off) (sym (set_past ms v g (omega arith)))
+
+grown_push : (ds : List Definition) (d : Definition) (gs : List ℕ) → grown gs (ds ++ d ∷ []) ≡ set (grown gs ds) d.variable (growth_by (grown gs ds) d.by)
+grown_push [] d gs = refl
+grown_push (e ∷ ds) d gs = grown_push ds d (set gs e.variable (growth_by gs e.by))
+
+pub grown_more : (ds : List Definition) (d : Definition) (i : ℕ) (ns new ms : List ℕ) → i < length ds → d ≡ get_or ds i d → ns ≡ map cut_off (grown ms (take i ds)) → ((ls : List ℕ) → ns ≡ map cut_off ls → new ≡ map cut_off (set ls d.variable (growth_by ls d.by))) → new ≡ map cut_off (grown ms (take (i + 1) ds))
+grown_more ds d i ns new ms h e p f =
+    let t : take (i + 1) ds ≡ take i ds ++ d ∷ [] = take_more ds i d h ∙ ap (λ x. take i ds ++ x ∷ []) (sym e) in
+    f (grown ms (take i ds)) p ∙ ap (map cut_off) (sym (grown_push (take i ds) d ms) ∙ ap (grown ms) (sym t))
+
+-- ones
+abbrev pub one_each : {X : Type 0} → X → ℕ
+one_each x = 1
+
+pub all_ones : {X : Type 0} (xs : List X) (k : ℕ) → map (λ (n : ℕ). one_each n) (range_with_len k (length xs)) ≡ map cut_off (map (λ (x : X). one_each x) xs)
+all_ones [] k = refl
+all_ones (x ∷ xs) k = let e : one_each k ≡ cut_off 1 = omega arith in λ i. e i ∷ all_ones xs (k + 1) i
+
+pub ones_push : (k n : ℕ) → map (λ (m : ℕ). one_each m) (range_with_len k (n + 1)) ≡ map (λ (m : ℕ). one_each m) (range_with_len k n) ++ 1 ∷ []
+ones_push k zero = refl
+ones_push k (suc n) = let e : suc n + 1 ≡ suc (n + 1) = omega arith in ap (λ m. map one_each (range_with_len k m)) e ∙ ap (λ l. one_each k ∷ l) (ones_push (k + 1) n)
+
+-- a growth above the greatest number of 64 bits leaves nothing, as the greatest does
+pub reach_cut : (n g : ℕ) → n ≡ cut_off g → longest_word / n ≡ longest_word / g
+reach_cut n g e = elim (cases_lt 18446744073709551615 g) [
+  | inl h ↦
+      let low : longest_word < n = omega arith in
+      let high : longest_word < g = omega arith in
+      div-eq_of_lt low ∙ sym (div-eq_of_lt high)
+  | inr h ↦ let same : n ≡ g = omega arith in ap (λ x. longest_word / x) same
+]
+
+pub most_is : (ns : List ℕ) → 1 ≤ greatest 1 ns
+most_is [] = omega arith
+most_is (n ∷ ns) = let h = most_is ns in omega arith

@@ -1,0 +1,12 @@
+pub mod Multiplied
+pub mod Owned
+pub mod Grown
+pub mod Splits
+pub mod Rounded
+pub mod Boxed
+pub mod Few
+pub mod Solved
+pub mod Lengths
+pub mod Sourced
+pub mod Grows
+pub mod Samples

@@ -1,5 +1,0 @@
-use Rattle.std.proofs.Common.{refl}
-use Rattle.regex_machine.proofs.sides.Side.outside.Goals as goal
-
-pub returns : goal.returns
-returns c = record { words = c.of-others.ensures.language; size = refl }

@@ -1,6 +1,0 @@
-use Rattle.std.proofs.Common.{refl}
-use Rattle.regex_machine.proofs.SideLemmas.{side-within}
-use Rattle.regex_machine.proofs.sides.Side.within.Goals as goal
-
-pub returns : goal.returns
-returns c = record { words = side-within c.args.part.now c.requires; size = refl }

@@ -1,8 +1,0 @@
-use Rattle.std.proofs.Common.{◌≡◌, ℕ, List, length, map, drop}
-use Rattle.sv_terms.specs.CutOff.{cut_off}
-use Rattle.straight_line.specs.Bounds.{carried_all}
-use Rattle.straight_line.specs.Straight.{AreWithin}
-use Rattle.straight_line.proofs.carrying.carry_all.Given as goal
-
-abbrev pub invariant-loop-i : goal.invariant-loop-i
-invariant-loop-i l = (ms : List ℕ) → l.initial.numbers ≡ map cut_off ms → AreWithin (length ms) l.definitions → l.numbers ≡ map cut_off (carried_all (drop l.i l.definitions) ms)

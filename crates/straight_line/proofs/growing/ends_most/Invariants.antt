@@ -1,7 +1,0 @@
-use Rattle.std.proofs.Common.{◌≡◌, drop}
-use Rattle.sv_terms.specs.CutOff.{cut_off}
-use Rattle.sv_terms.specs.TransducerSizes.{ends_most}
-use Rattle.straight_line.proofs.growing.ends_most.Given as goal
-
-abbrev pub invariant-loop-i : goal.invariant-loop-i
-invariant-loop-i l = l.most ≡ cut_off (ends_most (drop l.i l.ends))

@@ -1,7 +1,0 @@
-use Rattle.std.proofs.Common.{◌≡◌, ℕ, List, map, take}
-use Rattle.sv_terms.specs.CutOff.{cut_off}
-use Rattle.straight_line.specs.Growth.{grown}
-use Rattle.straight_line.proofs.growing.grow_all.Given as goal
-
-abbrev pub invariant-loop-definition : goal.invariant-loop-definition
-invariant-loop-definition l = (ms : List ℕ) → l.initial.numbers ≡ map cut_off ms → l.numbers ≡ map cut_off (grown ms (take l.definition-index l.definitions))

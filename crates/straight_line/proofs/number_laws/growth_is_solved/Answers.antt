@@ -1,8 +1,0 @@
-use Rattle.straight_line.proofs.Grows.{bounded, solved}
-use Rattle.straight_line.proofs.number_laws.growth_is_solved.Goals as goal
-
-pub returns-clause-solved : goal.returns-clause-solved
-returns-clause-solved c = solved
-
-pub returns-clause-bounded : goal.returns-clause-bounded
-returns-clause-bounded c = bounded
