@@ -53,13 +53,13 @@ link_repository() {
     fi
 }
 
-# Proves the crate $1 and builds its library, or the program where $2 is run. A failure is told with
-# what the toolchain said.
+# Proves the crate $1 and builds its library, or the program where $2 is run, by $3 jobs. A failure is told
+# with what the toolchain said.
 build_crate() {
     local log=$building/$1.log status
     echo "strsolve:   $1 begins" >&2
     link_repository "$1" || return 1
-    (cd "$building/$1/crates/$1" && rt "$2") </dev/null >"$log" 2>&1 9>&-
+    (cd "$building/$1/crates/$1" && rt "$2" --jobs "$3") </dev/null >"$log" 2>&1 9>&-
     status=$?
     rm -rf "$root/crates/$1/out"
     mv "$building/$1/crates/$1/out" "$root/crates/$1/out" || return 1
@@ -82,23 +82,47 @@ is_ready() {
     done
 }
 
-# Builds all crates below the program, each as soon as those below it are done, as many at once as there are processors;
-# begins none after the first that fails. What an earlier run built stays where it is the present sources'.
-build_below() {
-    local -A name_of=()
-    local -a waiting=("${order[@]}") left
-    local name job
-    while [ ${#waiting[@]} -gt 0 ] || [ ${#name_of[@]} -gt 0 ]; do
-        left=()
-        for name in "${waiting[@]}"; do
-            if [ ${#name_of[@]} -lt "$(nproc)" ] && is_ready "$name"; then
-                build_crate "$name" lib &
-                name_of[$!]=$name
-            else
-                left+=("$name")
+# Puts the crates of `order` into the list `sorted`, first those behind which most lines of source wait, in the longest
+# chain of crates above them.
+declare -A lines_from
+sorted=()
+sort_by_chains() {
+    local at name below lines
+    for ((at = ${#order[@]} - 1; at >= 0; at--)); do
+        name=${order[at]}
+        lines=$(find "$root/crates/$name/src" -name '*.rt' -exec cat {} + | wc -l)
+        lines_from[$name]=$((lines + ${lines_from[$name]:-0}))
+        for below in $(crates_below "$name"); do
+            if [ "${lines_from[$below]:-0}" -lt "${lines_from[$name]}" ]; then
+                lines_from[$below]=${lines_from[$name]}
             fi
         done
-        waiting=("${left[@]}")
+    done
+    mapfile -t sorted < <(for name in "${order[@]}"; do echo "${lines_from[$name]} $name"; done | sort -rn | cut -d ' ' -f 2)
+}
+
+# Builds all crates below the program, each as soon as those below it are done, as many at once as there are processors;
+# begins none after the first that fails. A crate gets the processors that no other one waits for: further jobs of one
+# crate read the libraries below it once more. What an earlier run built stays where it is the present sources'.
+build_below() {
+    local -A name_of=()
+    local -a waiting=("${sorted[@]}") left ready
+    local name job idle
+    while [ ${#waiting[@]} -gt 0 ] || [ ${#name_of[@]} -gt 0 ]; do
+        left=()
+        ready=()
+        for name in "${waiting[@]}"; do
+            if is_ready "$name"; then ready+=("$name"); else left+=("$name"); fi
+        done
+        idle=$(($(nproc) - ${#name_of[@]}))
+        for name in "${ready[@]}"; do
+            if [ "$idle" -le 0 ]; then break; fi
+            build_crate "$name" lib $((idle > ${#ready[@]} ? idle / ${#ready[@]} : 1)) &
+            name_of[$!]=$name
+            idle=$((idle - 1))
+            ready=("${ready[@]:1}")
+        done
+        waiting=("${ready[@]}" "${left[@]}")
         if ! wait -n -p job "${!name_of[@]}"; then
             wait
             return 1
@@ -123,9 +147,10 @@ build() {
     # A run of the toolchain over the whole checkout refuses a list of crates below the top.
     trap 'rm -rf "$building"' EXIT
     list_below strsolve
+    sort_by_chains
     echo "strsolve: proving and building the program, crate by crate, which takes long the first time" >&2
     rm -f "$program"
-    if build_below; then build_crate strsolve run; fi
+    if build_below; then build_crate strsolve run "$(nproc)"; fi
     rm -rf "$building"
     if [ ! -x "$program" ]; then
         echo "strsolve: it could not be built" >&2

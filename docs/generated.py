@@ -2,7 +2,7 @@
 """Draws generated scripts by itself, and compares how their checks come out: docs/generated.py PROGRAM
 
 Prints each seed for which the built program's summary is another one, and ends with 1 if there is one. The first eight
-blocks of the seeds that the tests of `generated_script` hold were drawn by `blocks`.
+blocks of seed 1, which a test in term_tests holds, were drawn by `blocks`.
 """
 import random
 import subprocess

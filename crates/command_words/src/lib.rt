@@ -18,8 +18,6 @@
 
 mod command_line;
 mod options;
-#[cfg(test)]
-mod tests;
 mod words_fault;
 
 pub use command_line::{CommandLine, Task, read};

@@ -16,8 +16,6 @@
 mod blocks;
 mod shape;
 mod tally;
-#[cfg(test)]
-mod tests;
 
 pub use blocks::Blocks;
 pub use shape::Shape;

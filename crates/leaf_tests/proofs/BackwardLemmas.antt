@@ -1,14 +1,10 @@
 -- What the tests' families have: three machines of which no edge or end costs more than 1.
-use Rattle.std.proofs.Common.{◌≡◌, ℕ, zero, suc, ◌*◌, ◌<◌, ◌≤◌, max, nat_eq, cond, Bool, true, false, [], ◌∷◌, Contains, Some, refl, sym, ap, ◌∙◌, subst, arith, mul-le-mul}
+use Rattle.std.proofs.Common.{◌≡◌, ℕ, zero, suc, ◌<◌, ◌≤◌, nat_eq, cond, Bool, true, false, [], ◌∷◌, Contains, Some, refl, sym, subst, arith, mul-le-mul}
 use Rattle.machine_core.specs.declared.graph.Graph.{Graph}
-use Rattle.machine_core.specs.Edges.{edges_top, ends_top}
 use Rattle.machine_core.specs.Graphs.{graph_top}
-use Rattle.sv_terms.specs.Transduction.{IsFormed}
-use Rattle.sv_terms.specs.TransducerSizes.{edges_most, ends_most}
-use Rattle.sv_terms.specs.declared.transducer.Transducer.{Transducer}
 use Rattle.backward.specs.Families.{Family, HasMachine}
 use Rattle.backward.specs.Pieces.{occurrences}
-use Rattle.backward.specs.Carried.{CanCut, CanPass}
+use Rattle.backward.specs.Carried.{CanCut}
 
 one-of : (c s : ℕ) → Contains (c ∷ []) s → s ≡ c
 one-of c s (zero, lt, e) = sym e
@@ -52,9 +48,6 @@ can-cut ms m n k p q cut e a b c at_p at_q lt = record {
 pub free : (t : ℕ) → t ≡ 0 → t ≤ 1
 free t e = omega arith
 
-pub dear : (t : ℕ) → t ≡ 1 → t ≤ 1
-dear t e = omega arith
-
 -- y, the first one
 pub has-first : (ms : Family) (m n k : Graph) → ms ≡ Some m ∷ Some n ∷ Some k ∷ [] → (◌≡◌ {A = ℕ} 0 1 → ⊥) × ((g : Graph) × HasMachine ms 0 g)
 has-first ms m n k e = ((λ i. omega (arith, i)), (m, subst (λ l. HasMachine l 0 m) (sym e) refl))
@@ -62,17 +55,3 @@ has-first ms m n k e = ((λ i. omega (arith, i)), (m, subst (λ l. HasMachine l 
 -- z, the third one
 pub has-third : (ms : Family) (m n k : Graph) → ms ≡ Some m ∷ Some n ∷ Some k ∷ [] → (◌≡◌ {A = ℕ} 2 1 → ⊥) × ((g : Graph) × HasMachine ms 2 g)
 has-third ms m n k e = ((λ i. omega (arith, i)), (k, subst (λ l. HasMachine l 2 k) (sym e) refl))
-
--- the machine of x, at no cost, can be carried to y, at no cost, through any formed transducer
-pub can-pass : (ms : Family) (m n k : Graph) (t : Transducer) → ms ≡ Some m ∷ Some n ∷ Some k ∷ [] → graph_top m ≡ 0 → graph_top n ≡ 0 → IsFormed t → CanPass ms 1 n 0 m t
-can-pass ms m n k t e a b formed = record {
-  machine = subst (λ l. HasMachine l 1 n) (sym e) refl;
-  other = λ i. omega (arith, i);
-  reader = subst (λ l. HasMachine l 0 m) (sym e) refl;
-  formed = formed;
-  fits =
-      let edges : edges_top n.edges ≡ 0 = omega arith in
-      let ends : ends_top n.ends ≡ 0 = omega arith in
-      let path : edges_top n.edges * max (edges_most t.edges) (ends_most t.ends) ≡ 0 = ap (λ j. j * max (edges_most t.edges) (ends_most t.ends)) edges ∙ (omega arith) in
-      omega arith;
-}

@@ -1,11 +1,10 @@
-//! One machine, or none, under rows on the length of its word or on numbers.
-ghost use Rattle.std.specs.Prelude.{◌≡◌, ◌≢◌, ℕ, ℤ, pos, ◌≤◌, ◌<◌, List, [], ◌∷◌, All, Some, slice_get, IfOk};
-ghost use Rattle.sv_linear.specs.Rows.{IsRowWithin, MeetsRows, RowFits};
+//! One machine under a row on the length of its word.
+ghost use Rattle.std.specs.Prelude.{◌≡◌, ◌≢◌, ℕ, pos, ◌≤◌, ◌<◌, [], ◌∷◌, Some, slice_get, IfOk};
+ghost use Rattle.sv_linear.specs.Rows.{IsRowWithin};
 ghost use Rattle.sv_linear.specs.declared.row.Row.{Row};
-ghost use Rattle.box_search.specs.Regions.{AreWithin, amounts};
 
-use box_search::{Hit, Region};
-use leaf_solve::{Beyond, Closing, LeafAnswer, LongShown, leaf};
+use box_search::Region;
+use leaf_solve::{Closing, LeafAnswer, leaf};
 use machine_core::{Cost, Explicit};
 use std::alloc::{AllocError, Global};
 use sv_linear::{Form, Row, RowKind};
@@ -14,47 +13,17 @@ use sv_word::Ranges;
 
 const REACH: u64 = 4_194_303;
 
-/// What an answer is, and how many characters the words of a hit have.
-#[derive(Clone, Copy, Debug, PartialEq, Eq)]
+/// What ends a question about a machine: a tree that closes it, or something else.
+#[derive(Clone, Copy)]
 enum Ending {
-    Sat(usize),
-    Empty(u32),
     Tree,
-    Box,
-    Words,
-    Values,
-    GaveUp,
-    Open,
-}
-
-fn characters(hit: &Hit) -> usize {
-    let mut characters = 0usize;
-    for run in hit.runs.as_slice() {
-        characters = characters.saturating_add(run.word.len());
-    }
-    characters
+    Other,
 }
 
 fn ending_of(answer: &LeafAnswer) -> Ending {
     match answer {
-        LeafAnswer::Sat(hit) => Ending::Sat(characters(hit)),
-        LeafAnswer::Closed(Closing::Empty(place)) => Ending::Empty(*place),
         LeafAnswer::Closed(Closing::Tree(_, _)) => Ending::Tree,
-        LeafAnswer::Closed(Closing::Box) => Ending::Box,
-        LeafAnswer::Long(LongShown::Words(_)) => Ending::Words,
-        LeafAnswer::Long(
-            LongShown::Rows {
-                beyond: Beyond::Values(_),
-                ..
-            },
-        ) => Ending::Values,
-        LeafAnswer::Long(
-            LongShown::Rows {
-                beyond: Beyond::GaveUp(_, _),
-                ..
-            },
-        ) => Ending::GaveUp,
-        LeafAnswer::Open(_, _) => Ending::Open,
+        _ => Ending::Other,
     }
 }
 
@@ -89,17 +58,6 @@ fn sample(alloc: Global) -> Result<Explicit, AllocError>
     add_edge(alloc, &mut machine, 5, b'c', 3)?;
     machine.add_end(1, Cost::zeros(alloc, 1)?)?;
     machine.add_end(3, Cost::zeros(alloc, 1)?)?;
-    Ok(machine)
-}
-
-// All words, with their lengths.
-fn all_words(alloc: Global) -> Result<Explicit, AllocError>
-    ensures { IfOk result (λ m. m.registers ≡ 1) }
-{
-    let mut machine = Explicit::new(alloc, 1, 1)?;
-    let step = Cost::from_slice(alloc, &[1])?;
-    machine.add_edge(0, Ranges::all(alloc)?, step, 0)?;
-    machine.add_end(0, Cost::zeros(alloc, 1)?)?;
     Ok(machine)
 }
 
@@ -141,72 +99,10 @@ fn answer_at(alloc: Global, machine: Explicit, length: u32) -> Result<Ending, Al
     answer(alloc, machine, rows.as_slice(), REACH)
 }
 
+// An `a` and a `ccc` that lies apart have four characters, and balance.
 #[test]
-fn a_word_of_a_given_length(rt: HostRuntime) -> Result<(), AllocError> {
+fn a_cycle_apart_is_closed_by_a_tree(rt: HostRuntime) -> Result<(), AllocError> {
     let alloc = rt.alloc();
-    assert!(rt; answer_at(alloc, sample(alloc)?, 5)? == Ending::Sat(5));
-    assert!(rt; answer_at(alloc, sample(alloc)?, 4)? == Ending::Tree);
-    Ok(())
-}
-
-#[test]
-fn words_at_the_reach(rt: HostRuntime) -> Result<(), AllocError> {
-    let alloc = rt.alloc();
-    assert!(rt; answer_at(alloc, all_words(alloc)?, 4_194_303)? == Ending::Sat(4_194_303));
-    assert!(rt; answer_at(alloc, all_words(alloc)?, 4_194_304)? == Ending::Values);
-    Ok(())
-}
-
-#[test]
-fn shortest_words(rt: HostRuntime) -> Result<(), AllocError> {
-    let alloc = rt.alloc();
-    let none = Explicit::new(alloc, 1, 1)?;
-    assert!(rt; answer(alloc, none, &[], REACH)? == Ending::Empty(0));
-    assert!(rt; answer(alloc, sample(alloc)?, &[], 1)? == Ending::Sat(1));
-    assert!(rt; answer(alloc, sample(alloc)?, &[], 0)? == Ending::Words);
-    Ok(())
-}
-
-// That a number is between 0 and 1, and that it lies between two fractions whose rows have too large a
-// cross product.
-fn numbers(alloc: Global) -> Result<Items<Row>, AllocError>
-    ensures within { IfOk result (λ rows. (i : ℕ) (r : Row) → slice_get rows i ≡ Some r → IsRowWithin 1 r) }
-    ensures held { IfOk result (λ rows. (numbers : List ℤ) (totals : List ℕ) → MeetsRows 1 rows numbers totals → AreWithin ((pos 0, pos 1) ∷ []) numbers) }
-    ensures fits { IfOk result (λ rows. All (RowFits (amounts ((pos 0, pos 1) ∷ []))) rows) }
-{
-    let mut rows = Items::new(alloc);
-    rows.push(row(alloc, RowKind::Le, -1, 0)?)?;
-    rows.push(row(alloc, RowKind::Le, 1, -1)?)?;
-    rows.push(row(
-        alloc,
-        RowKind::Le,
-        3_000_000_000_000_000_000_000_000_000_001,
-        -2_000_000_000_000_000_000_000_000_000_000,
-    )?)?;
-    rows.push(row(
-        alloc,
-        RowKind::Le,
-        -3_000_000_000_000_000_000_000_000_000_001,
-        1_000_000_000_000_000_000_000_000_000_000,
-    )?)?;
-    Ok(rows)
-}
-
-// What is answered for one number between 0 and 1, which the region holds, and no machine.
-fn answer_of_numbers(alloc: Global, small: bool) -> Result<Ending, AllocError> {
-    let rows = numbers(alloc)?;
-    let region = Region {
-        empty: false,
-        registers: Items::new(alloc),
-        integers: Items::from_slice(alloc, &[(0, 1)])?,
-    };
-    let answer = leaf(alloc, &[], 1, rows.as_slice(), &region, small, 0)?;
-    Ok(ending_of(&answer))
-}
-
-#[test]
-fn bounds_close_what_no_tableau_holds(rt: HostRuntime) -> Result<(), AllocError> {
-    let alloc = rt.alloc();
-    assert!(rt; answer_of_numbers(alloc, true)? == Ending::Tree);
+    assert!(rt; matches!(answer_at(alloc, sample(alloc)?, 4)?, Ending::Tree));
     Ok(())
 }

@@ -1,4 +1,2 @@
-pub mod FarkasCheckRows
-pub mod LiaBranchLoops
 pub mod LiaBranchRows
 pub mod LiaTableauRows

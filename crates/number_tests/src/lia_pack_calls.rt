@@ -22,15 +22,6 @@ const WIDE: [(u32, i128); 8] = [
     (7, -1_008),
 ];
 
-/// Of the rows x + 2 y - 7 <= 0 and 3 x - y + 2^100 = 0.
-fn tableau(alloc: Global) -> Result<Tableau, Fail> {
-    let mut rows = Items::new(alloc);
-    rows.push(row_of(alloc, RowKind::Le, &[(0, 1), (1, 2)], -7)?)?;
-    rows.push(row_of(alloc, RowKind::Eq, &[(0, 3), (1, -1)], 1 << 100)?)?;
-    let system = system_over(alloc, 2, rows)?;
-    Ok(Tableau::new(alloc, system.rows.as_slice(), system.unknowns)?)
-}
-
 /// Of 1,500 rows with the wide terms, which take more than 65,536 bytes, and this constant in the last one.
 fn wide_tableau(alloc: Global, constant: i128) -> Result<Tableau, Fail> {
     let mut rows = Items::new(alloc);
@@ -53,23 +44,12 @@ fn read_back(alloc: Global, packed: &PackedTableau) -> Result<(usize, i128), Fai
     }
 }
 
-fn read_alone(alloc: Global) -> Result<(usize, i128), Fail> {
-    let packed = PackedTableau::of(alloc, &tableau(alloc)?, None)?;
-    read_back(alloc, &packed)
-}
-
 /// Of a tableau that is packed over two others.
 fn read_shared(alloc: Global) -> Result<(usize, i128), Fail> {
     let first = PackedTableau::of(alloc, &wide_tableau(alloc, 3)?, None)?;
     let second = PackedTableau::of(alloc, &wide_tableau(alloc, 70_000)?, Some(&first))?;
     let third = PackedTableau::of(alloc, &wide_tableau(alloc, -5)?, Some(&second))?;
     read_back(alloc, &third)
-}
-
-#[test]
-fn a_tableau_is_read_back(rt: HostRuntime) -> Result<(), Fail> {
-    assert!(rt; read_alone(rt.alloc())? == (2, 1 << 100));
-    Ok(())
 }
 
 #[test]

@@ -1,4 +1,4 @@
-//! Tests of the public calls on whole numbers: linear forms, certificates, the tableau, quick ways and splits.
+//! Tests of the public calls on lists and on whole numbers: linear forms, certificates, the tableau and splits.
 //!
 //! A module for each crate that is called. They stand apart from what they call, so that proving them proves no crate
 //! a second time.
@@ -11,10 +11,10 @@ mod lia_branch_calls;
 #[cfg(test)]
 mod lia_pack_calls;
 #[cfg(test)]
-mod lia_quick_calls;
-#[cfg(test)]
 mod lia_tableau_calls;
 #[cfg(test)]
 mod sv_linear_calls;
+#[cfg(test)]
+mod sv_list_calls;
 #[cfg(test)]
 mod systems;

@@ -10,13 +10,11 @@ use std::test::Fail;
 use sv_linear::{Form, FormFault, Row, RowKind};
 use sv_list::Items;
 
+/// A row's kind, its constant, and its coefficients at x and at y.
+pub(crate) type Entries = (RowKind, i128, i128, i128);
+
 /// The form, and so many times the unknown.
-pub(crate) fn add_term(
-    alloc: Global,
-    form: &Form,
-    unknown: u32,
-    times: i128,
-) -> Result<Form, FormFault> {
+fn add_term(alloc: Global, form: &Form, unknown: u32, times: i128) -> Result<Form, FormFault> {
     let one = Form::of_unknown(alloc, unknown)?;
     let term = one.scale(alloc, times)?;
     form.add(alloc, &term)
@@ -34,6 +32,14 @@ pub(crate) fn row_of(
         form = add_term(alloc, &form, *unknown, *coefficient)?;
     }
     Ok(Row { form, kind })
+}
+
+pub(crate) fn rows_of(alloc: Global, table: &[Entries]) -> Result<Items<Row>, Fail> {
+    let mut rows = Items::new(alloc);
+    for (kind, constant, x, y) in table {
+        rows.push(row_of(alloc, *kind, &[(0, *x), (1, *y)], *constant)?)?;
+    }
+    Ok(rows)
 }
 
 /// The system of these rows, where they name unknowns of it alone.

@@ -1,2 +1,1 @@
-pub mod CubeSearchSamples
 pub mod DecideSamples

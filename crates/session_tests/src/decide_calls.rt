@@ -1,16 +1,16 @@
-//! Verdicts at small assertions on a word, by one thread and by several.
+//! Two cubes of small assertions on a word, which two threads refute at once.
 ghost use Rattle.std.specs.Prelude.{◌≡◌, ◌≤◌, ◌∷◌, [], IfOk};
 ghost use Rattle.sv_terms.specs.declared.sort.Sort.TheVariants as sort;
 ghost use Rattle.decide.specs.Samples.{IsSample};
 
 use decide::{Verdict, check};
-use par_phase::{Free, Gate};
+use par_phase::Gate;
 use std::alloc::{AllocError, Global};
 use std::sync::atomic::{AtomicBool, Ordering};
 use std::test::Fail;
 use std::thread::Threads;
 use sv_list::{Boxed, Items};
-use sv_terms::{Name, Op, Regex, Sort, Term, Value};
+use sv_terms::{Name, Op, Regex, Sort, Term};
 use sv_word::Word;
 
 // The one constant, x.
@@ -64,22 +64,6 @@ fn one_of_two(alloc: Global, first: u8) -> Result<Term, AllocError>
     Ok(either(alloc, left, right)?)
 }
 
-fn one_of_four(alloc: Global, first: u8) -> Result<Term, AllocError>
-    ensures { IfOk result (IsSample sort.Bool) }
-{
-    let left = one_of_two(alloc, first)?;
-    let right = one_of_two(alloc, first.wrapping_add(2))?;
-    Ok(either(alloc, left, right)?)
-}
-
-fn one_of_eight(alloc: Global, first: u8) -> Result<Term, AllocError>
-    ensures { IfOk result (IsSample sort.Bool) }
-{
-    let left = one_of_four(alloc, first)?;
-    let right = one_of_four(alloc, first.wrapping_add(4))?;
-    Ok(either(alloc, left, right)?)
-}
-
 fn is_in(alloc: Global, regex: Regex) -> Result<Term, AllocError>
     ensures { IfOk result (IsSample sort.Bool) }
 {
@@ -103,35 +87,6 @@ fn verdict_on<R: Threads + Sync, G: Gate + Sync>(
     let terms = pair(alloc, first, second)?;
     let verdict = check(rt, alloc, terms.as_slice(), workers, gate)?;
     Ok(verdict)
-}
-
-// Whether the verdict is a model with this letter for x.
-fn has_letter(alloc: Global, verdict: &Verdict, letter: u8) -> Result<bool, AllocError> {
-    match verdict {
-        Verdict::Sat(model) => match model.get(&Name::of(alloc, b"x")?) {
-            Some(Value::Text(word)) => Ok(word.same(&word_of(alloc, letter)?)),
-            _ => Ok(false),
-        },
-        _ => Ok(false),
-    }
-}
-
-// Whether the sixth of eight letters is found, which alone is in the regular expression.
-fn finds_sixth<R: Threads + Sync>(rt: &R, alloc: Global, workers: u32) -> Result<bool, AllocError>
-    requires { 1 ≤ workers }
-{
-    let letters = one_of_eight(alloc, b'a')?;
-    let word = word_of(alloc, b'f')?;
-    let sixth = is_in(alloc, Regex::Text(word))?;
-    let verdict = verdict_on(rt, alloc, letters, sixth, workers, &Free)?;
-    has_letter(alloc, &verdict, b'f')
-}
-
-#[test]
-fn one_thread_and_four_find_the_same_model(rt: HostRuntime) -> Result<(), Fail> {
-    assert!(rt; finds_sixth(&rt, rt.alloc(), 1)?);
-    assert!(rt; finds_sixth(&rt, rt.alloc(), 4)?);
-    Ok(())
 }
 
 // Holds the first cube until the second has arrived, for so many turns at the most.

@@ -85,9 +85,9 @@ impl Reader {
 
     /// The next whole item. Where it answers `None`, more bytes or the end have to come first.
     ///
-    /// A fault is answered again by each later call, whatever is fed. A call looks only at bytes
-    /// that none looked at before, and once more at the token that they end; it takes memory for
-    /// the item and for the lists that are open.
+    /// A fault is answered again by each later call of `next`, whatever is fed. A call looks only at
+    /// bytes that none looked at before, and once more at the token that they end; it takes memory
+    /// for the item and for the lists that are open.
     pub fn next(&mut self) -> Result<Option<Sexpr>, SyntaxFault>
         ensures answers { (bytes : List ℕ) (given : List Sexpr) → HasGiven false self.old bytes given → AnswersNext self.new bytes given result }
     {
@@ -95,7 +95,8 @@ impl Reader {
     }
 
     /// The next item where no byte follows, so that a last atom is whole. It is called until it
-    /// answers `None` or a fault, and costs what `next` does.
+    /// answers `None` or a fault, which it answers again if it is called once more. It costs what
+    /// `next` does.
     pub fn end(&mut self) -> Result<Option<Sexpr>, SyntaxFault>
         ensures answers { (ended : Bool) (bytes : List ℕ) (given : List Sexpr) → HasGiven ended self.old bytes given → AnswersEnd ended self.new bytes given result }
     {

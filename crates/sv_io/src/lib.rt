@@ -34,6 +34,3 @@ pub use source::{Failed, Source};
 pub use standard_sink::StdSink;
 pub use standard_source::StdSource;
 pub use words::ProgramArguments;
-
-#[cfg(test)]
-mod tests;

@@ -10,7 +10,5 @@
 #![tactic(auto)]
 
 mod log;
-#[cfg(test)]
-mod tests;
 
 pub use log::Log;

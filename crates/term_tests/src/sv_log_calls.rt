@@ -1,8 +1,8 @@
-use crate::Log;
+//! The size of a log.
 use std::mem::size_of;
+use sv_log::Log;
 
 #[test]
 fn a_log_takes_no_memory(rt: HostRuntime) {
-    let _log = Log::new().and(&1u64).and(&2);
     assert!(rt; size_of::<Log<u64>>() == 0);
 }

@@ -1,4 +1,0 @@
-use Rattle.number_tests.proofs.lia_pack_calls.tableau.Goals as goal
-
-pub new-requires : goal.new-requires
-new-requires c = rw c.as_slice.ensures c.in_ok-system.ensures.rows
