@@ -16,9 +16,7 @@ if [ ${#names[@]} -eq 0 ]; then
 fi
 for name in "${names[@]}"; do
     mkdir -p "$copy/crates/$name/must-fail"
-    if [ -d "wrong-bodies/$name" ]; then
-        find "wrong-bodies/$name" -name '*.edit' -exec cp -t "$copy/crates/$name/must-fail" {} +
-    fi
+    find "wrong-bodies/$name" -name '*.edit' -exec cp -t "$copy/crates/$name/must-fail" {} +
 done
 cd "$copy"
 rt must-fail "${names[@]}"

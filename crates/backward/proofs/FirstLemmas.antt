@@ -9,16 +9,16 @@ use Rattle.machine_core.specs.declared.graph.Graph.{Graph}
 use Rattle.machine_core.specs.Lists.{slice_get-push_cases}
 use Rattle.sv_terms.specs.Language.{Word}
 use Rattle.part_machines.specs.Parts.{IsOfParts, times}
-use Rattle.straight_line.specs.Using.{used}
+use Rattle.flat_cubes.specs.Using.{used}
 use Rattle.cube_bounds.specs.Bounds.{carried_all, own_bound, part_bound, product_by, states, states_at, states_of, through_states, times_all}
 use Rattle.cube_bounds.specs.NumberLaws.{factor, StatesAreBounded, StatesAreSolved}
-use Rattle.straight_line.specs.Straight.{HasFormed, IsFormedBy, IsStraight}
-use Rattle.straight_line.specs.declared.definition.By.{By}
-use Rattle.straight_line.specs.declared.definition.By.TheVariants as by
-use Rattle.straight_line.specs.declared.definition.Definition.{Definition}
-use Rattle.straight_line.specs.declared.flat.Flat.{Flat}
-use Rattle.straight_line.specs.declared.variable.Own.{Own}
-use Rattle.straight_line.specs.declared.variable.Variable.{Variable}
+use Rattle.flat_cubes.specs.Straight.{HasFormed, IsFormedBy, IsStraight}
+use Rattle.flat_cubes.specs.declared.definition.By.{By}
+use Rattle.flat_cubes.specs.declared.definition.By.TheVariants as by
+use Rattle.flat_cubes.specs.declared.definition.Definition.{Definition}
+use Rattle.flat_cubes.specs.declared.flat.Flat.{Flat}
+use Rattle.flat_cubes.specs.declared.variable.Own.{Own}
+use Rattle.flat_cubes.specs.declared.variable.Variable.{Variable}
 use Rattle.backward.specs.Chains.{own_cost, width}
 use Rattle.backward.specs.Meetings.{IsCostWithin}
 use Rattle.backward.specs.States.{AreOwnMachines, IsOwnMachine}

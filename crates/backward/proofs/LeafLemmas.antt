@@ -10,16 +10,16 @@ use Rattle.sv_terms.specs.Transduction.{Pairs}
 use Rattle.machine_core.specs.Costs.{add_costs, zeros}
 use Rattle.machine_core.specs.Graphs.{Accepts}
 use Rattle.machine_core.specs.declared.graph.Graph.{Graph}
-use Rattle.straight_line.specs.Using.{used, is_defined}
+use Rattle.flat_cubes.specs.Using.{used, is_defined}
 use Rattle.cube_bounds.specs.Bounds.{states, states_at, own_bound, product_by}
 use Rattle.cube_bounds.specs.NumberLaws.{factor, StatesAreBounded, StatesAreSolved}
-use Rattle.straight_line.specs.Satisfying.{ComesBy, Defines, MeetsParts, word_at}
-use Rattle.straight_line.specs.Straight.{IsStraight, InOrder, AreBelow}
-use Rattle.straight_line.specs.declared.definition.By.{By}
-use Rattle.straight_line.specs.declared.definition.By.TheVariants as by
-use Rattle.straight_line.specs.declared.definition.Definition.{Definition}
-use Rattle.straight_line.specs.declared.flat.Flat.{Flat}
-use Rattle.straight_line.specs.declared.variable.Variable.{Variable}
+use Rattle.flat_cubes.specs.Satisfying.{ComesBy, Defines, MeetsParts, word_at}
+use Rattle.flat_cubes.specs.Straight.{IsStraight, InOrder, AreBelow}
+use Rattle.flat_cubes.specs.declared.definition.By.{By}
+use Rattle.flat_cubes.specs.declared.definition.By.TheVariants as by
+use Rattle.flat_cubes.specs.declared.definition.Definition.{Definition}
+use Rattle.flat_cubes.specs.declared.flat.Flat.{Flat}
+use Rattle.flat_cubes.specs.declared.variable.Variable.{Variable}
 use Rattle.backward.specs.Families.{Family, Words, after, HasMachine, AreWide, put, Conf}
 use Rattle.backward.specs.Definitions.{definition}
 use Rattle.backward.specs.Chains.{width, own_cost, ReadsOwn, IsOwnFamily, IsLed, begun, same, cut, through, IsLedFrom}

@@ -5,12 +5,12 @@ use Rattle.std.proofs.lemmas.Bool.{eq-eqb, ne_eqb, false≢true}
 use Rattle.std.proofs.lemmas.Bool.Decides.{eqb_tells}
 use Rattle.std.proofs.lemmas.List.Sums.{sum_by-cons}
 use Rattle.std.proofs.Math.Nat.{pow-zero}
-use Rattle.straight_line.specs.Using.{is_defined, used}
+use Rattle.flat_cubes.specs.Using.{is_defined, used}
 use Rattle.cube_bounds.specs.Bounds.{product_by, states_at, through_states}
 use Rattle.cube_bounds.specs.NumberLaws.{factor}
-use Rattle.straight_line.specs.Straight.{InOrder, StandsBefore}
-use Rattle.straight_line.specs.declared.definition.Definition.{Definition}
-use Rattle.straight_line.specs.declared.flat.Flat.{Flat}
+use Rattle.flat_cubes.specs.Straight.{InOrder, StandsBefore}
+use Rattle.flat_cubes.specs.declared.definition.Definition.{Definition}
+use Rattle.flat_cubes.specs.declared.flat.Flat.{Flat}
 use Rattle.backward.specs.Bounds.{sum_of}
 use Rattle.backward.specs.Pieces.{occurrences}
 

@@ -10,16 +10,16 @@ use Rattle.machine_core.specs.declared.graph.Graph.{Graph}
 use Rattle.machine_core.specs.Lists.{slice_get-contains}
 use Rattle.sv_terms.specs.Transduction.{Pairs}
 use Rattle.sv_terms.specs.declared.transducer.Transducer.{Transducer}
-use Rattle.straight_line.specs.Using.{is_defined, used}
+use Rattle.flat_cubes.specs.Using.{is_defined, used}
 use Rattle.cube_bounds.specs.Bounds.{own_bound, product_by, states_at, through_states}
 use Rattle.cube_bounds.specs.Growth.{growth, growth_at, growth_by, growth_of}
 use Rattle.cube_bounds.specs.NumberLaws.{factor, GrowsAlong, slope_of, base_of, GrowthGoesAlong, GrowthIsBounded, GrowthIsSolved, StatesAreSolved}
-use Rattle.straight_line.specs.Straight.{HasFormed, IsFormedBy, IsStraight, StandsBefore}
-use Rattle.straight_line.specs.declared.definition.By.{By}
-use Rattle.straight_line.specs.declared.definition.By.TheVariants as by
-use Rattle.straight_line.specs.declared.definition.Definition.{Definition}
-use Rattle.straight_line.specs.declared.flat.Flat.{Flat}
-use Rattle.straight_line.specs.declared.variable.Variable.{Variable}
+use Rattle.flat_cubes.specs.Straight.{HasFormed, IsFormedBy, IsStraight, StandsBefore}
+use Rattle.flat_cubes.specs.declared.definition.By.{By}
+use Rattle.flat_cubes.specs.declared.definition.By.TheVariants as by
+use Rattle.flat_cubes.specs.declared.definition.Definition.{Definition}
+use Rattle.flat_cubes.specs.declared.flat.Flat.{Flat}
+use Rattle.flat_cubes.specs.declared.variable.Variable.{Variable}
 use Rattle.backward.specs.Families.{Words, HasMachine, Conf, IsWithout}
 use Rattle.backward.specs.Pieces.{AreCuts, ConfCut, occurrences}
 use Rattle.backward.specs.Bounds.{IsGrownWithin, sum_of}

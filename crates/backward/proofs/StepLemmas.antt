@@ -12,11 +12,11 @@ use Rattle.sv_terms.specs.TransducerSizeLaws.{within-most}
 use Rattle.sv_terms.specs.TransducerSizes.{edges_most, ends_most}
 use Rattle.sv_terms.specs.declared.transducer.Transducer.{Transducer}
 use Rattle.cube_bounds.specs.NumberLaws.{slope_of, base_of}
-use Rattle.straight_line.specs.Satisfying.{ComesBy}
-use Rattle.straight_line.specs.declared.definition.By.{By}
-use Rattle.straight_line.specs.declared.definition.By.TheVariants as by
-use Rattle.straight_line.specs.declared.definition.Definition.{Definition}
-use Rattle.straight_line.specs.declared.flat.Flat.{Flat}
+use Rattle.flat_cubes.specs.Satisfying.{ComesBy}
+use Rattle.flat_cubes.specs.declared.definition.By.{By}
+use Rattle.flat_cubes.specs.declared.definition.By.TheVariants as by
+use Rattle.flat_cubes.specs.declared.definition.Definition.{Definition}
+use Rattle.flat_cubes.specs.declared.flat.Flat.{Flat}
 use Rattle.backward.specs.Families.{Family, Words, put, Conf}
 use Rattle.backward.specs.Pieces.{RunsInTurn, ConfCut}
 use Rattle.backward.specs.Carried.{IsCarried, IsCarriedThrough, CanCut, CanPass}

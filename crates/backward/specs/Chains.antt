@@ -4,12 +4,12 @@ use Rattle.machine_core.specs.declared.graph.Graph.{Graph}
 use Rattle.machine_core.specs.Graphs.{Accepts}
 use Rattle.sv_terms.specs.Language.{Word}
 use Rattle.cube_bounds.specs.Bounds.{states_at}
-use Rattle.straight_line.specs.Satisfying.{MeetsParts, ComesBy}
-use Rattle.straight_line.specs.declared.definition.By.{By}
-use Rattle.straight_line.specs.declared.definition.By.TheVariants.{Concat}
-use Rattle.straight_line.specs.declared.definition.Definition.{Definition}
-use Rattle.straight_line.specs.declared.flat.Flat.{Flat}
-use Rattle.straight_line.specs.declared.variable.Variable.{Variable}
+use Rattle.flat_cubes.specs.Satisfying.{MeetsParts, ComesBy}
+use Rattle.flat_cubes.specs.declared.definition.By.{By}
+use Rattle.flat_cubes.specs.declared.definition.By.TheVariants.{Concat}
+use Rattle.flat_cubes.specs.declared.definition.Definition.{Definition}
+use Rattle.flat_cubes.specs.declared.flat.Flat.{Flat}
+use Rattle.flat_cubes.specs.declared.variable.Variable.{Variable}
 use Rattle.backward.specs.Families.{Family, Words, HasMachine, put, Conf}
 use Rattle.backward.specs.Pieces.{ConfCut}
 use Rattle.backward.specs.Definitions.{definition, reads}

@@ -8,9 +8,9 @@ use Rattle.sv_terms.specs.TransducerSizes.{edges_most, ends_most}
 use Rattle.sv_terms.specs.declared.transducer.Transducer.{Transducer}
 use Rattle.cube_bounds.specs.Bounds.{through_states}
 use Rattle.cube_bounds.specs.NumberLaws.{slope_of, base_of}
-use Rattle.straight_line.specs.declared.definition.By.{By}
-use Rattle.straight_line.specs.declared.definition.By.TheVariants as by
-use Rattle.straight_line.specs.declared.definition.Definition.{Definition}
+use Rattle.flat_cubes.specs.declared.definition.By.{By}
+use Rattle.flat_cubes.specs.declared.definition.By.TheVariants as by
+use Rattle.flat_cubes.specs.declared.definition.Definition.{Definition}
 
 abbrev pub definition : ℕ → By → Definition
 definition x b = record { variable = x; «by» = b }

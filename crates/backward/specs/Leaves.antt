@@ -5,10 +5,10 @@ use Rattle.machine_core.specs.declared.run.Run.{Run}
 use Rattle.machine_core.specs.Graphs.{Accepts, IsRunOf}
 use Rattle.sv_terms.specs.Language.{Word}
 use Rattle.trim_search.specs.Useful.{IsOnRun}
-use Rattle.straight_line.specs.Using.{is_defined}
+use Rattle.flat_cubes.specs.Using.{is_defined}
 use Rattle.cube_bounds.specs.Bounds.{states, sources_of}
-use Rattle.straight_line.specs.Satisfying.{word_at, lengths_of, SatisfiesWords}
-use Rattle.straight_line.specs.declared.flat.Flat.{Flat}
+use Rattle.flat_cubes.specs.Satisfying.{word_at, lengths_of, SatisfiesWords}
+use Rattle.flat_cubes.specs.declared.flat.Flat.{Flat}
 use Rattle.backward.specs.Families.{Family, Words, HasMachine, Conf, AreWide}
 use Rattle.backward.specs.Chains.{width, IsLedFrom}
 

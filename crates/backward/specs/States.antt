@@ -1,12 +1,12 @@
 -- What holds of a family while the definitions of a flat cube are carried, from the last one to the first.
 use Rattle.std.specs.Prelude.{◌≡◌, ℕ, ◌≤◌, ◌*◌, ◌⊎◌, nat_eq, cond, Bool, true, false, List, [], length, drop, Some, None, slice_get}
 use Rattle.machine_core.specs.declared.graph.Graph.{Graph}
-use Rattle.straight_line.specs.Using.{is_defined}
+use Rattle.flat_cubes.specs.Using.{is_defined}
 use Rattle.cube_bounds.specs.Bounds.{own_bound, product_by}
 use Rattle.cube_bounds.specs.Growth.{growth, growth_at, longest_word}
 use Rattle.cube_bounds.specs.NumberLaws.{factor}
-use Rattle.straight_line.specs.declared.flat.Flat.{Flat}
-use Rattle.straight_line.specs.declared.variable.Variable.{Variable}
+use Rattle.flat_cubes.specs.declared.flat.Flat.{Flat}
+use Rattle.flat_cubes.specs.declared.variable.Variable.{Variable}
 use Rattle.backward.specs.Families.{HasMachine}
 use Rattle.backward.specs.Meetings.{IsCostWithin}
 use Rattle.backward.specs.Bounds.{IsGrownWithin}

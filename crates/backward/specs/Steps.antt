@@ -3,13 +3,13 @@ use Rattle.std.specs.Prelude.{◌≡◌, ◌↔◌, ◌+◌, ◌*◌, ◌<◌, �
 use Rattle.machine_core.specs.declared.graph.Graph.{Graph}
 use Rattle.machine_core.specs.Edges.{edges_top, ends_top}
 use Rattle.machine_core.specs.Graphs.{graph_top}
-use Rattle.straight_line.specs.Satisfying.{ComesBy}
-use Rattle.straight_line.specs.Straight.{IsFormedBy}
+use Rattle.flat_cubes.specs.Satisfying.{ComesBy}
+use Rattle.flat_cubes.specs.Straight.{IsFormedBy}
 use Rattle.cube_bounds.specs.NumberLaws.{slope_of, base_of}
-use Rattle.straight_line.specs.declared.definition.By.{By}
-use Rattle.straight_line.specs.declared.definition.By.TheVariants as by
-use Rattle.straight_line.specs.declared.definition.Definition.{Definition}
-use Rattle.straight_line.specs.declared.flat.Flat.{Flat}
+use Rattle.flat_cubes.specs.declared.definition.By.{By}
+use Rattle.flat_cubes.specs.declared.definition.By.TheVariants as by
+use Rattle.flat_cubes.specs.declared.definition.Definition.{Definition}
+use Rattle.flat_cubes.specs.declared.flat.Flat.{Flat}
 use Rattle.sv_terms.specs.declared.transducer.Transducer.{Transducer}
 use Rattle.backward.specs.Families.{Family, Words, HasMachine, Conf}
 use Rattle.backward.specs.Pieces.{ConfCut}

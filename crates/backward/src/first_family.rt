@@ -2,18 +2,18 @@
 ghost use Rattle.std.specs.Prelude.{◌≡◌, ◌<◌, ℕ, cond, nat_eq, map, length, Err, IfOk, Some, Contains};
 ghost use Rattle.machine_core.specs.declared.graph.Graph.{Graph};
 ghost use Rattle.cube_bounds.specs.Bounds.{states};
-ghost use Rattle.straight_line.specs.Straight.{HasFormed, IsStraight};
-ghost use Rattle.straight_line.specs.declared.flat.Flat.{Flat as AnyFlat};
+ghost use Rattle.flat_cubes.specs.Straight.{HasFormed, IsStraight};
+ghost use Rattle.flat_cubes.specs.declared.flat.Flat.{Flat as AnyFlat};
 ghost use Rattle.trim_search.specs.declared.build_fault.BuildFault.TheVariants.{States};
 ghost use Rattle.backward.specs.Chains.{width};
 ghost use Rattle.backward.specs.States.{AreOwnMachines, IsState};
 
 use crate::leaf_state::{FamilyOrigin, LeafState};
 use cube_bounds::{growth_is_solved, states_are_solved};
+use flat_cubes::Flat;
 use machine_core::{Cost, Explicit};
 use part_machines::{MOST_STATES, Machines, bounds_are_positive, own_machine};
 use std::alloc::{AllocError, Global};
-use straight_line::Flat;
 use sv_list::Items;
 use trim_search::BuildFault;
 

@@ -1,13 +1,13 @@
 //! One definition of a flat cube carried backward, and runs taken back over it.
 ghost use Rattle.std.specs.Prelude.{◌≡◌, ◌<◌, ◌+◌, ◌^◌, ℕ, [], length, slice_get, Some, Err, IfOk};
-ghost use Rattle.straight_line.specs.Straight.{IsFormedBy, IsStraight};
+ghost use Rattle.flat_cubes.specs.Straight.{IsFormedBy, IsStraight};
 ghost use Rattle.trim_search.specs.declared.build_fault.BuildFault.TheVariants.{States};
 ghost use Rattle.backward.specs.Back.{AreBack};
 ghost use Rattle.backward.specs.Definitions.{IsFor, reads};
 ghost use Rattle.backward.specs.Runs.{AreRuns, run_words};
 ghost use Rattle.backward.specs.States.{IsState};
 ghost use Rattle.backward.specs.Steps.{AreBackAt, CanCutAt, CanPassAt, IsCutAt, IsMadeAt, IsMadeBy, IsPassedAt};
-ghost use Rattle.straight_line.specs.Satisfying.{ComesBy};
+ghost use Rattle.flat_cubes.specs.Satisfying.{ComesBy};
 
 use crate::carrying::carry_concat;
 use crate::cut_lifting::lift_cut;
@@ -15,10 +15,10 @@ use crate::leaf_state::LeafState;
 use crate::lifting::lift_through;
 use crate::through::carry_through;
 use cube_bounds::{growth_goes_along, growth_is_solved, states_are_solved};
+use flat_cubes::{By, Definition, Flat};
 use machine_core::Run;
 use replace_machines::{replace_all, replace_first};
 use std::alloc::{AllocError, Global};
-use straight_line::{By, Definition, Flat};
 use sv_list::{Copied, Items};
 use sv_terms::Transducer;
 use trim_search::BuildFault;

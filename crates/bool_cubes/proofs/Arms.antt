@@ -5,7 +5,7 @@ use Rattle.sv_terms.specs.declared.op.Op.TheVariants as op
 use Rattle.sv_terms.specs.declared.sort.Sort.{Sort}
 use Rattle.sv_terms.specs.declared.term.Term.{Term}
 use Rattle.bool_cubes.specs.Counting.{parts_of, formulas_of, first_pairs, counts_of, atom_counts, not_counts, and_counts, choice_counts, equal_counts}
-use Rattle.bool_cubes.specs.Shapes.{seen, head_sort}
+use Rattle.literal_forms.specs.Shapes.{seen, head_sort}
 use Rattle.bool_cubes.specs.Trees.{fixed, applied, conjunction, equal, formula, negated, neighbours, pairs}
 use Rattle.bool_cubes.specs.Trees as tree
 use Rattle.bool_cubes.specs.declared.counts.Counts.{Counts}

@@ -4,25 +4,13 @@ use Rattle.std.proofs.lemmas.List.{length-map}
 use Rattle.std.specs.List.{AllByRecursion}
 use Rattle.sv_terms.specs.Meaning.{Named}
 use Rattle.sv_terms.specs.declared.term.Term.{Term}
-use Rattle.bool_cubes.specs.declared.literal.Literal.{Literal}
+use Rattle.literal_forms.specs.declared.literal.Literal.{Literal}
 use Rattle.bool_cubes.specs.Trees.{Tree, always, never, one, both, either, tree_of}
-use Rattle.bool_cubes.specs.Cubes.{choices, cubes, cube, count, cubes_of, IsTrueLiteral, AreTrueLiterals, CubeTrue, SomeOf, SomeCubeTrue, TreeTrue}
+use Rattle.bool_cubes.specs.Cubes.{choices, cubes, cube, count, cubes_of, CubeTrue, SomeCubeTrue, TreeTrue}
+use Rattle.literal_forms.specs.Literals.{IsTrueLiteral, AreTrueLiterals, SomeOf}
+use Rattle.literal_forms.specs.PastLaws.{some_left, some_right, some_cases}
 
 module _ {X : Type 0} (P : X → Type 0) where
-  pub some_left : (xs ys : List X) → SomeOf P xs → SomeOf P (xs ++ ys)
-  some_left [] ys h = absurd h
-  some_left (x ∷ xs) ys (inl h) = inl h
-  some_left (x ∷ xs) ys (inr h) = inr (some_left xs ys h)
-
-  pub some_right : (xs ys : List X) → SomeOf P ys → SomeOf P (xs ++ ys)
-  some_right [] ys h = h
-  some_right (x ∷ xs) ys h = inr (some_right xs ys h)
-
-  pub some_cases : (xs ys : List X) → SomeOf P (xs ++ ys) → SomeOf P xs ⊎ SomeOf P ys
-  some_cases [] ys h = inr h
-  some_cases (x ∷ xs) ys (inl h) = inl (inl h)
-  some_cases (x ∷ xs) ys (inr h) = elim (some_cases xs ys h) [ inl a ↦ inl (inr a) | inr b ↦ inr b ]
-
   pub all_join : (xs ys : List X) → AllByRecursion P xs → AllByRecursion P ys → AllByRecursion P (xs ++ ys)
   all_join [] ys a b = b
   all_join (x ∷ xs) ys a b = (a.0, all_join xs ys a.1 b)

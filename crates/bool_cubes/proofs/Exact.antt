@@ -11,12 +11,12 @@ use Rattle.sv_terms.specs.declared.value.Value.TheVariants.{Truth, Number, Text}
 use Rattle.sv_terms.specs.Sorting.{kind}
 use Rattle.bool_cubes.specs.Cubes.{TreeTrue}
 use Rattle.bool_cubes.specs.Laws.{IsAssertion, CubesAreExact}
-use Rattle.bool_cubes.specs.Shapes.{seen, raw}
+use Rattle.literal_forms.specs.Shapes.{seen, raw}
 use Rattle.bool_cubes.specs.Trees.{formula, tree_of}
 use Rattle.bool_cubes.proofs.Choosing.{cubes_true}
 use Rattle.bool_cubes.proofs.Deciding.{Decides}
 use Rattle.bool_cubes.proofs.Meanings.{IsGood, Valued, decided}
-use Rattle.bool_cubes.specs.Mirrors.{raw-seen}
+use Rattle.literal_forms.specs.Mirrors.{raw-seen}
 
 module _ (values : Named) (law : Valued values) where
   decided_term : (t : Term) → IsAssertion values t → (b : Bool) → val values t ≡ Some (Truth b) → Decides values (formula (seen t)) b

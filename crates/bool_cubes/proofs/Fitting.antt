@@ -1,11 +1,13 @@
 -- Where no step of a tree is past 128 bits, none of a literal of its cubes is.
 use Rattle.std.proofs.Common.{ℤ}
-use Rattle.bool_cubes.specs.Cubes.{SomeOf, cubes}
+use Rattle.bool_cubes.specs.Cubes.{cubes}
+use Rattle.literal_forms.specs.Literals.{SomeOf}
 use Rattle.bool_cubes.specs.Laws.{LiteralsFit}
-use Rattle.bool_cubes.specs.Past.{IsFitting, IsPast, tree_steps}
+use Rattle.bool_cubes.specs.Past.{tree_steps}
+use Rattle.literal_forms.specs.Past.{IsFitting, IsPast}
 use Rattle.bool_cubes.specs.Trees.{Tree, always, never, one, both, either, tree_of}
 use Rattle.bool_cubes.proofs.Carried.{TreeAll, cubes_all, made_all}
-use Rattle.bool_cubes.proofs.Choosing.{some_left, some_right}
+use Rattle.literal_forms.specs.PastLaws.{some_left, some_right}
 
 fitting : (t : Tree) → ((l r : ℤ) → SomeOf (IsPast l r) (tree_steps t) → ⊥) → TreeAll IsFitting t
 fitting always h = tt

@@ -10,15 +10,18 @@ use Rattle.bool_cubes.specs.Given.{IsGiving}
 use borrow.Author.Tests.{ltb-true, ltb-false}
 use Rattle.bool_cubes.specs.Nodes.{IsMade, IsOfEarlier, IsPlan, IsPlanned, made, tree_at, trees_of}
 use Rattle.bool_cubes.specs.Picking.{cube_at}
-use Rattle.bool_cubes.specs.Refusing.{IsRefusedExactly, count_of, most_cubes}
+use Rattle.bool_cubes.specs.Refusing.{IsRefusedExactly, count_of, fault_of, most_cubes}
+use Rattle.sv_linear.specs.declared.fault.FormFault.{FormFault}
+use Rattle.sv_linear.specs.declared.fault.FormFault.TheVariants as form
 use Rattle.sv_terms.specs.CutOff.{cut_off}
-use Rattle.bool_cubes.specs.Past.{IsPlainExactly, tree_steps}
+use Rattle.bool_cubes.specs.Past.{tree_steps}
+use Rattle.literal_forms.specs.Past.{IsPlainExactly}
 use Rattle.bool_cubes.specs.declared.fault.CubeFault.{CubeFault}
 use Rattle.bool_cubes.specs.declared.fault.CubeFault.TheVariants.{Past, TooMany, Memory}
 use Rattle.bool_cubes.specs.Trees.{both, either, conjunction, every_of, formula, tree_of, trees}
-use Rattle.bool_cubes.specs.Shapes.{seen}
-use Rattle.bool_cubes.specs.declared.literal.Cube.{Cube}
-use Rattle.bool_cubes.specs.declared.literal.Literal.{Literal}
+use Rattle.literal_forms.specs.Shapes.{seen}
+use Rattle.literal_forms.specs.declared.literal.Cube.{Cube}
+use Rattle.literal_forms.specs.declared.literal.Literal.{Literal}
 use Rattle.bool_cubes.specs.declared.node.CubeNode.{CubeNode}
 use Rattle.bool_cubes.specs.declared.node.NodeKind.{NodeKind}
 use Rattle.bool_cubes.specs.declared.node.NodeKind.TheVariants as kind
@@ -234,10 +237,12 @@ skipped ns root all given more n h e =
     (cases_lt more (all - given))
 
 -- what the making of cubes answers
-pub refused_by : (X : Type 0) (ts : List Term) (e : CubeFault) → IsPlainExactly {X = Unit {0}} (tree_steps (tree_of ts)) (Err e) → IsRefusedExactly {X = X} ts (Err e)
-refused_by X ts (Past l r) h = h
-refused_by X ts (TooMany n) h = absurd h
-refused_by X ts (Memory e) h = tt
+pub refused_by : (X : Type 0) (ts : List Term) (fault : FormFault) (e : CubeFault) → e ≡ fault_of fault → IsPlainExactly {X = Unit {0}} (tree_steps (tree_of ts)) (Err fault) → IsRefusedExactly {X = X} ts (Err e)
+refused_by X ts fault e q h = subst (λ z. IsRefusedExactly {X = X} ts (Err z)) (sym q) (by_fault fault h)
+  where
+    by_fault : (fault : FormFault) → IsPlainExactly {X = Unit {0}} (tree_steps (tree_of ts)) (Err fault) → IsRefusedExactly {X = X} ts (Err (fault_of fault))
+    by_fault (form.Past l r) h = h
+    by_fault (form.Memory e) h = tt
 
 pub many : (ts : List Term) (n : ℕ) → n ≡ cut_off (count_of ts) → most_cubes < n → most_cubes < count_of ts
 many ts n e l = omega arith

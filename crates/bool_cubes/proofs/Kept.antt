@@ -9,11 +9,11 @@ use Rattle.sv_terms.specs.declared.term.Term.{Term}
 use Rattle.sv_terms.specs.declared.term.Term.TheVariants as term
 use Rattle.sv_terms.specs.Meaning.{Named}
 use Rattle.sv_terms.specs.Sorting.{is_valued}
-use Rattle.bool_cubes.specs.declared.literal.Literal.{Literal}
+use Rattle.literal_forms.specs.declared.literal.Literal.{Literal}
 use Rattle.bool_cubes.specs.Cubes.{cubes, cubes_of}
 use Rattle.bool_cubes.specs.Laws.{IsAssertion, IsPassedCube, IsPassedOn, LiteralsAreValued, LiteralsPass}
-use Rattle.bool_cubes.specs.Mirrors.{raw-seen}
-use Rattle.bool_cubes.specs.Shapes.{Shape, Shapes, truth, number, text, constant, apply, member, related, opaque, end, ◌⨾◌, seen, raw, raws}
+use Rattle.literal_forms.specs.Mirrors.{raw-seen}
+use Rattle.literal_forms.specs.Shapes.{Shape, Shapes, truth, number, text, constant, apply, member, related, opaque, end, ◌⨾◌, seen, raw, raws}
 use Rattle.bool_cubes.specs.Trees.{Tree, every_of, any_of, Formula, Part, fixed, negated, trees, conjunction, disjunction, agreement, choice, exclusive, exclusive_from, implied, neighbours, pairs, comparison, equal_numbers, equal_at, equal, chain, formulas, applied, formula, parts, tree_of}
 use Rattle.bool_cubes.proofs.Carried.{TreeAll, cubes_all, made_all}
 use Rattle.bool_cubes.proofs.Choosing.{all_join}

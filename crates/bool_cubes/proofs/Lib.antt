@@ -11,10 +11,5 @@ pub mod Carried
 pub mod Fitting
 pub mod Plans
 pub mod Steps
-pub mod Spelled
-pub mod Numbers
-pub mod Formed
-pub mod Combined
-pub mod Checked
 pub mod Walked
 pub mod Gathered

@@ -7,10 +7,10 @@ use Rattle.sv_terms.specs.declared.sort.Sort.TheVariants as sort
 use Rattle.sv_terms.specs.declared.term.Term.{Term}
 use Rattle.sv_terms.specs.declared.term.Term.TheVariants as term
 use Rattle.bool_cubes.specs.Counting.{first_pairs, formulas_of, part_of, parts_of}
-use Rattle.bool_cubes.specs.Mirrors.{raw-seen, seen-Truth, seen-Apply}
+use Rattle.literal_forms.specs.Mirrors.{raw-seen, seen-Truth, seen-Apply}
 use Rattle.bool_cubes.specs.Nodes.{IsLonger, IsPlanned, HasBothTrees}
 use Rattle.bool_cubes.specs.Planned.{AreNodePairs, AreBooleanSides, HasSide}
-use Rattle.bool_cubes.specs.Shapes.{Shape, truth, number, text, constant, apply, member, related, opaque, shapes, seen, raw, head_sort}
+use Rattle.literal_forms.specs.Shapes.{Shape, truth, number, text, constant, apply, member, related, opaque, shapes, seen, raw, head_sort}
 use Rattle.bool_cubes.specs.Trees.{Formula, Part, agreement, applied, atom, chain, comparison, choice, conjoined, conjunction, disjoined, disjunction, equal, equal_at, equal_numbers, exclusive, fixed, formula, implication, implied, negated, neighbours, pairs}
 use Rattle.bool_cubes.specs.declared.node.CubeNode.{CubeNode}
 use Rattle.bool_cubes.specs.declared.node.NodePair.{NodePair}

@@ -8,7 +8,7 @@ use Rattle.sv_terms.specs.declared.sort.Sort.TheVariants as sort
 use Rattle.sv_terms.specs.declared.term.Term.{Term}
 use Rattle.bool_cubes.specs.Cubes.{count}
 use Rattle.sv_terms.specs.CutOff.{cut_off, cut-add, cut-mul}
-use Rattle.bool_cubes.specs.Shapes.{seen, head_sort}
+use Rattle.literal_forms.specs.Shapes.{seen, head_sort}
 use Rattle.bool_cubes.specs.Trees.{Tree, every_of, any_of, Formula, Part, negated, conjunction, disjunction, agreement, choice, exclusive, exclusive_from, implied, neighbours, pairs, comparison, equal_at, equal, formula, formulas, trees}
 use Rattle.bool_cubes.specs.Counting.{part_of, parts_of, formulas_of, first_pairs, ordered_pairs, counts_of, not_counts, and_counts, or_counts, two_ways, same_counts, choice_counts, equal_counts}
 use Rattle.bool_cubes.specs.declared.counts.Counts.{Counts}

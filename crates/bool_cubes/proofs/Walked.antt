@@ -2,15 +2,16 @@
 use Rattle.std.proofs.Common.{◌≡◌, refl, sym, ap, ◌∙◌, subst, ℕ, zero, suc, ◌+◌, ◌-◌, ◌<◌, ◌≤◌, ℤ, Bool, true, false, List, [], ◌∷◌, ◌++◌, length, get_or, length-append, arith, ⊎_elim, ◌⊎◌, inl, inr}
 use Rattle.std.specs.Prelude.{slice_set}
 use Rattle.std.proofs.lemmas.Bool.{cases_lt}
-use Rattle.bool_cubes.specs.Cubes.{SomeOf}
-use Rattle.bool_cubes.specs.Linear.{Step}
+use Rattle.literal_forms.specs.Literals.{SomeOf}
+use Rattle.literal_forms.specs.Linear.{Step}
 use Rattle.bool_cubes.specs.Marked.{HasStep, IsLastMarked, IsMarked, IsWalked, marked, own_steps}
 use Rattle.bool_cubes.specs.Nodes.{IsMade, IsOfEarlier, IsPlan, made, tree_at, trees_of}
-use Rattle.bool_cubes.specs.Past.{ArePlain, IsPast, tree_steps}
+use Rattle.bool_cubes.specs.Past.{tree_steps}
+use Rattle.literal_forms.specs.Past.{ArePlain, IsPast}
 use Rattle.bool_cubes.specs.declared.node.CubeNode.{CubeNode}
 use Rattle.bool_cubes.specs.declared.node.NodeKind.{NodeKind}
 use Rattle.bool_cubes.specs.declared.node.NodeKind.TheVariants as kind
-use Rattle.bool_cubes.proofs.Choosing.{some_left, some_right, some_cases}
+use Rattle.literal_forms.specs.PastLaws.{some_left, some_right, some_cases}
 use Rattle.bool_cubes.proofs.Plans.{got_last}
 
 set_length : (m : List Bool) (i : ℕ) → length (slice_set m i true) ≡ length m

@@ -6,7 +6,7 @@ use Rattle.sv_terms.specs.declared.sort.Sort.TheVariants as sort
 use Rattle.sv_terms.specs.declared.term.Term.{Term}
 use Rattle.bool_cubes.specs.Cubes.{count}
 use Rattle.sv_terms.specs.CutOff.{cut_off}
-use Rattle.bool_cubes.specs.Shapes.{seen, shapes, raw, head_sort}
+use Rattle.literal_forms.specs.Shapes.{seen, shapes, raw, head_sort}
 use Rattle.bool_cubes.specs.Trees.{Formula, Part, formula, parts, negated, equal, chain}
 use Rattle.bool_cubes.specs.declared.counts.Counts.{Counts}
 

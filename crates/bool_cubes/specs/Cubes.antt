@@ -1,11 +1,10 @@
 -- The cubes of assertions: of each or one argument is taken, and of each and all.
-use Rattle.std.specs.Prelude.{◌≡◌, ℕ, ◌+◌, ◌*◌, List, [], ◌∷◌, ◌++◌, map, ◌⊎◌, Some, ⊤}
-use Rattle.std.specs.List.{AllByRecursion}
-use Rattle.sv_terms.specs.Meaning.{Named, val}
+use Rattle.std.specs.Prelude.{ℕ, ◌+◌, ◌*◌, List, [], ◌∷◌, ◌++◌, map, ◌⊎◌, ⊤}
+use Rattle.sv_terms.specs.Meaning.{Named}
 use Rattle.sv_terms.specs.declared.term.Term.{Term}
-use Rattle.sv_terms.specs.declared.value.Value.TheVariants.{Truth}
-use Rattle.bool_cubes.specs.declared.literal.Literal.{Literal}
-use Rattle.bool_cubes.specs.declared.literal.Cube.{Cube}
+use Rattle.literal_forms.specs.Literals.{AreTrueLiterals, IsTrueLiteral, SomeOf}
+use Rattle.literal_forms.specs.declared.literal.Literal.{Literal}
+use Rattle.literal_forms.specs.declared.literal.Cube.{Cube}
 use Rattle.bool_cubes.specs.Trees.{Tree, always, never, one, both, either, tree_of}
 
 -- all choices of a list from each of the two, joined; the first one's choice changes slowest
@@ -36,20 +35,9 @@ cube ls = record { literals = ls }
 abbrev pub cubes_of : List Term → List Cube
 cubes_of ts = map cube (cubes (tree_of ts))
 
--- a literal, and each literal of a cube, is true under the values
-abbrev pub IsTrueLiteral : Named → Literal → Type 0
-IsTrueLiteral values l = val values l.atom ≡ Some (Truth l.positive)
-
-abbrev pub AreTrueLiterals : Named → List Literal → Type 0
-AreTrueLiterals values ls = AllByRecursion (IsTrueLiteral values) ls
-
+-- all its literals are true under the values
 abbrev pub CubeTrue : Named → Cube → Type 0
 CubeTrue values c = AreTrueLiterals values c.literals
-
--- P holds of one of them at least
-abbrev pub SomeOf : {X : Type 0} → (X → Type 0) → List X → Type 0
-SomeOf P [] = ⊥
-SomeOf P (x ∷ xs) = P x ⊎ SomeOf P xs
 
 -- some cube is true
 abbrev pub SomeCubeTrue : Named → List Term → Type 0

@@ -10,10 +10,11 @@ use Rattle.sv_terms.specs.declared.sort.Sort.TheVariants as sort
 use Rattle.sv_terms.specs.declared.term.Term.{Term}
 use Rattle.sv_terms.specs.declared.term.Term.TheVariants as term
 use Rattle.bool_cubes.specs.Cubes.{SomeCubeTrue, cubes_of, count}
-use Rattle.bool_cubes.specs.Past.{HasNoPast, IsFitting}
+use Rattle.bool_cubes.specs.Past.{HasNoPast}
+use Rattle.literal_forms.specs.Past.{IsFitting}
 use Rattle.bool_cubes.specs.Trees.{tree_of}
-use Rattle.bool_cubes.specs.declared.literal.Literal.{Literal}
-use Rattle.bool_cubes.specs.declared.literal.Cube.{Cube}
+use Rattle.literal_forms.specs.declared.literal.Literal.{Literal}
+use Rattle.literal_forms.specs.declared.literal.Cube.{Cube}
 
 -- a term of sort Bool without opaque parts, whose constants have values of their sorts
 pub record IsAssertion (values : Named) (t : Term) : Type 0 where

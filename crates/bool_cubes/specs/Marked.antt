@@ -1,15 +1,14 @@
 -- Nodes that are marked, from a root down.
 use Rattle.std.specs.Prelude.{◌≡◌, ℕ, ◌+◌, ◌<◌, ℤ, Bool, true, false, List, [], length, slice_index_or, slice_set}
-use Rattle.bool_cubes.specs.Cubes.{SomeOf}
-use Rattle.bool_cubes.specs.Linear.{Linear, Step, minus_one, less, scaled}
+use Rattle.literal_forms.specs.Literals.{SomeOf}
+use Rattle.literal_forms.specs.Linear.{Step}
 use Rattle.bool_cubes.specs.Nodes.{tree_at}
-use Rattle.bool_cubes.specs.Numbered.{AreNumbered, IsNumbered}
-use Rattle.bool_cubes.specs.Past.{IsPast, atom_steps, tree_steps}
-use Rattle.bool_cubes.specs.Shapes.{seen}
+use Rattle.bool_cubes.specs.Past.{tree_steps}
+use Rattle.literal_forms.specs.Past.{IsPast, atom_steps}
+use Rattle.literal_forms.specs.Shapes.{seen}
 use Rattle.bool_cubes.specs.declared.node.CubeNode.{CubeNode}
 use Rattle.bool_cubes.specs.declared.node.NodeKind.{NodeKind}
 use Rattle.bool_cubes.specs.declared.node.NodeKind.TheVariants as kind
-use Rattle.bool_cubes.specs.declared.past.Differences.{Differences}
 
 abbrev pub IsMarked : List Bool → ℕ → Type 0
 IsMarked marks k = slice_index_or marks k false ≡ true
@@ -44,9 +43,3 @@ pub record IsWalked (ns : List CubeNode) (root : ℕ) (marks : List Bool) (k : �
   pub size : length marks ≡ root + 1
   pub inside : (j : ℕ) → IsMarked marks j → (l r : ℤ) → HasStep ns j l r → HasStep ns root l r
   pub left : (l r : ℤ) → HasStep ns root l r → (j : ℕ) × (j < k) × IsMarked marks j × HasStep ns j l r
-
--- the difference of two forms and its negative
-pub record AreDifferences (us : List (List ℤ)) (a b : Linear) (d : Differences) : Type 0 where
-  pub numbered : AreNumbered us
-  pub first : IsNumbered us (less a b) d.less
-  pub second : IsNumbered us (scaled (less a b) minus_one) d.more

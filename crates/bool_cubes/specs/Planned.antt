@@ -4,7 +4,7 @@ use Rattle.std.specs.List.{AllZip}
 use Rattle.sv_terms.specs.declared.sort.Sort.TheVariants as sort
 use Rattle.sv_terms.specs.declared.term.Term.{Term}
 use Rattle.bool_cubes.specs.Nodes.{HasBothTrees}
-use Rattle.bool_cubes.specs.Shapes.{head_sort, seen}
+use Rattle.literal_forms.specs.Shapes.{head_sort, seen}
 use Rattle.bool_cubes.specs.Trees.{formula}
 use Rattle.bool_cubes.specs.declared.node.CubeNode.{CubeNode}
 use Rattle.bool_cubes.specs.declared.node.NodePair.{NodePair}

@@ -6,8 +6,8 @@ use Rattle.sv_terms.specs.declared.sort.Sort.{Sort}
 use Rattle.sv_terms.specs.declared.sort.Sort.TheVariants as sort
 use Rattle.sv_terms.specs.declared.term.Term.{Term}
 use Rattle.sv_terms.specs.declared.term.Term.TheVariants as term
-use Rattle.bool_cubes.specs.Shapes.{Shape, Shapes, truth, apply, end, ◌⨾◌, seen, raw, head_sort}
-use Rattle.bool_cubes.specs.declared.literal.Literal.{Literal}
+use Rattle.literal_forms.specs.Shapes.{Shape, Shapes, truth, apply, end, ◌⨾◌, seen, raw, head_sort}
+use Rattle.literal_forms.specs.declared.literal.Literal.{Literal}
 
 -- literals joined by and and or: what always holds, what never does, one literal, both trees, either of two
 pub data Tree : Type 0 where

@@ -8,10 +8,10 @@ ghost use Rattle.bool_cubes.specs.Counting.{and_counts, atom_counts, choice_coun
 ghost use Rattle.bool_cubes.specs.Laws.{IsClearBool};
 ghost use Rattle.bool_cubes.specs.Refusing.{count_of};
 ghost use Rattle.sv_terms.specs.CutOff.{cut_off};
-ghost use Rattle.bool_cubes.specs.Shapes.{head_sort, op_sort, seen};
+ghost use Rattle.literal_forms.specs.Shapes.{seen};
 ghost use Rattle.bool_cubes.specs.Trees.{applied, conjunction, disjunction, equal, exclusive, formula, implied, negated, neighbours, pairs, fixed};
 
-use crate::roles::{Role, role_of};
+use literal_forms::head_sort;
 use sv_terms::{Op, Sort, Term};
 
 /// The numbers of cubes of a formula and of its negation, 2^64 - 1 where they are more.
@@ -102,33 +102,6 @@ impl Counts {
     }
 }
 
-/// The sort of a term whose functions stand at arguments of their ranks, by its head.
-pub fn head_sort(term: &Term) -> Sort
-    ensures { result ≡ head_sort (seen term.now) }
-{
-    match term {
-        Term::Truth(_) => Sort::Bool,
-        Term::Number(_) => Sort::Int,
-        Term::Text(_) => Sort::String,
-        Term::Constant(_, sort) => *sort,
-        Term::Apply(op, _) => op_sort(*op),
-        Term::InRe(_, _) => Sort::Bool,
-        Term::Related(_, _, _) => Sort::Bool,
-        Term::Opaque(sort) => *sort,
-    }
-}
-
-fn op_sort(op: Op) -> Sort
-    ensures { result ≡ op_sort op }
-{
-    match role_of(op) {
-        Role::Joined(_) | Role::Length => Sort::Int,
-        Role::Built(_) => Sort::String,
-        Role::Connective | Role::Equality | Role::Distinct | Role::Order(_) | Role::Test(_) =>
-            Sort::Bool,
-    }
-}
-
 // Of the equality of two terms of this sort, by the numbers of the terms.
 fn equal_counts(sort: Sort, left: Counts, right: Counts) -> Counts
     ensures { result ≡ equal_counts sort left right }
@@ -145,7 +118,7 @@ fn equal_counts(sort: Sort, left: Counts, right: Counts) -> Counts
 
 /// The numbers of cubes of a term, and of its negation.
 #[cycle(counts)]
-#[tactic(auto, using(crate::specs::Mirrors::mirrors))]
+#[tactic(auto, using(literal_forms::specs::Mirrors::mirrors))]
 pub fn count_both(term: &Term) -> Counts
     ensures { result ≡ counts_of (formula (seen term.now)) }
 {

@@ -7,12 +7,12 @@ ghost use Rattle.bool_cubes.specs.Picking.{cube_at};
 ghost use Rattle.bool_cubes.specs.Refusing.{IsRefusedExactly, most_cubes};
 
 use crate::counts::count_terms;
-use crate::fault::CubeFault;
-use crate::literal::{Cube, Literal};
+use crate::fault::{CubeFault, cube_fault};
 use crate::node::{CubeNode, NodeKind};
 use crate::past;
 use crate::plan::Plan;
 use crate::planning::all_sides;
+use literal_forms::{Cube, Literal};
 use std::alloc::{AllocError, Global};
 use std::marker::Model;
 use sv_list::{Copied, Items};
@@ -37,7 +37,7 @@ impl Model for Cubes {
     ghost use Rattle.std.specs.Coded.{codes};
     ghost use Rattle.sv_terms.specs.contracts.regex.Regex as regex;
     ghost use Rattle.sv_terms.specs.contracts.term.Term as term;
-    ghost use Rattle.bool_cubes.specs.declared.literal.Cube.{Cube as AnyCube};
+    ghost use Rattle.literal_forms.specs.declared.literal.Cube.{Cube as AnyCube};
     ghost use Rattle.bool_cubes.specs.Cubes.{cube, cubes};
     ghost use Rattle.bool_cubes.specs.Given.{IsGiving};
     ghost use Rattle.bool_cubes.specs.Nodes.{tree_at};
@@ -76,7 +76,7 @@ impl Cubes {
         };
         match past::tree(alloc, plan.nodes.as_slice(), sides.holding) {
             Ok(()) => {}
-            Err(fault) => return Err(fault),
+            Err(fault) => return Err(cube_fault(fault)),
         }
         let cubes = count_terms(terms);
         if cubes > MOST_CUBES {

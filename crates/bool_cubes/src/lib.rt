@@ -17,32 +17,19 @@
 //! ```
 #![tactic(auto)]
 
-mod code;
 mod counts;
 mod cubes;
 mod fault;
-mod forms;
 mod laws;
-mod literal;
 mod node;
 mod past;
 mod plan;
 mod planning;
-mod reading;
-mod roles;
-mod term_form;
-mod unknowns;
 
-pub use code::Written;
-pub use counts::{count, head_sort};
+pub use counts::count;
 pub use cubes::Cubes;
 pub use fault::CubeFault;
 pub use laws::{
     cubes_are_counted, cubes_are_exact, cubes_are_picked, literals_fit, literals_have_values,
     literals_pass,
 };
-pub use literal::{Cube, Literal};
-pub use past::{Differences, subtract};
-pub use roles::{Build, IntOrder, Joint, Role, Test, role_of};
-pub use term_form::TermForm;
-pub use unknowns::Unknowns;

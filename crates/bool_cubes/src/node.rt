@@ -1,4 +1,4 @@
-use crate::literal::Literal;
+use literal_forms::Literal;
 
 /// How a node's tree is made of those of earlier nodes, which are named by their places.
 #[derive(Debug, Drop)]

@@ -7,8 +7,8 @@ ghost use Rattle.bool_cubes.specs.Nodes.{AreOf, IsAddedNode, IsLonger, IsOfEarli
 ghost use Rattle.sv_terms.specs.CutOff.{cut_off};
 ghost use Rattle.bool_cubes.specs.Trees.{Formula, agreement, always, atom, both, choice, comparison, conjoined, disjoined, either, equal_numbers, fixed, implication, never, one};
 
-use crate::literal::Literal;
 use crate::node::{CubeNode, NodeKind, NodePair};
+use literal_forms::Literal;
 use std::alloc::{AllocError, Global};
 use sv_list::Items;
 use sv_terms::{Op, Term};

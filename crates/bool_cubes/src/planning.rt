@@ -6,12 +6,12 @@ ghost use Rattle.sv_terms.specs.declared.term.Term.{Term as AnyTerm};
 ghost use Rattle.bool_cubes.specs.Counting.{first_pairs, formulas_of, part_of, parts_of};
 ghost use Rattle.bool_cubes.specs.Nodes.{AreOf, IsLonger, IsPlan, IsPlanned, HasBothTrees};
 ghost use Rattle.bool_cubes.specs.Planned.{AreBooleanSides, HasSide};
-ghost use Rattle.bool_cubes.specs.Shapes.{head_sort, seen};
+ghost use Rattle.literal_forms.specs.Shapes.{head_sort, seen};
 ghost use Rattle.bool_cubes.specs.Trees.{Formula, applied, chain, conjunction, disjunction, equal, exclusive, formula, implied, negated, neighbours, pairs};
 
-use crate::counts::head_sort;
 use crate::node::NodePair;
 use crate::plan::Plan;
+use literal_forms::head_sort;
 use std::alloc::{AllocError, Global};
 use sv_list::Items;
 use sv_terms::{Op, Sort, Term};

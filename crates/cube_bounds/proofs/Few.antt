@@ -13,7 +13,7 @@ use Rattle.sv_terms.specs.CutOff.{cut_off, cut-add}
 use Rattle.cube_bounds.specs.Bounds.{sources, states}
 use Rattle.cube_bounds.specs.Growth.{reach}
 use Rattle.cube_bounds.specs.Sides.{CanSearch, IsSmall, Side, amount_of, points, integer_sides, register_side, register_sides, sides, span_in}
-use Rattle.straight_line.specs.declared.flat.Flat.{Flat}
+use Rattle.flat_cubes.specs.declared.flat.Flat.{Flat}
 use Rattle.cube_bounds.proofs.Grown.{first_of}
 use Rattle.cube_bounds.proofs.Multiplied.{cut_product}
 

@@ -7,7 +7,7 @@ use Rattle.std.proofs.Math.Nat.{div-eq_of_lt}
 use Rattle.std.proofs.lemmas.Bool.{cases_lt}
 use Rattle.cube_bounds.specs.Bounds.{greatest}
 use Rattle.cube_bounds.specs.Growth.{growth_by, grown, longest_word}
-use Rattle.straight_line.specs.declared.definition.Definition.{Definition}
+use Rattle.flat_cubes.specs.declared.definition.Definition.{Definition}
 use Rattle.cube_bounds.proofs.Multiplied.{cut_product, map_set}
 
 cut_sum : (a b : ℕ) → cut_off (cut_off a + cut_off b) ≡ cut_off (a + b)

@@ -11,16 +11,16 @@ use Rattle.sv_terms.specs.Language.{Word}
 use Rattle.sv_terms.specs.TransductionLaws.{within_weaker}
 use Rattle.sv_terms.specs.TransducerSizes.{edges_most, ends_most}
 use Rattle.sv_terms.specs.TransducerSizeLaws.{within-most}
-use Rattle.straight_line.specs.Using.{is_defined, used}
+use Rattle.flat_cubes.specs.Using.{is_defined, used}
 use Rattle.cube_bounds.specs.Growth.{growth, growth_at, growth_by, growth_of, longest_word}
 use Rattle.cube_bounds.specs.NumberLaws.{GrowthGoesAlong, GrowthIsBounded, GrowthIsSolved, TransducersWriteWithin, WordsAreShort, base_of, slope_of, source_length}
-use Rattle.straight_line.specs.Satisfying.{Defines, word_at}
-use Rattle.straight_line.specs.Straight.{AreBelow, HasFormed, InOrder, IsFormedBy, IsStraight, StandsBefore}
-use Rattle.straight_line.specs.declared.definition.By.{By}
-use Rattle.straight_line.specs.declared.definition.By.TheVariants as by
-use Rattle.straight_line.specs.declared.definition.Definition.{Definition}
-use Rattle.straight_line.specs.declared.flat.Flat.{Flat}
-use Rattle.straight_line.specs.declared.variable.Variable.{Variable}
+use Rattle.flat_cubes.specs.Satisfying.{Defines, word_at}
+use Rattle.flat_cubes.specs.Straight.{AreBelow, HasFormed, InOrder, IsFormedBy, IsStraight, StandsBefore}
+use Rattle.flat_cubes.specs.declared.definition.By.{By}
+use Rattle.flat_cubes.specs.declared.definition.By.TheVariants as by
+use Rattle.flat_cubes.specs.declared.definition.Definition.{Definition}
+use Rattle.flat_cubes.specs.declared.flat.Flat.{Flat}
+use Rattle.flat_cubes.specs.declared.variable.Variable.{Variable}
 use Rattle.cube_bounds.proofs.Lengths.{IsShort, defined_short}
 use Rattle.cube_bounds.proofs.Solved.{grown_apart, grown_solves, within_greatest}
 use Rattle.cube_bounds.proofs.Sourced.{source_within}

@@ -11,12 +11,12 @@ use Rattle.sv_terms.specs.Transduction.{IsFormed, Pairs}
 use Rattle.sv_terms.specs.TransducerSizes.{edges_most, ends_most}
 use Rattle.sv_terms.specs.TransducerSizeLaws.{within-most}
 use Rattle.sv_terms.specs.declared.transducer.Transducer.{Transducer}
-use Rattle.straight_line.specs.Using.{used}
+use Rattle.flat_cubes.specs.Using.{used}
 use Rattle.cube_bounds.specs.Growth.{growth_by}
-use Rattle.straight_line.specs.Satisfying.{ComesBy}
-use Rattle.straight_line.specs.Straight.{IsFormedBy}
-use Rattle.straight_line.specs.declared.definition.By.{By}
-use Rattle.straight_line.specs.declared.definition.By.TheVariants as by
+use Rattle.flat_cubes.specs.Satisfying.{ComesBy}
+use Rattle.flat_cubes.specs.Straight.{IsFormedBy}
+use Rattle.flat_cubes.specs.declared.definition.By.{By}
+use Rattle.flat_cubes.specs.declared.definition.By.TheVariants as by
 
 -- a replacement of the first occurrence adds the replacement at most
 first_length : (p u w : Word) → length (replace_first p u w) ≤ length w + length u

@@ -2,11 +2,11 @@
 use Rattle.std.proofs.Common.{◌≡◌, refl, sym, ap, ◌∙◌, subst, ℕ, zero, suc, ◌-◌, ◌*◌, ◌<◌, ◌≤◌, List, [], ◌∷◌, map, length, get_or, set, drop, drop-cons, arith}
 use Rattle.std.proofs.lemmas.List.{length-map}
 use Rattle.sv_terms.specs.CutOff.{cut_off, cut-mul}
-use Rattle.straight_line.specs.Using.{used}
+use Rattle.flat_cubes.specs.Using.{used}
 use Rattle.cube_bounds.specs.Bounds.{through_states, times_at, times_all, carried, carried_all}
-use Rattle.straight_line.specs.declared.definition.Definition.{Definition}
+use Rattle.flat_cubes.specs.declared.definition.Definition.{Definition}
 use Rattle.cube_bounds.proofs.Solved.{carried_length, times_length}
-use Rattle.straight_line.specs.Straight.{AreBelow, HaveVariablesBelow, HasVariablesBelow}
+use Rattle.flat_cubes.specs.Straight.{AreBelow, HaveVariablesBelow, HasVariablesBelow}
 
 pub cut_product : (a b : ℕ) → cut_off (cut_off a * cut_off b) ≡ cut_off (a * b)
 cut_product a b = cut-mul 18446744073709551615 a b (omega arith)

@@ -3,10 +3,10 @@ use Rattle.std.proofs.Common.{◌≡◌, sym, ap, ◌∙◌, subst, ℕ, suc, �
 use Rattle.std.proofs.lemmas.List.{length-map, map-append, take_more}
 use Rattle.sv_terms.specs.CutOff.{cut_off, cut-power}
 use Rattle.cube_bounds.specs.Bounds.{greatest, own_bound, part_bound, product_by}
-use Rattle.straight_line.specs.Straight.{HaveVariablesBelow, InOrder}
-use Rattle.straight_line.specs.declared.definition.Definition.{Definition}
-use Rattle.straight_line.specs.declared.variable.Own.{Own}
-use Rattle.straight_line.specs.declared.variable.Variable.{Variable}
+use Rattle.flat_cubes.specs.Straight.{HaveVariablesBelow, InOrder}
+use Rattle.flat_cubes.specs.declared.definition.Definition.{Definition}
+use Rattle.flat_cubes.specs.declared.variable.Own.{Own}
+use Rattle.flat_cubes.specs.declared.variable.Variable.{Variable}
 use Rattle.cube_bounds.proofs.Multiplied.{cut_product}
 
 pub power_cut : (n m : ℕ) → m ≡ cut_off n → cut_off (2 ^ m) ≡ cut_off (2 ^ n)

@@ -12,7 +12,7 @@ use Rattle.sv_linear.specs.Terms.{AscendsWithin}
 use Rattle.sv_linear.specs.declared.row.Row.{Row}
 use Rattle.sv_linear.specs.declared.row.RowKind.{RowKind}
 use Rattle.cube_bounds.specs.Sides.{lower, lower_by, lower_of, of_both, rounded_down, span_by, span_in, spans_in, upper, upper_by, upper_of}
-use Rattle.straight_line.specs.Straight.{IsRowBelow}
+use Rattle.flat_cubes.specs.Straight.{IsRowBelow}
 use Rattle.cube_bounds.specs.declared.bounding.ValueRange.{ValueRange}
 
 -- a quotient by a number above 0 isn't larger than the number

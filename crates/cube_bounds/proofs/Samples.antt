@@ -2,13 +2,13 @@
 use Rattle.std.proofs.Common.{◌≡◌, refl, pos, true, false, List, [], ◌∷◌}
 use Rattle.sv_terms.specs.declared.op.Op.TheVariants as op
 use Rattle.sv_terms.specs.declared.sort.Sort.TheVariants as sort
-use Rattle.bool_cubes.specs.Shapes.{Shape, text, constant, apply, end, ◌⨾◌}
-use Rattle.straight_line.specs.Said.{atom_said}
-use Rattle.straight_line.specs.Met.{DraftView, nothing_met, add}
-use Rattle.straight_line.specs.Flattening.{variables_of, definitions_of, ordered}
+use Rattle.literal_forms.specs.Shapes.{Shape, text, constant, apply, end, ◌⨾◌}
+use Rattle.flat_cubes.specs.Said.{atom_said}
+use Rattle.flat_cubes.specs.Met.{DraftView, nothing_met, add}
+use Rattle.flat_cubes.specs.Flattening.{variables_of, definitions_of, ordered}
 use Rattle.cube_bounds.specs.Bounds.{states, splits, sources}
 use Rattle.cube_bounds.specs.Growth.{growth, reach}
-use Rattle.straight_line.specs.declared.flat.Flat.{Flat}
+use Rattle.flat_cubes.specs.declared.flat.Flat.{Flat}
 
 abbrev host : Shape
 host = constant (1 ∷ []) sort.String

@@ -9,15 +9,15 @@ use Rattle.std.proofs.lemmas.Option.{slice_get_within}
 use Rattle.std.proofs.Math.ListN.{length-set}
 use Rattle.std.proofs.Math.Nat.{pow-suc, pow-zero, mul_comm, mul_assoc}
 use Rattle.sv_terms.specs.TransducerSizes.{edges_most, ends_most}
-use Rattle.straight_line.specs.Using.{is_defined, used}
+use Rattle.flat_cubes.specs.Using.{is_defined, used}
 use Rattle.cube_bounds.specs.Bounds.{carried_all, greatest, own_bound, product_by, states_of, through_states, times_all, times_at}
 use Rattle.cube_bounds.specs.NumberLaws.{StatesAreBounded, StatesAreSolved, factor}
 use Rattle.cube_bounds.specs.Growth.{growth_by, grown}
-use Rattle.straight_line.specs.Straight.{InOrder}
-use Rattle.straight_line.specs.declared.definition.By.{By}
-use Rattle.straight_line.specs.declared.definition.By.TheVariants as by
-use Rattle.straight_line.specs.declared.definition.Definition.{Definition}
-use Rattle.straight_line.specs.declared.variable.Variable.{Variable}
+use Rattle.flat_cubes.specs.Straight.{InOrder}
+use Rattle.flat_cubes.specs.declared.definition.By.{By}
+use Rattle.flat_cubes.specs.declared.definition.By.TheVariants as by
+use Rattle.flat_cubes.specs.declared.definition.Definition.{Definition}
+use Rattle.flat_cubes.specs.declared.variable.Variable.{Variable}
 
 -- a variable that none of the definitions defines
 pub or_false : (a b : Bool) → (a || b) ≡ false → (a ≡ false) × (b ≡ false)

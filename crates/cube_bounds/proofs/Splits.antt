@@ -5,11 +5,11 @@ use Rattle.std.specs.List.{range_with_len}
 use Rattle.std.proofs.lemmas.Bool.{cases_lt, eq-eqb, ne_eqb}
 use Rattle.std.proofs.Math.Nat.{pow-suc}
 use Rattle.sv_terms.specs.CutOff.{cut_off}
-use Rattle.straight_line.specs.Using.{is_defined}
+use Rattle.flat_cubes.specs.Using.{is_defined}
 use Rattle.cube_bounds.specs.Bounds.{product_by, sources, splits_by}
-use Rattle.straight_line.specs.Straight.{InOrder}
-use Rattle.straight_line.specs.declared.definition.Definition.{Definition}
-use Rattle.straight_line.specs.declared.flat.Flat.{Flat}
+use Rattle.flat_cubes.specs.Straight.{InOrder}
+use Rattle.flat_cubes.specs.declared.definition.Definition.{Definition}
+use Rattle.flat_cubes.specs.declared.flat.Flat.{Flat}
 use Rattle.cube_bounds.proofs.Grown.{cut_at, first_of}
 use Rattle.cube_bounds.proofs.Multiplied.{cut_product}
 

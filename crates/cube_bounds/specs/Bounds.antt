@@ -3,14 +3,14 @@
 use Rattle.std.specs.Prelude.{ℕ, ◌+◌, ◌*◌, ◌-◌, ◌^◌, max, List, [], ◌∷◌, map, length, get_or, slice_set, filter, not, nat_eq, Bool, true, false}
 use Rattle.std.specs.List.{list_any, range_with_len}
 use Rattle.sv_terms.specs.Bounds.{size}
-use Rattle.straight_line.specs.Using.{is_defined, used}
-use Rattle.straight_line.specs.declared.variable.Own.{Own}
-use Rattle.straight_line.specs.declared.variable.Own.TheVariants as own
-use Rattle.straight_line.specs.declared.variable.Variable.{Variable}
-use Rattle.straight_line.specs.declared.definition.By.{By}
-use Rattle.straight_line.specs.declared.definition.By.TheVariants as by
-use Rattle.straight_line.specs.declared.definition.Definition.{Definition}
-use Rattle.straight_line.specs.declared.flat.Flat.{Flat}
+use Rattle.flat_cubes.specs.Using.{is_defined, used}
+use Rattle.flat_cubes.specs.declared.variable.Own.{Own}
+use Rattle.flat_cubes.specs.declared.variable.Own.TheVariants as own
+use Rattle.flat_cubes.specs.declared.variable.Variable.{Variable}
+use Rattle.flat_cubes.specs.declared.definition.By.{By}
+use Rattle.flat_cubes.specs.declared.definition.By.TheVariants as by
+use Rattle.flat_cubes.specs.declared.definition.Definition.{Definition}
+use Rattle.flat_cubes.specs.declared.flat.Flat.{Flat}
 
 -- of a machine for what a part says
 abbrev pub part_bound : Own × Bool → ℕ

@@ -3,10 +3,10 @@ use Rattle.std.specs.Prelude.{ℕ, ◌+◌, ◌*◌, ◌/◌, max, ℤ, pos, ◌
 use Rattle.std.specs.List.{sum_by}
 use Rattle.sv_terms.specs.TransducerSizes.{edges_most, ends_most}
 use Rattle.cube_bounds.specs.Bounds.{greatest}
-use Rattle.straight_line.specs.declared.definition.By.{By}
-use Rattle.straight_line.specs.declared.definition.By.TheVariants as by
-use Rattle.straight_line.specs.declared.definition.Definition.{Definition}
-use Rattle.straight_line.specs.declared.flat.Flat.{Flat}
+use Rattle.flat_cubes.specs.declared.definition.By.{By}
+use Rattle.flat_cubes.specs.declared.definition.By.TheVariants as by
+use Rattle.flat_cubes.specs.declared.definition.Definition.{Definition}
+use Rattle.flat_cubes.specs.declared.flat.Flat.{Flat}
 
 -- the growth of a variable that is so defined, by those of the variables that the definition uses: 1 is
 -- that of a variable that isn't defined. The pattern of a replacement counts, for a machine may write the

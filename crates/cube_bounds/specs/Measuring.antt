@@ -5,7 +5,7 @@ use Rattle.sv_terms.specs.CutOff.{cut_off}
 use Rattle.cube_bounds.specs.Bounds.{states, splits, sources}
 use Rattle.cube_bounds.specs.Growth.{growth, reach}
 use Rattle.cube_bounds.specs.Sides.{points, sides, IsSmall}
-use Rattle.straight_line.specs.declared.flat.Flat.{Flat}
+use Rattle.flat_cubes.specs.declared.flat.Flat.{Flat}
 use Rattle.cube_bounds.specs.declared.measures.Numbers.{Numbers}
 
 -- the numbers of this cube

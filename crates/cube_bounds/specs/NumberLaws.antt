@@ -5,16 +5,16 @@ use Rattle.sv_terms.specs.Language.{Word}
 use Rattle.sv_terms.specs.Transduction.{WritesWithin}
 use Rattle.sv_terms.specs.TransducerSizes.{edges_most, ends_most}
 use Rattle.sv_terms.specs.declared.transducer.Transducer.{Transducer}
-use Rattle.straight_line.specs.Using.{is_defined, used}
+use Rattle.flat_cubes.specs.Using.{is_defined, used}
 use Rattle.cube_bounds.specs.Bounds.{own_bound, product_by, sources, sources_of, states, states_at, through_states}
 use Rattle.cube_bounds.specs.Growth.{growth, growth_at, growth_by, growth_of, longest_word, reach}
-use Rattle.straight_line.specs.Satisfying.{Defines, word_at}
-use Rattle.straight_line.specs.Straight.{HasFormed, IsStraight}
-use Rattle.straight_line.specs.declared.definition.By.{By}
-use Rattle.straight_line.specs.declared.definition.By.TheVariants as by
-use Rattle.straight_line.specs.declared.definition.Definition.{Definition}
-use Rattle.straight_line.specs.declared.flat.Flat.{Flat}
-use Rattle.straight_line.specs.declared.variable.Variable.{Variable}
+use Rattle.flat_cubes.specs.Satisfying.{Defines, word_at}
+use Rattle.flat_cubes.specs.Straight.{HasFormed, IsStraight}
+use Rattle.flat_cubes.specs.declared.definition.By.{By}
+use Rattle.flat_cubes.specs.declared.definition.By.TheVariants as by
+use Rattle.flat_cubes.specs.declared.definition.Definition.{Definition}
+use Rattle.flat_cubes.specs.declared.flat.Flat.{Flat}
+use Rattle.flat_cubes.specs.declared.variable.Variable.{Variable}
 
 -- what a definition of x multiplies states(v) by: states(x), times the states of the transducer that
 -- defines x, for each occurrence of v

@@ -10,7 +10,7 @@ use Rattle.sv_linear.specs.declared.row.RowKind.TheVariants.{Le, Eq}
 use Rattle.cube_bounds.specs.Bounds.{states, sources}
 use Rattle.cube_bounds.specs.Growth.{reach}
 use Rattle.cube_bounds.specs.declared.bounding.ValueRange.{ValueRange}
-use Rattle.straight_line.specs.declared.flat.Flat.{Flat}
+use Rattle.flat_cubes.specs.declared.flat.Flat.{Flat}
 
 -- z over a number above 0, rounded down and up
 abbrev pub rounded_down : ℤ → ℤ → ℤ

@@ -3,11 +3,11 @@ ghost use Rattle.std.specs.Prelude.{◌≡◌, ◌≢◌, ◌+◌, ◌<◌, ◌^
 ghost use Rattle.std.specs.Int.{int_max, int_min};
 ghost use Rattle.std.specs.List.{AllByRecursion};
 ghost use Rattle.cube_bounds.specs.Sides.{of_both, lower_by, rounded_down, rounded_up, span_by, spans_in, upper_by};
-ghost use Rattle.straight_line.specs.Straight.{IsStraight};
+ghost use Rattle.flat_cubes.specs.Straight.{IsStraight};
 ghost use Rattle.sv_linear.specs.declared.row.Row.{Row as AnyRow};
 
+use flat_cubes::Flat;
 use std::alloc::{AllocError, Global};
-use straight_line::Flat;
 use sv_linear::{Row, RowKind};
 use sv_list::Items;
 

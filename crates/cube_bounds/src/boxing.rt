@@ -2,12 +2,12 @@
 ghost use Rattle.std.specs.Prelude.{◌≡◌, ℕ, Option, IfOk};
 ghost use Rattle.std.specs.Option.{option_map};
 ghost use Rattle.cube_bounds.specs.Sides.{integer_side, points_of, register_side, sides, times, values_between};
-ghost use Rattle.straight_line.specs.Straight.{IsStraight};
+ghost use Rattle.flat_cubes.specs.Straight.{IsStraight};
 ghost use Rattle.sv_terms.specs.CutOff.{cut_off};
 
 use crate::bounding::{ValueRange, all_spans};
+use flat_cubes::Flat;
 use std::alloc::{AllocError, Global};
-use straight_line::Flat;
 use sv_list::Items;
 
 // A length isn't below 0.

@@ -1,11 +1,11 @@
 //! How many states the machines of the variables have at most, carried back over the definitions.
 ghost use Rattle.std.specs.Prelude.{◌≡◌, ℕ, ◌*◌, ◌<◌, List, length, map, get_or, slice_set};
 ghost use Rattle.sv_terms.specs.CutOff.{cut_off};
-ghost use Rattle.straight_line.specs.Using.{used};
+ghost use Rattle.flat_cubes.specs.Using.{used};
 ghost use Rattle.cube_bounds.specs.Bounds.{carried, carried_all, through_states, times_all};
-ghost use Rattle.straight_line.specs.Straight.{AreBelow, HaveVariablesBelow, HasVariablesBelow};
+ghost use Rattle.flat_cubes.specs.Straight.{AreBelow, HaveVariablesBelow, HasVariablesBelow};
 
-use straight_line::{By, Definition};
+use flat_cubes::{By, Definition};
 use sv_list::Items;
 
 // The number at this place times another, 2^64 - 1 where it is more.

@@ -1,12 +1,12 @@
 //! How many states the machine of a variable alone has at most, and those of all variables.
 ghost use Rattle.std.specs.Prelude.{◌≡◌, true, false, map, get_or, IfOk};
 ghost use Rattle.cube_bounds.specs.Bounds.{greatest, own_bound, part_bound, product_by, states_of};
-ghost use Rattle.straight_line.specs.Straight.{IsStraight};
+ghost use Rattle.flat_cubes.specs.Straight.{IsStraight};
 ghost use Rattle.sv_terms.specs.CutOff.{cut_off};
 
 use crate::carrying::carry_all;
+use flat_cubes::{Flat, Own, Variable};
 use std::alloc::{AllocError, Global};
-use straight_line::{Flat, Own, Variable};
 use sv_list::Items;
 use sv_terms::{bound, power_of_two};
 

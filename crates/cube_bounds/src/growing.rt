@@ -7,8 +7,8 @@ ghost use Rattle.sv_terms.specs.TransducerSizes.{edges_most, ends_most, items_si
 ghost use Rattle.sv_terms.specs.declared.transducer.Item.{Item as AnyItem};
 
 use crate::counting::number_at;
+use flat_cubes::{By, Definition, Flat};
 use std::alloc::{AllocError, Global};
-use straight_line::{By, Definition, Flat};
 use sv_list::Items;
 use sv_terms::{Item, TransEdge};
 use sv_word::Word;

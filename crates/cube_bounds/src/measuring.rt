@@ -1,6 +1,6 @@
 ghost use Rattle.std.specs.Prelude.{IfOk};
 ghost use Rattle.cube_bounds.specs.Measuring.{AreNumbersOf};
-ghost use Rattle.straight_line.specs.Straight.{IsStraight};
+ghost use Rattle.flat_cubes.specs.Straight.{IsStraight};
 
 use crate::boxing::{all_points, all_sides};
 use crate::counting::{all_states, most};
@@ -8,8 +8,8 @@ use crate::growing::{all_growths, reach_of};
 use crate::measures::Numbers;
 use crate::smallness::is_small;
 use crate::splitting::{all_sources, all_splits};
+use flat_cubes::Flat;
 use std::alloc::{AllocError, Global};
-use straight_line::Flat;
 
 /// The numbers of a flat cube: how many states its machines have at most, how long its words may become,
 /// and the box that its rows make.

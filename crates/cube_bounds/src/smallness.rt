@@ -5,11 +5,11 @@ ghost use Rattle.std.specs.Option.{option_map};
 ghost use Rattle.cube_bounds.specs.Bounds.{sources, states};
 ghost use Rattle.cube_bounds.specs.Growth.{reach};
 ghost use Rattle.cube_bounds.specs.Sides.{CanSearch, IsSmall, amount_among, amount_of, points, side_amount, sides};
-ghost use Rattle.straight_line.specs.declared.flat.Flat.{Flat as AnyFlat};
+ghost use Rattle.flat_cubes.specs.declared.flat.Flat.{Flat as AnyFlat};
 ghost use Rattle.sv_linear.specs.Rows.{RowFits, terms_weight};
 ghost use Rattle.sv_terms.specs.CutOff.{cut_off};
 
-use straight_line::Flat;
+use flat_cubes::Flat;
 use sv_linear::Row;
 use sv_terms::MOST_POINTS;
 

@@ -2,10 +2,10 @@
 ghost use Rattle.std.specs.Prelude.{◌≡◌, ◌^◌, ◌-◌, ℕ, List, map, get_or};
 ghost use Rattle.sv_terms.specs.CutOff.{cut_off};
 ghost use Rattle.cube_bounds.specs.Bounds.{product_by, sources, splits_by};
-ghost use Rattle.straight_line.specs.Straight.{IsStraight};
+ghost use Rattle.flat_cubes.specs.Straight.{IsStraight};
 
 use crate::counting::number_at;
-use straight_line::{By, Definition, Flat};
+use flat_cubes::{By, Definition, Flat};
 
 // So many factors that are this number.
 fn power(n: u64, k: usize) -> u64

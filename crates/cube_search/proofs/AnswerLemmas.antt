@@ -1,6 +1,6 @@
 -- The answer from the first family, and what is left where no leaf has a hit.
 use Rattle.std.proofs.Common.{◌≡◌, ℕ, zero, suc, ◌<◌, ◌≤◌, ◌+◌, ◌*◌, ◌/◌, ℤ, pos, ◌≤ℤ◌, ◌<ℤ◌, List, [], ◌∷◌, length, map, Option, Some, None, refl, sym, ap, ◌∙◌, subst, arith, inl, inr}
-use Rattle.std.specs.List.{sum_by}
+use Rattle.std.specs.List.{range_with_len, sum_by}
 use Rattle.std.proofs.lemmas.Int.{ints}
 use Rattle.std.proofs.lemmas.List.{length-map}
 use Rattle.std.proofs.lemmas.List.Sums.{sum_by-cons}
@@ -12,27 +12,28 @@ use Rattle.leaf_solve.specs.Longs.{letters}
 use Rattle.cube_bounds.specs.Bounds.{greatest, sources_of}
 use Rattle.cube_bounds.specs.Growth.{growth, growth_of, longest_word, reach}
 use Rattle.cube_bounds.specs.NumberLaws.{source_length}
-use Rattle.straight_line.specs.Satisfying.{word_at, lengths_of, AreModelValues, Satisfies}
-use Rattle.straight_line.specs.Straight.{IsStraight}
-use Rattle.straight_line.specs.declared.flat.Flat.{Flat}
+use Rattle.flat_cubes.specs.Satisfying.{word_at, lengths_of, AreModelValues, Satisfies}
+use Rattle.flat_cubes.specs.Straight.{IsStraight}
+use Rattle.flat_cubes.specs.declared.flat.Flat.{Flat}
 use Rattle.backward.specs.Chains.{IsLedFrom}
 use Rattle.backward.specs.Families.{Family}
 use Rattle.backward.specs.Leaves.{source_words}
 use Rattle.backward.specs.Runs.{run_words}
 use Rattle.backward.specs.States.{IsLittle}
-use Rattle.cube_search.specs.Answers.{IsCubeAnswer, IsDecided, IsModelOf, left_of, left_given, left_long}
+use Rattle.cube_region.specs.Regions.{IsRegionFor}
+use Rattle.cube_answers.specs.Tallies.{left_of, left_given, left_long}
+use Rattle.cube_answers.specs.Limits.{GrowsLittle, MustDecideFlat}
+use Rattle.cube_answers.specs.declared.answer.Refutation.{Refutation}
+use Rattle.cube_answers.specs.declared.tally.GivenUpLeaf.{GivenUpLeaf}
+use Rattle.cube_answers.specs.declared.tally.LongLeaf.{LongLeaf}
+use Rattle.cube_answers.specs.declared.tally.LeafTally.{LeafTally}
+use Rattle.cube_search.specs.Answers.{IsCubeAnswer, IsDecided, IsModelOf}
 use Rattle.cube_search.specs.Causes.{EachSolution}
-use Rattle.cube_search.specs.Limits.{GrowsLittle, MustDecideFlat}
-use Rattle.cube_search.specs.Models.{all_words}
-use Rattle.cube_search.specs.Regions.{IsRegionFor}
+use Rattle.cube_answers.specs.Models.{all_words}
 use Rattle.cube_search.specs.Searches.{IsFound}
 use Rattle.cube_search.specs.Tallies.{IsTally, IsCovered, IsAccounted}
-use Rattle.cube_search.specs.declared.answer.Refutation.{Refutation}
-use Rattle.cube_search.specs.declared.found.FoundRuns.{FoundRuns}
-use Rattle.cube_search.specs.declared.tally.Given.{Given}
-use Rattle.cube_search.specs.declared.tally.TooLong.{TooLong}
-use Rattle.cube_search.specs.declared.tally.LeafTally.{LeafTally}
-use Rattle.cube_search.proofs.FirstLemmas.{range-at, satisfies-conf, satisfies-obey}
+use Rattle.cube_answers.specs.declared.found.FoundRuns.{FoundRuns}
+use Rattle.cube_search.proofs.FirstLemmas.{range-at, satisfies-conf, satisfies-obey, words-same}
 use Rattle.cube_search.proofs.FoundLemmas.{sources-all}
 
 -- the letters of words by number
@@ -67,7 +68,7 @@ little flat bare grows = elim grows [
   | inr few ↦ inr few
 ]
 
-abbrev AllAccounted : Flat → Region → Option Given → Option TooLong → Refutation → Type 0
+abbrev AllAccounted : Flat → Region → Option GivenUpLeaf → Option LongLeaf → Refutation → Type 0
 AllAccounted flat region g l r = EachSolution flat (λ ws ints. IsAccounted flat region (record { given = g; long = l; closed = r }) (word_at ws) (lengths_of flat.registers ws) ints)
 
 -- whatever satisfies the cube is accounted for
@@ -77,7 +78,7 @@ accounted flat region ms tally straight led covered ws ints s =
     covered (word_at ws) (lengths_of flat.registers ws) ints (satisfies-conf flat ms straight led ws s.strings) (satisfies-obey flat ws s.strings) (record { count = s.rows.count; each = s.rows.rows })
 
 module _ (flat : Flat) (region : Region) (for : IsRegionFor flat region) where
-  left-right : (g : Option Given) (l : Option TooLong) (r : Refutation) → IsTally flat (record { given = g; long = l; closed = r }) → AllAccounted flat region g l r
+  left-right : (g : Option GivenUpLeaf) (l : Option LongLeaf) (r : Refutation) → IsTally flat (record { given = g; long = l; closed = r }) → AllAccounted flat region g l r
       → IsCubeAnswer flat (left_given g (left_long l r))
   left-right None None r is all = λ ws ints s. elim (all ws ints s) [ inl a ↦ (let h = a.2 in cc) | inr b ↦ (let h = b.2 in cc) ]
   left-right None (Some l) r is all = record {
@@ -100,7 +101,7 @@ module _ (flat : Flat) (region : Region) (for : IsRegionFor flat region) where
     ];
   }
 
-  left-decided : (g : Option Given) (l : Option TooLong) (r : Refutation) → IsTally flat (record { given = g; long = l; closed = r }) → MustDecideFlat flat → IsDecided (left_given g (left_long l r))
+  left-decided : (g : Option GivenUpLeaf) (l : Option LongLeaf) (r : Refutation) → IsTally flat (record { given = g; long = l; closed = r }) → MustDecideFlat flat → IsDecided (left_given g (left_long l r))
   left-decided None None r is must = tt
   left-decided None (Some l) r is must = is.undecided refl must
   left-decided (Some g) l r is must = elim must.search [
@@ -119,13 +120,14 @@ pub model-of : (flat : Flat) (ms : Family) (found : FoundRuns) (values : Named) 
 model-of flat ms found values is s of worded =
     let n = length flat.variables in
     let f = run_words found.runs in
-    let ws = all_words n found.runs in
+    let ws = map f (range_with_len 0 n) in
+    let is_word : all_words n found.runs ≡ ws = words-same n found.runs in
     let same : source_words flat f ≡ source_words flat (word_at ws) = sources-all flat f (word_at ws) (λ v h. sym (range-at f 0 n v h ∙ ap f (omega arith))) in
     record {
       words = ws;
       numbers = found.integers;
       worded = worded;
-      of = of;
-      satisfies = s;
+      of = subst (λ l. AreModelValues flat l found.integers values) is_word of;
+      satisfies = subst (λ l. Satisfies flat l found.integers) is_word s;
       within = subst (λ k. pos k ≤ℤ reach flat) (letters-length flat ws) (subst (λ l. pos (letters l) ≤ℤ reach flat) same is.within);
     }

@@ -2,11 +2,11 @@
 use Rattle.std.proofs.Common.{◌≡◌, ℕ, List, [], ◌∷◌, map, filter, refl, ap, ◌∙◌, subst}
 use Rattle.std.specs.List.{AllZip}
 use Rattle.sv_linear.specs.declared.row.Row.{Row}
-use Rattle.bool_cubes.specs.Linear.{Unknown, length_of}
-use Rattle.bool_cubes.specs.Shapes.{Shape}
-use Rattle.straight_line.specs.Flattening.{Bounded, IsFlatOf, IsRowFor, all_bounded, has_column, registers_of, unknowns_of, variable_of}
-use Rattle.straight_line.specs.Met.{DraftView}
-use Rattle.straight_line.specs.declared.flat.Flat.{Flat}
+use Rattle.literal_forms.specs.Linear.{Unknown, length_of}
+use Rattle.literal_forms.specs.Shapes.{Shape}
+use Rattle.flat_cubes.specs.Flattening.{Bounded, IsFlatOf, IsRowFor, all_bounded, has_column, registers_of, unknowns_of, variable_of}
+use Rattle.flat_cubes.specs.Met.{DraftView}
+use Rattle.flat_cubes.specs.declared.flat.Flat.{Flat}
 
 no-forms : (us : List Unknown) (bs : List Bounded) (rows : List Row) → rows ≡ [] → AllZip (IsRowFor us) bs rows → bs ≡ []
 no-forms us [] rows e z = refl

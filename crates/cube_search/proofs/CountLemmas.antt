@@ -1,9 +1,9 @@
 -- There are no more definitions in order than variables.
 use Rattle.std.proofs.Common.{◌≡◌, ℕ, zero, suc, ◌<◌, ◌≤◌, ◌+◌, ◌||◌, Bool, true, false, List, [], ◌∷◌, length, refl, sym, ap, ◌∙◌, arith, inl, inr, eq-eqb, ne_eqb}
 use Rattle.std.proofs.lemmas.Bool.Decides.{eqb_tells}
-use Rattle.straight_line.specs.Using.{is_defined}
-use Rattle.straight_line.specs.Straight.{InOrder}
-use Rattle.straight_line.specs.declared.definition.Definition.{Definition}
+use Rattle.flat_cubes.specs.Using.{is_defined}
+use Rattle.flat_cubes.specs.Straight.{InOrder}
+use Rattle.flat_cubes.specs.declared.definition.Definition.{Definition}
 
 abbrev counted : Bool → ℕ
 counted true = 1

@@ -3,16 +3,16 @@ use Rattle.std.proofs.Common.{◌≡◌, ℕ, zero, suc, ◌<◌, ◌+◌, ◌�
 use Rattle.sv_terms.specs.Meaning.{joined}
 use Rattle.machine_core.specs.declared.graph.Graph.{Graph}
 use Rattle.box_search.specs.declared.region.Region.{Region}
-use Rattle.straight_line.specs.declared.definition.By.{By}
-use Rattle.straight_line.specs.declared.definition.By.TheVariants.{Concat}
-use Rattle.straight_line.specs.declared.flat.Flat.{Flat}
+use Rattle.flat_cubes.specs.declared.definition.By.{By}
+use Rattle.flat_cubes.specs.declared.definition.By.TheVariants.{Concat}
+use Rattle.flat_cubes.specs.declared.flat.Flat.{Flat}
 use Rattle.backward.specs.Families.{Family, Words, HasMachine, Conf}
 use Rattle.backward.specs.Pieces.{ConfCut, AreCuts}
 use Rattle.backward.specs.Definitions.{definition}
 use Rattle.backward.specs.Chains.{width, ConfBefore}
+use Rattle.cube_answers.specs.declared.tally.LeafTally.{LeafTally}
 use Rattle.cube_search.specs.Steps.{AreExact}
 use Rattle.cube_search.specs.Tallies.{Keeps, IsAccounted, IsCovered, IsCoveredFrom}
-use Rattle.cube_search.specs.declared.tally.LeafTally.{LeafTally}
 use Rattle.cube_search.proofs.ConfLemmas.{conf-put}
 use Rattle.cube_search.proofs.OrderLemmas.{obey-split}
 

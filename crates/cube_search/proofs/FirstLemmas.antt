@@ -10,19 +10,20 @@ use Rattle.machine_core.specs.RunLaws.{run_accepted}
 use Rattle.machine_core.specs.Runs.{run_total}
 use Rattle.machine_core.specs.declared.graph.Graph.{Graph}
 use Rattle.sv_linear.specs.Rows.{MeetsRows}
-use Rattle.straight_line.specs.Using.{used}
+use Rattle.flat_cubes.specs.Using.{used}
 use Rattle.cube_bounds.specs.Bounds.{states_at}
-use Rattle.straight_line.specs.Satisfying.{MeetsParts, word_at, Defines, lengths_of, SatisfiesWords, Satisfies}
-use Rattle.straight_line.specs.Straight.{IsStraight, InOrder, AreBelow}
-use Rattle.straight_line.specs.declared.definition.Definition.{Definition}
-use Rattle.straight_line.specs.declared.flat.Flat.{Flat}
-use Rattle.straight_line.specs.declared.variable.Variable.{Variable}
+use Rattle.flat_cubes.specs.Satisfying.{MeetsParts, word_at, Defines, lengths_of, SatisfiesWords, Satisfies}
+use Rattle.flat_cubes.specs.Straight.{IsStraight, InOrder, AreBelow}
+use Rattle.flat_cubes.specs.declared.definition.Definition.{Definition}
+use Rattle.flat_cubes.specs.declared.flat.Flat.{Flat}
+use Rattle.flat_cubes.specs.declared.variable.Variable.{Variable}
 use Rattle.backward.specs.Families.{Family, Words, after, HasMachine, Conf}
 use Rattle.backward.specs.Chains.{width, own_cost, ReadsOwn, IsOwnFamily, IsLed, begun, same, cut, through, IsLedFrom, SameConf}
 use Rattle.backward.specs.Runs.{Runs, AreRuns, run_words, run_totals}
-use Rattle.cube_search.specs.Models.{all_words}
+use Rattle.cube_answers.specs.Entries.{word_by}
+use Rattle.cube_answers.specs.Models.{all_words}
 use Rattle.cube_search.specs.Searches.{IsFound, Obey}
-use Rattle.cube_search.specs.declared.found.FoundRuns.{FoundRuns}
+use Rattle.cube_answers.specs.declared.found.FoundRuns.{FoundRuns}
 use Rattle.cube_search.proofs.FoundLemmas.{comes-agree}
 use Rattle.cube_search.proofs.OrderLemmas.{get-below, get-there}
 
@@ -211,13 +212,24 @@ runs-conf n (Some m ∷ ms) (Some run ∷ rs) r f at = (
   refl,
 )
 
+-- the words of runs are the same as a model has them
+run-word : (rs : Runs) (v : ℕ) → word_by rs v ≡ run_words rs v
+run-word [] v = refl
+run-word (None ∷ rs) zero = refl
+run-word (Some run ∷ rs) zero = refl
+run-word (None ∷ rs) (suc v) = run-word rs v
+run-word (Some run ∷ rs) (suc v) = run-word rs v
+
+pub words-same : (n : ℕ) (rs : Runs) → all_words n rs ≡ map (run_words rs) (range_with_len 0 n)
+words-same n rs = λ i. map (λ v. run-word rs v i) (range_with_len 0 n)
+
 -- what was found satisfies the cube
 pub found-satisfies : (flat : Flat) (ms : Family) (found : FoundRuns) → IsStraight flat → IsLedFrom flat (length flat.definitions) ms → flat.broken ≡ false → IsFound flat (length flat.definitions) ms found
     → Satisfies flat (all_words (length flat.variables) found.runs) found.integers
 found-satisfies flat ms found straight led whole is =
     let n = length flat.variables in
     let f = run_words found.runs in
-    let ws = all_words n found.runs in
+    let ws = map f (range_with_len 0 n) in
     let first = led-first (width flat) flat.definitions (states_at flat) (IsOwnFamily flat) (length flat.definitions) ms led refl in
     let own = first.1 in
     let conf : Conf (width flat) first.0 f (run_totals (width flat) found.runs) = (first.2 f (run_totals (width flat) found.runs)).1 (runs-conf (width flat) ms found.runs is.runs f (λ v. refl)) in
@@ -228,7 +240,8 @@ found-satisfies flat ms found straight led whole is =
     ∙ map-below f (length first.0) flat.registers (subst (λ k. AreBelow k flat.registers) (sym own.size) straight.registers)
     ∙ lengths-agree f (word_at ws) n at flat.registers straight.registers in
     let met = subst (MeetsRows (length flat.integers) flat.rows found.integers) totals is.rows in
-    record {
+    let all : Satisfies flat ws found.integers
+    = record {
       strings = record {
         parts = zip-range f 0 flat.variables (λ v x e.
             let m = own.each v x e in
@@ -239,4 +252,5 @@ found-satisfies flat ms found straight led whole is =
       };
       rows = record { count = met.count; rows = met.each };
       whole = whole;
-    }
+    } in
+    subst (λ l. Satisfies flat l found.integers) (sym (words-same n found.runs)) all

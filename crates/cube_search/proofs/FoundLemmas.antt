@@ -16,14 +16,14 @@ use Rattle.box_search.specs.declared.hit.Hit.{Hit}
 use Rattle.box_search.specs.declared.region.Region.{Region}
 use Rattle.leaf_solve.specs.Longs.{letters}
 use Rattle.trim_search.specs.declared.built.Built.{Built}
-use Rattle.straight_line.specs.Using.{is_defined, used}
+use Rattle.flat_cubes.specs.Using.{is_defined, used}
 use Rattle.cube_bounds.specs.Growth.{reach}
-use Rattle.straight_line.specs.Satisfying.{ComesBy}
-use Rattle.straight_line.specs.Straight.{IsStraight, InOrder}
-use Rattle.straight_line.specs.declared.definition.By.{By}
-use Rattle.straight_line.specs.declared.definition.By.TheVariants as by
-use Rattle.straight_line.specs.declared.definition.Definition.{Definition}
-use Rattle.straight_line.specs.declared.flat.Flat.{Flat}
+use Rattle.flat_cubes.specs.Satisfying.{ComesBy}
+use Rattle.flat_cubes.specs.Straight.{IsStraight, InOrder}
+use Rattle.flat_cubes.specs.declared.definition.By.{By}
+use Rattle.flat_cubes.specs.declared.definition.By.TheVariants as by
+use Rattle.flat_cubes.specs.declared.definition.Definition.{Definition}
+use Rattle.flat_cubes.specs.declared.flat.Flat.{Flat}
 use Rattle.backward.specs.Back.{AreBack}
 use Rattle.backward.specs.Families.{Family, Words}
 use Rattle.backward.specs.Chains.{width}
@@ -31,10 +31,11 @@ use Rattle.backward.specs.Leaves.{machines_of, source_words}
 use Rattle.backward.specs.Runs.{Runs, AreRuns, run_words, run_totals}
 use Rattle.backward.specs.States.{IsState}
 use Rattle.backward.specs.declared.leaf_state.LeafState.{LeafState}
-use Rattle.cube_search.specs.Leaves.{AreLifted, IsHitOf, IsTrim, machine_of, words_of}
-use Rattle.cube_search.specs.Models.{IsSpread}
+use Rattle.cube_answers.specs.Leaves.{IsHitOf, words_of}
+use Rattle.cube_search.specs.Leaves.{AreLifted, IsTrim, machine_of}
+use Rattle.cube_search.specs.Spreads.{IsSpread}
 use Rattle.cube_search.specs.Searches.{IsFound, Obey}
-use Rattle.cube_search.specs.declared.found.FoundRuns.{FoundRuns}
+use Rattle.cube_answers.specs.declared.found.FoundRuns.{FoundRuns}
 use Rattle.cube_search.proofs.OrderLemmas.{obey-join}
 use Rattle.cube_search.proofs.Places.{places_from, sources-places}
 use Rattle.cube_search.proofs.TrimLemmas.{lifted-runs, lifted-words, lifted-totals}

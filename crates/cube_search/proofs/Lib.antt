@@ -1,6 +1,5 @@
 mod Measures
 mod ConfLemmas
-pub mod Crossing
 mod BareLemmas
 mod OrderLemmas
 mod CountLemmas
@@ -10,20 +9,7 @@ mod FoundLemmas
 mod FirstLemmas
 mod CoverLemmas
 mod SearchLemmas
-mod RowLemmas
-mod AskLemmas
 mod TallyLemmas
 mod AnswerLemmas
-mod Quotients
-mod RowBounds
-mod NearNumbers
-mod Powers
-mod Works
-mod Sides
-mod BoxSides
-mod NearWorks
-mod NearSides
-mod Named
 mod SpreadLemmas
-mod ModelLemmas
 pub mod DeadLemmas

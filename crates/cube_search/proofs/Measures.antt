@@ -1,7 +1,7 @@
 -- How much is left of a search: the definitions still to be carried, and their pieces still to be cut.
 use Rattle.std.proofs.Common.{ℕ, zero, suc, ◌+◌, List, length, Option, Some, None, slice_get}
-use Rattle.straight_line.specs.Using.{used}
-use Rattle.straight_line.specs.declared.definition.Definition.{Definition}
+use Rattle.flat_cubes.specs.Using.{used}
+use Rattle.flat_cubes.specs.declared.definition.Definition.{Definition}
 
 abbrev pub pieces_of : Option Definition → ℕ
 pieces_of None = 0

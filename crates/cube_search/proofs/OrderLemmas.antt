@@ -1,8 +1,8 @@
 -- Definitions in order, and places of a list.
 use Rattle.std.proofs.Common.{◌≡◌, ℕ, zero, suc, ◌<◌, List, [], ◌∷◌, length, take, drop, Some, slice_get, refl, subst, arith}
-use Rattle.straight_line.specs.Satisfying.{ComesBy}
-use Rattle.straight_line.specs.Straight.{InOrder, StandsBefore}
-use Rattle.straight_line.specs.declared.definition.Definition.{Definition}
+use Rattle.flat_cubes.specs.Satisfying.{ComesBy}
+use Rattle.flat_cubes.specs.Straight.{InOrder, StandsBefore}
+use Rattle.flat_cubes.specs.declared.definition.Definition.{Definition}
 use Rattle.backward.specs.Families.{Words}
 use Rattle.cube_search.specs.Searches.{Obey}
 

@@ -8,18 +8,18 @@ use Rattle.machine_core.specs.RunLaws.{accepted_run}
 use Rattle.machine_core.specs.declared.graph.Graph.{Graph}
 use Rattle.machine_core.specs.Graphs.{Accepts}
 use Rattle.box_search.specs.Hits.{runs_total}
-use Rattle.straight_line.specs.Using.{is_defined}
+use Rattle.flat_cubes.specs.Using.{is_defined}
 use Rattle.cube_bounds.specs.Bounds.{sources_of, sources, states, states_at, own_bound, product_by}
 use Rattle.cube_bounds.specs.NumberLaws.{factor, StatesAreBounded, StatesAreSolved}
-use Rattle.straight_line.specs.Straight.{IsStraight}
-use Rattle.straight_line.specs.declared.flat.Flat.{Flat}
+use Rattle.flat_cubes.specs.Straight.{IsStraight}
+use Rattle.flat_cubes.specs.declared.flat.Flat.{Flat}
 use Rattle.backward.specs.Families.{Family, Words, after, HasMachine, Conf}
 use Rattle.backward.specs.Chains.{width}
 use Rattle.backward.specs.Leaves.{machines_of, source_words}
 use Rattle.backward.specs.States.{IsState}
 use Rattle.backward.specs.declared.leaf_state.LeafState.{LeafState}
+use Rattle.cube_answers.specs.Leaves.{words_of}
 use Rattle.cube_search.specs.Causes.{HaveRunsOn}
-use Rattle.cube_search.specs.Leaves.{words_of}
 use Rattle.cube_search.proofs.OrderLemmas.{get-below, get-there}
 
 -- the variables that have a machine, counted from k

@@ -3,20 +3,20 @@ use Rattle.std.proofs.Common.{◌≡◌, ℕ, zero, suc, ◌<◌, ◌+◌, ◌-�
 use Rattle.std.proofs.lemmas.Bool.Decides.{eqb_tells}
 use Rattle.machine_core.specs.declared.graph.Graph.{Graph}
 use Rattle.box_search.specs.declared.region.Region.{Region}
-use Rattle.straight_line.specs.Straight.{IsStraight}
-use Rattle.straight_line.specs.declared.definition.By.{By}
-use Rattle.straight_line.specs.declared.definition.By.TheVariants as by
-use Rattle.straight_line.specs.declared.definition.Definition.{Definition}
-use Rattle.straight_line.specs.declared.flat.Flat.{Flat}
+use Rattle.flat_cubes.specs.Straight.{IsStraight}
+use Rattle.flat_cubes.specs.declared.definition.By.{By}
+use Rattle.flat_cubes.specs.declared.definition.By.TheVariants as by
+use Rattle.flat_cubes.specs.declared.definition.Definition.{Definition}
+use Rattle.flat_cubes.specs.declared.flat.Flat.{Flat}
 use Rattle.backward.specs.Families.{Family, Words, HasMachine, Conf}
 use Rattle.backward.specs.Definitions.{definition, reads}
 use Rattle.backward.specs.Chains.{width, ConfBefore}
 use Rattle.backward.specs.Pieces.{ConfCut}
 use Rattle.backward.specs.Steps.{CanPassAt, IsMadeAt, IsMadeBy}
 use Rattle.backward.specs.declared.leaf_state.LeafState.{LeafState}
+use Rattle.cube_answers.specs.declared.tally.LeafTally.{LeafTally}
 use Rattle.cube_search.specs.Steps.{AreExact, CanStep, IsCutting}
 use Rattle.cube_search.specs.Tallies.{Keeps, IsCovered, AreCoveredFrom, IsCoveredBelow}
-use Rattle.cube_search.specs.declared.tally.LeafTally.{LeafTally}
 use Rattle.cube_search.proofs.CoverLemmas.{covered-all, covered-concat, covered-through, covered-whole, covered-from-kept}
 use Rattle.cube_search.proofs.Measures.{weight, pieces_of}
 use Rattle.cube_search.proofs.OrderLemmas.{get-below, stands-at}

@@ -7,7 +7,7 @@ use Rattle.box_search.specs.Hits.{AreRunsOf}
 use Rattle.backward.specs.Families.{Family}
 use Rattle.backward.specs.Leaves.{machines_of}
 use Rattle.backward.specs.Runs.{Runs}
-use Rattle.cube_search.specs.Models.{IsSpread}
+use Rattle.cube_search.specs.Spreads.{IsSpread}
 
 -- one variable
 next : (o : Option Graph) (ms : Family) (old new : List (Run ℕ)) (r : Option (Run ℕ)) → AreRunsOf (machines_of (o ∷ ms)) old

@@ -15,39 +15,42 @@ use Rattle.leaf_solve.specs.declared.leaf_answer.LeafAnswer.{LeafAnswer}
 use Rattle.leaf_solve.specs.declared.leaf_answer.LeafAnswer.TheVariants as leaf
 use Rattle.cube_bounds.specs.Growth.{reach}
 use Rattle.cube_bounds.specs.Sides.{IsSmall}
-use Rattle.straight_line.specs.declared.flat.Flat.{Flat}
+use Rattle.flat_cubes.specs.declared.flat.Flat.{Flat}
 use Rattle.backward.specs.Chains.{width}
 use Rattle.backward.specs.Families.{Family, Words, Conf}
 use Rattle.backward.specs.Leaves.{IsLeaf, IsLessened, machines_of, source_words}
 use Rattle.backward.specs.States.{IsState}
 use Rattle.backward.specs.declared.leaf_state.LeafState.{LeafState}
-use Rattle.cube_search.specs.Causes.{HasGivenUp, IsLongFor, HaveRunsOn}
-use Rattle.cube_search.specs.Leaves.{IsAnswerFor, IsHitOf, IsLeafOutside, IsTrim, machine_of}
-use Rattle.cube_search.specs.Limits.{MustDecideFlat}
-use Rattle.cube_search.specs.Tallies.{IsTally, Keeps, IsCovered, IsReadBy, first_some, hit_of, settled}
-use Rattle.cube_search.specs.declared.tally.Given.{Given}
-use Rattle.cube_search.specs.declared.tally.TooLong.{TooLong}
-use Rattle.cube_search.specs.declared.tally.LeafTally.{LeafTally}
+use Rattle.cube_answers.specs.OpenLeaves.{HasGivenUp, IsLongFor}
+use Rattle.cube_answers.specs.Leaves.{IsAnswerFor, IsHitOf, IsLeafOutside}
+use Rattle.cube_answers.specs.Limits.{MustDecideFlat}
+use Rattle.cube_answers.specs.Tallies.{first_some, hit_of, settled}
+use Rattle.cube_answers.specs.declared.tally.GivenUpLeaf.{GivenUpLeaf}
+use Rattle.cube_answers.specs.declared.tally.LongLeaf.{LongLeaf}
+use Rattle.cube_answers.specs.declared.tally.LeafTally.{LeafTally}
+use Rattle.cube_search.specs.Causes.{HaveRunsOn}
+use Rattle.cube_search.specs.Leaves.{IsTrim, machine_of}
+use Rattle.cube_search.specs.Tallies.{IsTally, Keeps, IsCovered, IsReadBy}
 use Rattle.cube_search.proofs.CoverLemmas.{keeps-same}
 use Rattle.cube_search.proofs.FoundLemmas.{letters-characters}
 use Rattle.cube_search.proofs.Places.{ReadsSame, reads-sources}
 use Rattle.cube_search.proofs.TrimLemmas.{lessened, is-lessened, lessened-machines, trims-less}
 
-abbrev GivenHolds : Flat → Option Given → Type 0
+abbrev GivenHolds : Flat → Option GivenUpLeaf → Type 0
 GivenHolds flat o = MatchOption o ⊤ (λ g. IsLeaf flat g.machines × HasGivenUp flat g.machines g.system g.evidence × (flat.rows ≢ []) × (IsSmall flat → ⊥))
 
-abbrev LongHolds : Flat → Option TooLong → Type 0
+abbrev LongHolds : Flat → Option LongLeaf → Type 0
 LongHolds flat o = MatchOption o ⊤ (λ l. IsLeaf flat l.machines × IsLongFor flat l.machines l.shown)
 
 some-first : {X : Type 0} (o : Option X) (x : X) → IsSome (first_some o x)
 some-first None x = refl
 some-first (Some y) x = refl
 
-long-first : (flat : Flat) (o : Option TooLong) (l : TooLong) → LongHolds flat o → LongHolds flat (Some l) → LongHolds flat (first_some o l)
+long-first : (flat : Flat) (o : Option LongLeaf) (l : LongLeaf) → LongHolds flat o → LongHolds flat (Some l) → LongHolds flat (first_some o l)
 long-first flat None l h k = k
 long-first flat (Some m) l h k = h
 
-given-first : (flat : Flat) (o : Option Given) (g : Given) → GivenHolds flat o → GivenHolds flat (Some g) → GivenHolds flat (first_some o g)
+given-first : (flat : Flat) (o : Option GivenUpLeaf) (g : GivenUpLeaf) → GivenHolds flat o → GivenHolds flat (Some g) → GivenHolds flat (first_some o g)
 given-first flat None g h k = k
 given-first flat (Some f) g h k = h
 

@@ -12,15 +12,16 @@ use Rattle.trim_search.specs.declared.built.Built.{Built}
 use Rattle.box_search.specs.Hits.{runs_total}
 use Rattle.leaf_solve.specs.Longs.{HasRun}
 use Rattle.cube_bounds.specs.Bounds.{states}
-use Rattle.straight_line.specs.declared.flat.Flat.{Flat}
+use Rattle.flat_cubes.specs.declared.flat.Flat.{Flat}
 use Rattle.backward.specs.Chains.{width}
 use Rattle.backward.specs.Families.{Family, HasMachine}
 use Rattle.backward.specs.Leaves.{machines_of, IsLess, IsLessened}
 use Rattle.backward.specs.States.{IsState}
 use Rattle.backward.specs.declared.leaf_state.LeafState.{LeafState}
 use Rattle.cube_bounds.specs.NumberLaws.{StatesAreBounded, StatesAreSolved}
-use Rattle.straight_line.specs.Straight.{IsStraight}
-use Rattle.cube_search.specs.Leaves.{AreLifted, AreOfLeaf, IsTrim, machine_of, words_of}
+use Rattle.flat_cubes.specs.Straight.{IsStraight}
+use Rattle.cube_answers.specs.Leaves.{AreOfLeaf, words_of}
+use Rattle.cube_search.specs.Leaves.{AreLifted, IsTrim, machine_of}
 use Rattle.cube_search.proofs.Places.{ReadsSame, machines-all, machines-length, few-states}
 
 -- the machines of a list at the places of a family's machines

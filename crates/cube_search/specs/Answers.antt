@@ -1,20 +1,15 @@
 -- What is answered for one flat cube.
-use Rattle.std.specs.Prelude.{ℤ, pos, ◌≤ℤ◌, List, Option, Some, None, ⊤}
+use Rattle.std.specs.Prelude.{ℤ, pos, ◌≤ℤ◌, List, ⊤}
 use Rattle.sv_terms.specs.Language.{Word}
 use Rattle.sv_terms.specs.Meaning.{Named}
 use Rattle.sv_terms.specs.Truth.{AreWorded}
 use Rattle.cube_bounds.specs.Growth.{reach}
 use Rattle.cube_bounds.specs.NumberLaws.{source_length}
-use Rattle.straight_line.specs.Satisfying.{Satisfies, AreModelValues}
-use Rattle.straight_line.specs.declared.flat.Flat.{Flat}
+use Rattle.flat_cubes.specs.Satisfying.{Satisfies, AreModelValues}
+use Rattle.flat_cubes.specs.declared.flat.Flat.{Flat}
+use Rattle.cube_answers.specs.declared.answer.CubeAnswer.{CubeAnswer}
+use Rattle.cube_answers.specs.declared.answer.CubeAnswer.TheVariants as answer
 use Rattle.cube_search.specs.Causes.{EachSolution, IsCauseOf}
-use Rattle.cube_search.specs.declared.answer.CubeAnswer.{CubeAnswer}
-use Rattle.cube_search.specs.declared.answer.CubeAnswer.TheVariants as answer
-use Rattle.cube_search.specs.declared.answer.Refutation.{Refutation}
-use Rattle.cube_search.specs.declared.reason.OpenReason.TheVariants.{Length, Arithmetic}
-use Rattle.cube_search.specs.declared.tally.Given.{Given}
-use Rattle.cube_search.specs.declared.tally.TooLong.{TooLong}
-use Rattle.cube_search.specs.declared.tally.LeafTally.{LeafTally}
 
 -- values that extend to words and numbers that satisfy the cube; its source words have together at most so many characters as are within reach
 pub record IsModelOf (flat : Flat) (values : Named) : Type 0 where
@@ -30,18 +25,6 @@ abbrev pub IsCubeAnswer : Flat → CubeAnswer → Type 0
 IsCubeAnswer flat (answer.Sat model) = IsModelOf flat model
 IsCubeAnswer flat (answer.Unsat refutation) = EachSolution flat (λ ws ints. ⊥)
 IsCubeAnswer flat (answer.Open reason) = IsCauseOf flat reason
-
--- a leaf on which the solver gave up, else one that is too long, else none
-abbrev pub left_long : Option TooLong → Refutation → CubeAnswer
-left_long None r = answer.Unsat r
-left_long (Some l) r = answer.Open (Length l.machines l.shown)
-
-abbrev pub left_given : Option Given → CubeAnswer → CubeAnswer
-left_given None a = a
-left_given (Some g) a = answer.Open (Arithmetic g.machines g.system g.evidence)
-
-abbrev pub left_of : LeafTally → CubeAnswer
-left_of tally = left_given tally.given (left_long tally.long tally.closed)
 
 abbrev pub IsDecided : CubeAnswer → Type 0
 IsDecided (answer.Sat model) = ⊤

@@ -1,29 +1,26 @@
 -- Why a flat cube is left open.
-use Rattle.std.specs.Prelude.{◌≡◌, ◌≢◌, ◌↔◌, ℕ, ℤ, pos, ◌<◌, ◌<ℤ◌, ◌⊎◌, Bool, IsTrue, List, [], length, map}
+use Rattle.std.specs.Prelude.{◌≡◌, ◌≢◌, ℕ, ℤ, pos, ◌<◌, ◌<ℤ◌, List, [], map}
 use Rattle.sv_terms.specs.CutOff.{cut_off}
 use Rattle.sv_terms.specs.Language.{Word}
 use Rattle.machine_core.specs.declared.graph.Graph.{Graph}
 use Rattle.machine_core.specs.declared.run.Run.{Run}
 use Rattle.box_search.specs.Hits.{AreRunsOf, runs_total}
 use Rattle.farkas_check.specs.declared.system.System.{System}
-use Rattle.lia_branch.specs.EvidenceHolds.{Holds}
 use Rattle.lia_branch.specs.declared.evidence.Evidence.{Evidence}
-use Rattle.parikh_flow.specs.Rows.{IsSystemOf}
-use Rattle.leaf_solve.specs.Answers.{row_reach}
-use Rattle.leaf_solve.specs.Longs.{IsLongShown}
 use Rattle.leaf_solve.specs.declared.long_shown.LongShown.{LongShown}
 use Rattle.cube_bounds.specs.Bounds.{states, splits}
 use Rattle.cube_bounds.specs.Growth.{growth, longest_word, reach}
 use Rattle.cube_bounds.specs.NumberLaws.{source_length}
 use Rattle.cube_bounds.specs.Sides.{IsSmall}
-use Rattle.straight_line.specs.Satisfying.{Satisfies, lengths_of, word_at}
-use Rattle.straight_line.specs.declared.flat.Flat.{Flat}
+use Rattle.flat_cubes.specs.Satisfying.{Satisfies, lengths_of, word_at}
+use Rattle.flat_cubes.specs.declared.flat.Flat.{Flat}
 use Rattle.backward.specs.Chains.{width}
 use Rattle.backward.specs.Leaves.{IsLeaf, source_words}
-use Rattle.cube_search.specs.Limits.{most_states, most_splits}
-use Rattle.cube_search.specs.Regions.{Near}
-use Rattle.cube_search.specs.declared.reason.OpenReason.{OpenReason}
-use Rattle.cube_search.specs.declared.reason.OpenReason.TheVariants as reason
+use Rattle.cube_region.specs.Regions.{Near}
+use Rattle.cube_answers.specs.Limits.{most_states, most_splits}
+use Rattle.cube_answers.specs.OpenLeaves.{HasGivenUp, IsLeftOpen, IsLongFor}
+use Rattle.cube_answers.specs.declared.reason.OpenReason.{OpenReason}
+use Rattle.cube_answers.specs.declared.reason.OpenReason.TheVariants as reason
 
 -- the fact holds of all words and numbers that satisfy the cube
 abbrev pub EachSolution : Flat → (List Word → List ℤ → Type 0) → Type 0
@@ -35,20 +32,6 @@ pub record HaveRunsOn (registers : ℕ) (machines : List Graph) (words : List Wo
   pub each : AreRunsOf machines runs
   pub on : map (λ (run : Run ℕ). run.word) runs ≡ words
   pub cost : runs_total registers runs ≡ totals
-
--- the solver gave up on the system of the machines and the rows of the cube, with the row for reach where there is a machine; the evidence holds for it
-pub record HasGivenUp (flat : Flat) (machines : List Graph) (system : System) (evidence : Evidence) : Type 0 where
-  pub is_system : (n : ℕ) × (reach flat ≡ pos n) × IsSystemOf machines (length flat.integers) (width flat) flat.rows (row_reach machines n) system
-  pub evidence_holds : Holds system evidence
-
--- what shows that all words of the machines that meet the rows have together more characters than are within reach
-abbrev pub IsLongFor : Flat → List Graph → LongShown → Type 0
-IsLongFor flat machines shown = (small : Bool) × (IsTrue small ↔ IsSmall flat)
-    × IsLongShown machines (width flat) (length flat.integers) flat.rows small (reach flat) shown
-
--- evidence, or what shows that the words are too long, of a leaf
-abbrev pub IsLeftOpen : Flat → List Graph → Type 0
-IsLeftOpen flat machines = ((system : System) × (evidence : Evidence) × HasGivenUp flat machines system evidence) ⊎ ((shown : LongShown) × IsLongFor flat machines shown)
 
 -- some leaf that is left open reads the source words, with the lengths of the registers
 pub record IsLeftTo (flat : Flat) (ws : List Word) : Type 0 where

@@ -1,10 +1,6 @@
-pub mod Limits
-pub mod Regions
-pub mod Bounding
-pub mod Entries
 pub mod Causes
 pub mod Answers
-pub mod Models
+pub mod Spreads
 pub mod Searches
 pub mod Steps
 pub mod Leaves

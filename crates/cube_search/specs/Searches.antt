@@ -3,19 +3,19 @@ use Rattle.std.specs.Prelude.{◌≡◌, ◌↔◌, ℕ, ◌<◌, ◌^◌, ◌�
 use Rattle.std.specs.List.{AllByRecursion}
 use Rattle.sv_linear.specs.Rows.{MeetsRows}
 use Rattle.cube_bounds.specs.Growth.{reach}
-use Rattle.straight_line.specs.Satisfying.{ComesBy}
+use Rattle.flat_cubes.specs.Satisfying.{ComesBy}
 use Rattle.cube_bounds.specs.Sides.{IsSmall}
-use Rattle.straight_line.specs.Straight.{HasFormed, IsStraight}
-use Rattle.straight_line.specs.declared.definition.Definition.{Definition}
-use Rattle.straight_line.specs.declared.flat.Flat.{Flat}
+use Rattle.flat_cubes.specs.Straight.{HasFormed, IsStraight}
+use Rattle.flat_cubes.specs.declared.definition.Definition.{Definition}
+use Rattle.flat_cubes.specs.declared.flat.Flat.{Flat}
 use Rattle.leaf_solve.specs.Longs.{letters}
 use Rattle.backward.specs.Chains.{width}
 use Rattle.backward.specs.Families.{Family, Words}
 use Rattle.backward.specs.Leaves.{source_words}
 use Rattle.backward.specs.Runs.{AreRuns, run_words, run_totals}
 use Rattle.backward.specs.States.{IsLittle}
-use Rattle.cube_search.specs.Regions.{IsRegionFor}
-use Rattle.cube_search.specs.declared.found.FoundRuns.{FoundRuns}
+use Rattle.cube_region.specs.Regions.{IsRegionFor}
+use Rattle.cube_answers.specs.declared.found.FoundRuns.{FoundRuns}
 use Rattle.cube_search.specs.declared.searching.Search.{Search}
 
 -- a straight cube that isn't broken, with its region and numbers; words grow little, and with rows some characters are within reach

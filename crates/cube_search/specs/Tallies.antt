@@ -1,68 +1,35 @@
 -- What the leaves that were answered come to.
-use Rattle.std.specs.Prelude.{◌≡◌, ◌≢◌, ℕ, ◌<ℤ◌, ℤ, pos, ◌⊎◌, List, [], ◌++◌, length, take, min, ◌+◌, ◌-◌, ◌^◌, Option, Some, None, MatchOption, IsSome, slice_get, ⊤}
+use Rattle.std.specs.Prelude.{◌≡◌, ◌≢◌, ℕ, ◌<ℤ◌, ℤ, pos, ◌⊎◌, List, [], ◌++◌, length, take, Some, MatchOption, IsSome, slice_get, ⊤}
 use Rattle.machine_core.specs.declared.graph.Graph.{Graph}
 use Rattle.farkas_check.specs.declared.system.System.{System}
 use Rattle.lia_branch.specs.declared.evidence.Evidence.{Evidence}
 use Rattle.leaf_solve.specs.Longs.{letters}
-use Rattle.leaf_solve.specs.declared.closing.Closing.{Closing}
-use Rattle.leaf_solve.specs.declared.closing.Closing.TheVariants as closing
-use Rattle.leaf_solve.specs.declared.leaf_answer.LeafAnswer.{LeafAnswer}
-use Rattle.leaf_solve.specs.declared.leaf_answer.LeafAnswer.TheVariants as leaf
 use Rattle.leaf_solve.specs.declared.long_shown.LongShown.{LongShown}
 use Rattle.sv_linear.specs.Rows.{MeetsRows}
 use Rattle.box_search.specs.Regions.{IsInRegion}
-use Rattle.box_search.specs.declared.hit.Hit.{Hit}
 use Rattle.box_search.specs.declared.region.Region.{Region}
 use Rattle.cube_bounds.specs.Growth.{reach}
 use Rattle.cube_bounds.specs.Sides.{IsSmall}
-use Rattle.straight_line.specs.declared.definition.By.TheVariants.{Concat}
-use Rattle.straight_line.specs.declared.flat.Flat.{Flat}
+use Rattle.flat_cubes.specs.declared.definition.By.TheVariants.{Concat}
+use Rattle.flat_cubes.specs.declared.flat.Flat.{Flat}
 use Rattle.backward.specs.Chains.{width}
 use Rattle.backward.specs.Definitions.{definition}
 use Rattle.backward.specs.Families.{Family, Words, HasMachine, Conf}
 use Rattle.backward.specs.Leaves.{IsLeaf, source_words}
 use Rattle.backward.specs.Pieces.{ConfCut, AreCuts}
 use Rattle.backward.specs.declared.leaf_state.LeafState.{LeafState}
-use Rattle.cube_search.specs.Limits.{MustDecideFlat}
-use Rattle.cube_search.specs.Causes.{HasGivenUp, IsLongFor, HaveRunsOn}
+use Rattle.cube_answers.specs.Limits.{MustDecideFlat}
+use Rattle.cube_answers.specs.OpenLeaves.{HasGivenUp, IsLongFor}
+use Rattle.cube_answers.specs.declared.tally.LeafTally.{LeafTally}
+use Rattle.cube_search.specs.Causes.{HaveRunsOn}
 use Rattle.cube_search.specs.Searches.{Obey}
 use Rattle.cube_search.specs.Steps.{IsNextFamily}
-use Rattle.cube_search.specs.declared.answer.Refutation.{Refutation}
-use Rattle.cube_search.specs.declared.tally.LeafTally.{LeafTally}
 
 -- the leaves that are kept are leaves, with what shows that they are open
 pub record IsTally (flat : Flat) (tally : LeafTally) : Type 0 where
   pub given : MatchOption tally.given ⊤ (λ g. IsLeaf flat g.machines × HasGivenUp flat g.machines g.system g.evidence × (flat.rows ≢ []) × (IsSmall flat → ⊥))
   pub long : MatchOption tally.long ⊤ (λ l. IsLeaf flat l.machines × IsLongFor flat l.machines l.shown)
   pub undecided : IsSome tally.long → MustDecideFlat flat → ⊥
-
--- what is kept, where something comes after it
-abbrev pub first_some : {X : Type 0} → Option X → X → Option X
-first_some None x = Some x
-first_some (Some y) x = Some y
-
--- the count of what closed the leaf is one more, up to the greatest number of 64 bits
-abbrev pub more : ℕ → ℕ
-more n = min (n + 1) (2 ^ 64 - 1)
-
-abbrev pub one_more : Closing → Refutation → Refutation
-one_more (closing.Empty i) r = record r { empty = more r.empty }
-one_more (closing.Tree s t) r = record r { trees = more r.trees }
-one_more closing.Box r = record r { boxes = more r.boxes }
-
--- the tally once a leaf of these machines was answered; a hit leaves it
-abbrev pub settled : List Graph → LeafAnswer → LeafTally → LeafTally
-settled machines (leaf.Sat hit) t = t
-settled machines (leaf.Closed c) t = record t { closed = one_more c t.closed }
-settled machines (leaf.Long shown) t = record t { long = first_some t.long (record { machines = machines; shown = shown }) }
-settled machines (leaf.Open system evidence) t = record t { given = first_some t.given (record { machines = machines; system = system; evidence = evidence }) }
-
--- the hit that was answered
-abbrev pub hit_of : LeafAnswer → Option Hit
-hit_of (leaf.Sat hit) = Some hit
-hit_of (leaf.Closed c) = None
-hit_of (leaf.Long shown) = None
-hit_of (leaf.Open system evidence) = None
 
 -- what was kept of each kind is still there
 pub record Keeps (old new : LeafTally) : Type 0 where

@@ -2,25 +2,22 @@ ghost use Rattle.std.specs.Prelude.{◌≡◌, ◌<◌, ◌^◌, ◌⊎◌, ℕ,
 ghost use Rattle.trim_search.specs.declared.build_fault.BuildFault.TheVariants.{States};
 ghost use Rattle.cube_bounds.specs.Bounds.{states};
 ghost use Rattle.cube_bounds.specs.Measuring.{AreNumbersOf};
-ghost use Rattle.straight_line.specs.Straight.{AreNamesApart, HasFormed, IsStraight};
-ghost use Rattle.cube_search.specs.Answers.{IsCubeAnswer, IsDecided, left_of};
+ghost use Rattle.flat_cubes.specs.Straight.{AreNamesApart, HasFormed, IsStraight};
+ghost use Rattle.cube_answers.specs.Limits.{GrowsLittle, IsWithinLimits, MustDecideFlat};
+ghost use Rattle.cube_search.specs.Answers.{IsCubeAnswer, IsDecided};
 ghost use Rattle.cube_search.specs.Causes.{IsCauseOf};
-ghost use Rattle.cube_search.specs.Limits.{GrowsLittle, IsWithinLimits, MustDecideFlat};
 ghost use Rattle.cube_search.specs.declared.allowance.Allowance.TheVariants.{Part};
 
 use crate::allowance::Allowance;
-use crate::answer::{CubeAnswer, Refutation};
 use crate::limits::past_limit;
-use crate::modelling::model_of;
-use crate::reason::OpenReason;
-use crate::regions::region_of;
 use crate::searching::{Search, descend};
-use crate::tally::LeafTally;
 use backward::first_state;
+use cube_answers::{CubeAnswer, LeafTally, OpenReason, Refutation, model_of, open_answer};
 use cube_bounds::Numbers;
+use cube_region::region_of;
+use flat_cubes::Flat;
 use part_machines::{MOST_STATES, Machines};
 use std::alloc::{AllocError, Global};
-use straight_line::Flat;
 use sv_terms::MOST_CHARACTERS;
 use trim_search::BuildFault;
 
@@ -156,26 +153,4 @@ fn answer_by_search(
         Some(found) => Ok(CubeAnswer::Sat(model_of(alloc, flat, &found)?)),
         None => Ok(open_answer(tally)),
     }
-}
-
-// What is answered where no leaf has a hit.
-fn open_answer(tally: LeafTally) -> CubeAnswer
-    ensures { result ≡ left_of tally }
-{
-    let LeafTally {
-        given,
-        long,
-        closed,
-    } = tally;
-    if let Some(given) = given {
-        return CubeAnswer::Open(OpenReason::Arithmetic(
-            given.machines,
-            given.system,
-            given.evidence,
-        ));
-    }
-    if let Some(long) = long {
-        return CubeAnswer::Open(OpenReason::Length(long.machines, long.shown));
-    }
-    CubeAnswer::Unsat(closed)
 }

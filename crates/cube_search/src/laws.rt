@@ -1,8 +1,8 @@
 //! A law of flat cubes, stated by a function that does nothing.
 ghost use Rattle.std.specs.Prelude.{◌≡◌, List, []};
-ghost use Rattle.bool_cubes.specs.declared.literal.Literal.{Literal};
-ghost use Rattle.straight_line.specs.Flattening.{IsFlattening};
-ghost use Rattle.straight_line.specs.declared.flat.Flat.{Flat};
+ghost use Rattle.literal_forms.specs.declared.literal.Literal.{Literal};
+ghost use Rattle.flat_cubes.specs.Flattening.{IsFlattening};
+ghost use Rattle.flat_cubes.specs.declared.flat.Flat.{Flat};
 
 /// A flat cube without rows has no registers: what [`cube_answer`](crate::cube_answer) asks of it.
 pub fn rows_count()

@@ -1,13 +1,13 @@
 //! The limits on the numbers of a cube's text.
 ghost use Rattle.std.specs.Prelude.{IfSome, MatchOption};
 ghost use Rattle.cube_bounds.specs.Measuring.{AreNumbersOf};
+ghost use Rattle.cube_answers.specs.Limits.{IsWithinLimits, MustDecideFlat};
 ghost use Rattle.cube_search.specs.Causes.{IsCauseOf};
-ghost use Rattle.cube_search.specs.Limits.{IsWithinLimits, MustDecideFlat};
 
-use crate::reason::OpenReason;
+use cube_answers::OpenReason;
 use cube_bounds::Numbers;
+use flat_cubes::Flat;
 use part_machines::MOST_STATES;
-use straight_line::Flat;
 use sv_terms::{MOST_CHARACTERS, MOST_SPLITS};
 
 /// The first limit that a number of the text is past: where there are rows that on growth, then that on states, then

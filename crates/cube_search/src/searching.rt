@@ -4,20 +4,19 @@ ghost use Rattle.backward.specs.States.{IsState};
 ghost use Rattle.cube_search.specs.Searches.{IsFound, IsSearch};
 ghost use Rattle.cube_search.specs.declared.allowance.Allowance.TheVariants.{Part};
 ghost use Rattle.cube_search.specs.Steps.{CanStep, IsCutting, IsNextFamily};
-ghost use Rattle.straight_line.specs.Straight.{IsStraight};
+ghost use Rattle.flat_cubes.specs.Straight.{IsStraight};
 ghost use Rattle.cube_search.specs.Tallies.{IsTally, Keeps, IsCovered, AreCoveredFrom, IsCoveredBelow};
 
 use crate::allowance::Allowance;
 use crate::dead_ends::reads_nothing;
-use crate::found::FoundRuns;
 use crate::leaves::answer_leaf;
 use crate::spending::spend;
 use crate::stepping::{leave, pieces_at, states_at, step};
-use crate::tally::LeafTally;
 use backward::LeafState;
 use box_search::Region;
+use cube_answers::{FoundRuns, LeafTally};
+use flat_cubes::Flat;
 use std::alloc::{AllocError, Global};
-use straight_line::Flat;
 use sv_list::Items;
 use trim_search::BuildFault;
 

@@ -2,22 +2,22 @@
 ghost use Rattle.std.specs.Prelude.{◌≡◌, ℕ, ◌+◌, ◌<◌, ◌^◌, [], Ok, Err, None, Some, IfOk, IfSome, MatchOption, Option, length, slice_get};
 ghost use Rattle.machine_core.specs.declared.graph.Graph.{Graph};
 ghost use Rattle.trim_search.specs.declared.build_fault.BuildFault.TheVariants.{States};
-ghost use Rattle.straight_line.specs.Straight.{IsStraight};
-ghost use Rattle.straight_line.specs.declared.definition.Definition.{Definition as AnyDefinition};
+ghost use Rattle.flat_cubes.specs.Straight.{IsStraight};
+ghost use Rattle.flat_cubes.specs.declared.definition.Definition.{Definition as AnyDefinition};
 ghost use Rattle.backward.specs.Families.{HasMachine};
 ghost use Rattle.backward.specs.States.{IsState};
 ghost use Rattle.backward.specs.Steps.{CanPassAt, IsMadeAt};
 ghost use Rattle.cube_search.specs.Searches.{IsFound, IsSearch};
-ghost use Rattle.cube_search.specs.declared.found.FoundRuns.{FoundRuns as AnyFound};
+ghost use Rattle.cube_answers.specs.declared.found.FoundRuns.{FoundRuns as AnyFound};
 ghost use Rattle.cube_search.specs.Steps.{AreExact, CanStep, IsCutting, IsNextFamily};
 
-use crate::found::FoundRuns;
 use crate::searching::Search;
 use backward::{
     LeafState, cuts_are_exact, lift_step, next_can_be_carried, step_concat, step_through,
 };
+use cube_answers::FoundRuns;
+use flat_cubes::{By, Definition, Flat};
 use std::alloc::Global;
-use straight_line::{By, Definition, Flat};
 use trim_search::BuildFault;
 
 // The definition at this place, which there is.

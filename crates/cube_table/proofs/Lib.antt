@@ -1,3 +1,2 @@
 mod Standing
 mod Cleared
-mod Opaques

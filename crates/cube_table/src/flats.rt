@@ -1,8 +1,8 @@
 //! Flat cubes and their numbers as text, a line for each thing that is said.
 use crate::text::Text;
 use cube_bounds::Numbers;
+use flat_cubes::{By, Definition, Flat, FlatFault, Own, Variable};
 use std::alloc::{AllocError, Global};
-use straight_line::{By, Definition, Flat, FlatFault, Own, Variable};
 use sv_linear::{Row, RowKind};
 use sv_terms::Name;
 use sv_word::Word;

@@ -19,7 +19,6 @@
 //! ```
 #![tactic(auto)]
 
-mod clear;
 mod flats;
 mod regexes;
 mod running;

@@ -1,11 +1,12 @@
 ghost use Rattle.std.specs.List.{AllByRecursion};
-ghost use Rattle.bool_cubes.specs.Past.{IsFitting};
+ghost use Rattle.literal_forms.specs.Past.{IsFitting};
 ghost use Rattle.cube_table.specs.Straightened.{IsStraightenedCube};
 
-use bool_cubes::Cube;
 use cube_bounds::{Numbers, numbers};
+use flat_cubes::{Flat, FlatFault};
+use literal_forms::Cube;
 use std::alloc::Global;
-use straight_line::{Flat, FlatFault, flatten};
+use straight_line::flatten;
 
 /// A straight cube: its flat form, and the numbers of that.
 #[derive(Drop)]

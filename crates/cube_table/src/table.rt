@@ -2,15 +2,16 @@
 ghost use Rattle.std.specs.Prelude.{◌≡◌, Some};
 ghost use Rattle.std.specs.List.{AllByRecursion};
 ghost use Rattle.bool_cubes.specs.Laws.{IsFittingCube, IsClearBool};
-ghost use Rattle.bool_cubes.specs.Past.{IsFitting};
+ghost use Rattle.literal_forms.specs.Past.{IsFitting};
 ghost use Rattle.sv_terms.specs.Sorting.{sort_of};
 ghost use Rattle.sv_terms.specs.declared.sort.Sort.TheVariants as sort;
 
-use crate::clear::clear;
 use crate::stop::TableStop;
 use crate::straight::straighten;
 use crate::text::Text;
-use bool_cubes::{Cube, CubeFault, Cubes, count, literals_fit};
+use assertion_parts::clear_terms;
+use bool_cubes::{CubeFault, Cubes, count, literals_fit};
+use literal_forms::Cube;
 use std::alloc::{AllocError, Global};
 use sv_terms::Term;
 
@@ -21,7 +22,7 @@ pub fn print_table(rt: HostRuntime, live: &[Term]) -> Result<(), TableStop>
     requires { AllByRecursion (λ t. sort_of t ≡ Some sort.Bool) live.now }
 {
     let alloc = rt.alloc();
-    let terms = clear(alloc, live)?;
+    let terms = clear_terms(alloc, live)?;
     let mut head = Text::new(alloc);
     if terms.len() < live.len() {
         head.add("left out: ")?;

@@ -1,6 +1,6 @@
 //! Terms and literals of cubes as text.
 use crate::text::Text;
-use bool_cubes::Literal;
+use literal_forms::Literal;
 use std::alloc::{AllocError, Global};
 use sv_terms::{Op, Term};
 

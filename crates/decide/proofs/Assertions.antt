@@ -11,24 +11,25 @@ use Rattle.sv_terms.specs.declared.sort.Sort.{Sort}
 use Rattle.sv_terms.specs.declared.sort.Sort.TheVariants as sort
 use Rattle.sv_terms.specs.declared.term.Term.{Term}
 use Rattle.sv_terms.specs.declared.term.Term.TheVariants as v
+use Rattle.assertion_parts.specs.Constants.{HaveOneSort, has_formed, has_words}
+use Rattle.assertion_parts.proofs.Fillings.{by-places, at-places}
+use Rattle.assertion_parts.proofs.Sorts.{both, both-make}
+use Rattle.assertion_parts.proofs.Terms.{every-Apply, words-Apply}
 use Rattle.bool_cubes.specs.Cubes.{cubes_of}
 use Rattle.bool_cubes.specs.Laws.{CubesAreExact, IsAssertion, IsFittingCube, IsPassedCube, IsPassedOn, IsClearBool, IsValuedCube, LiteralsAreValued, LiteralsFit, LiteralsPass}
 use Rattle.bool_cubes.specs.Past.{HasNoPast}
 use Rattle.bool_cubes.specs.Refusing.{IsRefusedExactly, count_of, most_cubes}
 use Rattle.bool_cubes.specs.declared.fault.CubeFault.{CubeFault}
 use Rattle.bool_cubes.specs.declared.fault.CubeFault.TheVariants as fault
-use Rattle.bool_cubes.specs.Shapes.{seen}
-use Rattle.bool_cubes.specs.declared.literal.Literal.{Literal}
-use Rattle.bool_cubes.specs.declared.literal.Cube.{Cube}
+use Rattle.literal_forms.specs.Shapes.{seen}
+use Rattle.literal_forms.specs.declared.literal.Literal.{Literal}
+use Rattle.literal_forms.specs.declared.literal.Cube.{Cube}
 use Rattle.straight_line.specs.Laws.{IsSpelled}
-use Rattle.decide.specs.Constants.{HaveOneSort, has_formed, has_words}
 use Rattle.decide.specs.Completeness.{IsComplete, MustDecide}
 use Rattle.decide.specs.Jobs.{IsAskedCube, IsFolded}
 use Rattle.decide.specs.Verdicts.{HasOnly, RightVerdict, refused_as}
-use Rattle.decide.proofs.Fillings.{by-places, at-places}
 use Rattle.decide.proofs.Rightness.{AreLaws}
-use Rattle.decide.proofs.Sorts.{FormedIsTold, both, both-make, is_spelled, spelled}
-use Rattle.decide.proofs.Terms.{every-Apply, words-Apply}
+use Rattle.decide.proofs.Sorts.{FormedIsTold, is_spelled, spelled}
 
 -- what holds of all terms holds of the clear ones, which besides are clear
 kept : (P : Term → Type 0) (ts : List Term) → AllByRecursion P ts → AllByRecursion (λ t. P t × (is_opaque t ≡ false)) (clear_of ts)

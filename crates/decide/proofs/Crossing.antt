@@ -14,8 +14,8 @@ use Rattle.sv_terms.proofs.transducer.Item.TheSendSync as item
 use Rattle.sv_terms.proofs.transducer.TransEdge.TheSendSync as edge
 use Rattle.sv_terms.proofs.transducer.Transducer.TheSendSync as transducer
 use Rattle.sv_terms.specs.contracts.term.Term as terms
-use Rattle.bool_cubes.specs.contracts.literal.Literal as literal
-use Rattle.bool_cubes.specs.contracts.literal.Cube as cube
+use Rattle.literal_forms.specs.contracts.literal.Literal as literal
+use Rattle.literal_forms.specs.contracts.literal.Cube as cube
 
 ruleset of_terms = (
   sendable,

@@ -1,7 +1,5 @@
 pub mod Assertions
 pub mod Crossing
-pub mod Fillings
-pub mod Firsts
 pub mod Folding
 pub mod Going
 pub mod Listed
@@ -10,4 +8,3 @@ pub mod Rightness
 pub mod Sharing
 pub mod Sorts
 pub mod Tallying
-pub mod Terms

@@ -10,31 +10,32 @@ use Rattle.sv_terms.specs.declared.sort.Sort.TheVariants as sort
 use Rattle.sv_terms.specs.declared.term.Term.{Term}
 use Rattle.sv_terms.specs.declared.value.Value.{Value}
 use Rattle.sv_terms.specs.declared.value.Value.TheVariants as value
+use Rattle.assertion_parts.specs.Filling.{AreChosen, IsFilledFrom, default, or_default, value_of}
+use Rattle.assertion_parts.proofs.Sorts.{same-self}
 use Rattle.bool_cubes.specs.Laws.{IsValuedCube}
-use Rattle.bool_cubes.specs.Linear.{length_of}
-use Rattle.bool_cubes.specs.Shapes.{Shape, seen}
-use Rattle.bool_cubes.specs.declared.literal.Literal.{Literal}
-use Rattle.bool_cubes.specs.declared.literal.Cube.{Cube}
-use Rattle.straight_line.specs.Flattening.{Bounded, HaveOneSort as LiteralsHaveOneSort, IsFlattened, IsFlattening, IsSortedBy, IsRowFor, all_bounded, has_column, unknowns_of, variable_of}
-use Rattle.straight_line.specs.Met.{met}
+use Rattle.literal_forms.specs.Linear.{length_of}
+use Rattle.literal_forms.specs.Shapes.{Shape, seen}
+use Rattle.literal_forms.specs.declared.literal.Literal.{Literal}
+use Rattle.literal_forms.specs.declared.literal.Cube.{Cube}
+use Rattle.flat_cubes.specs.Flattening.{Bounded, HaveOneSort as LiteralsHaveOneSort, IsFlattened, IsFlattening, IsSortedBy, IsRowFor, all_bounded, has_column, unknowns_of, variable_of}
+use Rattle.flat_cubes.specs.Met.{met}
 use Rattle.straight_line.specs.FormLaws.{AreNamesSorted, NamesAreSorted}
 use Rattle.straight_line.specs.Laws.{FlatIsExact, FlatIsOne, IsGood, IsRefusal, IsSpelled, RefusedHasNone}
-use Rattle.straight_line.specs.Satisfying.{Extends, HasValue, AreModelValues, NamesHave}
-use Rattle.straight_line.specs.Straight.{string_names}
-use Rattle.straight_line.specs.declared.fault.FlatFault.{FlatFault}
-use Rattle.straight_line.specs.declared.flat.Flat.{Flat}
-use Rattle.straight_line.specs.declared.variable.Variable.{Variable}
+use Rattle.flat_cubes.specs.Satisfying.{Extends, HasValue, AreModelValues, NamesHave}
+use Rattle.flat_cubes.specs.Straight.{string_names}
+use Rattle.flat_cubes.specs.declared.fault.FlatFault.{FlatFault}
+use Rattle.flat_cubes.specs.declared.flat.Flat.{Flat}
+use Rattle.flat_cubes.specs.declared.variable.Variable.{Variable}
 use Rattle.cube_search.specs.Answers.{IsModelOf}
 use Rattle.cube_search.specs.Causes.{EachSolution, IsCauseOf}
-use Rattle.cube_search.specs.Limits.{MustDecideFlat}
-use Rattle.cube_search.specs.declared.reason.OpenReason.{OpenReason}
-use Rattle.cube_search.specs.declared.reason.OpenReason.TheVariants as reason
+use Rattle.cube_answers.specs.Limits.{MustDecideFlat}
+use Rattle.cube_answers.specs.declared.reason.OpenReason.{OpenReason}
+use Rattle.cube_answers.specs.declared.reason.OpenReason.TheVariants as reason
 use Rattle.decide.specs.Causes.{CubeHasNoValues, IsCause}
 use Rattle.decide.specs.Completeness.{MustDecideCube}
-use Rattle.decide.specs.Filling.{AreChosen, IsFilledFrom, default, or_default, value_of}
 use Rattle.decide.specs.Jobs.{IsAskedCube, IsSatOf}
 use Rattle.decide.proofs.Listed.{first-part}
-use Rattle.decide.proofs.Sorts.{same-self, sort_at, sorted-by, sorts_by}
+use Rattle.decide.proofs.Sorts.{sort_at, sorted-by, sorts_by}
 
 abbrev Name : Type 0
 Name = List ℕ

@@ -7,13 +7,14 @@ use Rattle.sv_terms.specs.Meaning.{Named}
 use Rattle.sv_terms.specs.Parts.{is_opaque}
 use Rattle.sv_terms.specs.Truth.{AllTrue, AreTrueAt, AreValued, HasNoValues, clear_of, opaque_of}
 use Rattle.sv_terms.specs.declared.term.Term.{Term}
-use Rattle.bool_cubes.specs.Cubes.{CubeTrue, SomeCubeTrue, SomeOf, cubes_of}
+use Rattle.bool_cubes.specs.Cubes.{CubeTrue, SomeCubeTrue, cubes_of}
+use Rattle.literal_forms.specs.Literals.{SomeOf}
 use Rattle.bool_cubes.specs.Laws.{IsValuedCube}
-use Rattle.bool_cubes.specs.declared.literal.Cube.{Cube}
-use Rattle.cube_search.specs.declared.answer.CubeAnswer.{CubeAnswer}
-use Rattle.cube_search.specs.declared.answer.Refutation.{Refutation}
-use Rattle.cube_search.specs.declared.reason.OpenReason.{OpenReason}
-use Rattle.decide.specs.Constants.{AreOnly}
+use Rattle.literal_forms.specs.declared.literal.Cube.{Cube}
+use Rattle.cube_answers.specs.declared.answer.CubeAnswer.{CubeAnswer}
+use Rattle.cube_answers.specs.declared.answer.Refutation.{Refutation}
+use Rattle.cube_answers.specs.declared.reason.OpenReason.{OpenReason}
+use Rattle.assertion_parts.specs.Constants.{AreOnly}
 use Rattle.decide.specs.Causes.{CubeHasNoValues, AreTrueAtCube}
 use Rattle.decide.specs.Completeness.{MustDecideCube, MustDecide, IsComplete, IsUnsat, IsUnknown}
 use Rattle.decide.specs.Folds.{first_sat, opens_from, refuted_from, refutation, with_first, without_sat, found, fold}

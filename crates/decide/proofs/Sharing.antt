@@ -10,15 +10,16 @@ use Rattle.std.proofs.Math.Nat.{div-add-mod, div-div-eq-div-mul, div-eq_of_lt, m
 use Rattle.sv_terms.specs.CutOff.{cut_off}
 use Rattle.sv_terms.specs.Sorting.{is_valued}
 use Rattle.sv_terms.specs.declared.term.Term.{Term}
-use Rattle.bool_cubes.specs.Cubes.{IsTrueLiteral, count, cube, cubes, cubes_of}
+use Rattle.bool_cubes.specs.Cubes.{count, cube, cubes, cubes_of}
+use Rattle.literal_forms.specs.Literals.{IsTrueLiteral}
 use Rattle.bool_cubes.specs.Laws.{CubesAreCounted}
-use Rattle.bool_cubes.specs.Past.{IsFitting}
+use Rattle.literal_forms.specs.Past.{IsFitting}
 use Rattle.bool_cubes.specs.Picking.{CubesArePicked, cube_at}
 use Rattle.bool_cubes.specs.Refusing.{count_of}
-use Rattle.bool_cubes.specs.Shapes.{seen}
+use Rattle.literal_forms.specs.Shapes.{seen}
 use Rattle.bool_cubes.specs.Trees.{formula, tree_of}
-use Rattle.bool_cubes.specs.declared.literal.Cube.{Cube}
-use Rattle.bool_cubes.specs.declared.literal.Literal.{Literal}
+use Rattle.literal_forms.specs.declared.literal.Cube.{Cube}
+use Rattle.literal_forms.specs.declared.literal.Literal.{Literal}
 use Rattle.straight_line.specs.Laws.{IsSpelled}
 use Rattle.decide.specs.Causes.{CubeHasNoValues}
 use Rattle.decide.specs.Jobs.{IsAskedCube, IsTallyOf, batch}

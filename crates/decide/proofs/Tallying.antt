@@ -3,14 +3,15 @@ use Rattle.std.proofs.Common.{◌≡◌, ℕ, zero, suc, ◌+◌, List, [], ◌�
 use Rattle.sv_terms.specs.CutOff.{cut_off}
 use Rattle.sv_terms.specs.Meaning.{Named}
 use Rattle.sv_terms.specs.declared.term.Term.{Term}
-use Rattle.cube_search.specs.declared.answer.CubeAnswer.{CubeAnswer}
-use Rattle.cube_search.specs.declared.answer.CubeAnswer.TheVariants as answer
-use Rattle.cube_search.specs.declared.answer.Refutation.{Refutation}
-use Rattle.cube_search.specs.declared.reason.OpenReason.{OpenReason}
-use Rattle.cube_search.specs.declared.reason.OpenReason.TheVariants.{Fragment}
-use Rattle.cube_search.specs.declared.reason.Shown.TheVariants.{Opaque}
+use Rattle.assertion_parts.specs.Firsts.{first_of}
+use Rattle.cube_answers.specs.declared.answer.CubeAnswer.{CubeAnswer}
+use Rattle.cube_answers.specs.declared.answer.CubeAnswer.TheVariants as answer
+use Rattle.cube_answers.specs.declared.answer.Refutation.{Refutation}
+use Rattle.cube_answers.specs.declared.reason.OpenReason.{OpenReason}
+use Rattle.cube_answers.specs.declared.reason.OpenReason.TheVariants.{Fragment}
+use Rattle.cube_answers.specs.declared.reason.Shown.TheVariants.{Opaque}
 use Rattle.decide.specs.Folds.{first_sat, opens_from, refuted_from, refutation, add, found, or_else}
-use Rattle.decide.specs.Jobs.{IsTallyOf, first_of}
+use Rattle.decide.specs.Jobs.{IsTallyOf}
 use Rattle.decide.specs.Passing.{passed}
 use Rattle.decide.specs.declared.tally.CubeTally.{CubeTally}
 

@@ -5,16 +5,16 @@ use Rattle.sv_terms.specs.Truth.{AreWorded, opaque_of}
 use Rattle.sv_terms.specs.declared.term.Term.{Term}
 use Rattle.bool_cubes.specs.Cubes.{CubeTrue}
 use Rattle.bool_cubes.specs.Laws.{IsValuedCube}
-use Rattle.bool_cubes.specs.declared.literal.Cube.{Cube}
-use Rattle.straight_line.specs.Flattening.{IsFlattened, IsFlattening}
-use Rattle.straight_line.specs.declared.fault.FlatFault.{FlatFault}
-use Rattle.straight_line.specs.declared.fault.FlatFault.TheVariants as fault
-use Rattle.straight_line.specs.declared.flat.Flat.{Flat}
+use Rattle.literal_forms.specs.declared.literal.Cube.{Cube}
+use Rattle.flat_cubes.specs.Flattening.{IsFlattened, IsFlattening}
+use Rattle.flat_cubes.specs.declared.fault.FlatFault.{FlatFault}
+use Rattle.flat_cubes.specs.declared.fault.FlatFault.TheVariants as fault
+use Rattle.flat_cubes.specs.declared.flat.Flat.{Flat}
 use Rattle.cube_search.specs.Causes.{IsCauseOf}
-use Rattle.cube_search.specs.declared.reason.OpenReason.{OpenReason}
-use Rattle.cube_search.specs.declared.reason.OpenReason.TheVariants.{Fragment, Wide, States, Splits, Growth, Length, Arithmetic}
-use Rattle.cube_search.specs.declared.reason.Shown.{Shown}
-use Rattle.cube_search.specs.declared.reason.Shown.TheVariants.{Outside, Twice, Cycle, Opaque}
+use Rattle.cube_answers.specs.declared.reason.OpenReason.{OpenReason}
+use Rattle.cube_answers.specs.declared.reason.OpenReason.TheVariants.{Fragment, Wide, States, Splits, Growth, Length, Arithmetic}
+use Rattle.cube_answers.specs.declared.reason.Shown.{Shown}
+use Rattle.cube_answers.specs.declared.reason.Shown.TheVariants.{Outside, Twice, Cycle, Opaque}
 
 -- truth values, numbers and words, each of its constant's sort, that make each literal true
 pub record AreTrueAtCube (values : Named) (cube : Cube) : Type 0 where

@@ -5,10 +5,10 @@ use Rattle.sv_terms.specs.declared.term.Term.{Term}
 use Rattle.bool_cubes.specs.Cubes.{cubes_of}
 use Rattle.bool_cubes.specs.Past.{HasNoPast}
 use Rattle.bool_cubes.specs.Refusing.{count_of, most_cubes}
-use Rattle.bool_cubes.specs.declared.literal.Cube.{Cube}
-use Rattle.straight_line.specs.Flattening.{IsFlattening}
-use Rattle.straight_line.specs.declared.flat.Flat.{Flat}
-use Rattle.cube_search.specs.Limits.{MustDecideFlat}
+use Rattle.literal_forms.specs.declared.literal.Cube.{Cube}
+use Rattle.flat_cubes.specs.Flattening.{IsFlattening}
+use Rattle.flat_cubes.specs.declared.flat.Flat.{Flat}
+use Rattle.cube_answers.specs.Limits.{MustDecideFlat}
 use Rattle.decide.specs.declared.verdict.Verdict.{Verdict}
 use Rattle.decide.specs.declared.verdict.Verdict.TheVariants.{Sat, Unsat, Unknown}
 

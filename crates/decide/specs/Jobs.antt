@@ -1,23 +1,24 @@
 -- What the answer for one cube of some assertions is, and what a tally of answers holds.
-use Rattle.std.specs.Prelude.{◌≡◌, ◌≢◌, ℕ, ◌*◌, ◌≤◌, List, [], ◌∷◌, ◌++◌, length, Option, Some, None, ◌⊎◌, ⊤}
+use Rattle.std.specs.Prelude.{◌≡◌, ◌≢◌, ℕ, ◌*◌, ◌≤◌, List, [], ◌++◌, length, None, ◌⊎◌, ⊤}
 use Rattle.std.specs.List.{AllByRecursion, AllZip}
 use Rattle.sv_terms.specs.Meaning.{Named}
 use Rattle.sv_terms.specs.Truth.{AreValued, clear_of, opaque_of}
 use Rattle.sv_terms.specs.declared.term.Term.{Term}
+use Rattle.assertion_parts.specs.Constants.{AreValuesOf, HaveOneSort}
+use Rattle.assertion_parts.specs.Firsts.{first_of}
 use Rattle.bool_cubes.specs.Cubes.{cubes_of}
 use Rattle.bool_cubes.specs.Laws.{IsFittingCube, IsValuedCube}
-use Rattle.bool_cubes.specs.Shapes.{seen}
-use Rattle.bool_cubes.specs.declared.literal.Literal.{Literal}
-use Rattle.bool_cubes.specs.declared.literal.Cube.{Cube}
-use Rattle.straight_line.specs.Flattening.{IsFlattening}
+use Rattle.literal_forms.specs.Shapes.{seen}
+use Rattle.literal_forms.specs.declared.literal.Literal.{Literal}
+use Rattle.literal_forms.specs.declared.literal.Cube.{Cube}
+use Rattle.flat_cubes.specs.Flattening.{IsFlattening}
 use Rattle.straight_line.specs.Laws.{IsSpelled}
-use Rattle.straight_line.specs.declared.flat.Flat.{Flat}
+use Rattle.flat_cubes.specs.declared.flat.Flat.{Flat}
 use Rattle.cube_search.specs.Answers.{IsDecided, IsModelOf}
-use Rattle.cube_search.specs.declared.answer.CubeAnswer.{CubeAnswer}
-use Rattle.cube_search.specs.declared.answer.CubeAnswer.TheVariants as answer
+use Rattle.cube_answers.specs.declared.answer.CubeAnswer.{CubeAnswer}
+use Rattle.cube_answers.specs.declared.answer.CubeAnswer.TheVariants as answer
 use Rattle.decide.specs.Causes.{AreTrueAtCube, CubeHasNoValues, IsCause}
 use Rattle.decide.specs.Completeness.{MustDecideCube}
-use Rattle.decide.specs.Constants.{AreValuesOf, HaveOneSort}
 use Rattle.decide.specs.Folds.{found, opens_from, refuted_from, refutation, with_first, without_sat, fold}
 use Rattle.decide.specs.declared.tally.CubeTally.{CubeTally}
 use Rattle.decide.specs.declared.verdict.Open.TheVariants.{TooManyCubes, PastForm, Cubes}
@@ -51,11 +52,6 @@ IsRightAnswer terms cube (answer.Open reason) = IsCause terms cube reason
 pub record IsOutcome (terms : List Term) (cube : Cube) (answer : CubeAnswer) : Type 0 where
   pub right : IsRightAnswer terms cube answer
   pub decided : MustDecideCube cube → IsDecided answer
-
--- the first of a list, if it has one
-abbrev pub first_of : {X : Type 0} → List X → Option X
-first_of [] = None
-first_of (x ∷ xs) = Some x
 
 -- the tally of these answers: their number, the model that ends the search, the open cubes among them, and the counts of those refuted
 pub record IsTallyOf (opaque : List Term) (answers : List CubeAnswer) (tally : CubeTally) : Type 0 where

@@ -5,9 +5,9 @@ use Rattle.sv_terms.specs.CutOff.{cut_off}
 use Rattle.sv_terms.specs.declared.term.Term.{Term}
 use Rattle.bool_cubes.specs.Cubes.{cubes_of}
 use Rattle.bool_cubes.specs.Refusing.{count_of}
-use Rattle.bool_cubes.specs.declared.literal.Cube.{Cube}
-use Rattle.cube_search.specs.declared.answer.CubeAnswer.{CubeAnswer}
-use Rattle.cube_search.specs.declared.answer.CubeAnswer.TheVariants as answer
+use Rattle.literal_forms.specs.declared.literal.Cube.{Cube}
+use Rattle.cube_answers.specs.declared.answer.CubeAnswer.{CubeAnswer}
+use Rattle.cube_answers.specs.declared.answer.CubeAnswer.TheVariants as answer
 use Rattle.decide.specs.Causes.{CubeHasNoValues}
 use Rattle.decide.specs.Folds.{refutation}
 use Rattle.decide.specs.Jobs.{IsTallyOf, batch}

@@ -10,10 +10,10 @@ use Rattle.bool_cubes.specs.Past.{PastIn}
 use Rattle.bool_cubes.specs.Refusing.{count_of, most_cubes}
 use Rattle.bool_cubes.specs.declared.fault.CubeFault.{CubeFault}
 use Rattle.bool_cubes.specs.declared.fault.CubeFault.TheVariants as fault
-use Rattle.bool_cubes.specs.declared.literal.Cube.{Cube}
-use Rattle.cube_search.specs.declared.reason.OpenReason.{OpenReason}
+use Rattle.literal_forms.specs.declared.literal.Cube.{Cube}
+use Rattle.cube_answers.specs.declared.reason.OpenReason.{OpenReason}
 use Rattle.decide.specs.Causes.{CubeHasNoValues, IsCause}
-use Rattle.decide.specs.Constants.{AreOnly}
+use Rattle.assertion_parts.specs.Constants.{AreOnly}
 use Rattle.decide.specs.declared.verdict.Open.{Open}
 use Rattle.decide.specs.declared.verdict.Open.TheVariants.{TooManyCubes, PastForm, Cubes}
 use Rattle.decide.specs.declared.verdict.Verdict.{Verdict}

@@ -4,12 +4,12 @@ ghost use Rattle.std.specs.List.{AllByRecursion};
 ghost use Rattle.sv_terms.specs.Sorting.{sort_of};
 ghost use Rattle.sv_terms.specs.declared.sort.Sort.TheVariants as sort;
 ghost use Rattle.sv_terms.specs.declared.term.Term.{Term as AnyTerm};
+ghost use Rattle.assertion_parts.specs.Constants.{HaveOneSort, has_formed};
 ghost use Rattle.bool_cubes.specs.Cubes.{cubes_of};
 ghost use Rattle.bool_cubes.specs.Laws.{IsClearBool};
 ghost use Rattle.bool_cubes.specs.Refusing.{most_cubes};
-ghost use Rattle.cube_search.specs.declared.answer.CubeAnswer.{CubeAnswer as AnyAnswer};
+ghost use Rattle.cube_answers.specs.declared.answer.CubeAnswer.{CubeAnswer as AnyAnswer};
 ghost use Rattle.decide.specs.Completeness.{MustDecide, IsComplete};
-ghost use Rattle.decide.specs.Constants.{HaveOneSort, has_formed};
 ghost use Rattle.decide.specs.Jobs.{IsAskedCube, IsFolded, IsFoldOf, IsTallyOf};
 ghost use Rattle.decide.specs.Passing.{PassesCubes};
 ghost use Rattle.decide.specs.Verdicts.{HasOnly, RightVerdict, refused_as};
@@ -18,15 +18,14 @@ use crate::batch::{answers, next_batch};
 use crate::cube_job::Shared;
 use crate::machines::machines_for;
 use crate::passing::{Pace, count_refuted_ahead};
-use crate::spelling::all_words;
-use crate::splitting::{clear_terms, first_opaque};
 use crate::tally::CubeTally;
 use crate::verdict::{Open, Verdict};
+use assertion_parts::{clear_terms, first_opaque, string_literals_are_words};
 use bool_cubes::{
     CubeFault, Cubes, cubes_are_counted, cubes_are_exact, literals_fit, literals_have_values,
     literals_pass,
 };
-use cube_search::CubeAnswer;
+use cube_answers::CubeAnswer;
 use par_phase::Gate;
 use std::alloc::{AllocError, Global};
 use std::thread::Threads;
@@ -65,7 +64,7 @@ pub fn check<R: Threads + Sync, G: Gate + Sync>(
     literals_have_values();
     transducers_are_bounded();
     let clear = clear_terms(alloc, terms)?;
-    all_words(clear.as_slice());
+    string_literals_are_words(clear.as_slice());
     match Cubes::new(alloc, clear.as_slice()) {
         Ok(cubes) => {
             let kept = machines_for(alloc, clear.as_slice())?;

@@ -1,21 +1,23 @@
 //! One cube of some assertions, as a job.
 ghost use Rattle.std.specs.Prelude.{◌≡◌, ◌<◌, ◌^◌, length, IfOk};
-ghost use Rattle.straight_line.specs.Flattening.{IsFlattening};
-ghost use Rattle.straight_line.specs.Straight.{AreNamesApart};
-ghost use Rattle.cube_search.specs.declared.answer.CubeAnswer.TheVariants.{Open};
-ghost use Rattle.cube_search.specs.declared.reason.OpenReason.TheVariants.{Fragment};
+ghost use Rattle.flat_cubes.specs.Flattening.{IsFlattening};
+ghost use Rattle.flat_cubes.specs.Straight.{AreNamesApart};
+ghost use Rattle.cube_answers.specs.declared.answer.CubeAnswer.TheVariants.{Open};
+ghost use Rattle.cube_answers.specs.declared.reason.OpenReason.TheVariants.{Fragment};
 ghost use Rattle.decide.specs.Jobs.{IsAskedCube, IsOutcome};
 
-use crate::completing::complete;
-use bool_cubes::Cube;
+use assertion_parts::complete;
+use cube_answers::{CubeAnswer, OpenReason, Shown};
 use cube_bounds::numbers;
-use cube_search::{CubeAnswer, OpenReason, Shown, cube_answer};
+use cube_search::cube_answer;
+use flat_cubes::{Flat, FlatFault};
+use literal_forms::Cube;
 use par_phase::Job;
 use part_machines::Machines;
 use std::alloc::{AllocError, Global};
 use std::marker::Model;
 use straight_line::{
-    Flat, FlatFault, flat_cubes_are_exact, flat_cubes_are_unique, flatten, names_are_sorted,
+    flat_cubes_are_exact, flat_cubes_are_unique, flatten, names_are_sorted,
     refusals_have_no_flat_cube, transducers_are_formed,
 };
 use sv_terms::Term;
@@ -44,7 +46,7 @@ impl<'a> Model for CubeJob<'a> {
     ghost use Rattle.sv_terms.specs.contracts.regex.Regex as regex;
     ghost use Rattle.sv_terms.specs.contracts.term.Term as term;
     ghost use Rattle.sv_terms.specs.declared.term.Term.{Term as AnyTerm};
-    ghost use Rattle.bool_cubes.specs.declared.literal.Cube.{Cube as AnyCube};
+    ghost use Rattle.literal_forms.specs.declared.literal.Cube.{Cube as AnyCube};
     ghost use Rattle.decide.specs.Jobs.{IsAskedCube};
 
     ghost Value = { List AnyTerm × AnyCube };

@@ -19,15 +19,11 @@
 
 mod batch;
 mod checking;
-mod completing;
 mod cube_job;
 mod machines;
 mod passing;
-mod spelling;
-mod splitting;
 mod tally;
 mod verdict;
 
 pub use checking::check;
-pub use completing::value_for;
 pub use verdict::{Open, Verdict};

@@ -10,8 +10,9 @@ ghost use Rattle.decide.specs.Passing.{AreKnown, is_single, shared_of};
 
 use crate::batch::BATCH;
 use crate::cube_job::{Shared, answer_for};
-use bool_cubes::{Cube, CubeFault, Cubes, count, cubes_are_counted, cubes_are_picked};
-use cube_search::CubeAnswer;
+use bool_cubes::{CubeFault, Cubes, count, cubes_are_counted, cubes_are_picked};
+use cube_answers::CubeAnswer;
+use literal_forms::Cube;
 use std::alloc::{AllocError, Global};
 use sv_list::Items;
 use sv_terms::{MOST_CUBES, Term};

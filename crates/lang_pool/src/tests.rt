@@ -1,6 +1,6 @@
 ghost use Rattle.std.specs.Prelude.{◌≡◌, IfOk};
 
-use crate::{Keyed, Pool, PoolValue};
+use crate::{Keyed, Pool, PoolNote, PoolValue};
 use std::alloc::{AllocError, Global};
 use std::marker::Model;
 use std::sync::atomic::{AtomicU64, Ordering};
@@ -73,4 +73,15 @@ fn a_builder_runs_only_where_the_cell_has_no_value_of_the_key(rt: HostRuntime) -
         assert!(rt; shared == is_shared && built.load(Ordering::SeqCst) == builds);
     }
     Ok(())
+}
+
+fn crosses<T: Send + Sync>() {}
+
+fn moves<T: Send>() {}
+
+#[test]
+fn threads_share_pools_and_hand_on_notes() {
+    crosses::<Pool<u8, Row>>();
+    crosses::<PoolValue<'static, Row>>();
+    moves::<PoolNote<Row>>();
 }

@@ -1,10 +1,10 @@
 //! Places of regular expressions whose machines are shared, and a meeting of parts, explored as far as one leads.
 
+use flat_cubes::Own;
 use lang_pool::PoolValue;
 use machine_core::Cost;
 use part_machines::{Machines, digest, digest_of_others, own_machine};
 use std::alloc::{AllocError, Global};
-use straight_line::Own;
 use sv_list::{Boxed, Items};
 use sv_terms::Regex;
 use trim_search::BuildFault;

@@ -2,7 +2,7 @@ use crate::{Gate, Job, run_jobs};
 use std::sync::atomic::{AtomicBool, AtomicU64, Ordering};
 use std::test::Fail;
 
-// Holds the first job until the second has arrived, for so many turns at the most.
+// Holds all jobs until the third of four has arrived, for so many turns at the most.
 #[derive(Drop)]
 struct Meeting {
     arrived: AtomicBool,
@@ -14,7 +14,7 @@ const TURNS: u64 = 1_000_000_000;
 
 impl Gate for Meeting {
     fn arrive(&self, job: u64) {
-        if job == 1 {
+        if job == 2 {
             self.arrived.store(true, Ordering::SeqCst);
             return;
         }
@@ -27,7 +27,7 @@ impl Gate for Meeting {
     }
 }
 
-// Counts itself as done, and tells whether the second job had arrived by then.
+// Counts itself as done, and tells whether the third job had arrived by then.
 #[derive(Drop)]
 struct Watched<'a>(&'a Meeting);
 
@@ -44,18 +44,23 @@ impl Job for Watched<'_> {
     }
 }
 
-// Each arrives before its work, and is done once.
+// Each arrives before its work, by its own number, and is done once: two workers have two jobs each.
 #[test]
-fn two_jobs_are_under_way_at_once(rt: HostRuntime) -> Result<(), Fail> {
+fn jobs_of_two_workers_are_under_way_at_once(rt: HostRuntime) -> Result<(), Fail> {
     let gate = Meeting {
         arrived: AtomicBool::new(false),
         met: AtomicBool::new(false),
         done: AtomicU64::new(0),
     };
-    let jobs = [Watched(&gate), Watched(&gate)];
+    let jobs = [
+        Watched(&gate),
+        Watched(&gate),
+        Watched(&gate),
+        Watched(&gate),
+    ];
     let in_time = run_jobs(&rt, rt.alloc(), &jobs, 2, &gate)?;
-    assert!(rt; in_time.as_slice() == [true, true].as_slice());
+    assert!(rt; in_time.as_slice() == [true; 4].as_slice());
     assert!(rt; gate.met.load(Ordering::SeqCst));
-    assert!(rt; gate.done.load(Ordering::SeqCst) == 2);
+    assert!(rt; gate.done.load(Ordering::SeqCst) == 4);
     Ok(())
 }

@@ -24,9 +24,9 @@ use Rattle.regex_machine.specs.Kinds.{states_of}
 use Rattle.trim_search.specs.declared.build_fault.BuildFault.{BuildFault}
 use Rattle.trim_search.specs.declared.build_fault.BuildFault.TheVariants.{States}
 use Rattle.cube_bounds.specs.Bounds.{part_bound, product_by}
-use Rattle.straight_line.specs.Satisfying.{MeetsPart, Says}
-use Rattle.straight_line.specs.declared.variable.Own.{Own}
-use Rattle.straight_line.specs.declared.variable.Own.TheVariants as own
+use Rattle.flat_cubes.specs.Satisfying.{MeetsPart, Says}
+use Rattle.flat_cubes.specs.declared.variable.Own.{Own}
+use Rattle.flat_cubes.specs.declared.variable.Own.TheVariants as own
 use Rattle.part_machines.specs.Chains.{follows, ranges_of, within}
 use Rattle.part_machines.specs.Parts.{AreOfParts, Decides, IsOfPart, IsOfParts, IsPriced, ReadsParts}
 

@@ -14,9 +14,9 @@ use Rattle.machine_meet.specs.Products.{multiplied}
 use Rattle.regex_machine.specs.Joined.{HaveNoRegisters, HasWords, WordsOf}
 use Rattle.regex_machine.specs.Kinds.{states_of}
 use Rattle.cube_bounds.specs.Bounds.{part_bound, product_by}
-use Rattle.straight_line.specs.Satisfying.{MeetsPart}
-use Rattle.straight_line.specs.declared.variable.Own.{Own}
-use Rattle.straight_line.specs.declared.variable.Own.TheVariants.{InRe}
+use Rattle.flat_cubes.specs.Satisfying.{MeetsPart}
+use Rattle.flat_cubes.specs.declared.variable.Own.{Own}
+use Rattle.flat_cubes.specs.declared.variable.Own.TheVariants.{InRe}
 use Rattle.part_machines.specs.Kept.{IsMachineOf}
 use Rattle.part_machines.specs.Parts.{AreOfParts, IsOfPart, ReadsParts}
 use Rattle.part_machines.specs.Sides.{MeetsNone, sets_bound, AreSides, AddsSide}

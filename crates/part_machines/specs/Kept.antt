@@ -3,7 +3,7 @@ use Rattle.std.specs.Prelude.{◌<◌, true, Option, Some, None}
 use Rattle.machine_core.specs.declared.graph.Graph.{Graph}
 use Rattle.sv_terms.specs.Bounds.{size}
 use Rattle.sv_terms.specs.declared.regex.Regex.{Regex}
-use Rattle.straight_line.specs.declared.variable.Own.TheVariants.{InRe}
+use Rattle.flat_cubes.specs.declared.variable.Own.TheVariants.{InRe}
 use Rattle.part_machines.specs.Parts.{IsOfPart}
 
 -- it is the machine of the part that a word is in the expression

@@ -9,8 +9,8 @@ use Rattle.machine_core.specs.Edges.{edge}
 use Rattle.machine_core.specs.Graphs.{Accepts, GraphRunsWithin, GraphPathsWithin}
 use Rattle.regex_machine.specs.Joined.{HasWords}
 use Rattle.cube_bounds.specs.Bounds.{part_bound, product_by}
-use Rattle.straight_line.specs.Satisfying.{MeetsPart}
-use Rattle.straight_line.specs.declared.variable.Own.{Own}
+use Rattle.flat_cubes.specs.Satisfying.{MeetsPart}
+use Rattle.flat_cubes.specs.declared.variable.Own.{Own}
 
 -- without registers it reads the words of which the test has this answer, and has at most so many states
 pub record Decides (test : Word → Bool) (holds : Bool) (most : ℕ) (m : Graph) : Type 0 where

@@ -6,9 +6,9 @@ use Rattle.sv_terms.specs.Language.{Word}
 use Rattle.sv_terms.specs.declared.regex.Regex.{Regex}
 use Rattle.machine_core.specs.declared.graph.Graph.{Graph}
 use Rattle.cube_bounds.specs.Bounds.{part_bound, product_by}
-use Rattle.straight_line.specs.Satisfying.{MeetsPart}
-use Rattle.straight_line.specs.declared.variable.Own.{Own}
-use Rattle.straight_line.specs.declared.variable.Own.TheVariants.{InRe}
+use Rattle.flat_cubes.specs.Satisfying.{MeetsPart}
+use Rattle.flat_cubes.specs.declared.variable.Own.{Own}
+use Rattle.flat_cubes.specs.declared.variable.Own.TheVariants.{InRe}
 use Rattle.part_machines.specs.Kept.{IsMachineOf}
 use Rattle.part_machines.specs.Parts.{AreOfParts, IsOfPart}
 

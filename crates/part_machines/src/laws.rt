@@ -1,7 +1,7 @@
 //! Laws of the bounds.
 ghost use Rattle.std.specs.Prelude.{◌≤◌, List, Bool};
 ghost use Rattle.cube_bounds.specs.Bounds.{part_bound, product_by};
-ghost use Rattle.straight_line.specs.declared.variable.Own.{Own as AnyOwn};
+ghost use Rattle.flat_cubes.specs.declared.variable.Own.{Own as AnyOwn};
 ghost use denote.Param.Send.{IsSend, IsSync};
 ghost use Rattle.part_machines.specs.contracts.machines.Machines.{the_row as machines_row};
 

@@ -14,10 +14,10 @@ use Rattle.sv_terms.specs.declared.sort.Sort.TheVariants as sort
 use Rattle.sv_terms.specs.declared.term.Term.{Term}
 use Rattle.sv_terms.specs.declared.term.Term.TheVariants as v
 use Rattle.sv_terms.specs.declared.term.Term.TheOpen.{Term-F}
-use Rattle.decide.specs.Constants.{HaveOneSort, has_formed}
+use Rattle.assertion_parts.specs.Constants.{HaveOneSort, has_formed}
 use Rattle.decide.specs.Samples.{IsSample, sample}
-use Rattle.decide.proofs.Fillings.{at-places}
-use Rattle.decide.proofs.Terms.{at, every-Apply, every-Constant, every-InRe, every-Text}
+use Rattle.assertion_parts.proofs.Fillings.{at-places}
+use Rattle.assertion_parts.proofs.Terms.{at, every-Apply, every-Constant, every-InRe, every-Text}
 
 abbrev of_any : List ℕ → Sort → Bool
 of_any n s = true

@@ -1,60 +1,20 @@
 -- The value of a term depends on the values of its constants alone.
-use Rattle.std.proofs.Common.{◌≡◌, refl, sym, ap, ◌∙◌, subst, map, Bool, true, false, ◌&&◌, IsTrue, ℕ, ℤ, List, [], ◌∷◌, Option, nat_eq}
+use Rattle.std.proofs.Common.{◌≡◌, refl, sym, ap, ◌∙◌, map, Bool, IsTrue, ℕ, List, [], ◌∷◌, Option, nat_eq}
 use Rattle.std.specs.List.{list_all}
 use Rattle.std.specs.Map.{lookup}
 use Rattle.std.specs.Cmp.Lexicographic.{pointwise}
+use Rattle.assertion_parts.proofs.Sorts.{both}
+use Rattle.assertion_parts.proofs.Terms.{Each, at, induct}
 use Rattle.sort_check.specs.WellFormed.{constants_step, constants_are}
-use Rattle.sv_terms.specs.Language.{Word}
 use Rattle.sv_terms.specs.Matches.{matches}
 use Rattle.sv_terms.specs.Meaning.{Named, all_of, applied_if, tested, related, val_step, val}
 use Rattle.sv_terms.specs.Sorting.{is_of, valued_step, is_valued}
-use Rattle.sv_terms.specs.declared.op.Op.{Op}
-use Rattle.sv_terms.specs.declared.regex.Regex.{Regex}
 use Rattle.sv_terms.specs.declared.sort.Sort.{Sort}
 use Rattle.sv_terms.specs.declared.term.Term.{Term, roll-Term}
 use Rattle.sv_terms.specs.declared.term.Term.TheVariants as v
 use Rattle.sv_terms.specs.declared.term.Term.TheOpen.{Term-F}
-use Rattle.sv_terms.specs.declared.term.Term.TheFolds.{map-Term, ind-Term, fold-Term, fold-roll-Term}
-use Rattle.sv_terms.specs.declared.transducer.Transducer.{Transducer}
+use Rattle.sv_terms.specs.declared.term.Term.TheFolds.{map-Term}
 use Rattle.sv_terms.specs.declared.value.Value.{Value}
-
-both : (a b : Bool) → IsTrue (a && b) → IsTrue a × IsTrue b
-both true b h = (refl, h)
-both false b h = cc
-
--- P of each
-abbrev Each : {A : Type 0} → (A → Type 0) → List A → Type 0
-Each P [] = Unit {0}
-Each P (a ∷ as_) = P a × Each P as_
-
--- a fold of a term by those of its parts
-at : {A : Type 0} (f : Term-F A → A) (t : Term) (x : Term-F Term) → roll-Term x ≡ t → fold-Term A f t ≡ f (map-Term Term A (fold-Term A f) x)
-at {A} f t x e = ap (fold-Term A f) (sym e) ∙ fold-roll-Term A f x
-
--- induction over terms
-module _ (P : Term → Type 0)
-    (truth : (b : Bool) → P (v.Truth b)) (number : (n : ℤ) → P (v.Number n)) (text : (w : Word) → P (v.Text w)) (constant : (n : List ℕ) (s : Sort) → P (v.Constant n s))
-    (apply : (o : Op) (ts : List Term) → Each P ts → P (v.Apply o ts)) (member : (t : Term) (r : Regex) → P t → P (v.InRe t r))
-    (relate : (m : Transducer) (t u : Term) → P t → P u → P (v.Related m t u)) (opaque : (s : Sort) → P (v.Opaque s)) where
-  abbrev Sure : Type 0
-  Sure = (t : Term) × P t
-
-  each : (ys : List Sure) → Each P (map (λ y. y.0) ys)
-  each [] = tt
-  each (y ∷ ys) = (y.1, each ys)
-
-  layer : (y : Term-F Sure) → P (roll-Term (map-Term Sure Term (λ e. e.0) y))
-  layer (Term-F.Truth b) = subst P (sym (v.rolls-Truth b)) (truth b)
-  layer (Term-F.Number n) = subst P (sym (v.rolls-Number n)) (number n)
-  layer (Term-F.Text w) = subst P (sym (v.rolls-Text w)) (text w)
-  layer (Term-F.Constant n s) = subst P (sym (v.rolls-Constant n s)) (constant n s)
-  layer (Term-F.Apply o ys) = subst P (sym (v.rolls-Apply o (map (λ y. y.0) ys))) (apply o (map (λ y. y.0) ys) (each ys))
-  layer (Term-F.InRe y r) = subst P (sym (v.rolls-InRe y.0 r)) (member y.0 r y.1)
-  layer (Term-F.Related m y z) = subst P (sym (v.rolls-Related m y.0 z.0)) (relate m y.0 z.0 y.1 z.1)
-  layer (Term-F.Opaque s) = subst P (sym (v.rolls-Opaque s)) (opaque s)
-
-  pub induct : (t : Term) → P t
-  induct = ind-Term P (λ x y is. subst (λ z. P (roll-Term z)) is (layer y))
 
 -- values b that agree with the values a at each known constant which has one there
 module _ (b a : Named) (known : List ℕ → Sort → Bool) (stays : (n : List ℕ) (s : Sort) → IsTrue (known n s) → IsTrue (is_of s (lookup (pointwise nat_eq n) a)) → lookup (pointwise nat_eq n) b ≡ lookup (pointwise nat_eq n) a) where

@@ -6,8 +6,8 @@ use Rattle.std.specs.List.{AllByRecursion}
 use Rattle.std.specs.Map.{lookup}
 use Rattle.std.proofs.lemmas.Bool.{true≢false}
 use Rattle.assert_stack.specs.Levels.{Symbol}
-use Rattle.decide.specs.Constants.{AreOnly, HaveOneSort}
-use Rattle.decide.specs.Filling.{default, or_default}
+use Rattle.assertion_parts.specs.Constants.{AreOnly, HaveOneSort}
+use Rattle.assertion_parts.specs.Filling.{default, or_default}
 use Rattle.decide.specs.Completeness.{IsComplete}
 use Rattle.decide.specs.Verdicts.{RightVerdict}
 use Rattle.decide.specs.declared.verdict.Verdict.TheVariants.{Sat}

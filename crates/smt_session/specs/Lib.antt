@@ -1,5 +1,4 @@
 pub mod Models
-pub mod Refusals
 pub mod Replies
 pub mod Standing
 pub mod Steps

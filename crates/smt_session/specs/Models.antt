@@ -3,7 +3,7 @@ use Rattle.std.specs.Prelude.{nat_eq, List, [], ◌∷◌}
 use Rattle.std.specs.Map.{lookup}
 use Rattle.std.specs.Cmp.Lexicographic.{pointwise}
 use Rattle.assert_stack.specs.Levels.{Symbol}
-use Rattle.decide.specs.Filling.{or_default}
+use Rattle.assertion_parts.specs.Filling.{or_default}
 use Rattle.sv_terms.specs.Meaning.{Named}
 use Rattle.sv_terms.specs.declared.entry.Entry.TheVariants.{Constant, Macro, Machine}
 

@@ -17,19 +17,19 @@ use Rattle.sv_terms.specs.declared.term.Term.{Term}
 use Rattle.sv_terms.specs.declared.value.Value.{Value}
 use Rattle.term_eval.specs.Evaluation.{value_or_fault}
 use Rattle.term_eval.specs.declared.fault.EvalFault.{EvalFault}
-use Rattle.smt_session.specs.declared.error_kind.ErrorKind.{ErrorKind}
-use Rattle.smt_session.specs.declared.error_kind.ErrorKind.TheVariants as error
-use Rattle.smt_session.specs.declared.info.Info.TheVariants as info
+use Rattle.reply_text.specs.declared.error_kind.ErrorKind.{ErrorKind}
+use Rattle.reply_text.specs.declared.error_kind.ErrorKind.TheVariants as error
+use Rattle.reply_text.specs.declared.info.Info.TheVariants as info
 use Rattle.smt_session.specs.declared.reply.Reply.{Reply}
 use Rattle.smt_session.specs.declared.reply.Reply.TheVariants as reply
 use Rattle.smt_session.specs.declared.session.LastVerdict.{LastVerdict}
 use Rattle.smt_session.specs.declared.session.LastVerdict.TheVariants as kept
-use Rattle.cube_search.specs.declared.answer.Refutation.{Refutation}
+use Rattle.cube_answers.specs.declared.answer.Refutation.{Refutation}
 use Rattle.decide.specs.Completeness.{MustDecide, IsComplete}
 use Rattle.decide.specs.Verdicts.{RightVerdict}
 use Rattle.decide.specs.declared.verdict.Verdict.{Verdict}
 use Rattle.decide.specs.declared.verdict.Verdict.TheVariants as verdict_by
-use Rattle.smt_session.specs.Refusals.{of_check, of_value}
+use Rattle.reply_text.specs.Refusals.{of_check, of_value}
 use Rattle.smt_session.specs.Verdicts.{IsVerdictFor, cause_of}
 
 -- the levels, the innermost first; the verdict that is kept, if one is; whether successes are printed; whether `exit` was answered

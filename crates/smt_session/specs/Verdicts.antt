@@ -3,10 +3,10 @@ use Rattle.std.specs.Prelude.{◌≡◌, ℕ, false, nat_eq, List, [], ◌∷◌
 use Rattle.std.specs.Map.{lookup}
 use Rattle.std.specs.Cmp.Lexicographic.{pointwise}
 use Rattle.assert_stack.specs.Levels.{Symbol}
-use Rattle.cube_search.specs.declared.reason.OpenReason.{OpenReason}
-use Rattle.cube_search.specs.declared.reason.OpenReason.TheVariants as reason
-use Rattle.decide.specs.Constants.{is_mentioned}
-use Rattle.decide.specs.Filling.{default}
+use Rattle.cube_answers.specs.declared.reason.OpenReason.{OpenReason}
+use Rattle.cube_answers.specs.declared.reason.OpenReason.TheVariants as reason
+use Rattle.assertion_parts.specs.Constants.{is_mentioned}
+use Rattle.assertion_parts.specs.Filling.{default}
 use Rattle.decide.specs.declared.verdict.Open.{Open}
 use Rattle.decide.specs.declared.verdict.Open.TheVariants as open_by
 use Rattle.decide.specs.declared.verdict.Verdict.{Verdict}
@@ -18,10 +18,10 @@ use Rattle.sv_terms.specs.Sorting.{kind}
 use Rattle.sv_terms.specs.declared.entry.Entry.TheVariants.{Constant, Macro, Machine}
 use Rattle.sv_terms.specs.declared.sort.Sort.{Sort}
 use Rattle.sv_terms.specs.declared.term.Term.{Term}
-use Rattle.smt_session.specs.declared.cause.Cause.{Cause}
-use Rattle.smt_session.specs.declared.cause.Cause.TheVariants as cause
-use Rattle.smt_session.specs.declared.cause.CubeCause.{CubeCause}
-use Rattle.smt_session.specs.declared.cause.CubeCause.TheVariants as cube_cause
+use Rattle.reply_text.specs.declared.cause.Cause.{Cause}
+use Rattle.reply_text.specs.declared.cause.Cause.TheVariants as cause
+use Rattle.reply_text.specs.declared.cause.CubeCause.{CubeCause}
+use Rattle.reply_text.specs.declared.cause.CubeCause.TheVariants as cube_cause
 
 abbrev pub Name : Type 0
 Name = List ℕ

@@ -10,7 +10,8 @@ ghost use Rattle.sv_terms.specs.declared.sort.Sort.TheVariants as sort;
 ghost use Rattle.smt_session.specs.Models.{model_of};
 ghost use Rattle.smt_session.specs.Verdicts.{IsVerdictFor};
 
-use decide::{Verdict, check, value_for};
+use assertion_parts::value_for;
+use decide::{Verdict, check};
 use par_phase::Free;
 use sort_check::{constants_have_values, entries_are_well_formed};
 use std::alloc::{AllocError, Global};

@@ -8,14 +8,13 @@ ghost use Rattle.smt_session.specs.Standing.{FitsLevels};
 ghost use Rattle.smt_session.specs.Steps.{AnswersTerms, Checks, Does, GivesReply, Steps, after_exit, changed, info_reply, model_reply, opened, pops, printing, pushes, reason_reply, succeeds};
 ghost use Rattle.smt_session.specs.declared.reply.Reply.TheVariants.{Success};
 
-use crate::cause::Cause;
+use crate::cause::cause_of;
 use crate::check::verdict_of;
-use crate::error_kind::ErrorKind;
-use crate::info::Info;
 use crate::reply::Reply;
 use crate::values::{definitions, values};
 use assert_stack::{Stack, StackFault};
 use decide::Verdict;
+use reply_text::{Cause, ErrorKind, Info};
 use sexpr_reader::Sexpr;
 use sort_check::{
     Command, additions_are_well_formed, command, constants_have_values, entries_are_well_formed,
@@ -229,7 +228,7 @@ impl Session {
                 Ok(Reply::Unsat)
             }
             Verdict::Unknown(open) => {
-                self.verdict = Some(LastVerdict::Unknown(Cause::of(&open)));
+                self.verdict = Some(LastVerdict::Unknown(cause_of(&open)));
                 Ok(Reply::Unknown(open))
             }
         }

@@ -2,14 +2,16 @@
 ghost use Rattle.std.specs.Prelude.{◌≡◌, ◌∷◌, [], IfOk, IfSome};
 ghost use Rattle.std.specs.List.{AllByRecursion};
 ghost use Rattle.bool_cubes.specs.Laws.{IsFittingCube, IsClearBool};
-ghost use Rattle.straight_line.specs.Straight.{IsStraight};
+ghost use Rattle.flat_cubes.specs.Straight.{IsStraight};
 
 use crate::stopwatch::Stopwatch;
 use crate::texts::word;
-use bool_cubes::{Cube, CubeFault, Cubes, literals_fit};
+use bool_cubes::{CubeFault, Cubes, literals_fit};
 use cube_bounds::numbers;
+use flat_cubes::Flat;
+use literal_forms::Cube;
 use std::alloc::{AllocError, Global};
-use straight_line::{Flat, flatten};
+use straight_line::flatten;
 use sv_list::{Boxed, Items};
 use sv_terms::{Name, Op, Regex, Sort, Term};
 

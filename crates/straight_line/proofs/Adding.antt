@@ -10,17 +10,18 @@ use Rattle.sv_terms.specs.declared.transducer.Transducer.{Transducer}
 use Rattle.sv_terms.specs.Language.{Word}
 use Rattle.sv_terms.specs.Meaning.{Named, same_truth}
 use Rattle.sv_terms.specs.Transduction.{Pairs}
-use Rattle.bool_cubes.specs.Shapes.{Shape, Shapes, number, text, constant, apply, end, ◌⨾◌}
-use Rattle.bool_cubes.specs.Codes.{same}
-use Rattle.bool_cubes.specs.Linear.{is_string, is_linear, are_linear, written, is_product, linears}
-use Rattle.straight_line.specs.Met.{Comparison, DraftView, Found, meet, with_integer, registered, with_register, meet_unknowns, meet_all_unknowns, with_comparison, with_value, part_met, equal_met, through_met, add}
-use Rattle.straight_line.specs.Said.{Said, value_is, compares, holds, has_part, are_one, written_by, outside}
-use Rattle.straight_line.specs.Satisfying.{MeetsPart, HasValue}
-use Rattle.straight_line.specs.declared.variable.Own.{Own}
-use Rattle.straight_line.specs.declared.definition.By.TheVariants as by
-use Rattle.straight_line.proofs.Strings.{never, string_written}
+use Rattle.literal_forms.specs.Shapes.{Shape, Shapes, number, text, constant, apply, end, ◌⨾◌}
+use Rattle.literal_forms.specs.Codes.{same}
+use Rattle.literal_forms.specs.Linear.{is_string, is_linear, are_linear, written, is_product, linears}
+use Rattle.flat_cubes.specs.Met.{Comparison, DraftView, Found, meet, with_integer, registered, with_register, meet_unknowns, meet_all_unknowns, with_comparison, with_value, part_met, equal_met, through_met, add}
+use Rattle.flat_cubes.specs.Said.{Said, value_is, compares, holds, has_part, are_one, written_by, outside}
+use Rattle.flat_cubes.specs.Satisfying.{MeetsPart, HasValue}
+use Rattle.flat_cubes.specs.declared.variable.Own.{Own}
+use Rattle.flat_cubes.specs.declared.definition.By.TheVariants as by
+use Rattle.flat_cubes.proofs.Members.{never, all_push}
+use Rattle.cube_draft.proofs.Strings.{string_written}
 use Rattle.straight_line.proofs.Texts.{and_parts, word, word_written}
-use Rattle.straight_line.proofs.Meetings.{all_push, all_popped, all_last, ComparisonTrue, Fits, Holds, PartHolds, DefinitionHolds, EqualityHolds, TruthHolds, IsMet, is_met, with_part_holds, with_part_back}
+use Rattle.straight_line.proofs.Meetings.{all_popped, all_last, ComparisonTrue, Fits, Holds, PartHolds, DefinitionHolds, EqualityHolds, TruthHolds, IsMet, is_met, with_part_holds, with_part_back}
 
 module _ (values : Named) (ws : ℕ → Word) where
   -- what is met of a term of sort Int: its lengths and its constants

@@ -3,13 +3,12 @@ use Rattle.std.proofs.Common.{◌≡◌, refl, sym, ap, ◌∙◌, subst, Bool, 
 use Rattle.std.specs.List.{list_any}
 use Rattle.std.proofs.lemmas.List.Folds.{list_any-append}
 use Rattle.std.specs.Cmp.Lexicographic.{pointwise, same_text}
-use Rattle.bool_cubes.specs.Alike.{code_is}
-use Rattle.straight_line.proofs.Members.{neither}
-use Rattle.straight_line.proofs.Sames.{string_code}
-use Rattle.bool_cubes.specs.Shapes.{Shape}
-use Rattle.bool_cubes.specs.Codes.{code, same}
-use Rattle.bool_cubes.specs.Linear.{Unknown, integer, length_of, other, same_unknown, is_string}
-use Rattle.straight_line.proofs.Strings.{never}
+use Rattle.literal_forms.specs.Alike.{code_is}
+use Rattle.flat_cubes.proofs.Members.{neither, never}
+use Rattle.cube_draft.proofs.Sames.{string_code}
+use Rattle.literal_forms.specs.Shapes.{Shape}
+use Rattle.literal_forms.specs.Codes.{code, same}
+use Rattle.literal_forms.specs.Linear.{Unknown, integer, length_of, other, same_unknown, is_string}
 use Rattle.straight_line.proofs.Rows.{Nowhere, Once}
 
 -- an integer, or the length of a term of a written form

@@ -13,23 +13,23 @@ use Rattle.sv_terms.specs.declared.op.Op.TheVariants as op
 use Rattle.sv_terms.specs.declared.sort.Sort.{Sort}
 use Rattle.sv_terms.specs.declared.sort.Sort.TheVariants as sort
 use Rattle.sv_terms.specs.declared.transducer.Transducer.{Transducer}
-use Rattle.bool_cubes.specs.Codes.{same}
-use Rattle.bool_cubes.specs.Linear.{are_linear, are_strings, before, integer, is_linear, is_product, is_string, linears, pieces, set_before as spliced, written}
-use Rattle.bool_cubes.specs.Shapes.{Shape, Shapes, number, text, constant, apply, member, related, end, ◌⨾◌, head_sort, seen}
-use Rattle.bool_cubes.specs.declared.literal.Literal.{Literal}
+use Rattle.literal_forms.specs.Codes.{same}
+use Rattle.literal_forms.specs.Linear.{are_linear, are_strings, before, integer, is_linear, is_product, is_string, linears, pieces, set_before as spliced, written}
+use Rattle.literal_forms.specs.Shapes.{Shape, Shapes, number, text, constant, apply, member, related, end, ◌⨾◌, head_sort, seen}
+use Rattle.literal_forms.specs.declared.literal.Literal.{Literal}
 use Rattle.straight_line.specs.FormLaws.{AreNamesSorted, NamesAreApart, NamesAreSorted}
-use Rattle.straight_line.specs.Flattening.{AreSortedBy, IsFlatOf, IsSortedBy, all_bounded, firsts_of, has_column, integers_of, name_of, roots_of, variable_at}
-use Rattle.straight_line.specs.Met.{DraftView, Found, add, add_all, all_met, concat_met, first_met, known_or, meet, meet_all, meet_all_unknowns, meet_unknowns, met, nothing_met, place_of, registered, with_term, with_value}
-use Rattle.straight_line.specs.Said.{Said, are_one, atom_said, compares, constant_said, equality_said, has_part, holds, one_said, outside, pair_said, part_said, row_said, said, string_said, value_is, where_true, written_by}
-use Rattle.straight_line.specs.Straight.{string_names}
-use Rattle.straight_line.specs.declared.flat.Flat.{Flat}
-use Rattle.straight_line.specs.declared.variable.Own.{Own}
-use Rattle.straight_line.specs.declared.variable.Own.TheVariants as own
-use Rattle.straight_line.proofs.Differing.{Differ, IsNone, all_differ, all_within, cross_by, cross_join, differ_join, differ_push, filter_differ, filter_within, names_distinct, names_in, names_of_all, names_push, none_found, one_name, range_differ}
-use Rattle.straight_line.proofs.Meetings.{all_push}
-use Rattle.straight_line.proofs.Sames.{string_self}
+use Rattle.flat_cubes.specs.Flattening.{AreSortedBy, IsFlatOf, IsSortedBy, all_bounded, firsts_of, has_column, integers_of, name_of, roots_of, variable_at}
+use Rattle.flat_cubes.specs.Met.{DraftView, Found, add, add_all, all_met, concat_met, first_met, known_or, meet, meet_all, meet_all_unknowns, meet_unknowns, met, nothing_met, place_of, registered, with_term, with_value}
+use Rattle.flat_cubes.specs.Said.{Said, are_one, atom_said, compares, constant_said, equality_said, has_part, holds, one_said, outside, pair_said, part_said, row_said, said, string_said, value_is, where_true, written_by}
+use Rattle.flat_cubes.specs.Straight.{string_names}
+use Rattle.flat_cubes.specs.declared.flat.Flat.{Flat}
+use Rattle.flat_cubes.specs.declared.variable.Own.{Own}
+use Rattle.flat_cubes.specs.declared.variable.Own.TheVariants as own
+use Rattle.straight_line.proofs.Differing.{Differ, IsNone, all_differ, all_within, cross_by, cross_join, differ_join, differ_push, filter_differ, names_distinct, names_in, names_of_all, names_push, none_found, one_name, range_differ}
+use Rattle.flat_cubes.proofs.Members.{filter_within, all_push, never}
+use Rattle.cube_draft.proofs.Sames.{string_self}
 use Rattle.straight_line.proofs.Saying.{text_self}
-use Rattle.straight_line.proofs.Strings.{never, string_written}
+use Rattle.cube_draft.proofs.Strings.{string_written}
 use Rattle.straight_line.proofs.Texts.{and_parts}
 
 is_text_sort : (s : Sort) → same_sort s sort.String ≡ true → s ≡ sort.String

@@ -6,8 +6,8 @@ use Rattle.std.specs.Cmp.{signed_Decides}
 use Rattle.std.proofs.lemmas.Int.{ints}
 use Rattle.sv_terms.specs.declared.op.Op.{Op}
 use Rattle.sv_terms.specs.declared.op.Op.TheVariants as op
-use Rattle.bool_cubes.specs.Linear.{Linear, Unknown, less, scaled, minus_one}
-use Rattle.straight_line.specs.Flattening.{compared, opposite, plus_one}
+use Rattle.literal_forms.specs.Linear.{Linear, Unknown, less, scaled, minus_one}
+use Rattle.flat_cubes.specs.Flattening.{compared, opposite, plus_one}
 use Rattle.sv_linear.specs.Rows.{Compares}
 use Rattle.straight_line.proofs.Amounts.{linear_value, value_added, value_scaled, value_less}
 

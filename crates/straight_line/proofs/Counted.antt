@@ -11,23 +11,23 @@ use Rattle.sv_terms.specs.declared.op.Op.TheVariants as op
 use Rattle.sv_terms.specs.declared.term.Term.TheVariants as term
 use Rattle.sv_terms.specs.declared.value.Value.TheVariants as value
 use Rattle.sv_terms.specs.Meaning.{Named, all_of, applied, applied_if, val}
-use Rattle.bool_cubes.specs.Shapes.{Shape, raw}
-use Rattle.bool_cubes.specs.Linear.{Linear, Unknown, integer, length_of, linear, less, scaled, minus_one, of_number}
-use Rattle.bool_cubes.specs.Linear as form
-use Rattle.straight_line.specs.Flattening.{Bounded, IsRowFor, all_bounded, bounded_of, compared, has_column, opposite, unknowns_of}
-use Rattle.straight_line.specs.Waiting.{Among}
-use Rattle.straight_line.proofs.Members.{neither}
-use Rattle.straight_line.specs.Met.{Comparison, DraftView}
+use Rattle.literal_forms.specs.Shapes.{Shape, raw}
+use Rattle.literal_forms.specs.Linear.{Linear, Unknown, integer, length_of, linear, less, scaled, minus_one, of_number}
+use Rattle.literal_forms.specs.Linear as form
+use Rattle.flat_cubes.specs.Flattening.{Bounded, IsRowFor, all_bounded, bounded_of, compared, has_column, opposite, unknowns_of}
+use Rattle.flat_cubes.specs.Members.{Among}
+use Rattle.flat_cubes.proofs.Members.{neither}
+use Rattle.flat_cubes.specs.Met.{Comparison, DraftView}
 use Rattle.sv_linear.specs.Rows.{Compares, MeetsRow}
 use Rattle.straight_line.proofs.Amounts.{amount, linear_value, number_of_term, val_number}
 use Rattle.straight_line.proofs.Apart.{Stands, stands_once}
 use Rattle.straight_line.proofs.Compared.{HasRow, row_is, test}
 use Rattle.straight_line.proofs.Meetings.{ComparisonTrue}
-use Rattle.straight_line.proofs.Ranges.{all_weaker}
+use Rattle.cube_draft.proofs.Ranges.{all_weaker}
 use Rattle.straight_line.proofs.Rows.{Once, row_value}
 use Rattle.straight_line.proofs.Saying.{and_true}
 use Rattle.straight_line.proofs.Settled.{AreCounted, IsReady, IsNumeric, Known, rest}
-use Rattle.straight_line.proofs.Fine.{fine_added, fine_less, fine_scaled}
+use Rattle.cube_draft.proofs.Fine.{fine_added, fine_less, fine_scaled}
 use Rattle.straight_line.proofs.Texts.{val_apply}
 
 pub after : (P Q R : Type 0) → P ↔ Q → Q ↔ R → P ↔ R

@@ -5,14 +5,11 @@ use Rattle.std.specs.Cmp.Lexicographic.{pointwise, same_text}
 use Rattle.std.specs.List.{AllByRecursion, IsDistinct, list_any}
 use Rattle.std.proofs.lemmas.Bool.{eqb-true}
 use Rattle.std.proofs.lemmas.Map.Keys.{IsDistinct-cons}
-use Rattle.bool_cubes.specs.Shapes.{Shape}
-use Rattle.straight_line.specs.Flattening.{name_of, names_at, with_name}
-use Rattle.straight_line.proofs.Fine.{all_joined}
-use Rattle.straight_line.proofs.Meetings.{all_push}
-use Rattle.straight_line.proofs.Members.{neither}
-use Rattle.straight_line.proofs.Ordinals.{passing}
+use Rattle.literal_forms.specs.Shapes.{Shape}
+use Rattle.flat_cubes.specs.Flattening.{name_of, names_at, with_name}
+use Rattle.flat_cubes.proofs.Members.{all_joined, all_push, neither, never, filter_within}
+use Rattle.cube_order.proofs.Ordinals.{passing}
 use Rattle.straight_line.proofs.Saying.{text_self}
-use Rattle.straight_line.proofs.Strings.{never}
 
 -- it is none of these
 abbrev pub IsNone : {X : Type 0} → X → List X → Type 0
@@ -54,14 +51,6 @@ none_by f a b n x e (y ∷ ys) q = (λ g. n (sym e ∙ ap f g ∙ q.0), none_by 
 pub cross_by : {X Y : Type 0} (f : X → Y) (a b : Y) → (a ≡ b → ⊥) → (xs ys : List X) → AllByRecursion (λ x. f x ≡ a) xs → AllByRecursion (λ y. f y ≡ b) ys → Cross xs ys
 cross_by f a b n [] ys p q = tt
 cross_by f a b n (x ∷ xs) ys p q = (none_by f a b n x p.0 ys q, cross_by f a b n xs ys p.1 q)
-
-pub filter_within : {X : Type 0} (P : X → Type 0) (p : X → Bool) (xs : List X) → AllByRecursion P xs → AllByRecursion P (filter p xs)
-filter_within P p [] a = tt
-filter_within P p (x ∷ xs) a = by_test (p x) (filter_within P p xs a.1)
-  where
-    by_test : (b : Bool) → AllByRecursion P (filter p xs) → AllByRecursion P (cond b (x ∷ filter p xs) (filter p xs))
-    by_test true h = (a.0, h)
-    by_test false h = h
 
 pub filter_differ : {X : Type 0} (p : X → Bool) (xs : List X) → Differ xs → Differ (filter p xs)
 filter_differ p [] d = tt

@@ -2,26 +2,25 @@
 use Rattle.std.proofs.Common.{◌≡◌, sym, ap, ◌∙◌, subst, ℕ, List, [], ◌∷◌, length, None, Result, Ok, Err}
 use Rattle.std.proofs.lemmas.List.{length-map}
 use Rattle.std.specs.List.{AllByRecursion}
-use Rattle.bool_cubes.specs.Shapes.{Shape}
-use Rattle.bool_cubes.specs.declared.literal.Literal.{Literal}
-use Rattle.straight_line.specs.Drafted.{HoldsDraft, registers_among}
-use Rattle.straight_line.specs.Filling.{ArePartsBelow}
-use Rattle.straight_line.specs.Flattening.{IsFinished, IsFlattened, IsFlattening, name_of}
+use Rattle.literal_forms.specs.Shapes.{Shape}
+use Rattle.literal_forms.specs.declared.literal.Literal.{Literal}
+use Rattle.flat_cubes.specs.Drafted.{HoldsDraft, registers_among, IsDraftOf}
+use Rattle.cube_order.specs.Filling.{ArePartsBelow}
+use Rattle.flat_cubes.specs.Flattening.{IsFinished, IsFlattened, IsFlattening, name_of}
 use Rattle.straight_line.proofs.Called.{names_apart}
-use Rattle.straight_line.specs.Gathered.{IsDraftOf}
-use Rattle.straight_line.specs.Keeping.{AreQuantitiesBelow}
-use Rattle.straight_line.specs.Leading.{AreDefinitionsBelow, ArePairsBelow}
-use Rattle.straight_line.specs.Met.{DraftView, met}
-use Rattle.straight_line.specs.Readiness.{IsReady, UsesSome}
-use Rattle.straight_line.specs.Said.{first_outside}
-use Rattle.straight_line.specs.declared.draft.FlatDraft.{FlatDraft as Held}
-use Rattle.straight_line.specs.declared.draft.Quantity.{Quantity}
-use Rattle.straight_line.specs.declared.draft.Quantity.TheVariants.{Integer, Length}
-use Rattle.straight_line.specs.declared.fault.FlatFault.{FlatFault}
-use Rattle.straight_line.specs.declared.fault.FlatFault.TheVariants.{Outside, Twice, Cycle, Wide, Memory}
-use Rattle.straight_line.specs.declared.flat.Flat.{Flat}
-use Rattle.straight_line.proofs.Proper.{proper}
-use Rattle.straight_line.proofs.Ranges.{RegisterIn}
+use Rattle.cube_order.specs.Keeping.{AreQuantitiesBelow}
+use Rattle.cube_order.specs.Leading.{AreDefinitionsBelow, ArePairsBelow}
+use Rattle.flat_cubes.specs.Met.{DraftView, met}
+use Rattle.cube_order.specs.Readiness.{IsReady, UsesSome}
+use Rattle.flat_cubes.specs.Said.{first_outside}
+use Rattle.flat_cubes.specs.declared.draft.FlatDraft.{FlatDraft as Held}
+use Rattle.flat_cubes.specs.declared.draft.Quantity.{Quantity}
+use Rattle.flat_cubes.specs.declared.draft.Quantity.TheVariants.{Integer, Length}
+use Rattle.flat_cubes.specs.declared.fault.FlatFault.{FlatFault}
+use Rattle.flat_cubes.specs.declared.fault.FlatFault.TheVariants.{Outside, Twice, Cycle, Wide, Memory}
+use Rattle.flat_cubes.specs.declared.flat.Flat.{Flat}
+use Rattle.cube_draft.proofs.Proper.{proper}
+use Rattle.cube_draft.proofs.Ranges.{RegisterIn}
 
 as_long : (held : Held) (d : DraftView) → HoldsDraft held d → length d.terms ≡ length held.names
 as_long held d h = sym (ap length h.names ∙ length-map d.terms name_of)

@@ -10,23 +10,23 @@ use Rattle.sv_terms.specs.declared.op.Op.TheVariants as op
 use Rattle.sv_terms.specs.declared.sort.Sort.{Sort}
 use Rattle.sv_terms.specs.declared.sort.Sort.TheVariants as sort
 use Rattle.sv_terms.specs.declared.transducer.Transducer.{Transducer}
-use Rattle.bool_cubes.specs.Codes.{same}
-use Rattle.bool_cubes.specs.Linear.{is_linear, is_string, written}
-use Rattle.bool_cubes.specs.Shapes.{Shape, Shapes, text, constant, apply, member, related, end, ◌⨾◌, head_sort, seen}
-use Rattle.bool_cubes.specs.declared.literal.Literal.{Literal}
+use Rattle.literal_forms.specs.Codes.{same}
+use Rattle.literal_forms.specs.Linear.{is_linear, is_string, written}
+use Rattle.literal_forms.specs.Shapes.{Shape, Shapes, text, constant, apply, member, related, end, ◌⨾◌, head_sort, seen}
+use Rattle.literal_forms.specs.declared.literal.Literal.{Literal}
 use Rattle.straight_line.specs.FormLaws.{TransducersAreFormed}
-use Rattle.straight_line.specs.Flattening.{definition_of, definitions_of, renamed}
+use Rattle.flat_cubes.specs.Flattening.{definition_of, definitions_of, renamed}
 use Rattle.straight_line.specs.Laws.{IsSpelled}
-use Rattle.straight_line.specs.Met.{DraftView, Found, add, add_all, all_met, concat_met, first_met, known_or, meet, meet_all, meet_all_unknowns, meet_unknowns, met, nothing_met, place_of, registered, with_term, with_value}
-use Rattle.straight_line.specs.Said.{Said, are_one, atom_said, compares, constant_said, equality_said, has_part, holds, one_said, outside, pair_said, part_said, row_said, said, string_said, value_is, where_true, written_by}
-use Rattle.straight_line.specs.Straight.{IsFormedBy}
-use Rattle.straight_line.specs.declared.definition.By.{By}
-use Rattle.straight_line.specs.declared.definition.By.TheVariants as by
-use Rattle.straight_line.specs.declared.definition.Definition.{Definition}
-use Rattle.straight_line.specs.declared.variable.Own.{Own}
-use Rattle.straight_line.specs.declared.variable.Own.TheVariants as own
-use Rattle.straight_line.proofs.Meetings.{all_push}
-use Rattle.straight_line.proofs.Ordered.{ordered_all}
+use Rattle.flat_cubes.specs.Met.{DraftView, Found, add, add_all, all_met, concat_met, first_met, known_or, meet, meet_all, meet_all_unknowns, meet_unknowns, met, nothing_met, place_of, registered, with_term, with_value}
+use Rattle.flat_cubes.specs.Said.{Said, are_one, atom_said, compares, constant_said, equality_said, has_part, holds, one_said, outside, pair_said, part_said, row_said, said, string_said, value_is, where_true, written_by}
+use Rattle.flat_cubes.specs.Straight.{IsFormedBy}
+use Rattle.flat_cubes.specs.declared.definition.By.{By}
+use Rattle.flat_cubes.specs.declared.definition.By.TheVariants as by
+use Rattle.flat_cubes.specs.declared.definition.Definition.{Definition}
+use Rattle.flat_cubes.specs.declared.variable.Own.{Own}
+use Rattle.flat_cubes.specs.declared.variable.Own.TheVariants as own
+use Rattle.flat_cubes.proofs.Members.{all_push}
+use Rattle.cube_order.proofs.Ordered.{ordered_all}
 
 abbrev IsFormedAt : ℕ × By → Type 0
 IsFormedAt e = IsFormedBy e.1

@@ -18,40 +18,40 @@ use Rattle.sv_terms.specs.Matches.{matches}
 use Rattle.sv_terms.specs.Meaning.{Named, joined}
 use Rattle.sv_terms.specs.Replacement.{replace_first, replace_all}
 use Rattle.sv_terms.specs.Transduction.{Pairs, writes}
-use Rattle.bool_cubes.specs.Linear.{integer, length_of}
-use Rattle.bool_cubes.specs.Shapes.{Shape, text, constant}
-use Rattle.straight_line.specs.Using.{used}
-use Rattle.straight_line.specs.Flattening.{IsFlatOf, all_bounded, definition_of, definitions_of, firsts_of, has_column, name_of, integers_of, names_at, registers_of, roots_of, unknowns_of, variable_at, variable_of, with_name}
+use Rattle.literal_forms.specs.Linear.{integer, length_of}
+use Rattle.literal_forms.specs.Shapes.{Shape, text, constant}
+use Rattle.flat_cubes.specs.Using.{used}
+use Rattle.flat_cubes.specs.Flattening.{IsFlatOf, all_bounded, definition_of, definitions_of, firsts_of, has_column, name_of, integers_of, names_at, registers_of, roots_of, unknowns_of, variable_at, variable_of, with_name}
 use Rattle.straight_line.specs.Laws.{FlatIsExact}
-use Rattle.straight_line.specs.Met.{DraftView, met}
-use Rattle.straight_line.specs.Satisfying.{ComesBy, Defines, Extends, HasValue, MeetsParts, MeetsPart, NamesHave, word_at}
-use Rattle.straight_line.specs.Satisfying as flat
+use Rattle.flat_cubes.specs.Met.{DraftView, met}
+use Rattle.flat_cubes.specs.Satisfying.{ComesBy, Defines, Extends, HasValue, MeetsParts, MeetsPart, NamesHave, word_at}
+use Rattle.flat_cubes.specs.Satisfying as flat
 use Rattle.sv_linear.specs.Rows as row
 use Rattle.sv_linear.specs.Rows.{MeetsRow}
 use Rattle.sv_terms.specs.Truth.{AreWorded}
-use Rattle.straight_line.specs.Straight.{AreBelow}
-use Rattle.straight_line.specs.declared.definition.By.{By}
-use Rattle.straight_line.specs.declared.definition.By.TheVariants as by
-use Rattle.straight_line.specs.declared.flat.Flat.{Flat}
-use Rattle.straight_line.specs.declared.variable.Own.{Own}
-use Rattle.straight_line.specs.declared.variable.Variable.{Variable}
+use Rattle.flat_cubes.specs.Straight.{AreBelow}
+use Rattle.flat_cubes.specs.declared.definition.By.{By}
+use Rattle.flat_cubes.specs.declared.definition.By.TheVariants as by
+use Rattle.flat_cubes.specs.declared.flat.Flat.{Flat}
+use Rattle.flat_cubes.specs.declared.variable.Own.{Own}
+use Rattle.flat_cubes.specs.declared.variable.Variable.{Variable}
 use Rattle.straight_line.proofs.Amounts.{amount}
 use Rattle.straight_line.proofs.Counted.{comparisons_rows}
 use Rattle.straight_line.proofs.Determined.{determined}
 use Rattle.straight_line.proofs.Determined as draft
-use Rattle.straight_line.specs.Waiting.{Among}
-use Rattle.straight_line.proofs.Entries.{At, at_within}
-use Rattle.straight_line.proofs.Identified.{AreOne, Rooted, first, identified_agrees, identified_are_one, identified_length, identified_rooted}
+use Rattle.flat_cubes.specs.Members.{Among}
+use Rattle.cube_draft.proofs.Entries.{At, at_within}
+use Rattle.cube_order.proofs.Identified.{AreOne, Rooted, first, identified_agrees, identified_are_one, identified_length, identified_rooted}
 use Rattle.straight_line.proofs.Lists.{all_by_among, all_filtered, all_two, among_all, among_map, filtered_among, filtered_range, get_map, map_all, map_join, zip_map_at, zip_maps}
 use Rattle.straight_line.proofs.Meetings.{DefinitionHolds, EqualityHolds, Fits, FitsFrom, Holds, PartHolds, TruthHolds}
-use Rattle.straight_line.proofs.Ordered.{ordered_all, ordered_back}
-use Rattle.straight_line.proofs.Ordinals.{placed}
+use Rattle.cube_order.proofs.Ordered.{ordered_all, ordered_back}
+use Rattle.cube_order.proofs.Ordinals.{placed}
 use Rattle.straight_line.proofs.Parted.{IsSound}
-use Rattle.straight_line.proofs.Ranges.{all_weaker, DefinitionIn, PartIn}
+use Rattle.cube_draft.proofs.Ranges.{all_weaker, DefinitionIn, PartIn}
 use Rattle.straight_line.proofs.Readied.{met_settled}
 use Rattle.straight_line.proofs.Settled.{HasNumber, IsSettled, PlaceIs}
 use Rattle.straight_line.proofs.Spelling.{term_word}
-use Rattle.straight_line.proofs.Members.{all_at}
+use Rattle.flat_cubes.proofs.Members.{all_at}
 use Rattle.straight_line.proofs.Texts.{text_is, text_or, valued_constant, word}
 use Rattle.straight_line.proofs.Told.{all_fit, told, words_at}
 

@@ -10,21 +10,18 @@ use Rattle.sv_terms.specs.Language.{Word}
 use Rattle.sv_terms.specs.Meaning.{Named, joined, val}
 use Rattle.sv_terms.specs.Replacement.{replace_first, replace_all}
 use Rattle.sv_terms.specs.declared.term.Term.TheVariants as term
-use Rattle.bool_cubes.specs.Shapes.{Shape, Shapes, text, constant, apply, end, ◌⨾◌, raw}
-use Rattle.bool_cubes.specs.Codes.{same}
-use Rattle.bool_cubes.specs.Linear.{is_string, are_strings}
-use Rattle.straight_line.proofs.Sames.{string_is}
-use Rattle.straight_line.specs.Met.{Comparison, DraftView, Found, with_term, with_part, with_definition, place_of, known_or, literal_met, meet, meet_all}
-use Rattle.straight_line.specs.Satisfying.{MeetsPart, ComesBy, HasValue}
-use Rattle.straight_line.specs.declared.variable.Own.{Own}
-use Rattle.straight_line.specs.declared.variable.Own.TheVariants as own
-use Rattle.straight_line.specs.declared.definition.By.{By}
-use Rattle.straight_line.specs.declared.definition.By.TheVariants as by
+use Rattle.literal_forms.specs.Shapes.{Shape, Shapes, text, constant, apply, end, ◌⨾◌, raw}
+use Rattle.literal_forms.specs.Codes.{same}
+use Rattle.literal_forms.specs.Linear.{is_string, are_strings}
+use Rattle.cube_draft.proofs.Sames.{string_is}
+use Rattle.flat_cubes.specs.Met.{Comparison, DraftView, Found, with_term, with_part, with_definition, place_of, known_or, literal_met, meet, meet_all}
+use Rattle.flat_cubes.specs.Satisfying.{MeetsPart, ComesBy, HasValue}
+use Rattle.flat_cubes.specs.declared.variable.Own.{Own}
+use Rattle.flat_cubes.specs.declared.variable.Own.TheVariants as own
+use Rattle.flat_cubes.specs.declared.definition.By.{By}
+use Rattle.flat_cubes.specs.declared.definition.By.TheVariants as by
 use Rattle.straight_line.proofs.Texts.{and_parts, word, words}
-
-pub all_push : {X : Type 0} (P : X → Type 0) (xs : List X) (x : X) → AllByRecursion P xs → P x → AllByRecursion P (xs ++ x ∷ [])
-all_push P [] x a p = (p, tt)
-all_push P (y ∷ xs) x a p = (a.0, all_push P xs x a.1 p)
+use Rattle.flat_cubes.proofs.Members.{all_push}
 
 pub all_popped : {X : Type 0} (P : X → Type 0) (xs : List X) (x : X) → AllByRecursion P (xs ++ x ∷ []) → AllByRecursion P xs
 all_popped P [] x a = tt

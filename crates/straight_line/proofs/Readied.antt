@@ -10,16 +10,16 @@ use Rattle.sv_terms.specs.declared.term.Term.TheVariants as term
 use Rattle.sv_terms.specs.declared.transducer.Transducer.{Transducer}
 use Rattle.sv_terms.specs.Meaning.{Named}
 use Rattle.sv_terms.specs.Sorting.{is_valued, valued_step}
-use Rattle.bool_cubes.specs.Mirrors.{raw-seen}
-use Rattle.bool_cubes.specs.Shapes.{Shape, text, constant, apply, member, related, end, ◌⨾◌, raw, raws, seen, head_sort}
-use Rattle.bool_cubes.specs.Linear.{is_string, is_linear}
-use Rattle.bool_cubes.specs.declared.literal.Literal.{Literal}
+use Rattle.literal_forms.specs.Mirrors.{raw-seen}
+use Rattle.literal_forms.specs.Shapes.{Shape, text, constant, apply, member, related, end, ◌⨾◌, raw, raws, seen, head_sort}
+use Rattle.literal_forms.specs.Linear.{is_string, is_linear}
+use Rattle.literal_forms.specs.declared.literal.Literal.{Literal}
 use Rattle.straight_line.specs.Laws.{IsGood, IsSpelled, AreSpelled}
-use Rattle.straight_line.specs.Met.{DraftView, add, add_all, nothing_met, met}
-use Rattle.straight_line.specs.Said.{Said, compares, has_part, are_one, written_by, where_true, part_said, row_said, one_said, string_said, equality_said, pair_said, constant_said, atom_said, said, is_outside, first_outside}
-use Rattle.straight_line.specs.declared.variable.Own.{Own}
-use Rattle.straight_line.specs.declared.variable.Own.TheVariants as own
-use Rattle.straight_line.proofs.Strings.{never}
+use Rattle.flat_cubes.specs.Met.{DraftView, add, add_all, nothing_met, met}
+use Rattle.flat_cubes.specs.Said.{Said, compares, has_part, are_one, written_by, where_true, part_said, row_said, one_said, string_said, equality_said, pair_said, constant_said, atom_said, said, is_outside, first_outside}
+use Rattle.flat_cubes.specs.declared.variable.Own.{Own}
+use Rattle.flat_cubes.specs.declared.variable.Own.TheVariants as own
+use Rattle.flat_cubes.proofs.Members.{never}
 use Rattle.straight_line.proofs.Compared.{HasRow}
 use Rattle.straight_line.proofs.Parted.{IsSound}
 use Rattle.straight_line.proofs.Settled.{IsSettled, Ready, is_settled, nothing_settled}

@@ -4,17 +4,17 @@ use Rattle.std.proofs.Common.{◌≡◌, refl, sym, ap, ◌∙◌, subst, Bool, 
 use Rattle.std.specs.Prelude.{nat_eq}
 use Rattle.std.proofs.lemmas.Bool.{eqb-true}
 use Rattle.std.proofs.lemmas.List.{length-map}
-use Rattle.straight_line.specs.Using.{is_defined}
-use Rattle.straight_line.specs.Flattening.{IsCycle, IsFlatOf, IsTwice, IsWide, definitions_of, integers_of, ordered, registers_of}
+use Rattle.flat_cubes.specs.Using.{is_defined}
+use Rattle.flat_cubes.specs.Flattening.{IsCycle, IsFlatOf, IsTwice, IsWide, definitions_of, integers_of, ordered, registers_of}
 use Rattle.straight_line.specs.Laws.{RefusedHasNone}
-use Rattle.straight_line.specs.Met.{DraftView, met}
-use Rattle.straight_line.specs.Straight.{InOrder, IsStraight, StandsBefore}
-use Rattle.straight_line.specs.declared.definition.Definition.{Definition}
-use Rattle.straight_line.specs.declared.fault.FlatFault.TheVariants.{Outside, Twice, Cycle, Wide, Memory}
-use Rattle.straight_line.specs.declared.flat.Flat.{Flat}
-use Rattle.straight_line.proofs.Acyclic.{acyclic}
-use Rattle.straight_line.proofs.Taking.{defined_none, defines, taken_counts}
-use Rattle.straight_line.proofs.Traced.{passing, passing_is}
+use Rattle.flat_cubes.specs.Met.{DraftView, met}
+use Rattle.flat_cubes.specs.Straight.{InOrder, IsStraight, StandsBefore}
+use Rattle.flat_cubes.specs.declared.definition.Definition.{Definition}
+use Rattle.flat_cubes.specs.declared.fault.FlatFault.TheVariants.{Outside, Twice, Cycle, Wide, Memory}
+use Rattle.flat_cubes.specs.declared.flat.Flat.{Flat}
+use Rattle.cube_order.proofs.Acyclic.{acyclic}
+use Rattle.cube_order.proofs.Taking.{defined_none, defines, taken_counts}
+use Rattle.cube_order.proofs.Traced.{passing, passing_is}
 
 -- where definitions stand in order, a variable has one at most
 at_most_one : (n v : ℕ) (ds : List Definition) → InOrder n ds → passing (defines v) ds ≤ 1

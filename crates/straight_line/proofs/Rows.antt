@@ -8,11 +8,11 @@ use Rattle.sv_linear.specs.Integers.{add-mul}
 use Rattle.sv_linear.specs.Terms.{terms_value, coefficient}
 use Rattle.sv_linear.specs.Forms.{form_value}
 use Rattle.sv_linear.specs.declared.row.Row.{Row}
-use Rattle.bool_cubes.specs.Linear.{Linear, Unknown, same_unknown}
-use Rattle.bool_cubes.specs.Linear as form
-use Rattle.straight_line.specs.Flattening.{Bounded, IsRowFor, coefficient_at}
+use Rattle.literal_forms.specs.Linear.{Linear, Unknown, same_unknown}
+use Rattle.literal_forms.specs.Linear as form
+use Rattle.flat_cubes.specs.Flattening.{Bounded, IsRowFor, coefficient_at}
 use Rattle.straight_line.proofs.Amounts.{terms_sum, linear_value}
-use Rattle.straight_line.proofs.Inserted.{not_equal}
+use Rattle.cube_draft.proofs.Inserted.{not_equal}
 
 zero_times : (z w : ℤ) → pos 0 *ℤ z +ℤ w ≡ w
 zero_times z w = omega (arith, ints)

@@ -20,12 +20,12 @@ use Rattle.sv_terms.specs.Meaning.{Named, all_of, applied, applied_if, tested, r
 use Rattle.sv_terms.specs.Replacement.{begins, occurs}
 use Rattle.sv_terms.specs.Sorting.{is_valued, valued_step}
 use Rattle.sv_terms.specs.Transduction.{Pairs, writes}
-use Rattle.bool_cubes.specs.Shapes.{Shape, text, constant, apply, member, related, end, ◌⨾◌, raw, head_sort}
-use Rattle.bool_cubes.specs.Linear.{is_string, is_linear}
-use Rattle.straight_line.specs.Said.{Said, compares, holds, has_part, are_one, written_by, where_true, part_said, row_said, one_said, string_said, equality_said, pair_said, constant_said, atom_said, is_outside}
-use Rattle.straight_line.specs.Satisfying.{Says}
-use Rattle.straight_line.specs.declared.variable.Own.{Own}
-use Rattle.straight_line.specs.declared.variable.Own.TheVariants as own
+use Rattle.literal_forms.specs.Shapes.{Shape, text, constant, apply, member, related, end, ◌⨾◌, raw, head_sort}
+use Rattle.literal_forms.specs.Linear.{is_string, is_linear}
+use Rattle.flat_cubes.specs.Said.{Said, compares, holds, has_part, are_one, written_by, where_true, part_said, row_said, one_said, string_said, equality_said, pair_said, constant_said, atom_said, is_outside}
+use Rattle.flat_cubes.specs.Satisfying.{Says}
+use Rattle.flat_cubes.specs.declared.variable.Own.{Own}
+use Rattle.flat_cubes.specs.declared.variable.Own.TheVariants as own
 use Rattle.straight_line.proofs.Texts.{fold-at, and_parts, word, val_word, val_apply, valued_apply, val_constant, val_text}
 use Rattle.straight_line.proofs.Adding.{Truth, Formed}
 

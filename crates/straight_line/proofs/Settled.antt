@@ -11,24 +11,23 @@ use Rattle.sv_terms.specs.declared.sort.Sort.{Sort}
 use Rattle.sv_terms.specs.declared.value.Value.TheVariants as value
 use Rattle.sv_terms.specs.Meaning.{Named}
 use Rattle.sv_terms.specs.Sorting.{is_valued}
-use Rattle.bool_cubes.specs.Shapes.{Shape, Shapes, number, text, constant, apply, end, ◌⨾◌, raw, raws}
-use Rattle.bool_cubes.specs.Codes.{same}
-use Rattle.bool_cubes.specs.Linear.{Linear, Unknown, integer, length_of, other, is_string, are_strings, is_linear, are_linear, is_product, linear, linears, written}
+use Rattle.literal_forms.specs.Shapes.{Shape, Shapes, number, text, constant, apply, end, ◌⨾◌, raw, raws}
+use Rattle.literal_forms.specs.Codes.{same}
+use Rattle.literal_forms.specs.Linear.{Linear, Unknown, integer, length_of, other, is_string, are_strings, is_linear, are_linear, is_product, linear, linears, written}
 use Rattle.straight_line.specs.Laws.{IsSpelled, AreSpelled}
-use Rattle.straight_line.specs.Met.{Comparison, DraftView, Found, with_term, with_definition, known_or, place_of, meet, meet_all, with_integer, registered, with_register, meet_unknowns, meet_all_unknowns, with_comparison, with_value, nothing_met, add}
-use Rattle.straight_line.specs.Said.{Said, value_is, compares, holds, has_part, are_one, written_by, outside}
-use Rattle.straight_line.specs.Satisfying.{HasValue}
-use Rattle.straight_line.specs.declared.definition.By.TheVariants as by
-use Rattle.straight_line.proofs.Strings.{never}
+use Rattle.flat_cubes.specs.Met.{Comparison, DraftView, Found, with_term, with_definition, known_or, place_of, meet, meet_all, with_integer, registered, with_register, meet_unknowns, meet_all_unknowns, with_comparison, with_value, nothing_met, add}
+use Rattle.flat_cubes.specs.Said.{Said, value_is, compares, holds, has_part, are_one, written_by, outside}
+use Rattle.flat_cubes.specs.Satisfying.{HasValue}
+use Rattle.flat_cubes.specs.declared.definition.By.TheVariants as by
+use Rattle.flat_cubes.proofs.Members.{never, all_push}
 use Rattle.straight_line.proofs.Amounts.{amount, number_is}
 use Rattle.straight_line.proofs.Apart.{AreApart, Stands, apart_pushed, integers_of, lengths_of, length_stands, map_push, name_stands, stands, stands_last, stands_more}
-use Rattle.straight_line.proofs.Fine.{fine_difference, fine_product, fine_sum}
-use Rattle.straight_line.proofs.Sames.{string_self}
+use Rattle.cube_draft.proofs.Fine.{fine_difference, fine_product, fine_sum}
+use Rattle.cube_draft.proofs.Sames.{string_self}
 use Rattle.straight_line.proofs.Compared.{HasRow}
-use Rattle.straight_line.proofs.Entries.{among_left, At, at_within, Grows, entry_more, NewHave, first_have, is_entered}
-use Rattle.straight_line.proofs.Meetings.{all_push}
+use Rattle.cube_draft.proofs.Entries.{among_left, At, at_within, Grows, entry_more, NewHave, first_have, is_entered}
 use Rattle.straight_line.proofs.Parted.{AllOf, IsSound, sound_passes, met_terms}
-use Rattle.straight_line.proofs.Ranges.{all_weaker, AreIn, PartIn, DefinitionIn, PairIn, RegisterIn, is_placed}
+use Rattle.cube_draft.proofs.Ranges.{all_weaker, AreIn, PartIn, DefinitionIn, PairIn, RegisterIn, is_placed}
 use Rattle.straight_line.proofs.Saying.{text_self}
 use Rattle.straight_line.proofs.Sound.{sound_written}
 use Rattle.straight_line.proofs.Texts.{and_parts, valued_apply, valued_constant}

@@ -5,11 +5,12 @@ use Rattle.sv_terms.specs.declared.op.Op.{Op}
 use Rattle.sv_terms.specs.declared.op.Op.TheVariants as op
 use Rattle.sv_terms.specs.Meaning.{Named}
 use Rattle.sv_terms.specs.Sorting.{is_valued}
-use Rattle.bool_cubes.specs.Shapes.{Shape, Shapes, text, constant, apply, end, ◌⨾◌, raw, raws}
-use Rattle.bool_cubes.specs.Linear.{are_strings, written, pieces, before, set_before as spliced}
+use Rattle.literal_forms.specs.Shapes.{Shape, Shapes, text, constant, apply, end, ◌⨾◌, raw, raws}
+use Rattle.literal_forms.specs.Linear.{are_strings, written, pieces, before, set_before as spliced}
 use Rattle.straight_line.specs.Laws.{AreSpelled}
 use Rattle.straight_line.proofs.Texts.{and_parts, valued_apply}
-use Rattle.straight_line.proofs.Strings.{never, concat_before}
+use Rattle.flat_cubes.proofs.Members.{never}
+use Rattle.cube_draft.proofs.Strings.{concat_before}
 use Rattle.straight_line.proofs.Parted.{AllOf, IsSound, sound_passes}
 
 module _ (values : Named) where

@@ -10,7 +10,7 @@ use Rattle.sv_terms.specs.declared.value.Value.TheVariants as value
 use Rattle.sv_terms.specs.Language.{Word}
 use Rattle.sv_terms.specs.Meaning.{Named, joined}
 use Rattle.sv_terms.specs.Replacement.{begins, replace_first, replace_from, replace_all}
-use Rattle.bool_cubes.specs.Shapes.{Shape, Shapes, text, constant, apply, end, ◌⨾◌}
+use Rattle.literal_forms.specs.Shapes.{Shape, Shapes, text, constant, apply, end, ◌⨾◌}
 use Rattle.sv_terms.specs.Truth.{IsWorded, AreWorded}
 use Rattle.straight_line.specs.Laws.{IsSpelled, AreSpelled}
 use Rattle.straight_line.proofs.Texts.{word, words, text_or}

@@ -18,8 +18,8 @@ use Rattle.sv_terms.specs.Language.{Word}
 use Rattle.sv_terms.specs.Replacement.{replace_first, replace_all}
 use Rattle.sv_terms.specs.Meaning.{Named, all_of, each_of, word_of, joined, applied_if, val, val_step}
 use Rattle.sv_terms.specs.Sorting.{same_sort, is_of, valued_step, is_valued}
-use Rattle.bool_cubes.specs.Shapes.{Shape, Shapes, truth, number, text, constant, apply, member, related, opaque, end, ◌⨾◌, raw, raws}
-use Rattle.bool_cubes.specs.Linear.{is_string, are_strings, written, pieces, before, set_before as spliced}
+use Rattle.literal_forms.specs.Shapes.{Shape, Shapes, truth, number, text, constant, apply, member, related, opaque, end, ◌⨾◌, raw, raws}
+use Rattle.literal_forms.specs.Linear.{is_string, are_strings, written, pieces, before, set_before as spliced}
 
 pub fold-at : (X : Type 0) (step : Term-F X → X) (t : Term) (x : Term-F Term) → roll-Term x ≡ t → fold-Term X step t ≡ step (map-Term Term X (fold-Term X step) x)
 fold-at X step t x e = ap (fold-Term X step) (sym e) ∙ fold-roll-Term X step x

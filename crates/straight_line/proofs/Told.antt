@@ -9,13 +9,13 @@ use Rattle.sv_terms.specs.Matches.{matches}
 use Rattle.sv_terms.specs.Meaning.{Named, val}
 use Rattle.sv_terms.specs.Sorting.{is_valued}
 use Rattle.sv_terms.specs.Transduction.{Pairs, writes}
-use Rattle.bool_cubes.specs.Cubes.{IsTrueLiteral, AreTrueLiterals}
-use Rattle.bool_cubes.specs.Mirrors.{raw-seen}
-use Rattle.bool_cubes.specs.Shapes.{Shape, text, seen, raw}
-use Rattle.bool_cubes.specs.declared.literal.Literal.{Literal}
+use Rattle.literal_forms.specs.Literals.{IsTrueLiteral, AreTrueLiterals}
+use Rattle.literal_forms.specs.Mirrors.{raw-seen}
+use Rattle.literal_forms.specs.Shapes.{Shape, text, seen, raw}
+use Rattle.literal_forms.specs.declared.literal.Literal.{Literal}
 use Rattle.straight_line.specs.Laws.{IsGood}
-use Rattle.straight_line.specs.Met.{DraftView, add, add_all, nothing_met, met}
-use Rattle.straight_line.specs.Said.{said, is_outside, first_outside}
+use Rattle.flat_cubes.specs.Met.{DraftView, add, add_all, nothing_met, met}
+use Rattle.flat_cubes.specs.Said.{said, is_outside, first_outside}
 use Rattle.straight_line.proofs.Meetings.{Fits, FitsFrom, Holds}
 use Rattle.straight_line.proofs.Texts.{word}
 use Rattle.straight_line.proofs.Adding.{Truth, Formed, is_added}

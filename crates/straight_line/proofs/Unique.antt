@@ -7,12 +7,12 @@ use Rattle.std.proofs.lemmas.Bool.{cases_lt}
 use Rattle.sv_linear.specs.Terms.{AscendsWithin, AscendsWithin-prop, coefficient}
 use Rattle.sv_linear.specs.declared.form.Form.{Form}
 use Rattle.sv_linear.specs.declared.row.Row.{Row}
-use Rattle.bool_cubes.specs.Linear.{Unknown}
-use Rattle.straight_line.specs.Flattening.{Bounded, IsFlatOf, IsRowFor, all_bounded, unknowns_of}
+use Rattle.literal_forms.specs.Linear.{Unknown}
+use Rattle.flat_cubes.specs.Flattening.{Bounded, IsFlatOf, IsRowFor, all_bounded, unknowns_of}
 use Rattle.straight_line.specs.Laws.{FlatIsOne}
-use Rattle.straight_line.specs.Met.{DraftView, met}
-use Rattle.straight_line.specs.declared.flat.Flat.{Flat}
-use Rattle.straight_line.proofs.Inserted.{Terms, below, skipped, taken}
+use Rattle.flat_cubes.specs.Met.{DraftView, met}
+use Rattle.flat_cubes.specs.declared.flat.Flat.{Flat}
+use Rattle.cube_draft.proofs.Inserted.{Terms, below, skipped, taken}
 
 -- that of the first unknown
 at_first : (low high : ℕ) (t : ℕ × ℤ) (ts : Terms) → AscendsWithin low high (t ∷ ts) → coefficient t.0 (t ∷ ts) ≡ t.1

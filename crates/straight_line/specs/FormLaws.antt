@@ -3,12 +3,12 @@ use Rattle.std.specs.Prelude.{◌≡◌, ℕ, Bool, List, map}
 use Rattle.std.specs.List.{AllByRecursion}
 use Rattle.sv_terms.specs.declared.sort.Sort.{Sort}
 use Rattle.sv_terms.specs.declared.sort.Sort.TheVariants as sort
-use Rattle.bool_cubes.specs.Shapes.{seen}
-use Rattle.bool_cubes.specs.declared.literal.Literal.{Literal}
-use Rattle.straight_line.specs.Flattening.{HaveOneSort, IsFlattening, IsSortedBy}
+use Rattle.literal_forms.specs.Shapes.{seen}
+use Rattle.literal_forms.specs.declared.literal.Literal.{Literal}
+use Rattle.flat_cubes.specs.Flattening.{HaveOneSort, IsFlattening, IsSortedBy}
 use Rattle.straight_line.specs.Laws.{IsSpelled}
-use Rattle.straight_line.specs.Straight.{AreNamesApart, HasFormed, string_names}
-use Rattle.straight_line.specs.declared.flat.Flat.{Flat}
+use Rattle.flat_cubes.specs.Straight.{AreNamesApart, HasFormed, string_names}
+use Rattle.flat_cubes.specs.declared.flat.Flat.{Flat}
 
 -- the transducers of a flat cube are formed where those of its cube's literals are
 abbrev pub TransducersAreFormed : Type 0

@@ -6,14 +6,14 @@ use Rattle.sv_terms.specs.Meaning.{Named}
 use Rattle.sv_terms.specs.Sorting.{is_valued}
 use Rattle.sv_terms.specs.Transduction.{IsFormed}
 use Rattle.sv_terms.specs.Truth.{AreWorded}
-use Rattle.bool_cubes.specs.Cubes.{AreTrueLiterals}
-use Rattle.bool_cubes.specs.Shapes.{Shape, Shapes, truth, number, text, constant, apply, member, related, opaque, end, ◌⨾◌, seen}
-use Rattle.bool_cubes.specs.declared.literal.Literal.{Literal}
-use Rattle.straight_line.specs.Flattening.{IsFlattened, IsFlattening, IsStraightCube}
-use Rattle.straight_line.specs.Satisfying.{Extends}
-use Rattle.straight_line.specs.declared.fault.FlatFault.{FlatFault}
-use Rattle.straight_line.specs.declared.fault.FlatFault.TheVariants.{Outside, Twice, Cycle, Wide, Memory}
-use Rattle.straight_line.specs.declared.flat.Flat.{Flat}
+use Rattle.literal_forms.specs.Literals.{AreTrueLiterals}
+use Rattle.literal_forms.specs.Shapes.{Shape, Shapes, truth, number, text, constant, apply, member, related, opaque, end, ◌⨾◌, seen}
+use Rattle.literal_forms.specs.declared.literal.Literal.{Literal}
+use Rattle.flat_cubes.specs.Flattening.{IsFlattened, IsFlattening, IsStraightCube}
+use Rattle.flat_cubes.specs.Satisfying.{Extends}
+use Rattle.flat_cubes.specs.declared.fault.FlatFault.{FlatFault}
+use Rattle.flat_cubes.specs.declared.fault.FlatFault.TheVariants.{Outside, Twice, Cycle, Wide, Memory}
+use Rattle.flat_cubes.specs.declared.flat.Flat.{Flat}
 
 -- the literals of a term are words, and its transducers are formed
 abbrev mutual

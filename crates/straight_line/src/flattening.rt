@@ -1,14 +1,13 @@
 //! The flat cube of a cube.
 ghost use Rattle.std.specs.Prelude.{◌<◌, ◌^◌, length, IfOk};
 ghost use Rattle.std.specs.List.{AllByRecursion};
-ghost use Rattle.bool_cubes.specs.Past.{IsFitting};
-ghost use Rattle.straight_line.specs.Flattening.{IsFlattened};
+ghost use Rattle.literal_forms.specs.Past.{IsFitting};
+ghost use Rattle.flat_cubes.specs.Flattening.{IsFlattened};
 
-use crate::fault::FlatFault;
-use crate::finishing::finish;
-use crate::flat::Flat;
-use crate::scanning::scan;
-use bool_cubes::Cube;
+use cube_draft::scan;
+use cube_order::finish;
+use flat_cubes::{Flat, FlatFault};
+use literal_forms::Cube;
 use std::alloc::Global;
 
 /// The flat cube of a cube, or the first thing in this order for which it isn't straight: a literal of no written kind, a

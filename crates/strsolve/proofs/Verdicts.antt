@@ -14,10 +14,10 @@ use Rattle.sort_check.specs.declared.commands.Command.{Command}
 use Rattle.sort_check.specs.declared.commands.Command.TheVariants as command
 use Rattle.sv_terms.specs.Meaning.{Named}
 use Rattle.sv_terms.specs.declared.term.Term.{Term}
-use Rattle.smt_session.specs.declared.error_kind.ErrorKind.{ErrorKind}
+use Rattle.reply_text.specs.declared.error_kind.ErrorKind.{ErrorKind}
 use Rattle.smt_session.specs.Steps.{State, Outcome, opened, same_keyword, info_reply, model_reply, reason_reply, AnswersTerms, Checks, Does, Performs, Steps}
-use Rattle.smt_session.specs.declared.info.Info.{Info as InfoOf}
-use Rattle.smt_session.specs.declared.info.Info.TheVariants as info
+use Rattle.reply_text.specs.declared.info.Info.{Info as InfoOf}
+use Rattle.reply_text.specs.declared.info.Info.TheVariants as info
 use Rattle.smt_session.specs.declared.reply.Reply.{Reply}
 use Rattle.smt_session.specs.declared.reply.Reply.TheVariants.{Success, Unsupported, Echo, Error, Sat, Unsat, Unknown, Definitions, Values, Info}
 use Rattle.smt_session.specs.declared.session.LastVerdict.{LastVerdict}

@@ -4,14 +4,14 @@ use Rattle.assert_stack.specs.Levels.{live}
 use Rattle.sexpr_reader.specs.Reads.{Begins, FaultAfter, Waits, Ends}
 use Rattle.sexpr_reader.specs.declared.sexpr.Sexpr.{Sexpr}
 use Rattle.sexpr_reader.specs.declared.syntax_fault.SyntaxFault.{SyntaxFault}
-use Rattle.smt_session.specs.Refusals.{of_syntax}
+use Rattle.reply_text.specs.Refusals.{of_syntax}
 use Rattle.smt_session.specs.Replies.{text_of, is_error}
 use Rattle.smt_session.specs.Steps.{State, opened, Steps}
 use Rattle.decide.specs.Completeness.{MustDecide}
 use Rattle.decide.specs.Verdicts.{IsOpenFor}
 use Rattle.sv_terms.specs.Truth.{AreTrueAt, HasNoValues, clear_of, opaque_of}
 use Rattle.sv_terms.specs.declared.term.Term.{Term}
-use Rattle.smt_session.specs.declared.error_kind.ErrorKind.{ErrorKind}
+use Rattle.reply_text.specs.declared.error_kind.ErrorKind.{ErrorKind}
 use Rattle.smt_session.specs.declared.reply.Reply.{Reply}
 use Rattle.smt_session.specs.declared.reply.Reply.TheVariants.{Error, Sat, Unsat, Unknown}
 

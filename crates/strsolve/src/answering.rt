@@ -8,8 +8,9 @@ ghost use Rattle.strsolve.specs.Standing.{AddsReplies, IsAnswering, IsFaulty, Is
 use crate::log::ReplyLog;
 use crate::status::Status;
 use crate::transfer::write_reply;
+use reply_text::ErrorKind;
 use sexpr_reader::{Reader, Sexpr, SyntaxFault, more_bytes_may_follow};
-use smt_session::{ErrorKind, Reply, Session};
+use smt_session::{Reply, Session};
 use std::alloc::{AllocError, Global};
 use std::thread::Threads;
 use sv_io::Sink;

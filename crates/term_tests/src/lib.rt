@@ -1,4 +1,5 @@
-//! Tests of the outside, of words and of s-expressions: calls that the program doesn't make, and what no reply shows.
+//! Tests of the outside, the log, words, s-expressions and generated scripts: calls that the program doesn't make, and
+//! what no reply shows.
 //!
 //! Terms, their meaning, the stack of assertions and the checked commands are tested by scripts of the program. A module
 //! for each crate that is called. They stand apart from what they call, so that proving them proves no crate a second

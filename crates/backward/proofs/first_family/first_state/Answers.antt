@@ -1,7 +1,7 @@
 use Rattle.std.proofs.Common.{arith, ap, length, map, nat_eq, cond, sym, subst, ◌≡◌, ◌∙◌, Err}
 use Rattle.part_machines.specs.Parts.{IsOfParts}
 use Rattle.cube_bounds.specs.Bounds.{part_bound, product_by, states}
-use Rattle.straight_line.specs.declared.variable.Variable.{Variable}
+use Rattle.flat_cubes.specs.declared.variable.Variable.{Variable}
 use Rattle.backward.proofs.FirstLemmas.{begun-all, begun-more, begun-none, begun-wide, own-few, variable-at, AreBegun}
 use Rattle.backward.proofs.first_family.first_state.Goals as goal
 

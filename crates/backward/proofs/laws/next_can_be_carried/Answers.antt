@@ -1,5 +1,5 @@
 use Rattle.std.proofs.Common.{refl}
-use Rattle.straight_line.specs.declared.definition.By.TheVariants.{Concat}
+use Rattle.flat_cubes.specs.declared.definition.By.TheVariants.{Concat}
 use Rattle.backward.specs.Definitions.{definition}
 use Rattle.backward.proofs.StateLemmas.{target-has, can-cut, can-pass}
 use Rattle.backward.proofs.laws.next_can_be_carried.Goals as goal

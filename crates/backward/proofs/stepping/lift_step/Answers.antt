@@ -1,6 +1,6 @@
 use Rattle.std.proofs.Common.{subst}
-use Rattle.straight_line.specs.Satisfying.{ComesBy}
-use Rattle.straight_line.specs.declared.definition.Definition.{Definition}
+use Rattle.flat_cubes.specs.Satisfying.{ComesBy}
+use Rattle.flat_cubes.specs.declared.definition.Definition.{Definition}
 use Rattle.backward.specs.Back.{AreBack}
 use Rattle.backward.specs.Runs.{run_words}
 use Rattle.backward.proofs.StepLemmas.{one-definition}

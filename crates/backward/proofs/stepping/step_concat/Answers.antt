@@ -1,5 +1,5 @@
 use Rattle.std.proofs.Common.{◌≡◌, suc, ◌+◌, ap, sym, subst, ◌∙◌, arith, Err}
-use Rattle.straight_line.specs.declared.definition.By.TheVariants as by
+use Rattle.flat_cubes.specs.declared.definition.By.TheVariants as by
 use Rattle.backward.specs.Definitions.{definition}
 use Rattle.backward.specs.States.{IsState}
 use Rattle.backward.proofs.StepLemmas.{place-below, can-cut-with, cut-at, cut-conf, cut-made}

@@ -1,5 +1,5 @@
 use Rattle.std.proofs.Common.{sym, subst}
-use Rattle.straight_line.specs.Straight.{IsFormedBy}
+use Rattle.flat_cubes.specs.Straight.{IsFormedBy}
 use Rattle.backward.specs.Definitions.{IsFor}
 use Rattle.backward.proofs.StepLemmas.{first-for, all-for, through-for}
 use Rattle.backward.proofs.stepping.transducer_for.Goals as goal

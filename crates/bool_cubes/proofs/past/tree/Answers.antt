@@ -1,8 +1,9 @@
 use Rattle.std.proofs.Common.{Err, ap, arith, false, get_or, refl, rules, subst, sym, ◌-◌, ◌≡◌, ◌∙◌}
 use Rattle.bool_cubes.specs.Marked.{own_steps}
 use Rattle.bool_cubes.specs.Nodes.{tree_at}
-use Rattle.bool_cubes.specs.Past.{IsPlainExactly, tree_steps}
-use Rattle.bool_cubes.proofs.Checked.{err_kept}
+use Rattle.bool_cubes.specs.Past.{tree_steps}
+use Rattle.literal_forms.specs.Past.{IsPlainExactly}
+use Rattle.literal_forms.specs.PastLaws.{err_kept}
 use Rattle.bool_cubes.proofs.Walked.{walk_end, walk_past, walk_skip, walk_step}
 use Rattle.bool_cubes.proofs.past.tree.Goals as goal
 

@@ -1,7 +1,7 @@
 use Rattle.std.proofs.Common.{◌≡◌, ◌<◌, ℕ, get_or}
 use Rattle.sv_terms.specs.declared.sort.Sort.TheVariants as sort
 use Rattle.sv_terms.specs.declared.term.Term.{Term}
-use Rattle.bool_cubes.specs.Shapes.{head_sort, seen}
+use Rattle.literal_forms.specs.Shapes.{head_sort, seen}
 use Rattle.bool_cubes.proofs.planning.have_boolean.Given as goal
 
 abbrev pub invariant-loop-i : goal.invariant-loop-i

@@ -1,7 +1,7 @@
 use Rattle.std.proofs.Common.{◌≡◌, ℕ, List, length, map, drop}
 use Rattle.sv_terms.specs.CutOff.{cut_off}
 use Rattle.cube_bounds.specs.Bounds.{carried_all}
-use Rattle.straight_line.specs.Straight.{HaveVariablesBelow}
+use Rattle.flat_cubes.specs.Straight.{HaveVariablesBelow}
 use Rattle.cube_bounds.proofs.carrying.carry_all.Given as goal
 
 abbrev pub invariant-loop-i : goal.invariant-loop-i

@@ -1,7 +1,7 @@
 use Rattle.std.proofs.Common.{◌≡◌, ℕ, List, length, map, drop}
 use Rattle.sv_terms.specs.CutOff.{cut_off}
 use Rattle.cube_bounds.specs.Bounds.{times_all}
-use Rattle.straight_line.specs.Straight.{AreBelow}
+use Rattle.flat_cubes.specs.Straight.{AreBelow}
 use Rattle.cube_bounds.proofs.carrying.multiply_all.Given as goal
 
 abbrev pub invariant-loop-i : goal.invariant-loop-i

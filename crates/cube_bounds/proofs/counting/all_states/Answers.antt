@@ -1,7 +1,7 @@
 use Rattle.std.proofs.Common.{◌∙◌, ap, map, subst, sym, length}
 use Rattle.sv_terms.specs.CutOff.{cut_off}
 use Rattle.cube_bounds.specs.Bounds.{carried_all, own_bound}
-use Rattle.straight_line.specs.Straight.{HaveVariablesBelow}
+use Rattle.flat_cubes.specs.Straight.{HaveVariablesBelow}
 use Rattle.cube_bounds.proofs.Owned.{own_within}
 use Rattle.cube_bounds.proofs.counting.all_states.Goals as goal
 

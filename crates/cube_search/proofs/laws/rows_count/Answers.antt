@@ -1,4 +1,4 @@
-use Rattle.straight_line.specs.Met.{met}
+use Rattle.flat_cubes.specs.Met.{met}
 use Rattle.cube_search.proofs.BareLemmas.{bare}
 use Rattle.cube_search.proofs.laws.rows_count.Goals as goal
 

@@ -1,14 +1,36 @@
-use Rattle.std.proofs.Common.{◌≡◌, map, sym, ap, ◌∙◌, subst}
+use Rattle.std.proofs.Common.{◌≡◌, map, sym, ap, ◌∙◌, subst, rules, w64}
+use Rattle.std.proofs.lemmas.Int.{to_z-of_z}
+use mir.Val.{SFits}
 use Rattle.backward.specs.Leaves.{machines_of}
-use Rattle.cube_search.specs.Leaves.{AreLifted, AreOfLeaf, IsAnswerFor, machine_of}
-use Rattle.cube_search.specs.Tallies.{IsCovered, IsTally, settled}
+use Rattle.cube_answers.specs.Leaves.{AreOfLeaf, IsAnswerFor}
+use Rattle.cube_answers.specs.Tallies.{settled}
+use Rattle.cube_search.specs.Leaves.{AreLifted, machine_of}
+use Rattle.cube_search.specs.Tallies.{IsCovered, IsTally}
 use Rattle.cube_search.proofs.FoundLemmas.{hit-found}
 use Rattle.cube_search.proofs.TallyLemmas.{hit-answer, leaf-of, settled-covers, settled-tally, tally-is}
 use Rattle.cube_search.proofs.TrimLemmas.{lifted-runs, trims-of-leaf, trims-read}
 use Rattle.cube_search.proofs.leaves.answer_leaf.Goals as goal
 
-pub ask-requires-clause-machines : goal.ask-requires-clause-machines
-ask-requires-clause-machines c =
+pub answer_machines-requires-clause-straight : goal.answer_machines-requires-clause-straight
+answer_machines-requires-clause-straight c = c.requires.search.straight
+
+pub answer_machines-requires-clause-few : goal.answer_machines-requires-clause-few
+answer_machines-requires-clause-few c = c.requires.search.few
+
+pub answer_machines-requires-clause-region : goal.answer_machines-requires-clause-region
+answer_machines-requires-clause-region c = c.requires.search.region
+
+pub answer_machines-requires-clause-small : goal.answer_machines-requires-clause-small
+answer_machines-requires-clause-small c = c.requires.search.is_small
+
+pub answer_machines-requires-clause-reach : goal.answer_machines-requires-clause-reach
+answer_machines-requires-clause-reach c = let f : SFits w64 c.args.search.now.reach = search rules in to_z-of_z w64 c.args.search.now.reach f ∙ c.requires.search.is_reach
+
+pub answer_machines-requires-clause-reachable : goal.answer_machines-requires-clause-reachable
+answer_machines-requires-clause-reachable c = c.requires.search.reachable
+
+pub answer_machines-requires-clause-machines : goal.answer_machines-requires-clause-machines
+answer_machines-requires-clause-machines c =
     let flat = c.args.search.now.flat.now in
     let region = c.args.search.now.region in
     let q = c.requires.search in

@@ -1,5 +1,5 @@
 use Rattle.std.proofs.Common.{subst, add-one, arith}
-use Rattle.straight_line.specs.declared.definition.By.TheVariants.{Concat}
+use Rattle.flat_cubes.specs.declared.definition.By.TheVariants.{Concat}
 use Rattle.backward.specs.Definitions.{definition}
 use Rattle.backward.specs.States.{IsState}
 use Rattle.cube_search.proofs.SearchLemmas.{concat-here, reads-one, some-pieces}

@@ -3,10 +3,10 @@ use Rattle.std.specs.List.{AllByRecursion, list_all}
 use Rattle.bool_cubes.specs.Cubes.{cubes_of}
 use Rattle.bool_cubes.specs.Laws.{IsClearBool}
 use Rattle.bool_cubes.specs.Past.{HasNoPast}
-use Rattle.decide.specs.Constants.{has_words}
+use Rattle.assertion_parts.specs.Constants.{has_words}
 use Rattle.decide.specs.Verdicts.{RightVerdict, HasOnly}
 use Rattle.decide.specs.Completeness.{IsComplete}
-use Rattle.bool_cubes.specs.declared.literal.Cube.{Cube}
+use Rattle.literal_forms.specs.declared.literal.Cube.{Cube}
 use Rattle.decide.specs.Jobs.{IsAskedCube, IsFolded}
 use Rattle.decide.proofs.Assertions.{all-asked, clear-sorted, laws-of, refused-at, refused-complete, refused-folded, refused-only, refused-right}
 use Rattle.decide.proofs.Rightness.{right-of, complete-of, only-of, when-fold}
@@ -21,7 +21,7 @@ answer_all-requires-clause-asked g c κs within =
     let again = c.as_slice-2.ensures ∙ c.in_ok-clear.ensures in
     subst (AllByRecursion (IsAskedCube c.args.terms.now)) (sym (c.in-Ok.ensures.cubes ∙ ap cubes_of again))
     (all-asked c.literals_fit.ensures c.literals_pass.ensures c.literals_have_values.ensures c.transducers_are_bounded.ensures.formed c.args.terms.now c.requires.sorted c.requires.formed c.requires.sorts
-    (subst (λ ts. IsTrue (list_all has_words ts)) first c.all_words.ensures) (subst HasNoPast again c.in-Ok.ensures.refused.0))
+    (subst (λ ts. IsTrue (list_all has_words ts)) first c.string_literals_are_words.ensures) (subst HasNoPast again c.in-Ok.ensures.refused.0))
 
 pub returns-in-Ok-clause-right : goal.returns-in-Ok-clause-right
 returns-in-Ok-clause-right g c =

@@ -1,9 +1,9 @@
 use Rattle.std.proofs.Common.{Err, sym, subst, ap, ◌∙◌}
-use Rattle.straight_line.specs.Flattening.{IsFlattened}
-use Rattle.straight_line.specs.declared.fault.FlatFault.TheVariants as fault
-use Rattle.cube_search.specs.declared.answer.CubeAnswer.TheVariants.{Open}
-use Rattle.cube_search.specs.declared.reason.OpenReason.TheVariants.{Fragment, Wide}
-use Rattle.cube_search.specs.declared.reason.Shown.TheVariants.{Outside, Twice, Cycle}
+use Rattle.flat_cubes.specs.Flattening.{IsFlattened}
+use Rattle.flat_cubes.specs.declared.fault.FlatFault.TheVariants as fault
+use Rattle.cube_answers.specs.declared.answer.CubeAnswer.TheVariants.{Open}
+use Rattle.cube_answers.specs.declared.reason.OpenReason.TheVariants.{Fragment, Wide}
+use Rattle.cube_answers.specs.declared.reason.Shown.TheVariants.{Outside, Twice, Cycle}
 use Rattle.decide.specs.Jobs.{IsOutcome}
 use Rattle.decide.proofs.Models.{literals-sorted, refused-of}
 use Rattle.decide.proofs.cube_job.answer_for.Goals as goal

@@ -1,6 +1,6 @@
-use Rattle.std.proofs.Common.{◌++◌, sym, ap, ◌∙◌}
+use Rattle.std.proofs.Common.{◌++◌, sym, ap, ◌∙◌, arith}
+use Rattle.std.proofs.lemmas.List.{take_all}
 use Rattle.decide.specs.Passing.{shared_of}
-use Rattle.decide.proofs.Listed.{take-whole}
 use Rattle.decide.proofs.Sharing.{if_shared, shared-more, shared-none}
 use Rattle.decide.proofs.passing.shared_terms.Goals as goal
 
@@ -15,4 +15,4 @@ loop-at-preserved c =
     ∙ sym (shared-more c.args.first c.args.terms.now c.loop-at.at x x c.loop-at-test.true (sym c.index-terms-at.is))
 
 pub returns : goal.returns
-returns c = c.loop-at.invariant ∙ ap (shared_of c.args.first) (take-whole c.args.terms.now c.loop-at.at c.loop-at-test.false)
+returns c = c.loop-at.invariant ∙ ap (shared_of c.args.first) (take_all c.loop-at.at c.args.terms.now (omega (arith, c.loop-at-test.false)))

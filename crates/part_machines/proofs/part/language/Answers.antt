@@ -1,6 +1,6 @@
 use Rattle.std.proofs.Common.{sym, subst}
 use Rattle.sv_terms.specs.declared.regex.Regex.{Regex}
-use Rattle.straight_line.specs.declared.variable.Own.TheVariants.{InRe}
+use Rattle.flat_cubes.specs.declared.variable.Own.TheVariants.{InRe}
 use Rattle.part_machines.specs.Kept.{IsMachineOf}
 use Rattle.part_machines.specs.Parts.{IsOfPart}
 use Rattle.part_machines.proofs.PartLemmas.{others-kept}

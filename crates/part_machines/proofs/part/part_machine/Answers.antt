@@ -1,5 +1,5 @@
 use Rattle.std.proofs.Common.{◌∙◌}
-use Rattle.straight_line.specs.declared.variable.Own.TheVariants as own
+use Rattle.flat_cubes.specs.declared.variable.Own.TheVariants as own
 use Rattle.part_machines.proofs.PartLemmas.{digit-part, part-of, prefix-part, word-part}
 use Rattle.part_machines.proofs.part.part_machine.Goals as goal
 

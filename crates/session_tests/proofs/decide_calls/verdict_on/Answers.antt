@@ -2,7 +2,7 @@ use Rattle.std.proofs.Common.{◌≡◌, IsTrue, Some, sym, ◌∙◌, subst}
 use Rattle.std.specs.List.{AllByRecursion}
 use Rattle.sv_terms.specs.Sorting.{sort_of}
 use Rattle.sv_terms.specs.declared.sort.Sort.TheVariants as sort
-use Rattle.decide.specs.Constants.{HaveOneSort, has_formed}
+use Rattle.assertion_parts.specs.Constants.{HaveOneSort, has_formed}
 use Rattle.session_tests.proofs.DecideSamples.{two-formed, two-sorted, two-valued}
 use Rattle.session_tests.proofs.decide_calls.verdict_on.Goals as goal
 

@@ -1,4 +1,4 @@
-use Rattle.straight_line.specs.Met.{met}
+use Rattle.flat_cubes.specs.Met.{met}
 use Rattle.straight_line.proofs.Flattened.{flattened}
 use Rattle.straight_line.proofs.flattening.flatten.Goals as goal
 

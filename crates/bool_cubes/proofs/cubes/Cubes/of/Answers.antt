@@ -1,15 +1,16 @@
 use Rattle.std.proofs.Common.{Err, List, ap, arith, map, subst, ◌∙◌}
 use Rattle.bool_cubes.specs.Cubes.{cube, cubes}
-use Rattle.bool_cubes.specs.declared.literal.Cube.{Cube}
+use Rattle.literal_forms.specs.declared.literal.Cube.{Cube}
 use Rattle.bool_cubes.specs.Nodes.{tree_at}
-use Rattle.bool_cubes.specs.Past.{ArePlain, IsPlainExactly, tree_steps}
+use Rattle.bool_cubes.specs.Past.{tree_steps}
+use Rattle.literal_forms.specs.Past.{ArePlain, IsPlainExactly}
 use Rattle.bool_cubes.proofs.Gathered.{few, giving_all, many, planned_tree, refused_by}
 use Rattle.bool_cubes.proofs.cubes.Cubes.of.Goals as goal
 
 pub returns-in-Err-tree-clause-refused : goal.returns-in-Err-tree-clause-refused
 returns-in-Err-tree-clause-refused c =
     let tree = ap (λ ns. tree_at ns c.in-Ok.sides.holding) c.as_slice.ensures ∙ planned_tree c.args.terms.now c.new.result c.all_sides.new.plan.nodes c.in-Ok.sides c.in-Ok.ensures in
-    refused_by (List Cube) c.args.terms.now c.in-Err-tree.fault (subst (λ t. IsPlainExactly {X = Unit {0}} (tree_steps t) (Err c.in-Err-tree.fault)) tree c.in-Err-tree.ensures)
+    refused_by (List Cube) c.args.terms.now c.in-Err-tree.fault c.cube_fault.result c.cube_fault.ensures (subst (λ t. IsPlainExactly {X = Unit {0}} (tree_steps t) (Err c.in-Err-tree.fault)) tree c.in-Err-tree.ensures)
 
 pub returns-then-cubes-gt-MOST_CUBES-clause-refused : goal.returns-then-cubes-gt-MOST_CUBES-clause-refused
 returns-then-cubes-gt-MOST_CUBES-clause-refused c =

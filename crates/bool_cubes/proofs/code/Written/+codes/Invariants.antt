@@ -1,6 +1,0 @@
-use Rattle.std.proofs.Common.{◌≡◌, ◌++◌, drop}
-use Rattle.bool_cubes.proofs.Spelled.{each_of}
-use Rattle.bool_cubes.proofs.code.Written.+codes.Given as goal
-
-abbrev pub invariant-each-loop-i : goal.invariant-each-loop-i
-invariant-each-loop-i l = l.self.numbers ++ each_of (drop l.i l.terms) ≡ l.fn.self.numbers ++ each_of (drop l.from l.terms)

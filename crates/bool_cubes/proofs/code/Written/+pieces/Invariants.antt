@@ -1,6 +1,0 @@
-use Rattle.std.proofs.Common.{◌≡◌, ◌++◌, drop}
-use Rattle.bool_cubes.proofs.Spelled.{pieces_of}
-use Rattle.bool_cubes.proofs.code.Written.+pieces.Given as goal
-
-abbrev pub invariant-pieces-loop-i : goal.invariant-pieces-loop-i
-invariant-pieces-loop-i l = l.self.numbers ++ pieces_of (drop l.i l.terms) ≡ l.fn.self.numbers ++ pieces_of l.terms

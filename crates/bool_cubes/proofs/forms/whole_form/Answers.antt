@@ -1,7 +1,0 @@
-use Rattle.bool_cubes.specs.Linear.{other}
-use Rattle.bool_cubes.specs.Shapes.{seen}
-use Rattle.bool_cubes.proofs.Combined.{other_coded}
-use Rattle.bool_cubes.proofs.forms.whole_form.Goals as goal
-
-pub returns : goal.returns
-returns c = c.in_ok-coded_form.ensures (other (seen c.args.term.now)) (other_coded c.new.result c.open.new.self.numbers c.term.new.self.numbers (seen c.args.term.now) c.new.ensures c.in_ok-open.ensures c.in_ok-term.ensures)

@@ -1,6 +1,0 @@
-use Rattle.std.proofs.Common.{◌≡◌, ◌+◌, drop}
-use Rattle.bool_cubes.specs.Numbered.{place_of}
-use Rattle.bool_cubes.proofs.unknowns.place.Given as goal
-
-abbrev pub invariant-loop-i : goal.invariant-loop-i
-invariant-loop-i l = place_of l.codes l.code ≡ l.i + place_of (drop l.i l.codes) l.code

@@ -1,0 +1,5 @@
+pub mod Crossing
+mod RowLemmas
+mod AskLemmas
+mod Named
+mod ModelLemmas

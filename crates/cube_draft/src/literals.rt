@@ -1,0 +1,381 @@
+//! What a literal adds to a draft.
+ghost use Rattle.std.specs.Prelude.{◌≡◌, map, IfOk};
+ghost use Rattle.sv_terms.specs.declared.op.Op.TheVariants as any_op;
+ghost use Rattle.literal_forms.specs.Past.{IsFitting};
+ghost use Rattle.literal_forms.specs.Shapes.{apply, end, seen, shapes, text, ◌⨾◌};
+ghost use Rattle.cube_draft.specs.Comparing.{AtomFits, IsGathered, ComparisonFits};
+ghost use Rattle.cube_draft.specs.Gathered.{IsLiteralAdded};
+ghost use Rattle.cube_draft.specs.Kinds.{head_of};
+ghost use Rattle.flat_cubes.specs.Said.{atom_said, constant_said, one_said, pair_said, part_said, row_said, said, string_said};
+ghost use Rattle.flat_cubes.specs.declared.variable.Own.TheVariants as any_own;
+
+use crate::kind::{is_linear, is_string};
+use crate::meeting::DraftBuilder;
+use flat_cubes::{By, Own};
+use literal_forms::{Literal, Role, Test, head_sort, role_of};
+use std::alloc::{AllocError, Global};
+use sv_list::Copied;
+use sv_terms::{Name, Op, Regex, Sort, Term, Transducer};
+use sv_word::Word;
+
+/// Whether a literal is of a written kind.
+#[derive(Clone, Copy, Debug, PartialEq, Eq)]
+pub enum LiteralReading {
+    /// It is, and what it says was added.
+    Written,
+    /// It isn't, and nothing was added.
+    Outside,
+}
+
+/// A function as it stands at the head of an atom of a written kind.
+#[derive(Clone, Copy, Debug, PartialEq, Eq)]
+enum AtomHead {
+    Equality,
+    Order,
+    Prefix,
+    Suffix,
+    Contains,
+    Digit,
+    Other,
+}
+
+fn head_of(op: Op) -> AtomHead
+    ensures { result ≡ head_of op }
+{
+    match role_of(op) {
+        Role::Equality => AtomHead::Equality,
+        Role::Order(_) => AtomHead::Order,
+        Role::Test(Test::Prefix) => AtomHead::Prefix,
+        Role::Test(Test::Suffix) => AtomHead::Suffix,
+        Role::Test(Test::Contains) => AtomHead::Contains,
+        Role::Test(Test::Digit) => AtomHead::Digit,
+        Role::Connective | Role::Distinct | Role::Joined(_) | Role::Length | Role::Built(_) =>
+            AtomHead::Other,
+    }
+}
+
+impl DraftBuilder {
+    /// Adds what a literal says.
+    #[tactic(auto, using(crate::proofs::Stated::said_constant, crate::proofs::Stated::said_member, crate::proofs::Stated::said_pair, crate::proofs::Stated::said_applied, crate::proofs::Stated::applied_fits, crate::proofs::Stated::said_nothing))]
+    pub fn add(&mut self, alloc: Global, literal: &Literal) -> Result<LiteralReading, AllocError>
+        requires gathered { IsGathered self.old }
+        requires fitting { IsFitting literal.now }
+        ensures { IfOk result (λ k. IsLiteralAdded self.old self.new (said literal.now) k) }
+    {
+        let positive = literal.positive;
+        match &literal.atom {
+            Term::Constant(name, sort) => Ok(self.add_constant(alloc, name, *sort, positive)?),
+            Term::InRe(tested, regex) => Ok(self.add_member(alloc, tested.get(), regex, positive)?),
+            Term::Related(transducer, read, written) => {
+                Ok(self.add_pair(alloc, transducer.get(), read.get(), written.get(), positive)?)
+            }
+            Term::Apply(op, terms) => Ok(self.add_applied(alloc, *op, terms.as_slice(), positive)?),
+            _ => Ok(LiteralReading::Outside),
+        }
+    }
+
+    fn add_constant(
+        &mut self,
+        alloc: Global,
+        name: &Name,
+        sort: Sort,
+        value: bool,
+    ) -> Result<LiteralReading, AllocError>
+        ensures { IfOk result (λ k. IsLiteralAdded self.old self.new (constant_said name.now sort value) k) }
+    {
+        if sort != Sort::Bool {
+            return Ok(LiteralReading::Outside);
+        }
+        self.value(alloc, name, value)?;
+        Ok(LiteralReading::Written)
+    }
+
+    #[tactic(auto, using(crate::proofs::Stated::member_added))]
+    fn add_member(
+        &mut self,
+        alloc: Global,
+        tested: &Term,
+        regex: &Regex,
+        positive: bool,
+    ) -> Result<LiteralReading, AllocError>
+        ensures { IfOk result (λ k. IsLiteralAdded self.old self.new (part_said (seen tested.now) (any_own.InRe regex.now) positive) k) }
+    {
+        Ok(self.add_part(alloc, tested, Own::InRe(regex.copy(alloc)?), positive)?)
+    }
+
+    // The transducer reads the first term and may write the second.
+    #[tactic(auto, using(crate::proofs::Stated::pair_not, crate::proofs::Stated::pair_left_not, crate::proofs::Stated::pair_right_not, crate::proofs::Stated::pair_added))]
+    fn add_pair(
+        &mut self,
+        alloc: Global,
+        transducer: &Transducer,
+        read: &Term,
+        written: &Term,
+        positive: bool,
+    ) -> Result<LiteralReading, AllocError>
+        ensures { IfOk result (λ k. IsLiteralAdded self.old self.new (pair_said transducer.now (seen read.now) (seen written.now) positive) k) }
+    {
+        if !positive {
+            return Ok(LiteralReading::Outside);
+        }
+        if !is_string(read) {
+            return Ok(LiteralReading::Outside);
+        }
+        if !is_string(written) {
+            return Ok(LiteralReading::Outside);
+        }
+        let read = self.place(alloc, read)?;
+        let written = self.place(alloc, written)?;
+        self.define(written, By::Through(transducer.copy(alloc)?, read))?;
+        Ok(LiteralReading::Written)
+    }
+
+    #[tactic(auto, using(crate::proofs::Stated::applied_one, crate::proofs::Stated::applied_two, crate::proofs::Stated::applied_two_fits, crate::proofs::Stated::applied_not))]
+    fn add_applied(
+        &mut self,
+        alloc: Global,
+        op: Op,
+        terms: &[Term],
+        positive: bool,
+    ) -> Result<LiteralReading, AllocError>
+        requires gathered { IsGathered self.old }
+        requires fitting { AtomFits (apply op (shapes (map seen terms.now))) }
+        ensures { IfOk result (λ k. IsLiteralAdded self.old self.new (atom_said (apply op (shapes (map seen terms.now))) positive) k) }
+    {
+        if terms.len() == 1 {
+            return Ok(self.add_single(alloc, op, &terms[0], positive)?);
+        }
+        if terms.len() == 2 {
+            return Ok(self.add_double(alloc, op, &terms[0], &terms[1], positive)?);
+        }
+        Ok(LiteralReading::Outside)
+    }
+
+    #[tactic(auto, using(crate::proofs::Stated::digit_added, crate::proofs::Stated::single_not))]
+    fn add_single(
+        &mut self,
+        alloc: Global,
+        op: Op,
+        term: &Term,
+        positive: bool,
+    ) -> Result<LiteralReading, AllocError>
+        ensures { IfOk result (λ k. IsLiteralAdded self.old self.new (atom_said (apply op (seen term.now ⨾ end)) positive) k) }
+    {
+        match head_of(op) {
+            AtomHead::Digit => Ok(self.add_part(alloc, term, Own::Digit, positive)?),
+            _ => Ok(LiteralReading::Outside),
+        }
+    }
+
+    #[tactic(auto, using(crate::proofs::Stated::double_equality, crate::proofs::Stated::double_order, crate::proofs::Stated::order_row_fits, crate::proofs::Stated::equality_fits, crate::proofs::Stated::double_prefix, crate::proofs::Stated::double_suffix, crate::proofs::Stated::double_infix, crate::proofs::Stated::double_digit, crate::proofs::Stated::double_not))]
+    fn add_double(
+        &mut self,
+        alloc: Global,
+        op: Op,
+        left: &Term,
+        right: &Term,
+        positive: bool,
+    ) -> Result<LiteralReading, AllocError>
+        requires gathered { IsGathered self.old }
+        requires fitting { AtomFits (apply op (seen left.now ⨾ seen right.now ⨾ end)) }
+        ensures { IfOk result (λ k. IsLiteralAdded self.old self.new (atom_said (apply op (seen left.now ⨾ seen right.now ⨾ end)) positive) k) }
+    {
+        match head_of(op) {
+            AtomHead::Equality => Ok(self.add_equality(alloc, left, right, positive)?),
+            AtomHead::Order => Ok(self.add_comparison(alloc, op, left, right, positive)?),
+            AtomHead::Prefix => Ok(self.add_prefix(alloc, left, right, positive)?),
+            AtomHead::Suffix => Ok(self.add_suffix(alloc, left, right, positive)?),
+            AtomHead::Contains => Ok(self.add_infix(alloc, left, right, positive)?),
+            AtomHead::Digit => Ok(LiteralReading::Outside),
+            AtomHead::Other => Ok(LiteralReading::Outside),
+        }
+    }
+
+    #[tactic(auto, using(crate::proofs::Stated::prefix_not, crate::proofs::Stated::prefix_added))]
+    fn add_prefix(
+        &mut self,
+        alloc: Global,
+        pattern: &Term,
+        term: &Term,
+        positive: bool,
+    ) -> Result<LiteralReading, AllocError>
+        ensures { IfOk result (λ k. IsLiteralAdded self.old self.new (atom_said (apply any_op.PrefixOf (seen pattern.now ⨾ seen term.now ⨾ end)) positive) k) }
+    {
+        let Term::Text(word) = pattern else {
+            return Ok(LiteralReading::Outside);
+        };
+        Ok(self.add_part(alloc, term, Own::Prefix(word.copy(alloc)?), positive)?)
+    }
+
+    #[tactic(auto, using(crate::proofs::Stated::suffix_not, crate::proofs::Stated::suffix_added))]
+    fn add_suffix(
+        &mut self,
+        alloc: Global,
+        pattern: &Term,
+        term: &Term,
+        positive: bool,
+    ) -> Result<LiteralReading, AllocError>
+        ensures { IfOk result (λ k. IsLiteralAdded self.old self.new (atom_said (apply any_op.SuffixOf (seen pattern.now ⨾ seen term.now ⨾ end)) positive) k) }
+    {
+        let Term::Text(word) = pattern else {
+            return Ok(LiteralReading::Outside);
+        };
+        Ok(self.add_part(alloc, term, Own::Suffix(word.copy(alloc)?), positive)?)
+    }
+
+    #[tactic(auto, using(crate::proofs::Stated::infix_not, crate::proofs::Stated::infix_added))]
+    fn add_infix(
+        &mut self,
+        alloc: Global,
+        term: &Term,
+        pattern: &Term,
+        positive: bool,
+    ) -> Result<LiteralReading, AllocError>
+        ensures { IfOk result (λ k. IsLiteralAdded self.old self.new (atom_said (apply any_op.Contains (seen term.now ⨾ seen pattern.now ⨾ end)) positive) k) }
+    {
+        let Term::Text(word) = pattern else {
+            return Ok(LiteralReading::Outside);
+        };
+        Ok(self.add_part(alloc, term, Own::Contains(word.copy(alloc)?), positive)?)
+    }
+
+    // What is said of a string term.
+    #[tactic(auto, using(crate::proofs::Stated::part_not, crate::proofs::Stated::part_added))]
+    fn add_part(
+        &mut self,
+        alloc: Global,
+        term: &Term,
+        own: Own,
+        positive: bool,
+    ) -> Result<LiteralReading, AllocError>
+        ensures { IfOk result (λ k. IsLiteralAdded self.old self.new (part_said (seen term.now) own positive) k) }
+    {
+        if !is_string(term) {
+            return Ok(LiteralReading::Outside);
+        }
+        let place = self.place(alloc, term)?;
+        self.say(place, own, positive)?;
+        Ok(LiteralReading::Written)
+    }
+
+    #[tactic(auto, using(crate::proofs::Stated::equal_strings, crate::proofs::Stated::equal_numbers, crate::proofs::Stated::equal_numbers_fit, crate::proofs::Stated::unequal_numbers, crate::proofs::Stated::equal_truths, crate::proofs::Stated::equal_languages))]
+    fn add_equality(
+        &mut self,
+        alloc: Global,
+        left: &Term,
+        right: &Term,
+        positive: bool,
+    ) -> Result<LiteralReading, AllocError>
+        requires gathered { IsGathered self.old }
+        requires fitting { AtomFits (apply any_op.Equal (seen left.now ⨾ seen right.now ⨾ end)) }
+        ensures { IfOk result (λ k. IsLiteralAdded self.old self.new (atom_said (apply any_op.Equal (seen left.now ⨾ seen right.now ⨾ end)) positive) k) }
+    {
+        match head_sort(left) {
+            Sort::String => Ok(self.add_strings(alloc, left, right, positive)?),
+            Sort::Int => {
+                if positive {
+                    Ok(self.add_comparison(alloc, Op::Equal, left, right, true)?)
+                } else {
+                    Ok(LiteralReading::Outside)
+                }
+            }
+            Sort::Bool => Ok(LiteralReading::Outside),
+            Sort::RegLan => Ok(LiteralReading::Outside),
+        }
+    }
+
+    // The equality of two string terms.
+    #[tactic(auto, using(crate::proofs::Stated::strings_left, crate::proofs::Stated::strings_right, crate::proofs::Stated::strings_neither))]
+    fn add_strings(
+        &mut self,
+        alloc: Global,
+        left: &Term,
+        right: &Term,
+        positive: bool,
+    ) -> Result<LiteralReading, AllocError>
+        ensures { IfOk result (λ k. IsLiteralAdded self.old self.new (string_said (seen left.now) (seen right.now) positive) k) }
+    {
+        if let Term::Text(word) = left {
+            return Ok(self.add_literal(alloc, word, right, positive)?);
+        }
+        if let Term::Text(word) = right {
+            return Ok(self.add_part(alloc, left, Own::Word(word.copy(alloc)?), positive)?);
+        }
+        Ok(self.add_identity(alloc, left, right, positive)?)
+    }
+
+    // A term is a literal.
+    #[tactic(auto, using(crate::proofs::Stated::hold_same, crate::proofs::Stated::hold_other, crate::proofs::Stated::literal_added))]
+    fn add_literal(
+        &mut self,
+        alloc: Global,
+        word: &Word,
+        term: &Term,
+        positive: bool,
+    ) -> Result<LiteralReading, AllocError>
+        ensures { IfOk result (λ k. IsLiteralAdded self.old self.new (string_said (text word.now) (seen term.now) positive) k) }
+    {
+        if let Term::Text(other) = term {
+            let same = word.same(other);
+            if positive {
+                self.hold(same);
+                return Ok(LiteralReading::Written);
+            }
+            self.hold(!same);
+            return Ok(LiteralReading::Written);
+        }
+        Ok(self.add_part(alloc, term, Own::Word(word.copy(alloc)?), positive)?)
+    }
+
+    // Two terms that aren't literals are equal; there is no written kind for two that differ.
+    #[tactic(auto, using(crate::proofs::Stated::one_not, crate::proofs::Stated::one_left_not, crate::proofs::Stated::one_right_not, crate::proofs::Stated::one_added))]
+    fn add_identity(
+        &mut self,
+        alloc: Global,
+        left: &Term,
+        right: &Term,
+        positive: bool,
+    ) -> Result<LiteralReading, AllocError>
+        ensures { IfOk result (λ k. IsLiteralAdded self.old self.new (one_said (seen left.now) (seen right.now) positive) k) }
+    {
+        if !positive {
+            return Ok(LiteralReading::Outside);
+        }
+        if !is_string(left) {
+            return Ok(LiteralReading::Outside);
+        }
+        if !is_string(right) {
+            return Ok(LiteralReading::Outside);
+        }
+        let left = self.place(alloc, left)?;
+        let right = self.place(alloc, right)?;
+        self.equate(left, right)?;
+        Ok(LiteralReading::Written)
+    }
+
+    // The comparison of two terms of sort Int.
+    #[tactic(auto, using(crate::proofs::Stated::row_left_not, crate::proofs::Stated::row_right_not, crate::proofs::Stated::row_added, crate::proofs::Stated::comparable))]
+    fn add_comparison(
+        &mut self,
+        alloc: Global,
+        op: Op,
+        left: &Term,
+        right: &Term,
+        positive: bool,
+    ) -> Result<LiteralReading, AllocError>
+        requires gathered { IsGathered self.old }
+        requires fitting { ComparisonFits op (seen left.now) (seen right.now) positive }
+        ensures { IfOk result (λ k. IsLiteralAdded self.old self.new (row_said op (seen left.now) (seen right.now) positive) k) }
+    {
+        if !is_linear(left) {
+            return Ok(LiteralReading::Outside);
+        }
+        if !is_linear(right) {
+            return Ok(LiteralReading::Outside);
+        }
+        self.count(alloc, left)?;
+        self.count(alloc, right)?;
+        self.compare(alloc, op, left, right, positive)?;
+        Ok(LiteralReading::Written)
+    }
+}

@@ -1,0 +1,183 @@
+//! The places of string terms.
+ghost use Rattle.std.specs.Prelude.{◌≡◌, map, IfOk, OnOk};
+ghost use Rattle.std.specs.Option.{option_map};
+ghost use Rattle.sv_terms.specs.declared.op.Op.TheVariants as any_op;
+ghost use Rattle.sv_terms.specs.declared.sort.Sort.{Sort};
+ghost use Rattle.sv_terms.specs.declared.term.Term.TheVariants as any_term;
+ghost use Rattle.literal_forms.specs.Linear.{before, pieces, written};
+ghost use Rattle.literal_forms.specs.Shapes.{end, seen, shapes};
+ghost use Rattle.cube_draft.specs.Gathered.{ArePieced, IsTermMet};
+ghost use Rattle.cube_draft.specs.Kinds.{literals_of};
+
+use crate::kind::{PlaceBuild, build_of};
+use crate::meeting::{DraftBuilder, TermPlace};
+use flat_cubes::By;
+use std::alloc::{AllocError, Global};
+use sv_list::Items;
+use sv_terms::{Name, Term};
+use sv_word::Word;
+
+impl DraftBuilder {
+    /// The place of a string term; nested concatenations are read as one. A term that came before, literals aside,
+    /// keeps its place; a new one is put before its arguments.
+    #[cycle(terms)]
+    #[tactic(auto, using(crate::proofs::Placing::text_is_met, crate::proofs::Placing::built_nothing, crate::proofs::Placing::leaf_nothing))]
+    pub fn place(&mut self, alloc: Global, term: &Term) -> Result<u32, AllocError>
+        ensures met { IfOk result (λ i. IsTermMet self.old self.new (written (seen term.now)) i) }
+        ensures numbers { OnOk result (self.new.numbers ≡ self.old.numbers) }
+    {
+        match term {
+            Term::Text(word) => Ok(self.literal(word.copy(alloc)?)?),
+            Term::Constant(name, _) => Ok(self.constant(alloc, term, name)?),
+            Term::Apply(op, terms) => match build_of(*op) {
+                PlaceBuild::Concat => Ok(self.concat(alloc, term, terms.as_slice())?),
+                PlaceBuild::First => Ok(self.first(alloc, term, terms.as_slice())?),
+                PlaceBuild::All => Ok(self.all(alloc, term, terms.as_slice())?),
+                PlaceBuild::Nothing => Ok(0),
+            },
+            _ => Ok(0),
+        }
+    }
+
+    #[tactic(auto, using(crate::proofs::Placing::constant_no_text, crate::proofs::Placing::constant_name, crate::proofs::Placing::constant_is_known, crate::proofs::Placing::constant_is_new))]
+    fn constant(&mut self, alloc: Global, term: &Term, name: &Name) -> Result<u32, AllocError>
+        requires { (sort : Sort) × (term.now ≡ any_term.Constant name.now sort) }
+        ensures met { IfOk result (λ i. IsTermMet self.old self.new (written (seen term.now)) i) }
+        ensures numbers { OnOk result (self.new.numbers ≡ self.old.numbers) }
+    {
+        let name = name.copy(alloc)?;
+        match self.seek(alloc, term, Some(name))? {
+            TermPlace::Known(place) | TermPlace::New(place) => Ok(place),
+        }
+    }
+
+    #[cycle(terms)]
+    #[tactic(auto, using(crate::proofs::Placing::apply_no_text, crate::proofs::Placing::apply_no_name, crate::proofs::Placing::concat_is_known, crate::proofs::Placing::concat_is_new))]
+    fn concat(&mut self, alloc: Global, term: &Term, terms: &[Term]) -> Result<u32, AllocError>
+        requires { term.now ≡ any_term.Apply any_op.Concat terms.now }
+        ensures met { IfOk result (λ i. IsTermMet self.old self.new (written (seen term.now)) i) }
+        ensures numbers { OnOk result (self.new.numbers ≡ self.old.numbers) }
+    {
+        match self.seek(alloc, term, None)? {
+            TermPlace::Known(place) => Ok(place),
+            TermPlace::New(place) => {
+                let mut places = Items::new(alloc);
+                self.pieces(alloc, terms, &mut places)?;
+                self.define(place, By::Concat(places))?;
+                Ok(place)
+            }
+        }
+    }
+
+    // The places of the pieces, behind those of earlier ones.
+    #[cycle(terms)]
+    #[tactic(auto, using(crate::proofs::Placing::pieced_none, crate::proofs::Placing::pieced_step, crate::proofs::Placing::pieced_all))]
+    fn pieces(
+        &mut self,
+        alloc: Global,
+        terms: &[Term],
+        places: &mut Items<u32>,
+    ) -> Result<(), AllocError>
+        ensures met { OnOk result (ArePieced self.old self.new (pieces (shapes (map seen terms.now))) places.old places.new) }
+        ensures numbers { OnOk result (self.new.numbers ≡ self.old.numbers) }
+    {
+        for i in 0..terms.len() {
+            self.piece(alloc, &terms[i], places)?;
+        }
+        Ok(())
+    }
+
+    #[cycle(terms)]
+    #[tactic(auto, using(crate::proofs::Placing::piece_concat, crate::proofs::Placing::piece_other, crate::proofs::Placing::piece_leaf))]
+    fn piece(
+        &mut self,
+        alloc: Global,
+        term: &Term,
+        places: &mut Items<u32>,
+    ) -> Result<(), AllocError>
+        ensures met { OnOk result (ArePieced self.old self.new (before (written (seen term.now)) end) places.old places.new) }
+        ensures numbers { OnOk result (self.new.numbers ≡ self.old.numbers) }
+    {
+        match term {
+            Term::Apply(op, terms) => {
+                match build_of(*op) {
+                    PlaceBuild::Concat => {
+                        self.pieces(alloc, terms.as_slice(), places)?;
+                        Ok(())
+                    }
+                    _ => {
+                        let place = self.place(alloc, term)?;
+                        places.push(place)?;
+                        Ok(())
+                    }
+                }
+            }
+            _ => {
+                let place = self.place(alloc, term)?;
+                places.push(place)?;
+                Ok(())
+            }
+        }
+    }
+
+    // A replacement of the first occurrence.
+    #[cycle(terms)]
+    #[tactic(auto, using(crate::proofs::Placing::apply_no_text, crate::proofs::Placing::apply_no_name, crate::proofs::Placing::literals_three, crate::proofs::Placing::first_nothing, crate::proofs::Placing::first_is_known, crate::proofs::Placing::first_is_new))]
+    fn first(&mut self, alloc: Global, term: &Term, terms: &[Term]) -> Result<u32, AllocError>
+        requires { term.now ≡ any_term.Apply any_op.Replace terms.now }
+        ensures met { IfOk result (λ i. IsTermMet self.old self.new (written (seen term.now)) i) }
+        ensures numbers { OnOk result (self.new.numbers ≡ self.old.numbers) }
+    {
+        let Some((pattern, replacement)) = literals(terms) else {
+            return Ok(0);
+        };
+        match self.seek(alloc, term, None)? {
+            TermPlace::Known(place) => Ok(place),
+            TermPlace::New(place) => {
+                let inner = self.place(alloc, &terms[0])?;
+                let by = By::First(pattern.copy(alloc)?, replacement.copy(alloc)?, inner);
+                self.define(place, by)?;
+                Ok(place)
+            }
+        }
+    }
+
+    // A replacement of each occurrence.
+    #[cycle(terms)]
+    #[tactic(auto, using(crate::proofs::Placing::apply_no_text, crate::proofs::Placing::apply_no_name, crate::proofs::Placing::literals_three, crate::proofs::Placing::all_nothing, crate::proofs::Placing::all_is_known, crate::proofs::Placing::all_is_new))]
+    fn all(&mut self, alloc: Global, term: &Term, terms: &[Term]) -> Result<u32, AllocError>
+        requires { term.now ≡ any_term.Apply any_op.ReplaceAll terms.now }
+        ensures met { IfOk result (λ i. IsTermMet self.old self.new (written (seen term.now)) i) }
+        ensures numbers { OnOk result (self.new.numbers ≡ self.old.numbers) }
+    {
+        let Some((pattern, replacement)) = literals(terms) else {
+            return Ok(0);
+        };
+        match self.seek(alloc, term, None)? {
+            TermPlace::Known(place) => Ok(place),
+            TermPlace::New(place) => {
+                let inner = self.place(alloc, &terms[0])?;
+                let by = By::All(pattern.copy(alloc)?, replacement.copy(alloc)?, inner);
+                self.define(place, by)?;
+                Ok(place)
+            }
+        }
+    }
+}
+
+/// The literals behind the first of three arguments.
+#[tactic(auto, using(crate::proofs::Placing::literals_not, crate::proofs::Placing::literals_first_not, crate::proofs::Placing::literals_second_not, crate::proofs::Placing::literals_some))]
+fn literals(terms: &[Term]) -> Option<(&Word, &Word)>
+    ensures { option_map (λ p. (p.0.now, p.1.now)) result ≡ literals_of (shapes (map seen terms.now)) }
+{
+    if terms.len() != 3 {
+        return None;
+    }
+    let Term::Text(pattern) = &terms[1] else {
+        return None;
+    };
+    let Term::Text(replacement) = &terms[2] else {
+        return None;
+    };
+    Some((pattern, replacement))
+}

@@ -1,0 +1,22 @@
+-- Variables to which names and parts were added.
+use Rattle.std.proofs.Common.{◌≡◌, refl, ap, ◌∙◌, ℕ, suc, ◌+◌, ◌<◌, List, [], ◌∷◌, ◌++◌, length, get_or, take, length-take-le, Option, Bool, arith}
+use Rattle.std.proofs.Math.Seq.{take-suc}
+use Rattle.cube_order.specs.Filling.{named, named_all, parted, parted_all}
+use Rattle.flat_cubes.specs.declared.variable.Own.{Own}
+use Rattle.flat_cubes.specs.declared.variable.Variable.{Variable}
+
+named_end : (of : List ℕ) (ns : List (Option (List ℕ))) (v : ℕ) (n : Option (List ℕ)) (vs : List Variable) → length of ≡ length ns → named_all (of ++ v ∷ []) (ns ++ n ∷ []) vs ≡ named v n (named_all of ns vs)
+named_end [] [] v n vs e = refl
+named_end [] (m ∷ ns) v n vs e = absurd (omega arith)
+named_end (u ∷ of) [] v n vs e = absurd (omega arith)
+named_end (u ∷ of) (m ∷ ns) v n vs e = named_end of ns v n (named u m vs) (omega arith)
+
+pub named_more : (of : List ℕ) (i : ℕ) (ns : List (Option (List ℕ))) (n : Option (List ℕ)) (vs : List Variable) → i ≡ length ns → i < length of → named_all (take (i + 1) of) (ns ++ n ∷ []) vs ≡ named (get_or of i 0) n (named_all (take i of) ns vs)
+named_more of i ns n vs e l =
+    let q : i + 1 ≡ suc i = omega arith in
+    let t : length (take i of) ≡ length ns = length-take-le i of (omega arith) ∙ e in
+    ap (λ k. named_all (take k of) (ns ++ n ∷ []) vs) q ∙ ap (λ xs. named_all xs (ns ++ n ∷ []) vs) (take-suc of i 0 l) ∙ named_end (take i of) ns (get_or of i 0) n vs t
+
+pub parted_more : (of : List ℕ) (ps : List (ℕ × (Own × Bool))) (p : ℕ × (Own × Bool)) (vs : List Variable) → parted_all of (ps ++ p ∷ []) vs ≡ parted (get_or of p.0 0) p.1 (parted_all of ps vs)
+parted_more of [] p vs = refl
+parted_more of (q ∷ ps) p vs = parted_more of ps p (parted (get_or of q.0 0) q.1 vs)

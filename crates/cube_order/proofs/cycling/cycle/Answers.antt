@@ -1,0 +1,28 @@
+use Rattle.std.proofs.Common.{◌≡◌, ◌∙◌, ap, subst, sym, length, ◌<◌, ◌≤◌, arith, Some, None, get_or, drop}
+use Rattle.std.proofs.lemmas.Result.{IfOk-weaker}
+use Rattle.std.specs.Prelude.{slice_set}
+use Rattle.flat_cubes.specs.Flattening.{IsCycle}
+use Rattle.cube_order.proofs.Traced.{ahead_within, traced_cycle, traced_on, unseen, unseen_less}
+use Rattle.cube_order.proofs.cycling.cycle.Goals as goal
+
+pub behind-requires : goal.behind-requires
+behind-requires c =
+    let e : get_or c.loop-at.seen c.loop-at.at None ≡ Some c.in-Some.place = ap (λ z. get_or z c.loop-at.at None) (sym c.as_slice.ensures) ∙ c.in-Some.is in
+    let l = (c.loop-at.invariant.on c.loop-at.at c.in-Some.place e).0 in
+    let m : c.in-Some.place ≤ length c.loop-at.path = omega arith in
+    subst (λ z. c.in-Some.place ≤ length z) (sym c.as_slice-in-Some.ensures) m
+
+pub returns-in-Some : goal.returns-in-Some
+returns-in-Some c =
+    let e : get_or c.loop-at.seen c.loop-at.at None ≡ Some c.in-Some.place = ap (λ z. get_or z c.loop-at.at None) (sym c.as_slice.ensures) ∙ c.in-Some.is in
+    IfOk-weaker c.behind.result _ (IsCycle c.args.definitions.now) (λ vs h. subst (IsCycle c.args.definitions.now) (sym (h ∙ ap (λ z. drop c.in-Some.place z) c.as_slice-in-Some.ensures)) (traced_cycle c.args.definitions.now c.args.ahead.now c.loop-at.path c.loop-at.seen c.loop-at.at c.in-Some.place c.loop-at.invariant e)) c.behind.ensures
+
+pub loop-at-smaller : goal.loop-at-smaller
+loop-at-smaller c =
+    let l = ahead_within c.args.ahead.now c.loop-at.at c.loop-at.invariant.is_ahead in
+    let n = c.loop-at.invariant.count in
+    let inside : c.loop-at.at < length c.loop-at.seen = omega arith in
+    subst (λ z. unseen z < unseen c.loop-at.seen) (sym c.set.ensures) (unseen_less c.loop-at.seen c.loop-at.at c.len.result inside (ap (λ z. get_or z c.loop-at.at None) (sym c.as_slice.ensures) ∙ c.in_default.is))
+
+pub loop-at-preserved : goal.loop-at-preserved
+loop-at-preserved c = traced_on c.args.definitions.now c.args.ahead.now c.loop-at.path c.push.new.self c.loop-at.seen c.set.new.self c.loop-at.at c.next-at.result c.loop-at.invariant c.in_ok-push.ensures.ok (c.set.ensures ∙ ap (λ z. slice_set c.loop-at.seen c.loop-at.at (Some z)) c.len.ensures) c.next-at.ensures.ahead c.next-at.ensures.uses

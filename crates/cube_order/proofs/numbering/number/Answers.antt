@@ -1,0 +1,19 @@
+use Rattle.std.proofs.Common.{◌≡◌, refl, get_or, arith, inl, inr}
+use Rattle.std.proofs.lemmas.Bool.{cases_lt}
+use Rattle.cube_order.proofs.Ranked.{ranked_first, ranked_other, ranked_small}
+use Rattle.cube_order.proofs.numbering.number.Goals as goal
+
+pub add-requires-clause-few : goal.add-requires-clause-few
+add-requires-clause-few c =
+    let s = ranked_small c.args.firsts.now c.loop-i.i c.loop-i.numbering.of.items c.loop-i.numbering.count c.loop-i.invariant in
+    let l = c.loop-i-test.true in
+    let f = c.requires.few in
+    omega arith
+
+pub loop-i-preserved : goal.loop-i-preserved
+loop-i-preserved c =
+    let low = c.requires.lower c.loop-i.i c.loop-i-test.true in
+    elim (cases_lt (get_or c.args.firsts.now c.loop-i.i 0) c.loop-i.i) [
+      | inl l ↦ ranked_other c.args.firsts.now c.loop-i.i (get_or c.args.firsts.now c.loop-i.i 0) c.loop-i.numbering.of.items c.add.new.self.of.items c.loop-i.numbering.count c.add.new.self.count c.loop-i-test.true refl c.loop-i.invariant l (c.requires.rooted c.loop-i.i c.loop-i-test.true) (c.in_ok-add.ensures.other l)
+      | inr l ↦ let e : get_or c.args.firsts.now c.loop-i.i 0 ≡ c.loop-i.i = omega arith in ranked_first c.args.firsts.now c.loop-i.i (get_or c.args.firsts.now c.loop-i.i 0) c.loop-i.numbering.of.items c.add.new.self.of.items c.loop-i.numbering.count c.add.new.self.count c.loop-i-test.true refl c.loop-i.invariant e (c.in_ok-add.ensures.first e)
+    ]

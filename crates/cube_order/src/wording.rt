@@ -1,0 +1,69 @@
+//! What was met of words: variables and definitions.
+ghost use Rattle.std.specs.Prelude.{◌≡◌, ◌<◌, ◌^◌, length, IfOk};
+ghost use Rattle.cube_order.specs.Wording.{ArePlacesBelow, AreWords};
+
+use crate::filling::variables;
+use crate::identifying::firsts;
+use crate::naming::definitions as renamed;
+use crate::numbering::number;
+use crate::straightening::straighten;
+use flat_cubes::{By, Definition, FlatFault, Own, Variable};
+use std::alloc::{AllocError, Global};
+use sv_list::Items;
+use sv_terms::Name;
+
+/// Variables and their definitions in order.
+#[derive(Drop)]
+pub struct NumberedDefinitions {
+    /// The number of each place's variable.
+    pub of: Vec<u32>,
+    pub variables: Items<Variable>,
+    pub definitions: Items<Definition>,
+}
+
+/// The variables of places, where these pairs of places are one, with the names of places and what is said of
+/// them, and the definitions in order; or the first variable that has two definitions, or else a cycle. Linear
+/// up to a logarithm.
+pub fn settle_words(
+    alloc: Global,
+    names: Items<Option<Name>>,
+    parts: Items<(u32, (Own, bool))>,
+    definitions: Items<(u32, By)>,
+    equalities: &[(u32, u32)],
+) -> Result<NumberedDefinitions, FlatFault>
+    requires { ArePlacesBelow (length names) parts definitions equalities.now }
+    ensures { AreWords names parts definitions equalities.now result }
+{
+    let places = count(names.len())?;
+    let firsts = firsts(alloc, places, equalities)?;
+    let numbering = number(alloc, firsts.as_slice())?;
+    let renamed = renamed(alloc, numbering.of.as_slice(), definitions)?;
+    match straighten(alloc, numbering.count, renamed) {
+        Ok(straight) => {
+            let variables = variables(
+                alloc,
+                numbering.count,
+                numbering.of.as_slice(),
+                names,
+                parts,
+            )?;
+            Ok(NumberedDefinitions {
+                of: numbering.of,
+                variables,
+                definitions: straight,
+            })
+        }
+        Err(fault) => Err(fault),
+    }
+}
+
+/// The number of places. More would take more than 64 GB.
+fn count(places: usize) -> Result<u32, AllocError>
+    ensures count { IfOk result (λ n. n ≡ places) }
+    ensures few { IfOk result (λ n. n < 2 ^ 32) }
+{
+    match u32::try_from(places) {
+        Ok(count) => Ok(count),
+        Err(_) => Err(AllocError),
+    }
+}

@@ -1,0 +1,9 @@
+mod Quotients
+mod RowBounds
+mod NearNumbers
+mod Powers
+mod Works
+mod Sides
+mod BoxSides
+mod NearWorks
+mod NearSides

@@ -1,5 +1,0 @@
-use Rattle.std.proofs.Common.{◌^◌, ◌≤◌}
-use Rattle.cube_search.proofs.near.near_side.Given as goal
-
-abbrev pub invariant-loop-side : goal.invariant-loop-side
-invariant-loop-side l = l.side ^ l.count ≤ 4096

@@ -1,5 +1,0 @@
-use Rattle.std.proofs.Common.{◌≡◌, ◌^◌, min}
-use Rattle.cube_search.proofs.near.power.Given as goal
-
-abbrev pub invariant-loop-i : goal.invariant-loop-i
-invariant-loop-i l = l.power ≡ min (l.base ^ l.i) 4097

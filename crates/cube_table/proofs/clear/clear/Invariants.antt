@@ -1,6 +1,0 @@
-use Rattle.std.proofs.Common.{◌≡◌, take}
-use Rattle.sv_terms.specs.Truth.{clear_of}
-use Rattle.cube_table.proofs.clear.clear.Given as goal
-
-abbrev pub invariant-loop-term : goal.invariant-loop-term
-invariant-loop-term l = l.kept ≡ clear_of (take l.term-index l.terms)

@@ -1,9 +1,0 @@
-use Rattle.std.proofs.Common.{IsTrue, sym, ◌∙◌, subst}
-use Rattle.sv_terms.specs.declared.term.Term.{Term}
-use Rattle.decide.specs.Constants.{has_words}
-use Rattle.decide.proofs.Sorts.{word-told}
-use Rattle.decide.proofs.Terms.{words-Text}
-use Rattle.decide.proofs.spelling.+words.Goals as goal
-
-pub words-returns-in-Text : goal.words-returns-in-Text
-words-returns-in-Text t c = subst (λ (z : Term). IsTrue (has_words z)) (sym c.in-Text.is) (words-Text c.in-Text.word ∙ word-told c.in-Text.word c.is_word.ensures)

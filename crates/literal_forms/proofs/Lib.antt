@@ -1,0 +1,5 @@
+pub mod Spelled
+pub mod Numbers
+pub mod Formed
+pub mod Combined
+pub mod Checked

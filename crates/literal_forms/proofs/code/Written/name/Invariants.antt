@@ -1,0 +1,6 @@
+use Rattle.std.proofs.Common.{◌≡◌, ◌++◌}
+use Rattle.literal_forms.proofs.Spelled.{begun}
+use Rattle.literal_forms.proofs.code.Written.name.Given as goal
+
+abbrev pub invariant-loop-i : goal.invariant-loop-i
+invariant-loop-i l = l.self.numbers ≡ l.fn.self.numbers ++ begun l.name l.i

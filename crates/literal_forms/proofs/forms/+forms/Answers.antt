@@ -1,0 +1,98 @@
+use Rattle.std.proofs.Common.{Err, Ok, arith, rules, subst, sym, ◌≡◌, ◌∙◌, ◌++◌, length, get_or}
+use Rattle.std.proofs.lemmas.Bool.Decides.{Decides-eqb}
+use Rattle.std.proofs.lemmas.Int.{to_z-of_z}
+use Rattle.std.specs.Int.{w128}
+use mir.Val.{SFits}
+use Rattle.literal_forms.specs.Formed.{linears_of, steps_of}
+use Rattle.literal_forms.specs.Linear.{joined_of, joined_steps, linear, of_number, steps}
+use Rattle.literal_forms.specs.Numbered.{IsFormOrPast, IsNumbered}
+use Rattle.literal_forms.specs.Past.{ArePlain}
+use Rattle.literal_forms.specs.Shapes.{seen}
+use Rattle.literal_forms.specs.declared.roles.Joint.TheVariants as joint
+use Rattle.literal_forms.proofs.Combined.{all_combined, argument_past, err_made, first_combined, joined_as, joined_read, joint_err, length_other, length_read, more_both, next_combined, none_joined, number_read, one_difference, one_err, one_product, one_sum}
+use Rattle.literal_forms.proofs.forms.+forms.Goals as goal
+
+pub joined_form-returns-then-is_empty-clause-form : goal.joined_form-returns-then-is_empty-clause-form
+joined_form-returns-then-is_empty-clause-form t c = none_joined c.args.unknowns.now.codes c.args.joint c.args.terms.now c.number.result ((Decides-eqb (length c.args.terms.now) 0).0 (sym c.is_empty.ensures ∙ c.if-is_empty.true)) (c.number.ensures c.args.unknowns.now.codes)
+
+pub several_form-returns-in_err-all-clause-form : goal.several_form-returns-in_err-all-clause-form
+several_form-returns-in_err-all-clause-form t c =
+    let two = c.requires.several in
+    let e : c.from_residual.result ≡ Err c.in_err-all.field-0.0 = search rules in
+    subst (IsFormOrPast c.term_form.new.unknowns.codes (joined_of c.args.joint (linears_of c.args.terms.now)) (steps_of c.args.terms.now ++ joined_steps c.args.joint (linears_of c.args.terms.now))) (sym e)
+    (err_made c.term_form.new.unknowns.codes c.term_form.new.unknowns.codes (linear (seen c.index-terms-0.result)) (joined_of c.args.joint (linears_of c.args.terms.now)) (steps (seen c.index-terms-0.result)) (steps_of c.args.terms.now ++ joined_steps c.args.joint (linears_of c.args.terms.now)) c.in_err-all.field-0.0 (λ l r h. argument_past c.args.terms.now 0 c.index-terms-0.result (joined_steps c.args.joint (linears_of c.args.terms.now)) l r (omega arith) c.index-terms-0.is h) c.in_err-all.ensures.form)
+
+pub several_form-loop-i-init : goal.several_form-loop-i-init
+several_form-loop-i-init t c = record {
+  more = c.in_ok-all.ensures.more;
+  all = let two = c.requires.several in first_combined c.term_form.new.unknowns.codes c.args.joint c.args.terms.now c.index-terms-0.result c.in_ok-all.all (omega arith) c.index-terms-0.is c.in_ok-all.ensures.form.0 c.in_ok-all.ensures.form.1;
+}
+
+pub several_form-returns-in_err-next-clause-form : goal.several_form-returns-in_err-next-clause-form
+several_form-returns-in_err-next-clause-form t c =
+    let e : c.from_residual-in_err-next.result ≡ Err c.in_err-next.field-0.0 = search rules in
+    subst (IsFormOrPast c.term_form-in-loop-i.new.unknowns.codes (joined_of c.args.joint (linears_of c.args.terms.now)) (steps_of c.args.terms.now ++ joined_steps c.args.joint (linears_of c.args.terms.now))) (sym e)
+    (err_made c.term_form-in-loop-i.new.unknowns.codes c.term_form-in-loop-i.new.unknowns.codes (linear (seen c.index-terms-i.result)) (joined_of c.args.joint (linears_of c.args.terms.now)) (steps (seen c.index-terms-i.result)) (steps_of c.args.terms.now ++ joined_steps c.args.joint (linears_of c.args.terms.now)) c.in_err-next.field-0.0 (λ l r h. argument_past c.args.terms.now c.loop-i.i c.index-terms-i.result (joined_steps c.args.joint (linears_of c.args.terms.now)) l r (omega arith) c.index-terms-i.is h) c.in_err-next.ensures.form)
+
+pub several_form-returns-in_err-all-2-clause-form : goal.several_form-returns-in_err-all-2-clause-form
+several_form-returns-in_err-all-2-clause-form t c =
+    let e : c.from_residual-in_err-all-2.result ≡ Err c.in_err-all-2.field-0.0 = search rules in
+    subst (IsFormOrPast c.term_form-in-loop-i.new.unknowns.codes (joined_of c.args.joint (linears_of c.args.terms.now)) (steps_of c.args.terms.now ++ joined_steps c.args.joint (linears_of c.args.terms.now))) (sym e)
+    (joint_err c.loop-i.unknowns.codes c.term_form-in-loop-i.new.unknowns.codes c.args.joint c.args.terms.now c.loop-i.i c.index-terms-i.result c.loop-i.all c.in_ok-next.next c.in_err-all-2.field-0.0 (omega arith) (omega arith) c.requires.several c.index-terms-i.is c.in_ok-next.ensures.more c.loop-i.invariant.all c.in_ok-next.ensures.form.1 c.in_err-all-2.ensures)
+
+pub several_form-loop-i-preserved : goal.several_form-loop-i-preserved
+several_form-loop-i-preserved t c = record {
+  more = more_both c.args.unknowns.now.codes c.loop-i.unknowns.codes c.term_form-in-loop-i.new.unknowns.codes c.loop-i.invariant.more c.in_ok-next.ensures.more;
+  all =
+      next_combined c.loop-i.unknowns.codes c.term_form-in-loop-i.new.unknowns.codes c.args.joint c.args.terms.now c.loop-i.i c.index-terms-i.result c.loop-i.all c.in_ok-next.next c.in_ok-all-2.all (omega arith) (omega arith) c.index-terms-i.is c.in_ok-next.ensures.more c.loop-i.invariant.all
+      c.in_ok-next.ensures.form.0 c.in_ok-next.ensures.form.1 c.in_ok-all-2.ensures;
+}
+
+pub several_form-returns-clause-form : goal.several_form-returns-clause-form
+several_form-returns-clause-form t c = all_combined c.loop-i.unknowns.codes c.args.joint c.args.terms.now c.loop-i.i c.loop-i.all c.requires.several (omega arith) c.loop-i.invariant.all
+
+pub single_form-returns-in_err-form-clause-form : goal.single_form-returns-in_err-form-clause-form
+single_form-returns-in_err-form-clause-form t c =
+    let one = c.requires.single in
+    let e : c.from_residual.result ≡ Err c.in_err-form.field-0.0 = search rules in
+    subst (IsFormOrPast c.term_form.new.unknowns.codes (joined_of c.args.joint (linears_of c.args.terms.now)) (steps_of c.args.terms.now ++ joined_steps c.args.joint (linears_of c.args.terms.now))) (sym e)
+    (err_made c.term_form.new.unknowns.codes c.term_form.new.unknowns.codes (linear (seen c.index-terms-0.result)) (joined_of c.args.joint (linears_of c.args.terms.now)) (steps (seen c.index-terms-0.result)) (steps_of c.args.terms.now ++ joined_steps c.args.joint (linears_of c.args.terms.now)) c.in_err-form.field-0.0 (λ l r h. argument_past c.args.terms.now 0 c.index-terms-0.result (joined_steps c.args.joint (linears_of c.args.terms.now)) l r (omega arith) c.index-terms-0.is h) c.in_err-form.ensures.form)
+
+pub single_form-returns-in_err-scale-in-Difference-clause-form : goal.single_form-returns-in_err-scale-in-Difference-clause-form
+single_form-returns-in_err-scale-in-Difference-clause-form t c =
+    let e : c.from_residual-in_err-scale-in-Difference.result ≡ Err c.in_err-scale-in-Difference.field-0.0 = search rules in
+    subst (IsFormOrPast c.term_form.new.unknowns.codes (joined_of c.args.joint (linears_of c.args.terms.now)) (steps_of c.args.terms.now ++ joined_steps c.args.joint (linears_of c.args.terms.now))) (sym e)
+    (joined_as c.term_form.new.unknowns.codes c.args.terms.now (Err c.in_err-scale-in-Difference.field-0.0) c.args.joint joint.Difference c.in-Difference.is
+    (one_err c.term_form.new.unknowns.codes c.args.terms.now c.index-terms-0.result c.in_ok-form.form c.in_err-scale-in-Difference.field-0.0 c.requires.single c.index-terms-0.is c.in_ok-form.ensures.more.numbered c.in_ok-form.ensures.form.1 c.in_err-scale-in-Difference.ensures))
+
+pub single_form-returns-in-Sum-clause-form : goal.single_form-returns-in-Sum-clause-form
+single_form-returns-in-Sum-clause-form t c =
+    joined_as c.term_form.new.unknowns.codes c.args.terms.now (Ok c.in_ok-form.form) c.args.joint joint.Sum c.in-Sum.is (one_sum c.term_form.new.unknowns.codes c.args.terms.now c.index-terms-0.result c.in_ok-form.form c.requires.single c.index-terms-0.is c.in_ok-form.ensures.form.0 c.in_ok-form.ensures.form.1)
+
+pub single_form-returns-in_ok-scale-in-Difference-clause-form : goal.single_form-returns-in_ok-scale-in-Difference-clause-form
+single_form-returns-in_ok-scale-in-Difference-clause-form t c =
+    joined_as c.term_form.new.unknowns.codes c.args.terms.now (Ok c.in_ok-scale-in-Difference.field-0) c.args.joint joint.Difference c.in-Difference.is
+    (one_difference c.term_form.new.unknowns.codes c.args.terms.now c.index-terms-0.result c.in_ok-form.form c.in_ok-scale-in-Difference.field-0 c.requires.single c.index-terms-0.is c.in_ok-form.ensures.more.numbered c.in_ok-form.ensures.form.0 c.in_ok-form.ensures.form.1 c.in_ok-scale-in-Difference.ensures)
+
+pub single_form-returns-in-Product-clause-form : goal.single_form-returns-in-Product-clause-form
+single_form-returns-in-Product-clause-form t c =
+    joined_as c.term_form.new.unknowns.codes c.args.terms.now (Ok c.in_ok-form.form) c.args.joint joint.Product c.in-Product.is (one_product c.term_form.new.unknowns.codes c.args.terms.now c.index-terms-0.result c.in_ok-form.form c.requires.single c.index-terms-0.is c.in_ok-form.ensures.form.0 c.in_ok-form.ensures.form.1)
+
+pub term_form-returns-in-Number-clause-form : goal.term_form-returns-in-Number-clause-form
+term_form-returns-in-Number-clause-form t c =
+    let f : SFits w128 c.in-Number.n = search rules in
+    number_read c.args.unknowns.now.codes c.args.term.now c.in-Number.n c.number.result c.in-Number.is (subst (λ z. IsNumbered c.args.unknowns.now.codes (of_number z) c.number.result) (to_z-of_z w128 c.in-Number.n f) (c.number.ensures c.args.unknowns.now.codes))
+
+pub term_form-returns-in_ok-joined_form-in-Joined-clause-form : goal.term_form-returns-in_ok-joined_form-in-Joined-clause-form
+term_form-returns-in_ok-joined_form-in-Joined-clause-form t c =
+    joined_read c.joined_form.new.unknowns.codes c.args.term.now c.in-Apply.op c.in-Apply.terms c.read.result c.in-Joined.joint c.in_ok-joined_form-in-Joined.field-0 c.in-Apply.is c.read.ensures c.in-Joined.is
+    (subst (λ us. ArePlain (steps_of us ++ joined_steps c.in-Joined.joint (linears_of us)) × IsNumbered c.joined_form.new.unknowns.codes (joined_of c.in-Joined.joint (linears_of us)) c.in_ok-joined_form-in-Joined.field-0) c.as_slice.ensures c.in_ok-joined_form-in-Joined.ensures.form)
+
+pub term_form-returns-in_ok-length_form-in-Length-clause-form : goal.term_form-returns-in_ok-length_form-in-Length-clause-form
+term_form-returns-in_ok-length_form-in-Length-clause-form t c =
+    length_read c.length_form.new.unknowns.codes c.args.term.now c.in-Apply.op c.in-Apply.terms c.read.result c.index-as_slice-0.result c.in_ok-length_form-in-Length.field-0 c.in-Apply.is c.read.ensures c.in-Length.is (sym c.len.ensures ∙ c.if-len-eq1.true)
+    (subst (λ us. c.index-as_slice-0.result ≡ get_or us 0 c.index-as_slice-0.result) c.as_slice-then-len-eq1.ensures c.index-as_slice-0.is) c.in_ok-length_form-in-Length.ensures.form
+
+pub term_form-returns-in_ok-whole_form-in-Length-clause-form : goal.term_form-returns-in_ok-whole_form-in-Length-clause-form
+term_form-returns-in_ok-whole_form-in-Length-clause-form t c =
+    length_other c.args.unknowns.now.codes c.whole_form.new.unknowns.codes c.args.term.now c.in-Apply.op c.in-Apply.terms c.read.result c.in_ok-whole_form-in-Length.field-0 c.in-Apply.is c.read.ensures c.in-Length.is (λ z. c.if-len-eq1.false (c.len.ensures ∙ z)) c.in_ok-whole_form-in-Length.ensures

@@ -1,0 +1,13 @@
+pub mod Roles
+pub mod Shapes
+pub mod Mirrors
+pub mod Codes
+pub mod Alike
+pub mod Linear
+pub mod Literals
+pub mod Past
+pub mod PastLaws
+pub mod Flats
+pub mod Numbered
+pub mod CodeLaws
+pub mod Formed

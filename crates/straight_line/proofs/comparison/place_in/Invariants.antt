@@ -1,8 +1,0 @@
-use Rattle.straight_line.proofs.Inserted.{IsSearched}
-use Rattle.straight_line.proofs.comparison.place_in.Given as goal
-
-abbrev pub invariant-loop-at : goal.invariant-loop-at
-invariant-loop-at l = IsSearched l.terms l.unknown l.at
-
-abbrev pub decreases-loop-at : goal.decreases-loop-at
-decreases-loop-at l = l.at

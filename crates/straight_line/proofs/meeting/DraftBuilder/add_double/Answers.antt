@@ -1,6 +1,0 @@
-use Rattle.bool_cubes.specs.Shapes.{seen}
-use Rattle.straight_line.proofs.Stated.{order_row_fits}
-use Rattle.straight_line.proofs.meeting.DraftBuilder.add_double.Goals as goal
-
-pub add_comparison-requires-clause-fitting : goal.add_comparison-requires-clause-fitting
-add_comparison-requires-clause-fitting c = order_row_fits c.args.op c.head_of.result (seen c.args.left.now) (seen c.args.right.now) c.args.positive c.head_of.ensures c.in-Order.is c.requires.fitting

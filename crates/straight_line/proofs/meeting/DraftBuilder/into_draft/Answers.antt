@@ -1,5 +1,0 @@
-use Rattle.straight_line.proofs.Gathering.{holds_of}
-use Rattle.straight_line.proofs.meeting.DraftBuilder.into_draft.Goals as goal
-
-pub returns : goal.returns
-returns c = λ d g. holds_of c.args.self d c.in_ok-truths.truths c.in_ok-truths.ensures g

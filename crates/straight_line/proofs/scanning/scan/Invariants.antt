@@ -1,5 +1,0 @@
-use Rattle.straight_line.proofs.Scanned.{IsScanned}
-use Rattle.straight_line.proofs.scanning.scan.Given as goal
-
-abbrev pub invariant-loop-i : goal.invariant-loop-i
-invariant-loop-i l = IsScanned l.cube.literals l.meeting l.i
