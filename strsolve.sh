@@ -23,7 +23,7 @@ list_crates() {
     done
 }
 
-# Makes $1 a repository of these crates, of what a proof reads of them.
+# Makes $1 a repository of these crates, of what a proof reads of them. Its HANDLES tells when that was begun.
 copy_crates() {
     local name part
     mkdir -p "$1/.git" && cp "$root/HANDLES" "$1" || return 1
@@ -63,8 +63,8 @@ build() {
             echo "strsolve: it could not be built" >&2
             exit 70
         fi
-        # What was changed while it was built is newer.
-        touch -r "$room/repository/crates.txt" "$program"
+        # What was changed since the copy was begun is newer.
+        touch -r "$room/repository/HANDLES" "$program"
         rm -rf "$room"
         trap - EXIT
     fi
