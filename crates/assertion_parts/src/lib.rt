@@ -1,9 +1,10 @@
 //! What stands in assertions: their constants, with values for just these; their string literals; their opaque parts.
 //!
 //! The central fact is the clause of [`complete`]: **a model becomes values for just the constants of the assertions
-//! without opaque parts**, each the one that is given, where that is of the constant's sort, else the default of its sort.
+//! without opaque parts**, where each name has one sort: each the value that is given, where that is of this sort, else
+//! the sort's default.
 //!
-//! Each call goes over the terms once; what it answers is a copy.
+//! Each call is linear in the terms; what it answers is a copy.
 //!
 //! ```text
 //! let clear = clear_terms(alloc, terms)?; // the assertions without opaque parts

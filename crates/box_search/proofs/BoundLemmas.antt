@@ -7,8 +7,8 @@ use Rattle.std.proofs.lemmas.List.Elements.{All-head, All-tail}
 use Rattle.sv_linear.specs.Integers.{mul_le, neg-mul}
 use Rattle.sv_linear.specs.Terms.{terms_value}
 use Rattle.sv_linear.specs.Rows.{terms_weight}
-use Rattle.box_search.specs.Regions.{IsWithin, greatest_amount, amounts}
-use Rattle.box_search.specs.Boxes.{IsSide, HoldsOne, AreAt}
+use Rattle.search_hits.specs.Regions.{IsWithin, greatest_amount, amounts}
+use Rattle.search_hits.specs.Boxes.{IsSide, HoldsOne, AreAt}
 
 -- the ends of a side are at most its greatest amount
 pub side-amounts : (s : ℤ × ℤ) → IsSide s → (unsigned_abs s.0 ≤ greatest_amount s) × (unsigned_abs s.1 ≤ greatest_amount s)

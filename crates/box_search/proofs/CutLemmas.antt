@@ -12,9 +12,9 @@ use Rattle.machine_core.specs.Lists.{slice_get-push_cases}
 use Rattle.machine_core.specs.Runs.{IsPath, run_total}
 use Rattle.machine_core.specs.RunLaws.{path_push, path_lengths}
 use Rattle.sv_linear.specs.declared.row.Row.{Row}
+use Rattle.search_hits.specs.declared.region.Region.{Region}
+use Rattle.search_hits.specs.Hits.{HaveRegisters, AreRunsOf, runs_total, characters}
 use Rattle.box_search.specs.declared.layer.Layer.{Layer}
-use Rattle.box_search.specs.declared.region.Region.{Region}
-use Rattle.box_search.specs.Hits.{HaveRegisters, AreRunsOf, runs_total, characters}
 use Rattle.box_search.specs.Layers.{layer, uppers_of, AreGoodTotals, LayerStep, Turns}
 use Rattle.box_search.specs.LayerLaws.{layer-step_cost}
 use Rattle.box_search.specs.Cuts.{IsRunOfAll, IsCutInto, IsOpened, AddsStep, BeginsNext, CutsBy}

@@ -6,8 +6,8 @@ use Rattle.sv_linear.specs.Rows.{Compares, MeetsRow}
 use Rattle.sv_linear.specs.declared.row.Row.{Row}
 use Rattle.sv_linear.specs.declared.row.RowKind.{RowKind}
 use Rattle.sv_linear.specs.declared.row.RowKind.TheVariants.{Le, Eq}
-use Rattle.box_search.specs.Regions.{IsWithin, AreWithin}
-use Rattle.box_search.specs.Boxes.{AreAt, value_at}
+use Rattle.search_hits.specs.Regions.{IsWithin, AreWithin}
+use Rattle.search_hits.specs.Boxes.{AreAt, value_at}
 
 -- how many numbers the sides hold beside one each
 abbrev pub widths : List (ℤ × ℤ) → ℕ

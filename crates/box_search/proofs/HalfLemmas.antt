@@ -5,8 +5,8 @@ use Rattle.std.proofs.Math.Nat.{mul-le-mul_left}
 use Rattle.std.proofs.lemmas.List.Elements.{All-head, All-tail, All-weaker, All-set}
 use Rattle.sv_linear.specs.Rows.{terms_weight}
 use Rattle.sv_linear.specs.declared.row.Row.{Row}
-use Rattle.box_search.specs.Regions.{IsWithin, AreWithin, greatest_amount, amounts}
-use Rattle.box_search.specs.Boxes.{IsSide, HaveSides, FitsSides, IsBox, IsPointFound}
+use Rattle.search_hits.specs.Regions.{IsWithin, AreWithin, greatest_amount, amounts}
+use Rattle.search_hits.specs.Boxes.{IsSide, HaveSides, FitsSides, IsBox, IsPointFound}
 use Rattle.box_search.proofs.FindLemmas.{widths}
 
 -- a narrower side keeps what lies within

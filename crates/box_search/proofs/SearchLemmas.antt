@@ -10,10 +10,10 @@ use Rattle.machine_core.specs.Language.{RunsFrom, SameRuns}
 use Rattle.machine_core.specs.Graphs.{Accepts}
 use Rattle.trim_search.specs.Shortest.{IsShortestRun}
 use Rattle.sv_linear.specs.declared.row.Row.{Row}
+use Rattle.search_hits.specs.declared.region.Region.{Region}
+use Rattle.search_hits.specs.Hits.{HaveRegisters, runs_total, characters}
+use Rattle.search_hits.specs.Regions.{AreWithin, whole_side, IsHitWithin, IsShortHit}
 use Rattle.box_search.specs.declared.layer.Layer.{Layer}
-use Rattle.box_search.specs.declared.region.Region.{Region}
-use Rattle.box_search.specs.Hits.{HaveRegisters, runs_total, characters}
-use Rattle.box_search.specs.Regions.{AreWithin, whole_side, IsHitWithin, IsShortHit}
 use Rattle.box_search.specs.Layers.{layer, uppers_of, AreGood, AreGoodTotals, LayerStep, LayerEnd}
 use Rattle.box_search.specs.Cuts.{IsCutInto}
 use Rattle.box_search.proofs.ShortLemmas.{hit-short, totals-below}

@@ -17,9 +17,9 @@ use Rattle.machine_core.specs.LanguageLaws.{runs_width}
 use Rattle.machine_core.specs.Runs.{run_total}
 use Rattle.machine_core.specs.RunLaws.{run_accepted, accepted_run}
 use Rattle.sv_linear.specs.declared.row.Row.{Row}
-use Rattle.box_search.specs.declared.region.Region.{Region}
-use Rattle.box_search.specs.Hits.{AreRunsOf, HaveRegisters, runs_total, characters}
-use Rattle.box_search.specs.Regions.{IsWithin, whole_side, register_points, side_points, integer_points, points, greatest_states, IsHitWithin, IsShortHit}
+use Rattle.search_hits.specs.declared.region.Region.{Region}
+use Rattle.search_hits.specs.Hits.{AreRunsOf, HaveRegisters, runs_total, characters}
+use Rattle.search_hits.specs.Regions.{IsWithin, whole_side, register_points, side_points, integer_points, points, greatest_states, IsHitWithin, IsShortHit}
 use Rattle.std.specs.Prelude.{int_le}
 use Rattle.box_search.specs.Layers.{AreWithinGreatest}
 use Rattle.box_search.specs.LayerLaws.{length-uppers}

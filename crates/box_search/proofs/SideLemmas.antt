@@ -8,10 +8,10 @@ use Rattle.machine_core.specs.declared.graph.Graph.{Graph}
 use Rattle.machine_core.specs.Costs.{zeros}
 use Rattle.machine_core.specs.Lists.{Any-none, Any-here, Any-cases}
 use Rattle.sv_linear.specs.declared.row.Row.{Row}
+use Rattle.search_hits.specs.declared.region.Region.{Region}
+use Rattle.search_hits.specs.Regions.{AreWithin, FitsRegion, whole_side, sides_of, amounts}
+use Rattle.search_hits.specs.Boxes.{IsSide, HaveSides, FitsSides, MeetAll, IsBox, IsPointFound, point_side}
 use Rattle.box_search.specs.declared.layer.Layer.{Layer}
-use Rattle.box_search.specs.declared.region.Region.{Region}
-use Rattle.box_search.specs.Regions.{AreWithin, FitsRegion, whole_side, sides_of, amounts}
-use Rattle.box_search.specs.Boxes.{IsSide, HaveSides, FitsSides, MeetAll, IsBox, IsPointFound, point_side}
 use Rattle.box_search.specs.Layers.{AreWithinGreatest, uppers_of, AreGood, AreGoodTotals, LayerEnd, IsLayerOf}
 use Rattle.box_search.specs.LayerLaws.{length-uppers}
 use Rattle.box_search.proofs.HalfLemmas.{fits-less, amount-narrower}

@@ -6,12 +6,12 @@ use Rattle.machine_core.specs.declared.graph.Graph.{Graph}
 use Rattle.machine_core.specs.declared.run.Run.{Run}
 use Rattle.machine_core.specs.Runs.{IsPath}
 use Rattle.machine_core.specs.RunLaws.{path_push}
+use Rattle.search_hits.specs.declared.region.Region.{Region}
+use Rattle.search_hits.specs.Hits.{characters}
+use Rattle.search_hits.specs.Regions.{IsHitWithin, IsShortHit, greatest_states}
 use Rattle.box_search.specs.declared.layer.Layer.{Layer}
-use Rattle.box_search.specs.declared.region.Region.{Region}
-use Rattle.box_search.specs.Hits.{characters}
 use Rattle.box_search.specs.LayerLaws.{next-layer}
 use Rattle.box_search.specs.Layers.{IsLayerOf, LayerStep}
-use Rattle.box_search.specs.Regions.{IsHitWithin, IsShortHit, greatest_states}
 use Rattle.box_search.proofs.ShortLemmas.{few-characters}
 
 module _ (machines : List Graph) (uppers : List ℕ) (good : List ℕ → Type 0) (first : Layer) where

@@ -5,9 +5,9 @@ use Rattle.machine_core.specs.Costs.{zeros}
 use Rattle.machine_core.specs.Runs.{IsRun}
 use Rattle.machine_core.specs.declared.graph.Graph.{Graph}
 use Rattle.machine_core.specs.declared.run.Run.{Run}
+use Rattle.search_hits.specs.declared.region.Region.{Region}
+use Rattle.search_hits.specs.Hits.{AreRunsOf, runs_total, characters}
 use Rattle.box_search.specs.declared.layer.Layer.{Layer}
-use Rattle.box_search.specs.declared.region.Region.{Region}
-use Rattle.box_search.specs.Hits.{AreRunsOf, runs_total, characters}
 use Rattle.box_search.specs.Layers.{layer, uppers_of, AreGoodTotals, LayerStep, LayerEnd}
 
 -- a run of all machines in turn

@@ -10,10 +10,10 @@ use Rattle.machine_core.specs.EdgeLaws.{step_target, step_character, step_cost, 
 use Rattle.machine_core.specs.Graphs.{graph_top}
 use Rattle.machine_core.specs.Lists.{slice_get-contains}
 use Rattle.sv_word.specs.Words.{greatest_character}
+use Rattle.search_hits.specs.declared.region.Region.{Region}
+use Rattle.search_hits.specs.Hits.{HaveRegisters}
+use Rattle.search_hits.specs.Regions.{register_points, greatest_states}
 use Rattle.box_search.specs.declared.layer.Layer.{Layer}
-use Rattle.box_search.specs.declared.region.Region.{Region}
-use Rattle.box_search.specs.Hits.{HaveRegisters}
-use Rattle.box_search.specs.Regions.{register_points, greatest_states}
 use Rattle.box_search.specs.Layers.{layer, AreWithinGreatest, uppers_of, Turns, LayerStep, LayerEnd, IsLayerOf, layers_top, layers_size}
 
 zeros-below : (sides : List (ℕ × ℕ)) → AreWithinGreatest (zeros (length sides)) (map (λ (s : ℕ × ℕ). s.1) sides)

@@ -7,9 +7,9 @@ use Rattle.machine_core.specs.Costs.{add_costs, zeros, top_by}
 use Rattle.machine_core.specs.Edges.{EndsAt, StepsBy}
 use Rattle.machine_core.specs.Graphs.{graph_top}
 use Rattle.machine_core.specs.declared.graph.Graph.{Graph}
+use Rattle.search_hits.specs.declared.region.Region.{Region}
+use Rattle.search_hits.specs.Regions.{AreWithin, whole_side, register_points, greatest_states}
 use Rattle.box_search.specs.declared.layer.Layer.{Layer}
-use Rattle.box_search.specs.declared.region.Region.{Region}
-use Rattle.box_search.specs.Regions.{AreWithin, whole_side, register_points, greatest_states}
 
 abbrev pub layer : ℕ → ℕ → List ℕ → Layer
 layer machine state spent = record { machine = machine; state = state; spent = spent }

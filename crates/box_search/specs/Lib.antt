@@ -1,12 +1,8 @@
-pub mod Hits
-pub mod Regions
 pub mod LayerOrder
 pub mod Layers
-pub mod Boxes
 pub mod Moving
 pub mod Cuts
 pub mod LayerLaws
-pub mod UnknownLaws
 pub mod Places
 pub mod Marks
 pub mod Told

@@ -1,22 +1,21 @@
 //! The search where there is one register: by a bit for each pair of a state and a total.
 ghost use Rattle.std.specs.Prelude.{◌≡◌, ◌≤◌, ◌+◌, ◌*◌, ◌<◌, ◌^◌, ◌∷◌, ℕ, [], true, false, None, length, IfOk, IfSome};
+ghost use Rattle.search_hits.specs.Regions.{greatest_states, IsShortHit};
 ghost use Rattle.box_search.specs.Layers.{AreGoodTotals};
 ghost use Rattle.box_search.specs.Marks.{HasBit, MarksAreClosed};
-ghost use Rattle.box_search.specs.Regions.{greatest_states, IsShortHit};
 ghost use Rattle.box_search.specs.Told.{IsTold};
 
 use crate::arcs::Arcs;
 use crate::covering::are_closed;
-use crate::hit::Hit;
 use crate::hitting::hit_of;
 use crate::layers::Layers;
 use crate::marking::mark_reached;
 use crate::marks::{Marks, has_bit};
 use crate::places::greatest_states;
-use crate::region::Region;
 use crate::retracing::retrace;
 use crate::tracing::{Pair, trace};
 use machine_core::Explicit;
+use search_hits::{Hit, Region};
 use std::alloc::{AllocError, Global};
 
 // No marks take more words: 128 MB.

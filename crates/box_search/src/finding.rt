@@ -2,8 +2,8 @@
 ghost use Rattle.std.specs.Prelude.{◌≡◌, ℕ, ℤ, ◌+◌, ◌*◌, ◌*ℤ◌, ◌^◌, ◌<◌, ◌≤◌, ◌≤ℤ◌, ◌<ℤ◌, ◌+ℤ◌, List, length, map, slice_get, slice_set, Some, All, IfOk, MatchOption, true, false, unsigned_abs};
 ghost use Rattle.sv_linear.specs.Terms.{terms_value};
 ghost use Rattle.sv_linear.specs.Rows.{MeetsRow, terms_weight};
-ghost use Rattle.box_search.specs.Regions.{IsWithin, AreWithin, greatest_amount, amounts};
-ghost use Rattle.box_search.specs.Boxes.{IsSide, HoldsOne, AreAt, FitsSides, value_at, MeetAll, IsBox, IsPointFound};
+ghost use Rattle.search_hits.specs.Regions.{IsWithin, AreWithin, greatest_amount, amounts};
+ghost use Rattle.search_hits.specs.Boxes.{IsSide, HoldsOne, AreAt, FitsSides, value_at, MeetAll, IsBox, IsPointFound};
 
 use std::alloc::{AllocError, Global};
 use sv_linear::{Form, Row, RowKind};

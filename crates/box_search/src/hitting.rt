@@ -1,13 +1,13 @@
 ghost use Rattle.std.specs.Prelude.{◌≡◌, ◌+◌, false, length, IfOk};
+ghost use Rattle.search_hits.specs.Hits.{characters};
+ghost use Rattle.search_hits.specs.Regions.{IsHitWithin};
 ghost use Rattle.box_search.specs.Cuts.{IsRunOfAll};
-ghost use Rattle.box_search.specs.Hits.{characters};
-ghost use Rattle.box_search.specs.Regions.{IsHitWithin};
 
 use crate::cutting::{cut, layer_at};
-use crate::hit::Hit;
 use crate::layer::Layer;
 use crate::layers::Layers;
 use machine_core::Run;
+use search_hits::Hit;
 use std::alloc::{AllocError, Global};
 
 /// The run of each machine, and the numbers that meet the rows with what they cost.

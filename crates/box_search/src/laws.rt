@@ -4,11 +4,11 @@ ghost use Rattle.sv_linear.specs.declared.row.Row.{Row};
 ghost use Rattle.machine_core.specs.Graphs.{Accepts};
 ghost use Rattle.machine_core.specs.declared.graph.Graph.{Graph};
 ghost use Rattle.machine_core.specs.declared.run.Run.{Run};
-ghost use Rattle.box_search.specs.Hits.{HaveRegisters};
-ghost use Rattle.box_search.specs.Regions.{IsHitWithin, IsShortHit};
+ghost use Rattle.search_hits.specs.Hits.{HaveRegisters};
+ghost use Rattle.search_hits.specs.Regions.{IsHitWithin, IsShortHit};
 
-use crate::region::Region;
 use machine_core::Explicit;
+use search_hits::Region;
 
 /// A region that holds a hit holds one with the same whole numbers whose words are short together.
 pub fn hits_are_short(machines: &[Explicit], region: &Region)

@@ -1,17 +1,17 @@
 //! All machines in turn, as one machine.
 ghost use Rattle.std.specs.Prelude.{◌≡◌, ℕ, pos, ◌+◌, ◌<◌, ◌≤◌, ◌↔◌, slice_get, Some, List, ◌++◌, length, map, take, All, false, IsTrue, MatchOption, IfOk};
 ghost use Rattle.machine_core.specs.Costs.{zeros};
-ghost use Rattle.box_search.specs.Boxes.{IsSide, HaveSides, point_side};
-ghost use Rattle.box_search.specs.Hits.{HaveRegisters};
-ghost use Rattle.box_search.specs.Regions.{AreWithin, FitsRegion, whole_side, sides_of};
+ghost use Rattle.search_hits.specs.Boxes.{IsSide, HaveSides, point_side};
+ghost use Rattle.search_hits.specs.Hits.{HaveRegisters};
+ghost use Rattle.search_hits.specs.Regions.{AreWithin, FitsRegion, whole_side, sides_of};
 ghost use Rattle.box_search.specs.Layers.{layer, uppers_of, AreGood, AreGoodTotals, LayerStep, LayerEnd, IsLayerOf, layers_top, layers_size};
 ghost use Rattle.box_search.specs.LayerLaws.{first-layer, next-layer, layer-character, layer-step_cost, layer-end_cost, length-uppers, few-layers};
 
 use crate::finding::find;
 use crate::layer::Layer;
 use crate::moving::{ends, steps};
-use crate::region::Region;
 use machine_core::{Cost, Explicit, Machine, Move};
+use search_hits::Region;
 use std::alloc::{AllocError, Global};
 use sv_linear::Row;
 use sv_list::Items;

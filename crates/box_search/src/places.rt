@@ -1,7 +1,7 @@
 //! Places of layers in a table.
 ghost use Rattle.std.specs.Prelude.{◌≡◌, ◌+◌, ◌*◌, ◌<◌, ◌≤◌, ◌^◌, true, IfSome, MatchOption};
+ghost use Rattle.search_hits.specs.Regions.{greatest_states};
 ghost use Rattle.box_search.specs.Layers.{AreWithinGreatest};
-ghost use Rattle.box_search.specs.Regions.{greatest_states};
 ghost use Rattle.box_search.specs.Places.{number_of, numbers_below, HasPlace, place_of};
 
 use crate::layer::Layer;

@@ -15,10 +15,10 @@ use Rattle.machine_core.specs.LanguageLaws.{runs_width}
 use Rattle.machine_core.specs.EdgeLaws.{step_most, end_most}
 use Rattle.machine_core.specs.Runs.{run_total}
 use Rattle.sv_linear.specs.declared.row.Row.{Row}
-use Rattle.box_search.specs.Hits.{IsHit, AreRunsOf, characters, runs_total}
-use Rattle.box_search.specs.Regions.{points, greatest_states}
-use Rattle.box_search.specs.declared.hit.Hit.{Hit}
-use Rattle.box_search.specs.declared.region.Region.{Region}
+use Rattle.search_hits.specs.Hits.{IsHit, AreRunsOf, characters, runs_total}
+use Rattle.search_hits.specs.Regions.{points, greatest_states}
+use Rattle.search_hits.specs.declared.hit.Hit.{Hit}
+use Rattle.search_hits.specs.declared.region.Region.{Region}
 use Rattle.farkas_check.specs.declared.system.System.{System}
 use Rattle.lia_branch.specs.declared.evidence.Evidence.{Evidence}
 use Rattle.parikh_flow.specs.Rows.{IsSystemOf}

@@ -4,9 +4,9 @@ use Rattle.machine_core.specs.declared.graph.Graph.{Graph}
 use Rattle.machine_core.specs.declared.run.Run.{Run}
 use Rattle.farkas_check.specs.declared.system.System.{System}
 use Rattle.lia_branch.specs.declared.evidence.Evidence.{Evidence}
-use Rattle.box_search.specs.Hits.{IsHit, characters}
-use Rattle.box_search.specs.declared.hit.Hit.{Hit}
-use Rattle.box_search.specs.declared.region.Region.{Region}
+use Rattle.search_hits.specs.Hits.{IsHit, characters}
+use Rattle.search_hits.specs.declared.hit.Hit.{Hit}
+use Rattle.search_hits.specs.declared.region.Region.{Region}
 use Rattle.leaf_solve.specs.Longs.{HasRun}
 use Rattle.leaf_solve.specs.Questions.{EachHit, LieIn}
 use Rattle.leaf_solve.specs.declared.leaf_answer.LeafAnswer.{LeafAnswer}

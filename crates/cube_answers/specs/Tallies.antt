@@ -1,7 +1,7 @@
 -- What the answers for leaves of a flat cube come to, and what is answered for the cube where none is a hit.
 use Rattle.std.specs.Prelude.{ℕ, ◌+◌, ◌-◌, ◌^◌, min, List, Option, Some, None}
 use Rattle.machine_core.specs.declared.graph.Graph.{Graph}
-use Rattle.box_search.specs.declared.hit.Hit.{Hit}
+use Rattle.search_hits.specs.declared.hit.Hit.{Hit}
 use Rattle.leaf_solve.specs.declared.closing.Closing.{Closing}
 use Rattle.leaf_solve.specs.declared.closing.Closing.TheVariants as closing
 use Rattle.leaf_solve.specs.declared.leaf_answer.LeafAnswer.{LeafAnswer}

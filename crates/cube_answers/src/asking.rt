@@ -9,10 +9,10 @@ ghost use Rattle.cube_region.specs.Regions.{IsRegionFor};
 ghost use Rattle.cube_answers.specs.Leaves.{AreOfLeaf, IsAnswerFor, past_words, words_of};
 ghost use Rattle.cube_answers.specs.Limits.{MustDecideFlat};
 
-use box_search::{Hit, Region};
 use flat_cubes::Flat;
 use leaf_solve::{LeafAnswer, LongShown, leaf};
 use machine_core::Explicit;
+use search_hits::{Hit, Region};
 use std::alloc::{AllocError, Global};
 use sv_list::{Copied, Items};
 

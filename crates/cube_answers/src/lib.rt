@@ -2,7 +2,8 @@
 //!
 //! The central fact is the clause `answer` of [`answer_machines`]: **a hit is within the reach of the cube, a closed
 //! leaf has none, words that are too long are past the reach, and where the solver gave up the evidence holds and
-//! nothing in the region meets the rows**. Its clause `decided` says where the text of the cube owes one of the first two.
+//! nothing in the region meets the rows**. Its clause `decided` says where the text of the cube owes one of the first
+//! two.
 //!
 //! Nothing here knows how a leaf comes from a cube: it is machines, one for each source variable.
 //!

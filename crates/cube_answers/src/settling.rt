@@ -5,9 +5,9 @@ ghost use Rattle.cube_answers.specs.Tallies.{first_some, hit_of, left_of, one_mo
 use crate::answer::CubeAnswer;
 use crate::reason::OpenReason;
 use crate::tally::{GivenUpLeaf, LeafTally, LongLeaf};
-use box_search::Hit;
 use leaf_solve::{Closing, LeafAnswer, LongShown};
 use machine_core::Explicit;
+use search_hits::Hit;
 use sv_list::Items;
 
 /// The tally with the answer for a leaf of these machines, unless that is a hit. The first leaf that is

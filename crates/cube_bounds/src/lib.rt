@@ -2,8 +2,8 @@
 //! grow, and the box that its rows make.
 //!
 //! The central fact is the clause of [`numbers`]: **each number is that of the definition, cut off at 64 bits**; the
-//! laws say what it bounds, whatever machines and words are made of the cube. The definitions are without bound, so
-//! that where an answer is owed is told by the text alone.
+//! laws say how states and growth follow the definitions of variables, and how long words are at most. The definitions
+//! are without bound, so that where an answer is owed is told by the text alone.
 //!
 //! Three passes over the cube, linear in its text.
 //!

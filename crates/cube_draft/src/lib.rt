@@ -1,12 +1,12 @@
 //! What the literals of a cube say, as a draft of its flat cube.
 //!
 //! The central fact is the clause of [`scan`]: **the draft holds what the literals say, or the first literal of no
-//! written kind is told.** Literals are read one after another: each string term gets a place, equal terms one, and what
-//! is said of a term, its definition and its equalities go by places. A comparison becomes a row over all integer
+//! written kind is told.** Literals are read one after another: each string term gets a place, equal terms one, and
+//! what is said of a term, its definition and its equalities go by places. A comparison becomes a row over all integer
 //! constants and lengths that stand in comparisons, numbered as they come.
 //!
-//! Time is linear in the cube, times the depth to which replacements nest in it, but for the forms of comparisons, which
-//! are added up from the left.
+//! Time is linear in the cube, times the depth to which replacements nest in it, but for the forms of comparisons,
+//! which are added up from the left.
 //!
 //! ```text
 //! // (= y (str.++ x "a")): places for y, the concatenation, x and "a"; the second is defined, and it and y are one

@@ -10,7 +10,7 @@ use Rattle.std.proofs.lemmas.List.Elements.{All-nil, All-cons}
 use Rattle.std.proofs.lemmas.List.FromFn.{length-map-range_with_len}
 use Rattle.sv_linear.specs.Rows.{MeetsRow, MeetsRows, RowFits, terms_weight, unknowns_of}
 use Rattle.sv_linear.specs.declared.row.Row.{Row}
-use Rattle.box_search.specs.Regions.{IsInRegion, IsWithin, amounts, greatest_amount, integer_points, points, register_points, side_points, sides_of, whole_side}
+use Rattle.search_hits.specs.Regions.{IsInRegion, IsWithin, amounts, greatest_amount, integer_points, points, register_points, side_points, sides_of, whole_side}
 use Rattle.cube_bounds.specs.Bounds.{sources, states}
 use Rattle.cube_bounds.specs.Growth.{reach}
 use Rattle.cube_bounds.specs.Sides.{IsSmall, Side, amount_of, integer_side, integer_sides, lower, lower_of, points_of, register_side, register_sides, side_amount, sides, span_in, times, upper, upper_of, values_between}

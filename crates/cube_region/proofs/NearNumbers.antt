@@ -5,7 +5,7 @@ use Rattle.std.proofs.Common.{inl, inr}
 use Rattle.std.proofs.lemmas.Int.{ints}
 use Rattle.std.proofs.lemmas.Bool.{cases_lt}
 use Rattle.std.proofs.Math.Nat.{pow-le-pow_left}
-use Rattle.box_search.specs.Regions.{IsWithin, greatest_amount, side_points}
+use Rattle.search_hits.specs.Regions.{IsWithin, greatest_amount, side_points}
 use Rattle.cube_region.specs.Bounding.{near_bounds}
 use Rattle.cube_region.specs.Regions.{IsNearSide, near_number}
 

@@ -11,8 +11,8 @@ use Rattle.std.proofs.Math.ListN.{get_or-append}
 use Rattle.std.proofs.Math.Nat.{pow-suc, pow-zero}
 use Rattle.sv_linear.specs.Rows.{RowFits, terms_weight}
 use Rattle.sv_linear.specs.declared.row.Row.{Row}
-use Rattle.box_search.specs.Regions.{IsInRegion, IsWithin, amounts, greatest_amount, integer_points, points, register_points, sides_of, whole_side}
-use Rattle.box_search.specs.declared.region.Region.{Region}
+use Rattle.search_hits.specs.Regions.{IsInRegion, IsWithin, amounts, greatest_amount, integer_points, points, register_points, sides_of, whole_side}
+use Rattle.search_hits.specs.declared.region.Region.{Region}
 use Rattle.cube_bounds.specs.Bounds.{sources, states}
 use Rattle.cube_bounds.specs.Growth.{reach}
 use Rattle.cube_bounds.specs.Sides.{IsSmall}

@@ -4,7 +4,7 @@ use Rattle.std.specs.Prelude.{int_lt, int_le, unsigned_abs, if◌then◌else◌}
 use Rattle.std.specs.Option.{option_map}
 use Rattle.std.proofs.lemmas.Int.{ints}
 use Rattle.sv_terms.specs.CutOff.{cut_off}
-use Rattle.box_search.specs.Regions.{IsWithin, greatest_amount, side_points, whole_side}
+use Rattle.search_hits.specs.Regions.{IsWithin, greatest_amount, side_points, whole_side}
 use Rattle.cube_bounds.specs.Sides.{Side, amount, both_sides, side_amount, values_between}
 use Rattle.cube_region.specs.Bounding.{integer_bounds, no_total, register_bounds}
 

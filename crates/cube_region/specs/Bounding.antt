@@ -1,7 +1,7 @@
 -- The bounds of a region, by the sides of a cube's box and by the numbers near 0.
 use Rattle.std.specs.Prelude.{◌≡◌, ◌↔◌, IsTrue, ℕ, ℤ, pos, neg_ℤ, ◌-◌, ◌/◌, ◌<◌, ◌≤◌, int_lt, unsigned_abs, if◌then◌else◌, Bool, false, not, map, length, Some, None, replicate}
 use Rattle.sv_terms.specs.CutOff.{cut_off}
-use Rattle.box_search.specs.declared.region.Region.{Region}
+use Rattle.search_hits.specs.declared.region.Region.{Region}
 use Rattle.cube_bounds.specs.Sides.{Side, integer_sides, register_sides}
 use Rattle.flat_cubes.specs.declared.flat.Flat.{Flat}
 use Rattle.cube_region.specs.Regions.{IsNearOwed, IsNearSide, quantities}

@@ -2,8 +2,8 @@
 use Rattle.std.specs.Prelude.{◌≡◌, ℕ, ℤ, pos, neg_ℤ, ◌+◌, ◌-◌, ◌*◌, ◌/◌, ◌%◌, ◌^◌, ◌<◌, ◌≤◌, ◌≤ℤ◌, nat_eq, nat_le, if◌then◌else◌, false, List, length, All}
 use Rattle.std.specs.List.{AllByRecursion}
 use Rattle.sv_linear.specs.Rows.{MeetsRows, RowFits}
-use Rattle.box_search.specs.Regions.{IsInRegion, FitsRegion, points}
-use Rattle.box_search.specs.declared.region.Region.{Region}
+use Rattle.search_hits.specs.Regions.{IsInRegion, FitsRegion, points}
+use Rattle.search_hits.specs.declared.region.Region.{Region}
 use Rattle.cube_bounds.specs.Bounds.{states, sources}
 use Rattle.cube_bounds.specs.Growth.{reach}
 use Rattle.cube_bounds.specs.Sides.{IsSmall}

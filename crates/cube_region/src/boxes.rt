@@ -3,8 +3,8 @@ ghost use Rattle.std.specs.Prelude.{◌≡◌, map, IfOk};
 ghost use Rattle.cube_bounds.specs.Sides.{sides};
 ghost use Rattle.cube_region.specs.Bounding.{box_of, integer_bounds, register_bounds};
 
-use box_search::Region;
 use flat_cubes::Flat;
+use search_hits::Region;
 use std::alloc::{AllocError, Global};
 use sv_list::Items;
 

@@ -10,9 +10,9 @@ ghost use Rattle.flat_cubes.specs.declared.flat.Flat.{Flat as AnyFlat};
 ghost use Rattle.cube_region.specs.Bounding.{IsNearRegion, near_bounds};
 ghost use Rattle.cube_region.specs.Regions.{IsNearOwed, IsNearSide, near_amount, quantities};
 
-use box_search::Region;
 use cube_bounds::Numbers;
 use flat_cubes::Flat;
+use search_hits::Region;
 use std::alloc::{AllocError, Global};
 use sv_linear::Row;
 use sv_list::Items;

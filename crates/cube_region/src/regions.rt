@@ -6,9 +6,9 @@ ghost use Rattle.cube_region.specs.Regions.{IsRegionFor};
 
 use crate::boxes::box_of;
 use crate::near::near_region;
-use box_search::Region;
 use cube_bounds::Numbers;
 use flat_cubes::Flat;
+use search_hits::Region;
 use std::alloc::{AllocError, Global};
 
 /// The region in which leaves of a flat cube are searched: its box where that is small, and else the values

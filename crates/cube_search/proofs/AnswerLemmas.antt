@@ -7,7 +7,7 @@ use Rattle.std.proofs.lemmas.List.Sums.{sum_by-cons}
 use Rattle.sv_terms.specs.Language.{Word}
 use Rattle.sv_terms.specs.Meaning.{Named}
 use Rattle.sv_terms.specs.Truth.{AreWorded}
-use Rattle.box_search.specs.declared.region.Region.{Region}
+use Rattle.search_hits.specs.declared.region.Region.{Region}
 use Rattle.leaf_solve.specs.Longs.{letters}
 use Rattle.cube_bounds.specs.Bounds.{greatest, sources_of}
 use Rattle.cube_bounds.specs.Growth.{growth, growth_of, longest_word, reach}

@@ -2,7 +2,7 @@
 use Rattle.std.proofs.Common.{◌≡◌, ℕ, zero, suc, ◌<◌, ◌+◌, ◌↔◌, ℤ, List, [], ◌∷◌, ◌++◌, length, map, Contains, Some, slice_get, refl, sym, subst, append_assoc, append-nil, length-append, arith, inl, inr}
 use Rattle.sv_terms.specs.Meaning.{joined}
 use Rattle.machine_core.specs.declared.graph.Graph.{Graph}
-use Rattle.box_search.specs.declared.region.Region.{Region}
+use Rattle.search_hits.specs.declared.region.Region.{Region}
 use Rattle.flat_cubes.specs.declared.definition.By.{By}
 use Rattle.flat_cubes.specs.declared.definition.By.TheVariants.{Concat}
 use Rattle.flat_cubes.specs.declared.flat.Flat.{Flat}

@@ -11,9 +11,9 @@ use Rattle.machine_core.specs.Graphs.{IsRunOf}
 use Rattle.machine_core.specs.Runs.{run_total}
 use Rattle.machine_core.specs.declared.run.Run.{Run}
 use Rattle.sv_linear.specs.Rows.{MeetsRows}
-use Rattle.box_search.specs.Hits.{characters, runs_total}
-use Rattle.box_search.specs.declared.hit.Hit.{Hit}
-use Rattle.box_search.specs.declared.region.Region.{Region}
+use Rattle.search_hits.specs.Hits.{characters, runs_total}
+use Rattle.search_hits.specs.declared.hit.Hit.{Hit}
+use Rattle.search_hits.specs.declared.region.Region.{Region}
 use Rattle.leaf_solve.specs.Longs.{letters}
 use Rattle.trim_search.specs.declared.built.Built.{Built}
 use Rattle.flat_cubes.specs.Using.{is_defined, used}

@@ -7,7 +7,7 @@ use Rattle.machine_core.specs.Edges.{EndsAt, StepsBy}
 use Rattle.machine_core.specs.RunLaws.{accepted_run}
 use Rattle.machine_core.specs.declared.graph.Graph.{Graph}
 use Rattle.machine_core.specs.Graphs.{Accepts}
-use Rattle.box_search.specs.Hits.{runs_total}
+use Rattle.search_hits.specs.Hits.{runs_total}
 use Rattle.flat_cubes.specs.Using.{is_defined}
 use Rattle.cube_bounds.specs.Bounds.{sources_of, sources, states, states_at, own_bound, product_by}
 use Rattle.cube_bounds.specs.NumberLaws.{factor, StatesAreBounded, StatesAreSolved}

@@ -3,7 +3,7 @@ use Rattle.std.proofs.Common.{◌≡◌, refl, sym, subst, ◌∙◌, ℕ, suc, 
 use Rattle.std.proofs.lemmas.List.{append-nil, drop_all}
 use Rattle.machine_core.specs.declared.graph.Graph.{Graph}
 use Rattle.machine_core.specs.declared.run.Run.{Run}
-use Rattle.box_search.specs.Hits.{AreRunsOf}
+use Rattle.search_hits.specs.Hits.{AreRunsOf}
 use Rattle.backward.specs.Families.{Family}
 use Rattle.backward.specs.Leaves.{machines_of}
 use Rattle.backward.specs.Runs.{Runs}

@@ -4,10 +4,10 @@ use Rattle.std.specs.Prelude.{⊤}
 use Rattle.std.specs.List.{AllZip}
 use Rattle.machine_core.specs.declared.graph.Graph.{Graph}
 use Rattle.sv_linear.specs.Rows.{MeetsRows}
-use Rattle.box_search.specs.Hits.{IsHit, characters, runs_total}
-use Rattle.box_search.specs.Regions.{IsInRegion}
-use Rattle.box_search.specs.declared.hit.Hit.{Hit}
-use Rattle.box_search.specs.declared.region.Region.{Region}
+use Rattle.search_hits.specs.Hits.{IsHit, characters, runs_total}
+use Rattle.search_hits.specs.Regions.{IsInRegion}
+use Rattle.search_hits.specs.declared.hit.Hit.{Hit}
+use Rattle.search_hits.specs.declared.region.Region.{Region}
 use Rattle.trim_search.specs.declared.built.Built.{Built}
 use Rattle.leaf_solve.specs.Answers.{IsDecided}
 use Rattle.leaf_solve.specs.Longs.{HasRun, letters}

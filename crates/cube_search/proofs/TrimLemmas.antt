@@ -9,7 +9,7 @@ use Rattle.machine_core.specs.Runs.{run_total}
 use Rattle.trim_search.specs.Lifted.{IsLift}
 use Rattle.trim_search.specs.Useful.{IsOnRun}
 use Rattle.trim_search.specs.declared.built.Built.{Built}
-use Rattle.box_search.specs.Hits.{runs_total}
+use Rattle.search_hits.specs.Hits.{runs_total}
 use Rattle.leaf_solve.specs.Longs.{HasRun}
 use Rattle.cube_bounds.specs.Bounds.{states}
 use Rattle.flat_cubes.specs.declared.flat.Flat.{Flat}

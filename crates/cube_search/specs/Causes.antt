@@ -4,7 +4,7 @@ use Rattle.sv_terms.specs.CutOff.{cut_off}
 use Rattle.sv_terms.specs.Language.{Word}
 use Rattle.machine_core.specs.declared.graph.Graph.{Graph}
 use Rattle.machine_core.specs.declared.run.Run.{Run}
-use Rattle.box_search.specs.Hits.{AreRunsOf, runs_total}
+use Rattle.search_hits.specs.Hits.{AreRunsOf, runs_total}
 use Rattle.farkas_check.specs.declared.system.System.{System}
 use Rattle.lia_branch.specs.declared.evidence.Evidence.{Evidence}
 use Rattle.leaf_solve.specs.declared.long_shown.LongShown.{LongShown}
@@ -21,6 +21,8 @@ use Rattle.cube_answers.specs.Limits.{most_states, most_splits}
 use Rattle.cube_answers.specs.OpenLeaves.{HasGivenUp, IsLeftOpen, IsLongFor}
 use Rattle.cube_answers.specs.declared.reason.OpenReason.{OpenReason}
 use Rattle.cube_answers.specs.declared.reason.OpenReason.TheVariants as reason
+use Rattle.cube_search.specs.declared.limits.PastLimit.{PastLimit}
+use Rattle.cube_search.specs.declared.limits.PastLimit.TheVariants as past
 
 -- the fact holds of all words and numbers that satisfy the cube
 abbrev pub EachSolution : Flat → (List Word → List ℤ → Type 0) → Type 0
@@ -64,3 +66,9 @@ IsCauseOf flat (reason.Splits n) = (n ≡ cut_off (splits flat)) × (most_splits
 IsCauseOf flat (reason.Growth n) = (n ≡ cut_off (growth flat)) × (longest_word < n) × (flat.rows ≢ [])
 IsCauseOf flat (reason.Length machines shown) = IsTooLong flat machines shown
 IsCauseOf flat (reason.Arithmetic machines system evidence) = IsGivenUp flat machines system evidence
+
+-- why a cube whose text is past this limit is left open
+abbrev pub past_reason : PastLimit → OpenReason
+past_reason (past.States n) = reason.States n
+past_reason (past.Splits n) = reason.Splits n
+past_reason (past.Growth n) = reason.Growth n

@@ -6,8 +6,8 @@ use Rattle.lia_branch.specs.declared.evidence.Evidence.{Evidence}
 use Rattle.leaf_solve.specs.Longs.{letters}
 use Rattle.leaf_solve.specs.declared.long_shown.LongShown.{LongShown}
 use Rattle.sv_linear.specs.Rows.{MeetsRows}
-use Rattle.box_search.specs.Regions.{IsInRegion}
-use Rattle.box_search.specs.declared.region.Region.{Region}
+use Rattle.search_hits.specs.Regions.{IsInRegion}
+use Rattle.search_hits.specs.declared.region.Region.{Region}
 use Rattle.cube_bounds.specs.Growth.{reach}
 use Rattle.cube_bounds.specs.Sides.{IsSmall}
 use Rattle.flat_cubes.specs.declared.definition.By.TheVariants.{Concat}

@@ -5,14 +5,14 @@ ghost use Rattle.cube_bounds.specs.Measuring.{AreNumbersOf};
 ghost use Rattle.flat_cubes.specs.Straight.{AreNamesApart, HasFormed, IsStraight};
 ghost use Rattle.cube_answers.specs.Limits.{GrowsLittle, IsWithinLimits, MustDecideFlat};
 ghost use Rattle.cube_search.specs.Answers.{IsCubeAnswer, IsDecided};
-ghost use Rattle.cube_search.specs.Causes.{IsCauseOf};
+ghost use Rattle.cube_search.specs.Causes.{IsCauseOf, past_reason};
 ghost use Rattle.cube_search.specs.declared.allowance.Allowance.TheVariants.{Part};
 
 use crate::allowance::Allowance;
-use crate::limits::past_limit;
+use crate::limits::{PastLimit, past_limit};
 use crate::searching::{Search, descend};
 use backward::first_state;
-use cube_answers::{CubeAnswer, LeafTally, OpenReason, Refutation, model_of, open_answer};
+use cube_answers::{CubeAnswer, LeafTally, Refutation, model_of, open_answer};
 use cube_bounds::Numbers;
 use cube_region::region_of;
 use flat_cubes::Flat;
@@ -47,7 +47,7 @@ pub fn cube_answer(
     }
     match past_limit(flat, numbers) {
         None => answer_within(alloc, flat, numbers, kept),
-        Some(reason) => answer_beyond(alloc, flat, numbers, kept, reason),
+        Some(limit) => answer_beyond(alloc, flat, numbers, kept, limit),
     }
 }
 
@@ -91,7 +91,7 @@ fn answer_beyond(
     flat: &Flat,
     numbers: &Numbers,
     kept: &Machines,
-    reason: OpenReason,
+    limit: PastLimit,
 ) -> Result<CubeAnswer, AllocError>
     requires straight { IsStraight flat.now }
     requires formed { HasFormed flat.now }
@@ -100,16 +100,16 @@ fn answer_beyond(
     requires bare { flat.now.rows ≡ [] → flat.now.registers ≡ [] }
     requires numbers { AreNumbersOf flat.now numbers.now }
     requires whole { flat.now.broken ≡ false }
-    requires cause { IsCauseOf flat.now reason }
+    requires cause { IsCauseOf flat.now (past_reason limit) }
     ensures right { IfOk result (IsCubeAnswer flat.now) }
 {
     if numbers.growth > MOST_CHARACTERS && !flat.rows.is_empty() {
-        return Ok(CubeAnswer::Open(reason));
+        return Ok(CubeAnswer::Open(limit.reason()));
     }
     match answer_by_search(alloc, flat, numbers, kept, Allowance::Part) {
         Ok(answer) => Ok(answer),
         Err(BuildFault::Memory(e)) => Err(e),
-        Err(BuildFault::States(_)) => Ok(CubeAnswer::Open(reason)),
+        Err(BuildFault::States(_)) => Ok(CubeAnswer::Open(limit.reason())),
     }
 }
 

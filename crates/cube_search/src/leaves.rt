@@ -9,9 +9,9 @@ use crate::searching::Search;
 use crate::spreading::spread;
 use crate::trimming::{lift_runs, machines_of, trim_family};
 use backward::{LeafState, families_become_leaves};
-use box_search::Hit;
 use cube_answers::{FoundRuns, LeafTally, answer_machines, settle};
 use cube_bounds::states_are_solved;
+use search_hits::Hit;
 use std::alloc::Global;
 use trim_search::BuildFault;
 

@@ -2,14 +2,14 @@
 ghost use Rattle.std.specs.Prelude.{◌≡◌, [], ◌∷◌, None, Some, IfOk, MatchOption};
 ghost use Rattle.std.specs.Vec.Iter.{into_iter_items};
 ghost use Rattle.machine_core.specs.declared.graph.Graph.{Graph};
-ghost use Rattle.box_search.specs.Hits.{AreRunsOf};
+ghost use Rattle.search_hits.specs.Hits.{AreRunsOf};
 ghost use Rattle.backward.specs.Leaves.{machines_of};
 ghost use Rattle.cube_search.specs.Spreads.{IsSpread};
 
 use backward::LeafState;
-use box_search::Hit;
 use cube_answers::FoundRuns;
 use machine_core::{Explicit, Run};
+use search_hits::Hit;
 use std::alloc::{AllocError, Global};
 use std::vec::IntoIter;
 use sv_list::Items;

@@ -12,11 +12,12 @@ use Rattle.cube_answers.specs.declared.reason.OpenReason.TheVariants.{Fragment}
 use Rattle.cube_answers.specs.declared.reason.Shown.TheVariants.{Opaque}
 use Rattle.sv_terms.specs.Truth.{AreValued, clear_of, opaque_of}
 use Rattle.assertion_parts.specs.Constants.{AreValuesOf}
-use Rattle.decide.specs.Causes.{IsCause, CubeHasNoValues, AreTrueAtCube}
+use Rattle.verdict_tally.specs.CubeValues.{CubeHasNoValues, AreTrueAtCube}
+use Rattle.verdict_tally.specs.Folds.{first_sat, opens_from}
+use Rattle.verdict_tally.proofs.Listed.{contains-here, contains-there, contains-cases, contains-none}
+use Rattle.decide.specs.Causes.{IsCause}
 use Rattle.decide.specs.Completeness.{MustDecideCube}
-use Rattle.decide.specs.Folds.{first_sat, opens_from}
 use Rattle.decide.specs.Jobs.{IsOutcome}
-use Rattle.decide.proofs.Listed.{contains-here, contains-there, contains-cases, contains-none}
 
 module _ (terms : List Term) where
   Outcomes : List Cube → List CubeAnswer → Type 0

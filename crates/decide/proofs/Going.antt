@@ -1,7 +1,7 @@
 -- One batch more.
-use Rattle.std.proofs.Common.{◌≡◌, ◌≢◌, ℕ, zero, suc, ◌+◌, ◌^◌, ◌<◌, ◌≤◌, ◌⊎◌, Bool, true, false, ◌||◌, nat_lt, List, [], ◌∷◌, ◌++◌, length, map, take, drop, Option, Some, None, MatchOption, Result, Ok, IfOk, refl, sym, ap, ◌∙◌, subst, arith, length-append, append_assoc, inl, inr}
+use Rattle.std.proofs.Common.{◌≡◌, ◌≢◌, ℕ, zero, suc, ◌+◌, ◌^◌, ◌<◌, ◌≤◌, ◌⊎◌, Bool, true, false, ◌||◌, nat_lt, List, [], ◌∷◌, ◌++◌, length, map, take, drop, Option, Some, None, Result, Ok, IfOk, refl, sym, ap, ◌∙◌, subst, arith, length-append, append_assoc, inl, inr}
 use Rattle.std.specs.List.{AllByRecursion, AllZip}
-use Rattle.std.proofs.lemmas.List.{length-drop, map-append, take-append-drop}
+use Rattle.std.proofs.lemmas.List.{length-drop, take-append-drop}
 use Rattle.std.proofs.Math.Seq.{drop-append_seam}
 use Rattle.std.specs.declared.alloc.AllocError.{AllocError}
 use Rattle.std.specs.Option.{is_some}
@@ -12,13 +12,15 @@ use Rattle.bool_cubes.specs.Cubes.{cubes_of}
 use Rattle.literal_forms.specs.declared.literal.Cube.{Cube}
 use Rattle.cube_answers.specs.declared.answer.CubeAnswer.{CubeAnswer}
 use Rattle.sv_terms.specs.Truth.{opaque_of}
-use Rattle.decide.specs.Folds.{found, with_first, without_sat}
-use Rattle.decide.specs.Jobs.{IsAskedCube, IsOutcome, IsTallyOf, IsFoldOf, IsUnderWay, batch, verdict_of}
+use Rattle.verdict_tally.specs.CubeValues.{CubeHasNoValues}
+use Rattle.verdict_tally.specs.Folds.{found, with_first, without_sat}
+use Rattle.verdict_tally.specs.Passing.{PassesCubes, passed}
+use Rattle.verdict_tally.specs.Tallies.{IsTallyOf, batch, verdict_of}
+use Rattle.verdict_tally.specs.declared.tally.CubeTally.{CubeTally}
+use Rattle.verdict_tally.proofs.Sharing.{LeftBy}
+use Rattle.verdict_tally.proofs.Tallying.{found-over, passed-length}
+use Rattle.decide.specs.Jobs.{IsAskedCube, IsOutcome, IsFoldOf, IsUnderWay}
 use Rattle.decide.specs.Batches.{AreJobsOf, Yields}
-use Rattle.decide.specs.Causes.{CubeHasNoValues}
-use Rattle.decide.specs.Passing.{PassesCubes, passed}
-use Rattle.decide.specs.declared.tally.CubeTally.{CubeTally}
-use Rattle.decide.proofs.Tallying.{found-over, passed-length}
 
 -- a job, as contracts see it
 abbrev Job : Type 0
@@ -29,10 +31,6 @@ pub one-more-job : (terms : List Term) (jobs : List Job) (job : Job) (cube : Cub
 one-more-job terms [] job cube old mid new h e t c = subst (λ o. AreJobsOf terms (job ∷ []) o new) (sym (h ∙ e)) (t, c, refl)
 one-more-job terms (j ∷ jobs) job cube [] mid new h e t c = absurd h
 one-more-job terms (j ∷ jobs) job cube (d ∷ old) mid new h e t c = (h.0, h.1, one-more-job terms jobs job cube old mid new h.2 e t c)
-
--- what the next cube says of those that are left
-abbrev pub LeftBy : List Cube → List Cube → Option Cube → Type 0
-LeftBy old new o = MatchOption o ((old ≡ []) × (new ≡ [])) (λ c. old ≡ c ∷ new)
 
 pub is-none : (old new : List Cube) (o : Option Cube) → o ≡ None → LeftBy old new o → (old ≡ []) × (new ≡ [])
 is-none old new o e h = subst (LeftBy old new) e h
@@ -161,17 +159,6 @@ room terms cubes old new jobs outcomes tally u taken yielded few =
 -- where a whole batch was taken, fewer cubes are left
 pub fewer : (terms : List Term) (jobs : List Job) (old new : List Cube) → AreJobsOf terms jobs old new → length jobs ≡ batch → length new < length old
 fewer terms jobs old new taken size = let b = jobs-length terms jobs old new taken in omega (arith, b, size)
-
--- one answer more, and what is still to come
-module _ (all done rest more : List (Result CubeAnswer AllocError)) (x : Result CubeAnswer AllocError) (split : all ≡ done ++ rest) (front : rest ≡ x ∷ more) where
-  pub split-on : all ≡ (done ++ x ∷ []) ++ more
-  split-on = split ∙ ap (λ l. done ++ l) front ∙ sym (append_assoc done (x ∷ []) more)
-
-pub more-answers : (done : List (Result CubeAnswer AllocError)) (answers : List CubeAnswer) (x : Result CubeAnswer AllocError) (a : CubeAnswer) → done ≡ map Ok answers → x ≡ Ok a → done ++ x ∷ [] ≡ map Ok (answers ++ a ∷ [])
-more-answers done answers x a e is = (λ i. e i ++ is i ∷ []) ∙ sym (map-append Ok answers (a ∷ []))
-
-pub tallied-on : (opaque : List Term) (before answers : List CubeAnswer) (a : CubeAnswer) (tally : CubeTally) → IsTallyOf opaque ((before ++ answers) ++ a ∷ []) tally → IsTallyOf opaque (before ++ (answers ++ a ∷ [])) tally
-tallied-on opaque before answers a tally h = subst (λ l. IsTallyOf opaque l tally) (append_assoc before answers (a ∷ [])) h
 
 module _ (new : List Cube) (jobs : List Job) (size : (length jobs ≡ batch) ⊎ ((new ≡ []) × (length jobs ≤ batch))) where
   -- a short batch is the last

@@ -1,10 +1,8 @@
+pub mod Asking
 pub mod Assertions
 pub mod Crossing
 pub mod Folding
 pub mod Going
-pub mod Listed
 pub mod Models
 pub mod Rightness
-pub mod Sharing
 pub mod Sorts
-pub mod Tallying

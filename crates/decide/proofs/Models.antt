@@ -31,10 +31,11 @@ use Rattle.cube_search.specs.Causes.{EachSolution, IsCauseOf}
 use Rattle.cube_answers.specs.Limits.{MustDecideFlat}
 use Rattle.cube_answers.specs.declared.reason.OpenReason.{OpenReason}
 use Rattle.cube_answers.specs.declared.reason.OpenReason.TheVariants as reason
-use Rattle.decide.specs.Causes.{CubeHasNoValues, IsCause}
+use Rattle.verdict_tally.specs.CubeValues.{CubeHasNoValues}
+use Rattle.verdict_tally.proofs.Listed.{first-part}
+use Rattle.decide.specs.Causes.{IsCause}
 use Rattle.decide.specs.Completeness.{MustDecideCube}
 use Rattle.decide.specs.Jobs.{IsAskedCube, IsSatOf}
-use Rattle.decide.proofs.Listed.{first-part}
 use Rattle.decide.proofs.Sorts.{sort_at, sorted-by, sorts_by}
 
 abbrev Name : Type 0

@@ -1,10 +1,7 @@
 -- Why a cube of some assertions is left open.
 use Rattle.std.specs.Prelude.{Contains, Err, List}
-use Rattle.sv_terms.specs.Meaning.{Named}
-use Rattle.sv_terms.specs.Truth.{AreWorded, opaque_of}
+use Rattle.sv_terms.specs.Truth.{opaque_of}
 use Rattle.sv_terms.specs.declared.term.Term.{Term}
-use Rattle.bool_cubes.specs.Cubes.{CubeTrue}
-use Rattle.bool_cubes.specs.Laws.{IsValuedCube}
 use Rattle.literal_forms.specs.declared.literal.Cube.{Cube}
 use Rattle.flat_cubes.specs.Flattening.{IsFlattened, IsFlattening}
 use Rattle.flat_cubes.specs.declared.fault.FlatFault.{FlatFault}
@@ -15,20 +12,7 @@ use Rattle.cube_answers.specs.declared.reason.OpenReason.{OpenReason}
 use Rattle.cube_answers.specs.declared.reason.OpenReason.TheVariants.{Fragment, Wide, States, Splits, Growth, Length, Arithmetic}
 use Rattle.cube_answers.specs.declared.reason.Shown.{Shown}
 use Rattle.cube_answers.specs.declared.reason.Shown.TheVariants.{Outside, Twice, Cycle, Opaque}
-
--- truth values, numbers and words, each of its constant's sort, that make each literal true
-pub record AreTrueAtCube (values : Named) (cube : Cube) : Type 0 where
-  pub worded : AreWorded values
-  pub valued : IsValuedCube values cube
-  pub holds : CubeTrue values cube
-
--- there are such values
-abbrev pub CubeHasValues : Cube → Type 0
-CubeHasValues cube = (values : Named) × AreTrueAtCube values cube
-
--- there are none
-abbrev pub CubeHasNoValues : Cube → Type 0
-CubeHasNoValues cube = (values : Named) → AreTrueAtCube values cube → ⊥
+use Rattle.verdict_tally.specs.CubeValues.{CubeHasValues}
 
 -- the first thing for which the cube isn't straight
 abbrev pub IsRefusedBy : Cube → FlatFault → Type 0

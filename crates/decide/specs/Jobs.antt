@@ -1,11 +1,10 @@
--- What the answer for one cube of some assertions is, and what a tally of answers holds.
+-- What the answer for one cube of some assertions is, and what the answers for all come to.
 use Rattle.std.specs.Prelude.{◌≡◌, ◌≢◌, ℕ, ◌*◌, ◌≤◌, List, [], ◌++◌, length, None, ◌⊎◌, ⊤}
 use Rattle.std.specs.List.{AllByRecursion, AllZip}
 use Rattle.sv_terms.specs.Meaning.{Named}
 use Rattle.sv_terms.specs.Truth.{AreValued, clear_of, opaque_of}
 use Rattle.sv_terms.specs.declared.term.Term.{Term}
 use Rattle.assertion_parts.specs.Constants.{AreValuesOf, HaveOneSort}
-use Rattle.assertion_parts.specs.Firsts.{first_of}
 use Rattle.bool_cubes.specs.Cubes.{cubes_of}
 use Rattle.bool_cubes.specs.Laws.{IsFittingCube, IsValuedCube}
 use Rattle.literal_forms.specs.Shapes.{seen}
@@ -17,13 +16,15 @@ use Rattle.flat_cubes.specs.declared.flat.Flat.{Flat}
 use Rattle.cube_search.specs.Answers.{IsDecided, IsModelOf}
 use Rattle.cube_answers.specs.declared.answer.CubeAnswer.{CubeAnswer}
 use Rattle.cube_answers.specs.declared.answer.CubeAnswer.TheVariants as answer
-use Rattle.decide.specs.Causes.{AreTrueAtCube, CubeHasNoValues, IsCause}
+use Rattle.decide.specs.Causes.{IsCause}
 use Rattle.decide.specs.Completeness.{MustDecideCube}
-use Rattle.decide.specs.Folds.{found, opens_from, refuted_from, refutation, with_first, without_sat, fold}
-use Rattle.decide.specs.declared.tally.CubeTally.{CubeTally}
-use Rattle.decide.specs.declared.verdict.Open.TheVariants.{TooManyCubes, PastForm, Cubes}
-use Rattle.decide.specs.declared.verdict.Verdict.{Verdict}
-use Rattle.decide.specs.declared.verdict.Verdict.TheVariants.{Sat, Unsat, Unknown}
+use Rattle.verdict_tally.specs.CubeValues.{AreTrueAtCube, CubeHasNoValues}
+use Rattle.verdict_tally.specs.Folds.{found, fold}
+use Rattle.verdict_tally.specs.Tallies.{IsTallyOf, batch}
+use Rattle.verdict_tally.specs.declared.tally.CubeTally.{CubeTally}
+use Rattle.verdict_tally.specs.declared.verdict.Open.TheVariants.{TooManyCubes, PastForm, Cubes}
+use Rattle.verdict_tally.specs.declared.verdict.Verdict.{Verdict}
+use Rattle.verdict_tally.specs.declared.verdict.Verdict.TheVariants.{Sat, Unsat, Unknown}
 
 -- a cube of assertions that may be asked: no step of its literals leaves 128 bits, their words are words and their transducers formed, and values of the assertions' constants, of which some are, are values of its own
 pub record IsAskedCube (terms : List Term) (cube : Cube) : Type 0 where
@@ -52,22 +53,6 @@ IsRightAnswer terms cube (answer.Open reason) = IsCause terms cube reason
 pub record IsOutcome (terms : List Term) (cube : Cube) (answer : CubeAnswer) : Type 0 where
   pub right : IsRightAnswer terms cube answer
   pub decided : MustDecideCube cube → IsDecided answer
-
--- the tally of these answers: their number, the model that ends the search, the open cubes among them, and the counts of those refuted
-pub record IsTallyOf (opaque : List Term) (answers : List CubeAnswer) (tally : CubeTally) : Type 0 where
-  pub first : tally.opaque ≡ first_of opaque
-  pub count : tally.count ≡ length answers
-  pub model : tally.model ≡ found opaque answers
-  pub open_cubes : tally.open_cubes ≡ opens_from 0 opaque answers
-  pub refuted : tally.refuted ≡ refuted_from (refutation 0 0 0) answers
-
--- the verdict that a tally comes to
-abbrev pub verdict_of : CubeTally → Verdict
-verdict_of tally = with_first tally.model (without_sat tally.open_cubes tally.refuted)
-
--- so many cubes are done at once
-abbrev pub batch : ℕ
-batch = 64
 
 -- whole batches without a model that ends the search
 pub record AreWhole (opaque : List Term) (answers : List CubeAnswer) : Type 0 where

@@ -1,8 +1,9 @@
 //! The jobs of a batch.
 ghost use Rattle.std.specs.Prelude.{◌≡◌, ◌≤◌, [], ◌⊎◌, length, IfOk};
 ghost use Rattle.std.specs.List.{AllByRecursion};
+ghost use Rattle.verdict_tally.specs.Tallies.{batch};
 ghost use Rattle.decide.specs.Batches.{AreAnswersOf, AreJobsOf};
-ghost use Rattle.decide.specs.Jobs.{IsAskedCube, batch};
+ghost use Rattle.decide.specs.Jobs.{IsAskedCube};
 
 use crate::cube_job::{CubeJob, Shared};
 use bool_cubes::Cubes;
@@ -12,9 +13,7 @@ use part_machines::machines_cross;
 use std::alloc::{AllocError, Global};
 use std::thread::Threads;
 use sv_list::Items;
-
-/// How many cubes are done at once.
-pub const BATCH: usize = 64;
+use verdict_tally::BATCH;
 
 /// Jobs for the next cubes, as many as a batch has; fewer only where no more are left.
 pub fn next_batch<'a>(

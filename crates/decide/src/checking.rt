@@ -1,35 +1,31 @@
 //! The verdict on assertions.
-ghost use Rattle.std.specs.Prelude.{◌≡◌, ◌≤◌, ◌+◌, ◌<◌, ◌^◌, ◌++◌, List, drop, map, length, IsTrue, IfOk, OnOk, Ok, Some};
+ghost use Rattle.std.specs.Prelude.{◌≡◌, ◌≤◌, ◌+◌, ◌<◌, ◌^◌, drop, length, IsTrue, IfOk, OnOk, Some};
 ghost use Rattle.std.specs.List.{AllByRecursion};
 ghost use Rattle.sv_terms.specs.Sorting.{sort_of};
 ghost use Rattle.sv_terms.specs.declared.sort.Sort.TheVariants as sort;
-ghost use Rattle.sv_terms.specs.declared.term.Term.{Term as AnyTerm};
 ghost use Rattle.assertion_parts.specs.Constants.{HaveOneSort, has_formed};
 ghost use Rattle.bool_cubes.specs.Cubes.{cubes_of};
 ghost use Rattle.bool_cubes.specs.Laws.{IsClearBool};
 ghost use Rattle.bool_cubes.specs.Refusing.{most_cubes};
-ghost use Rattle.cube_answers.specs.declared.answer.CubeAnswer.{CubeAnswer as AnyAnswer};
+ghost use Rattle.verdict_tally.specs.Passing.{PassesCubes};
 ghost use Rattle.decide.specs.Completeness.{MustDecide, IsComplete};
-ghost use Rattle.decide.specs.Jobs.{IsAskedCube, IsFolded, IsFoldOf, IsTallyOf};
-ghost use Rattle.decide.specs.Passing.{PassesCubes};
+ghost use Rattle.decide.specs.Jobs.{IsAskedCube, IsFolded, IsFoldOf};
 ghost use Rattle.decide.specs.Verdicts.{HasOnly, RightVerdict, refused_as};
 
 use crate::batch::{answers, next_batch};
 use crate::cube_job::Shared;
 use crate::machines::machines_for;
-use crate::passing::{Pace, count_refuted_ahead};
-use crate::tally::CubeTally;
-use crate::verdict::{Open, Verdict};
+use crate::passing::count_refuted_ahead;
 use assertion_parts::{clear_terms, first_opaque, string_literals_are_words};
 use bool_cubes::{
     CubeFault, Cubes, cubes_are_counted, cubes_are_exact, literals_fit, literals_have_values,
     literals_pass,
 };
-use cube_answers::CubeAnswer;
 use par_phase::Gate;
 use std::alloc::{AllocError, Global};
 use std::thread::Threads;
 use sv_terms::{Term, transducers_are_bounded};
+use verdict_tally::{CubeTally, Open, Pace, Verdict, tally_all};
 
 /// The verdict on assertions: terms of sort Bool whose transducers are formed, and in which each name has
 /// one sort, as `sort_check` answers them.
@@ -141,20 +137,5 @@ fn pass_over(
     cubes.skip(refuted);
     tally.pass(refuted);
     pace.record(refuted);
-    Ok(())
-}
-
-/// Puts the answers to the tally, in their order.
-fn tally_all(
-    alloc: Global,
-    tally: &mut CubeTally,
-    outcomes: Vec<Result<CubeAnswer, AllocError>>,
-) -> Result<(), AllocError>
-    requires { tally.old.count + length outcomes.items < 2 ^ 64 }
-    ensures { OnOk result ((answers : List AnyAnswer) × (outcomes.items ≡ map Ok answers) × ((opaque : List AnyTerm) (before : List AnyAnswer) → IsTallyOf opaque before tally.old → IsTallyOf opaque (before ++ answers) tally.new)) }
-{
-    for outcome in outcomes {
-        tally.add(alloc, outcome?)?;
-    }
     Ok(())
 }

@@ -22,8 +22,5 @@ mod checking;
 mod cube_job;
 mod machines;
 mod passing;
-mod tally;
-mod verdict;
 
 pub use checking::check;
-pub use verdict::{Open, Verdict};

@@ -1,164 +1,19 @@
 //! Cubes that need no work: those that share literals which have no values.
-ghost use Rattle.std.specs.Prelude.{◌≡◌, ◌<◌, ◌≤◌, ◌*◌, ◌+◌, ◌%◌, ◌||◌, ◌++◌, ◌∷◌, [], ℕ, IfOk, IfSome, IsTrue, OnOk, Some, drop, if◌then◌else◌, length, nat_lt, slice_get};
+ghost use Rattle.std.specs.Prelude.{◌≤◌, IfOk, IsTrue, length};
 ghost use Rattle.std.specs.List.{AllByRecursion};
 ghost use Rattle.bool_cubes.specs.Cubes.{cubes_of};
 ghost use Rattle.bool_cubes.specs.Laws.{IsClearBool};
-ghost use Rattle.bool_cubes.specs.Refusing.{count_of};
-ghost use Rattle.decide.specs.Causes.{CubeHasNoValues};
-ghost use Rattle.decide.specs.Jobs.{IsAskedCube, batch};
-ghost use Rattle.decide.specs.Passing.{AreKnown, is_single, shared_of};
+ghost use Rattle.verdict_tally.specs.CubeValues.{CubeHasNoValues};
+ghost use Rattle.verdict_tally.specs.Passing.{AreKnown};
+ghost use Rattle.decide.specs.Jobs.{IsAskedCube};
 
-use crate::batch::BATCH;
 use crate::cube_job::{Shared, answer_for};
-use bool_cubes::{CubeFault, Cubes, count, cubes_are_counted, cubes_are_picked};
+use bool_cubes::{cubes_are_counted, cubes_are_picked};
 use cube_answers::CubeAnswer;
 use literal_forms::Cube;
-use std::alloc::{AllocError, Global};
-use sv_list::Items;
-use sv_terms::{MOST_CUBES, Term};
-
-/// After how many batches literals that cubes share are asked about: after the next one, and after twice as many
-/// whenever nothing came of it.
-#[derive(Clone, Copy)]
-pub struct Pace {
-    left: u64,
-    distance: u64,
-}
-
-impl Pace {
-    pub fn new() -> Pace {
-        Pace {
-            left: 1,
-            distance: 1,
-        }
-    }
-
-    /// One batch more: whether to ask now.
-    pub fn is_due(&mut self) -> bool {
-        self.left = self.left.saturating_sub(1);
-        self.left == 0
-    }
-
-    /// What came of it: so many cubes are passed over.
-    pub fn record(&mut self, cubes: u64) {
-        self.distance = if cubes > 0 {
-            1
-        } else {
-            self.distance.saturating_mul(2)
-        };
-        self.left = self.distance;
-    }
-}
-
-/// Whether the term leaves no choice.
-fn is_single(term: &Term) -> bool
-    requires { IsClearBool term.now }
-    ensures { result ≡ is_single term.now }
-{
-    count(std::slice::from_ref(term)) == 1
-}
-
-/// Whether all cubes of one choice for the first terms share what the term at this place says.
-fn is_shared(term: &Term, at: usize, first: usize) -> bool
-    requires { IsClearBool term.now }
-    ensures { result ≡ (nat_lt at first || is_single term.now) }
-{
-    at < first || is_single(term)
-}
-
-fn push_if_shared(
-    alloc: Global,
-    all: &mut Items<Term>,
-    term: &Term,
-    at: usize,
-    first: usize,
-) -> Result<(), AllocError>
-    requires { IsClearBool term.now }
-    ensures { OnOk result (all.new ≡ all.old ++ (if nat_lt at first || is_single term.now then term.now ∷ [] else [])) }
-{
-    if !is_shared(term, at, first) {
-        return Ok(());
-    }
-    all.push(term.copy(alloc)?)?;
-    Ok(())
-}
-
-/// The first terms, and those of the others that leave no choice.
-fn shared_terms(alloc: Global, terms: &[Term], first: usize) -> Result<Items<Term>, AllocError>
-    requires { AllByRecursion IsClearBool terms.now }
-    ensures { IfOk result (λ all. all ≡ shared_of first terms.now) }
-{
-    let mut all = Items::new(alloc);
-    for at in 0..terms.len() {
-        push_if_shared(alloc, &mut all, &terms[at], at, first)?;
-    }
-    Ok(all)
-}
-
-/// The literals that the cubes of this choice for the first terms share. `None` where there is no such choice.
-fn shared_literals(
-    alloc: Global,
-    terms: &[Term],
-    first: usize,
-    choice: u64,
-) -> Result<Option<Cube>, AllocError>
-    requires { AllByRecursion IsClearBool terms.now }
-    ensures { IfOk result (λ o. IfSome o (λ cube. slice_get (cubes_of (shared_of first terms.now)) choice ≡ Some cube)) }
-{
-    let shared = shared_terms(alloc, terms, first)?;
-    match Cubes::new(alloc, shared.as_slice()) {
-        Ok(mut cubes) => {
-            cubes.skip(choice);
-            let cube = cubes.next(alloc)?;
-            Ok(cube)
-        }
-        Err(CubeFault::Memory(error)) => Err(error),
-        Err(_) => Ok(None),
-    }
-}
-
-/// How many cubes make one choice for the first terms, one after another: 0 where they are too many.
-fn block_of(terms: &[Term], first: usize) -> u64
-    requires sorted { AllByRecursion IsClearBool terms.now }
-    requires first { first ≤ length terms.now }
-    ensures { 0 < result → result ≡ count_of (drop first terms.now) }
-{
-    let cubes = count(&terms[first..]);
-    if cubes > MOST_CUBES {
-        return 0;
-    }
-    cubes
-}
-
-/// How many of the cubes behind so many are in the block in which the first of them is, in whole batches.
-fn count_ahead(block: u64, given: u64) -> u64
-    ensures whole { (batches : ℕ) × (result ≡ batches * batch) }
-    ensures below { result ≤ block }
-    ensures within { 0 < result → given % block + result ≤ block }
-{
-    if block == 0 {
-        return 0;
-    }
-    (block - given % block) / (BATCH as u64) * (BATCH as u64)
-}
-
-/// The greatest number of first terms of which a block goes on for a whole batch.
-fn longest(terms: &[Term], given: u64) -> usize
-    requires { AllByRecursion IsClearBool terms.now }
-    ensures { result ≤ length terms.now }
-{
-    let mut least = 0;
-    let mut most = terms.len();
-    while least < most {
-        let middle = most - (most - least) / 2;
-        if count_ahead(block_of(terms, middle), given) > 0 {
-            least = middle;
-        } else {
-            most = middle - 1;
-        }
-    }
-    least
-}
+use std::alloc::AllocError;
+use sv_terms::Term;
+use verdict_tally::{block_of, count_ahead, longest, shared_literals};
 
 /// Whether no values make the literals true, as far as is found.
 fn has_no_values(shared: &Shared<'_>, cube: &Cube) -> Result<bool, AllocError>

@@ -1,9 +1,9 @@
 //! Flat cubes: variables over words with what is said of each alone, definitions without a cycle, and rows.
 //!
 //! A [`Flat`] is what a cube says once its terms are variables, a [`FlatDraft`] what its literals say before, by the
-//! places of terms, and a [`FlatFault`] why a cube has no flat one. The definitions of `specs/` say what the literals of
-//! a cube say, which flat cube that makes, and when words and numbers satisfy one. The crates that make flat cubes and
-//! those that search them stand on this one, and not on one another.
+//! places of terms, and a [`FlatFault`] why a cube has no flat one. The definitions of `specs/` say what the literals
+//! of a cube say, which flat cube that makes, and when words and numbers satisfy one. The crates that make flat cubes
+//! and those that search them stand on this one, and not on one another.
 //!
 //! The central fact: [`By::uses`] is `used`, by which definitions are put in order and carried backward. It takes
 //! constant time, and nothing else is computed here.

@@ -7,9 +7,9 @@ use Rattle.machine_core.specs.declared.run.Run.{Run}
 use Rattle.farkas_check.specs.Cuts.{values_of}
 use Rattle.farkas_check.specs.declared.system.System.{System}
 use Rattle.farkas_check.specs.declared.tree.Tree.{Tree}
-use Rattle.box_search.specs.Hits.{IsHit, characters}
-use Rattle.box_search.specs.declared.hit.Hit.{Hit}
-use Rattle.box_search.specs.declared.region.Region.{Region}
+use Rattle.search_hits.specs.Hits.{IsHit, characters}
+use Rattle.search_hits.specs.declared.hit.Hit.{Hit}
+use Rattle.search_hits.specs.declared.region.Region.{Region}
 use Rattle.lia_branch.specs.Outcomes.{IsSolution, IsAccepted}
 use Rattle.parikh_flow.specs.Rows.{unknowns_after, IsSystemOf}
 use Rattle.parikh_flow.specs.Solutions.{HaveFlowsAt}

@@ -4,7 +4,7 @@ use Rattle.std.proofs.lemmas.Int.{ints}
 use Rattle.std.proofs.lemmas.List.{take_more}
 use Rattle.machine_core.specs.declared.graph.Graph.{Graph}
 use Rattle.machine_core.specs.declared.run.Run.{Run}
-use Rattle.box_search.specs.Hits.{characters}
+use Rattle.search_hits.specs.Hits.{characters}
 use Rattle.parikh_flow.specs.Counts.{total_count, size_of}
 use Rattle.parikh_flow.specs.Flows.{IsFlow}
 use Rattle.parikh_flow.specs.Rows.{unknowns_after}

@@ -7,9 +7,9 @@ use Rattle.sv_linear.specs.declared.row.Row.{Row}
 use Rattle.machine_core.specs.declared.graph.Graph.{Graph}
 use Rattle.machine_core.specs.declared.run.Run.{Run}
 use Rattle.trim_search.specs.Shortest.{IsShortestRun}
-use Rattle.box_search.specs.Hits.{IsHit, runs_total, characters}
-use Rattle.box_search.specs.Regions.{points, greatest_states, IsHitWithin, IsShortHit}
-use Rattle.box_search.specs.declared.region.Region.{Region}
+use Rattle.search_hits.specs.Hits.{IsHit, runs_total, characters}
+use Rattle.search_hits.specs.Regions.{points, greatest_states, IsHitWithin, IsShortHit}
+use Rattle.search_hits.specs.declared.region.Region.{Region}
 use Rattle.leaf_solve.specs.Questions.{IsAsked, EachHit, LieIn}
 use Rattle.leaf_solve.specs.Longs.{IsShortestWord, letters}
 use Rattle.leaf_solve.specs.Answers.{HasNoHit, HasHitsPast, IsLongAnswer}

@@ -12,7 +12,7 @@ use Rattle.machine_core.specs.Graphs.{Accepts, IsRunOf}
 use Rattle.machine_core.specs.Runs.{run_total}
 use Rattle.machine_core.specs.RunLaws.{run_accepted}
 use Rattle.trim_search.specs.Shortest.{IsShortestRun}
-use Rattle.box_search.specs.Hits.{AreRunsOf, characters}
+use Rattle.search_hits.specs.Hits.{AreRunsOf, characters}
 use Rattle.leaf_solve.specs.Questions.{total_states}
 use Rattle.leaf_solve.specs.Longs.{HasRun, IsShortestWord, letters}
 use Rattle.leaf_solve.specs.Answers.{HasNoHit}

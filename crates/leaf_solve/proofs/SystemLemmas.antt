@@ -11,8 +11,8 @@ use Rattle.farkas_check.specs.Systems.{Solves, rows_of, no_constraint}
 use Rattle.farkas_check.specs.declared.system.System.{System}
 use Rattle.farkas_check.specs.declared.tree.Tree.{Tree}
 use Rattle.farkas_check.proofs.Soundness.{closes_sound}
-use Rattle.box_search.specs.Hits.{IsHit, HaveRegisters, characters}
-use Rattle.box_search.specs.declared.region.Region.{Region}
+use Rattle.search_hits.specs.Hits.{IsHit, HaveRegisters, characters}
+use Rattle.search_hits.specs.declared.region.Region.{Region}
 use Rattle.lia_branch.specs.Outcomes.{IsSolution}
 use Rattle.parikh_flow.specs.Rows.{IsSystemOf}
 use Rattle.parikh_flow.specs.Solutions.{HaveFlowsAt, AreRunValues}

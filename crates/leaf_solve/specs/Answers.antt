@@ -3,9 +3,9 @@ use Rattle.std.specs.Prelude.{◌≡◌, ◌≢◌, ℕ, pos, ◌<◌, ◌≤◌
 use Rattle.sv_linear.specs.declared.row.Row.{Row}
 use Rattle.machine_core.specs.declared.graph.Graph.{Graph}
 use Rattle.farkas_check.specs.declared.system.System.{System}
-use Rattle.box_search.specs.Hits.{IsHit, characters}
-use Rattle.box_search.specs.declared.hit.Hit.{Hit}
-use Rattle.box_search.specs.declared.region.Region.{Region}
+use Rattle.search_hits.specs.Hits.{IsHit, characters}
+use Rattle.search_hits.specs.declared.hit.Hit.{Hit}
+use Rattle.search_hits.specs.declared.region.Region.{Region}
 use Rattle.lia_branch.specs.EvidenceHolds.{Holds}
 use Rattle.lia_branch.specs.Outcomes.{IsAccepted}
 use Rattle.lia_branch.specs.declared.evidence.Evidence.{Evidence}

@@ -4,9 +4,9 @@ use Rattle.sv_linear.specs.Rows.{IsRowWithin}
 use Rattle.sv_linear.specs.declared.row.Row.{Row}
 use Rattle.machine_core.specs.declared.graph.Graph.{Graph}
 use Rattle.machine_core.specs.declared.run.Run.{Run}
-use Rattle.box_search.specs.Hits.{IsHit, HaveRegisters, runs_total}
-use Rattle.box_search.specs.Regions.{IsInRegion, FitsRegion, points, greatest_states}
-use Rattle.box_search.specs.declared.region.Region.{Region}
+use Rattle.search_hits.specs.Hits.{IsHit, HaveRegisters, runs_total}
+use Rattle.search_hits.specs.Regions.{IsInRegion, FitsRegion, points, greatest_states}
+use Rattle.search_hits.specs.declared.region.Region.{Region}
 
 -- the fact holds of all runs and whole numbers that meet the rows
 abbrev pub EachHit : List Graph → ℕ → ℕ → List Row → (List (Run ℕ) → List ℤ → Type 0) → Type 0

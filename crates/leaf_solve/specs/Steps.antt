@@ -9,7 +9,7 @@ use Rattle.trim_search.specs.Shortest.{IsShortestRun}
 use Rattle.farkas_check.specs.Cuts.{IsNetWithin}
 use Rattle.farkas_check.specs.declared.system.System.{System}
 use Rattle.lia_branch.specs.Outcomes.{CountsEdges}
-use Rattle.box_search.specs.Hits.{characters}
+use Rattle.search_hits.specs.Hits.{characters}
 use Rattle.parikh_flow.specs.Rows.{IsSystemOf}
 use Rattle.parikh_flow.specs.Solutions.{HasFlowAt, HaveFlowsAt}
 use Rattle.leaf_solve.specs.Questions.{IsAsked}

@@ -8,8 +8,8 @@ use crate::question::Question;
 use crate::rows::by_rows;
 use crate::shortest::{Shortest, shortest_runs};
 use crate::words::by_words;
-use box_search::Region;
 use machine_core::Explicit;
+use search_hits::Region;
 use std::alloc::{AllocError, Global};
 use sv_linear::Row;
 

@@ -1,8 +1,8 @@
 use crate::closing::Closing;
 use crate::long_shown::LongShown;
-use box_search::Hit;
 use farkas_check::System;
 use lia_branch::Evidence;
+use search_hits::Hit;
 
 /// What `leaf` answers.
 #[derive(Drop)]

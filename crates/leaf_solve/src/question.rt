@@ -1,5 +1,5 @@
-use box_search::Region;
 use machine_core::Explicit;
+use search_hits::Region;
 use sv_linear::Row;
 
 /// Machines, rows over whole numbers and what runs cost, where to look for hits, and how many characters

@@ -7,10 +7,10 @@ ghost use Rattle.leaf_solve.specs.Steps.{IsAskedQuestion, IsSystemFor, IsSolvabl
 
 use crate::counts::runs_at;
 use crate::question::Question;
-use box_search::Hit;
 use farkas_check::System;
 use lia_branch::{Outcome, solve};
 use parikh_flow::{NetCutter, nets_are_within, solutions_are_hits, system_of, systems_count_edges};
+use search_hits::Hit;
 use std::alloc::{AllocError, Global};
 use sv_list::Items;
 

@@ -7,7 +7,7 @@ use Rattle.sv_linear.specs.Rows.{IsRowWithin, HasSymmetricEntries}
 use Rattle.sv_linear.specs.declared.column.Column.TheVariants.{Unknown, Constant}
 use Rattle.sv_linear.specs.declared.row.Row.{Row}
 use Rattle.machine_core.specs.declared.graph.Graph.{Graph}
-use Rattle.box_search.specs.declared.region.Region.{Region}
+use Rattle.search_hits.specs.declared.region.Region.{Region}
 use Rattle.leaf_solve.specs.Questions.{IsAsked}
 
 -- a row of one term

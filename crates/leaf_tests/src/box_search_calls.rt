@@ -1,9 +1,10 @@
 //! Totals of one register over three machines.
 ghost use Rattle.std.specs.Prelude.{◌≡◌, ◌<◌, [], IfOk};
-ghost use Rattle.box_search.specs.Regions.{IsQuestion};
+ghost use Rattle.search_hits.specs.Regions.{IsQuestion};
 
-use box_search::{Region, search};
+use box_search::search;
 use machine_core::{Cost, Explicit};
+use search_hits::Region;
 use std::alloc::{AllocError, Global};
 use sv_list::Items;
 use sv_word::Ranges;

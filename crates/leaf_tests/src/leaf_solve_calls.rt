@@ -3,9 +3,9 @@ ghost use Rattle.std.specs.Prelude.{◌≡◌, ◌≢◌, ℕ, pos, ◌≤◌, �
 ghost use Rattle.sv_linear.specs.Rows.{IsRowWithin};
 ghost use Rattle.sv_linear.specs.declared.row.Row.{Row};
 
-use box_search::Region;
 use leaf_solve::{Closing, LeafAnswer, leaf};
 use machine_core::{Cost, Explicit};
+use search_hits::Region;
 use std::alloc::{AllocError, Global};
 use sv_linear::{Form, Row, RowKind};
 use sv_list::Items;

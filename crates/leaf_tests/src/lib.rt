@@ -1,7 +1,7 @@
 //! Tests of the public calls on families of machines: shared machines and meetings of parts, a cut of a concatenation,
 //! searches in a box, edge counts and leaves. What a script shows by its reply is tested by the program's scripts.
 //!
-//! A module for each crate that is called. They stand apart from what they call, so that proving them proves no crate
+//! A module for each crate that is tested. They stand apart from what they call, so that proving them proves no crate
 //! a second time.
 #![tactic(auto)]
 

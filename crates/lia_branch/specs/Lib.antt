@@ -5,7 +5,6 @@ pub mod EvidenceHolds
 pub mod Forks
 pub mod Founds
 pub mod LeafMultipliers
-pub mod LoopNets
 pub mod Nodes
 pub mod Outcomes
 pub mod PastSums

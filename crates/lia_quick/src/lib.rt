@@ -6,10 +6,10 @@
 //!
 //! `Elimination` puts unknowns out of equations by those with coefficient 1 or -1, in one pass, and keeps how each sum
 //! was made. `close_by_divisor` closes a system by such a sum that no whole numbers meet. `reduce` makes the system
-//! that is left, which is small where the equations are those of chains; `restore_point` gives the unknowns that went out
-//! their values back, and `restore_tree` takes a tree of what is left to the rows of the whole. `solve_by_bounds` carries bounds
-//! from row to row of what is left, splits at a rounded bound and in the middle of the narrowest range of an equation,
-//! and answers a point or a tree.
+//! that is left, which is small where the equations are those of chains; `restore_point` gives the unknowns that went
+//! out their values back, and `restore_tree` takes a tree of what is left to the rows of the whole. `solve_by_bounds`
+//! carries bounds from row to row of what is left, splits at a rounded bound and in the middle of the narrowest range
+//! of an equation, and answers a point or a tree.
 //!
 //! ```text
 //! let Some(elimination) = Elimination::of(alloc, &system)? else { .. };

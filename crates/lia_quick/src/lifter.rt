@@ -3,7 +3,7 @@ use crate::weights::Weights;
 use std::alloc::{AllocError, Global};
 use sv_list::Items;
 
-/// A row that so many leaves name is unfolded once for all that follow.
+/// A row for whose sum others are taken is unfolded once so many leaves name it, for all that follow.
 const MANY: u32 = 8;
 
 /// A row of the reduced system, as leaves name it.
@@ -88,7 +88,7 @@ impl Lifter {
         }
         let leaves = self.named[at].leaves.saturating_add(1);
         self.named[at].leaves = leaves;
-        if leaves == MANY {
+        if leaves == MANY && !sum.steps.is_empty() {
             self.named[at].unfolded = lift_multipliers(alloc, reduction, &[(row, 1)], None)?;
         }
         match &self.named[at].unfolded {

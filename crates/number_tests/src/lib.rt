@@ -1,6 +1,6 @@
 //! Tests of the public calls on lists and on whole numbers: linear forms, certificates, the tableau and splits.
 //!
-//! A module for each crate that is called. They stand apart from what they call, so that proving them proves no crate
+//! A module for each crate that is tested. They stand apart from what they call, so that proving them proves no crate
 //! a second time.
 #![tactic(auto)]
 

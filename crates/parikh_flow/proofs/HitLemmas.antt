@@ -16,8 +16,8 @@ use Rattle.machine_core.specs.Lists.{slice_get-contains}
 use Rattle.farkas_check.specs.declared.system.System.{System}
 use Rattle.farkas_check.specs.Systems.{Constraint, constraint_of, constraint_value, Meets, Joined, Solves, rows_of}
 use Rattle.farkas_check.specs.RowLaws.{meets_row}
-use Rattle.box_search.specs.UnknownLaws.{terms-below}
-use Rattle.box_search.specs.Hits.{IsHit, HaveRegisters, AreRunsOf, runs_total, characters}
+use Rattle.search_hits.specs.UnknownLaws.{terms-below}
+use Rattle.search_hits.specs.Hits.{IsHit, HaveRegisters, AreRunsOf, runs_total, characters}
 use Rattle.parikh_flow.specs.Counts.{occurrences, total_count, size_of, edge_counts, end_counts}
 use Rattle.parikh_flow.specs.Flows.{LeadsAlong, IsFlow}
 use Rattle.parikh_flow.specs.Rows.{unknowns_after, inequality, register_row, not_negative_row, family_rows, family_terms, machine_terms, reach_rows, edge_cost, end_cost, IsSystemOf}

@@ -13,7 +13,7 @@ use Rattle.machine_core.specs.Lists.{slice_get-contains}
 use Rattle.farkas_check.specs.declared.system.System.{System}
 use Rattle.farkas_check.specs.Cuts.{values_of}
 use Rattle.farkas_check.specs.Systems.{Constraint, constraint_of, constraint_value, Meets, Reached, reached_start, reached_edge, Joined, Solves, rows_of}
-use Rattle.box_search.specs.Hits.{IsHit, HaveRegisters, AreRunsOf, runs_total, characters}
+use Rattle.search_hits.specs.Hits.{IsHit, HaveRegisters, AreRunsOf, runs_total, characters}
 use Rattle.parikh_flow.specs.Counts.{counts_at, to_of, size_of, edge_counts, end_counts}
 use Rattle.parikh_flow.specs.Nets.{net_edge, net_edges, net_of, nets_of, counted, AreJoined}
 use Rattle.parikh_flow.specs.Rows.{unknowns_after, inequality, register_row, not_negative_row, family_rows, family_terms, machine_terms, reach_rows, run_rows, equation, end_row, state_row, machine_rows, edge_balance, end_balance, IsSameRow, AreSameRows, IsSystemOf}

@@ -2,7 +2,7 @@
 use Rattle.std.specs.Prelude.{◌≡◌, ℕ, ◌+◌, ◌<◌, ℤ, pos, List, [], ◌∷◌, length, get_or, slice_index}
 use Rattle.machine_core.specs.declared.graph.Graph.{Graph}
 use Rattle.machine_core.specs.declared.run.Run.{Run}
-use Rattle.box_search.specs.Hits.{runs_total}
+use Rattle.search_hits.specs.Hits.{runs_total}
 use Rattle.parikh_flow.specs.Counts.{size_of}
 use Rattle.parikh_flow.specs.Balance.{AreBalanced}
 use Rattle.parikh_flow.specs.Nets.{AreJoined}

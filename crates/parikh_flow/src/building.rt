@@ -1,7 +1,7 @@
 ghost use Rattle.std.specs.Prelude.{◌≡◌, ℕ, ◌+◌, ◌<◌, ◌^◌, Some, slice_get, IfOk};
 ghost use Rattle.sv_linear.specs.Rows.{IsRowWithin};
 ghost use Rattle.sv_linear.specs.declared.row.Row.{Row};
-ghost use Rattle.box_search.specs.Hits.{HaveRegisters};
+ghost use Rattle.search_hits.specs.Hits.{HaveRegisters};
 ghost use Rattle.parikh_flow.specs.Rows.{IsSystemOf};
 
 use crate::nets::nets_of;

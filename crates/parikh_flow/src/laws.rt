@@ -5,7 +5,7 @@ ghost use Rattle.sv_linear.specs.Rows.{NameUnknowns};
 ghost use Rattle.sv_linear.specs.declared.row.Row.{Row};
 ghost use Rattle.farkas_check.specs.Systems.{Meets, Solves, rows_of};
 ghost use Rattle.farkas_check.specs.Cuts.{IsNetWithin};
-ghost use Rattle.box_search.specs.Hits.{IsHit, HaveRegisters, characters};
+ghost use Rattle.search_hits.specs.Hits.{IsHit, HaveRegisters, characters};
 ghost use Rattle.parikh_flow.specs.Rows.{IsSystemOf};
 ghost use Rattle.parikh_flow.specs.Solutions.{HaveFlowsAt, HaveJoinedCounts, AreRunValues};
 ghost use Rattle.machine_core.specs.Graphs.{IsRunOf};

@@ -2,7 +2,7 @@
 ghost use Rattle.std.specs.Prelude.{ℕ, ◌+◌, ◌-◌, ◌<◌, ◌≤◌, ◌^◌, pos, neg_ℤ, map, All, IfOk, IfSome, OnOk};
 ghost use Rattle.std.specs.List.{range_with_len};
 ghost use Rattle.sv_linear.specs.Terms.{AscendsWithin};
-ghost use Rattle.box_search.specs.Hits.{HaveRegisters};
+ghost use Rattle.search_hits.specs.Hits.{HaveRegisters};
 ghost use Rattle.parikh_flow.specs.Counts.{size_of};
 ghost use Rattle.parikh_flow.specs.Rows.{machine_terms, family_terms, unknowns_after, edge_cost, end_cost, register_row, not_negative_row, end_row, machine_rows, family_rows, reach_rows, inequality, IsSameRow, AreSameRows};
 ghost use Rattle.parikh_flow.specs.Building.{AreTermsAdded, CostsFit};

@@ -9,9 +9,10 @@ pub enum CubeCause {
     Wide,
     /// By its text some machine may have more than 262,144 states.
     States,
-    /// Its concatenations can be cut in more than 1,048,576 ways.
+    /// By its text its concatenations can be cut in more than 1,048,576 ways.
     Splits,
-    /// Whatever makes it true has more characters than are looked at.
+    /// Whatever makes it true has more characters than are looked at; or it has rows, and by its text the growth of its
+    /// words is above 4,194,304.
     Length,
     /// 2,000 splits brought neither a solution nor a closing.
     Branches,

@@ -26,7 +26,7 @@ pub enum ErrorKind {
     Shape,
     /// The description of a transducer has a fault.
     Transducer,
-    /// An index that is too large, missing, too many, or no character.
+    /// An index that is too large, missing, too many, no numeral or no character.
     Index,
     /// A term with more than 1,048,576 nodes or nesting above 1,000.
     Size,

@@ -1,7 +1,7 @@
 //! How the parts of replies are printed: errors, values, models, infos (SMT-LIB 2.6, sections 3.9 and 4.1).
 //!
-//! The central fact is the clause of each call: **the text is the one that the definitions in specs/Replies.antt give**,
-//! byte for byte, and each fault has one error by which it is told.
+//! The central fact is the clause of each call: **the text is the one that the definitions in specs/Replies.antt
+//! give**, byte for byte, and each fault has one error by which it is told.
 //!
 //! Each call is linear in what it writes.
 //!

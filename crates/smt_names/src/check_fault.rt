@@ -7,7 +7,7 @@ pub enum CheckFault {
     /// A symbol, index or token that stands for no function, constant or sort.
     #[error("unknown symbol")]
     Unknown,
-    /// An argument, asserted term, body or declared name of the wrong sort.
+    /// An argument, asserted term, body, declared name or term to be valued of the wrong sort.
     #[error("sort")]
     Sort,
     /// A number of arguments that isn't taken.
@@ -28,7 +28,7 @@ pub enum CheckFault {
     /// A transducer's description has a fault.
     #[error("transducer")]
     Transducer,
-    /// An index that is too large, missing, too many, or no character.
+    /// An index that is too large, missing, too many, no numeral or no character.
     #[error("index")]
     Index,
     /// A term with more than 1,048,576 nodes or nesting above 1,000.

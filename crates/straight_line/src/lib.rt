@@ -2,11 +2,12 @@
 //!
 //! The central fact is the clause of [`flatten`], with the law [`flat_cubes_are_exact`]: **values make all literals of
 //! a cube true exactly where they extend to words and numbers that satisfy its flat cube**, in which each variable is
-//! defined at most once, by variables that come before. A cube that has none is refused, and
-//! [`refusals_have_no_flat_cube`] says that no flat cube of it exists then.
+//! defined at most once, by variables that neither this definition nor one after it defines. A cube that has none is
+//! refused, and [`refusals_have_no_flat_cube`] says that no flat cube of it exists then.
 //!
 //! The literals are read into a draft (`cube_draft`), and that is put in order (`cube_order`). Linear in the cube, but
-//! for factors logarithmic in it, and for the codes of terms that stand in one another.
+//! for factors logarithmic in it, for the codes of terms that stand in one another, and for the forms of comparisons,
+//! which are added up from the left.
 //!
 //! ```text
 //! // (= y (str.++ x "a")) and (= (str.len y) 3): two variables and a literal, one definition, one row

@@ -13,6 +13,10 @@ pub fn gcd(a: i128, b: i128) -> u128
 pub(crate) fn gcd_unsigned(a: u128, b: u128) -> u128
     ensures { IsGcd a b result }
 {
+    // Most of the numbers of a form are behind those that leave it no divisor.
+    if a == 1 {
+        return 1;
+    }
     let mut x = a;
     let mut y = b;
     while y != 0 {

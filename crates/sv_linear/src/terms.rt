@@ -9,6 +9,7 @@ use crate::column::Column;
 use crate::fault::CombineFault;
 use crate::number::{combine_numbers, divide_number, gcd_unsigned};
 use std::alloc::Global;
+use sv_list::Items;
 
 /// The coefficient of an unknown, 0 where it has none.
 pub(crate) fn coefficient_at(terms: &[(u32, i128)], unknown: u32) -> i128
@@ -55,6 +56,16 @@ pub(crate) fn merge(
         right = right_rest;
     }
     Ok(sums)
+}
+
+/// The terms, without the room that is left over where it is more than they take, as where terms cancelled.
+pub(crate) fn fitted(mut terms: Vec<(u32, i128)>) -> Items<(u32, i128)>
+    ensures { result ≡ terms.items }
+{
+    if terms.len() < terms.capacity() / 2 {
+        terms.shrink_to_fit();
+    }
+    Items::from_vec(terms)
 }
 
 fn next_unknown(a: &[(u32, i128)], b: &[(u32, i128)]) -> Option<u32>

@@ -132,6 +132,22 @@ fn membership(alloc: Global, bodies: Items<Body>) -> Result<Body, AllocError>
     }
 }
 
+/// That a transducer may write the one term where it reads the other.
+#[inline(never)]
+pub fn relate_terms(
+    alloc: Global,
+    transducer: &Transducer,
+    read: Term,
+    written: Term,
+) -> Result<Term, AllocError>
+    ensures { IfOk result (λ x. x ≡ Term.Related transducer.now read written) }
+{
+    let transducer = Boxed::new(alloc, transducer.copy(alloc)?)?;
+    let read = Boxed::new(alloc, read)?;
+    let written = Boxed::new(alloc, written)?;
+    Ok(Term::Related(transducer, read, written))
+}
+
 /// What a transducer relates.
 #[tactic(auto, using(crate::proofs::Shapes::shaped))]
 #[inline(never)]
@@ -144,10 +160,8 @@ pub fn relate(
 {
     match two(bodies) {
         Some((read, written)) => {
-            let transducer = Boxed::new(alloc, transducer.copy(alloc)?)?;
-            let read = Boxed::new(alloc, into_term(read))?;
-            let written = Boxed::new(alloc, into_term(written))?;
-            Ok(Body::Term(Term::Related(transducer, read, written)))
+            let (read, written) = (into_term(read), into_term(written));
+            Ok(Body::Term(relate_terms(alloc, transducer, read, written)?))
         }
         None => Ok(opaque(Sort::Bool)),
     }

@@ -6,7 +6,7 @@ ghost use Rattle.term_weight.specs.Bodies as bodies;
 ghost use Rattle.term_draft.specs.Drafts as drafts;
 ghost use Rattle.term_weight.specs.Weights as weights;
 
-use crate::applying::{apply, into_term, opaque, relate};
+use crate::applying::{apply, into_term, opaque, relate, relate_terms};
 use crate::draft::{DraftNode, DraftPart, TermDraft};
 use smt_names::Interpretation;
 use std::alloc::{AllocError, Global};
@@ -45,22 +45,6 @@ fn member(alloc: Global, word: Term, regex: &Regex) -> Result<Term, AllocError>
 {
     let word = Boxed::new(alloc, word)?;
     Ok(Term::InRe(word, regex.copy(alloc)?))
-}
-
-/// That a transducer may write the one term where it reads the other.
-#[inline(never)]
-fn relate_terms(
-    alloc: Global,
-    transducer: &Transducer,
-    read: Term,
-    written: Term,
-) -> Result<Term, AllocError>
-    ensures { IfOk result (λ x. x ≡ Term.Related transducer.now read written) }
-{
-    let transducer = Boxed::new(alloc, transducer.copy(alloc)?)?;
-    let read = Boxed::new(alloc, read)?;
-    let written = Boxed::new(alloc, written)?;
-    Ok(Term::Related(transducer, read, written))
 }
 
 /// What the part at a place is.

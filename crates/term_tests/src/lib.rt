@@ -2,7 +2,7 @@
 //! what no reply shows.
 //!
 //! Terms, their meaning, the stack of assertions and the checked commands are tested by scripts of the program. A module
-//! for each crate that is called. They stand apart from what they call, so that proving them proves no crate a second
+//! for each crate that is tested. They stand apart from what they call, so that proving them proves no crate a second
 //! time.
 #![tactic(auto)]
 

@@ -1,7 +1,7 @@
 use Rattle.std.proofs.Common.{◌≡◌, ◌+◌, ◌*◌, ◌≤◌, length, ap, ◌∙◌, arith}
 use Rattle.std.proofs.Math.Nat.{mul-le-mul_right}
 use Rattle.std.proofs.lemmas.Bool.Decides.{nat_tests}
-use Rattle.box_search.specs.Regions.{greatest_states}
+use Rattle.search_hits.specs.Regions.{greatest_states}
 use Rattle.box_search.proofs.by_marks.are_few.Goals as goal
 
 pub returns-in-Some-checked_mul-2 : goal.returns-in-Some-checked_mul-2

@@ -1,8 +1,8 @@
 use Rattle.std.proofs.Common.{rules, ◌≡◌, ◌∙◌, ◌<◌, ℤ, pos, ◌+ℤ◌, FitsSigned, List, map, slice_set, Some, None, subst, sym, arith}
 use Rattle.std.specs.Int.{w128}
 use Rattle.std.proofs.lemmas.Int.{to_z-of_z}
-use Rattle.box_search.specs.Regions.{AreWithin}
-use Rattle.box_search.specs.Boxes.{MeetAll, IsBox, IsPointFound}
+use Rattle.search_hits.specs.Regions.{AreWithin}
+use Rattle.search_hits.specs.Boxes.{MeetAll, IsBox, IsPointFound}
 use Rattle.box_search.proofs.FindLemmas.{widths}
 use Rattle.box_search.proofs.HalfLemmas.{side-below, lower-within, below-box, above-box, below-widths, above-widths, below-found, above-found, none-found}
 use Rattle.box_search.proofs.finding.+find.Goals as goal

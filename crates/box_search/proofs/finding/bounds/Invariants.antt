@@ -1,8 +1,8 @@
 use Rattle.std.proofs.Common.{◌≡◌, ℕ, ℤ, ◌+◌, ◌+ℤ◌, ◌≤ℤ◌, ◌<◌, ◌^◌, All, drop, unsigned_abs}
 use Rattle.sv_linear.specs.Terms.{terms_value}
 use Rattle.sv_linear.specs.Rows.{terms_weight}
-use Rattle.box_search.specs.Regions.{amounts}
-use Rattle.box_search.specs.Boxes.{AreAt, HoldsOne}
+use Rattle.search_hits.specs.Regions.{amounts}
+use Rattle.search_hits.specs.Boxes.{AreAt, HoldsOne}
 use Rattle.box_search.proofs.finding.bounds.Given as goal
 
 abbrev pub invariant-loop-unknown : goal.invariant-loop-unknown

@@ -1,5 +1,5 @@
 use Rattle.std.proofs.Common.{◌<◌, ◌-◌, ℕ, ℤ, length, get_or}
-use Rattle.box_search.specs.Boxes.{HoldsOne}
+use Rattle.search_hits.specs.Boxes.{HoldsOne}
 use Rattle.box_search.proofs.finding.first_wide.Given as goal
 
 abbrev pub invariant-loop-at : goal.invariant-loop-at

@@ -2,7 +2,7 @@ use Rattle.std.proofs.Common.{rules, FitsSigned, ◌+ℤ◌, ◌≤ℤ◌, arith
 use Rattle.std.specs.Int.{w128}
 use Rattle.std.proofs.lemmas.Int.{ints, to_z-of_z}
 use Rattle.sv_linear.specs.Terms.{terms_value}
-use Rattle.box_search.specs.Boxes.{value_at}
+use Rattle.search_hits.specs.Boxes.{value_at}
 use Rattle.box_search.proofs.FindLemmas.{within-at, met-below, met-equation, meets-equation, meets-inequality}
 use Rattle.box_search.proofs.finding.may_be_met.Goals as goal
 

@@ -1,8 +1,8 @@
 use Rattle.std.proofs.Common.{◌<◌, ℕ, ℤ, List, All, get_or}
 use Rattle.sv_linear.specs.Rows.{MeetsRow}
 use Rattle.sv_linear.specs.declared.row.Row.{Row}
-use Rattle.box_search.specs.Regions.{AreWithin}
-use Rattle.box_search.specs.Boxes.{HoldsOne, value_at}
+use Rattle.search_hits.specs.Regions.{AreWithin}
+use Rattle.search_hits.specs.Boxes.{HoldsOne, value_at}
 use Rattle.box_search.proofs.finding.may_meet.Given as goal
 
 abbrev pub invariant-loop-row : goal.invariant-loop-row

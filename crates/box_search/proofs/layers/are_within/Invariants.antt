@@ -1,5 +1,5 @@
 use Rattle.std.proofs.Common.{pos, map, take}
-use Rattle.box_search.specs.Regions.{AreWithin, whole_side}
+use Rattle.search_hits.specs.Regions.{AreWithin, whole_side}
 use Rattle.box_search.proofs.layers.are_within.Given as goal
 
 abbrev pub invariant-loop-register : goal.invariant-loop-register

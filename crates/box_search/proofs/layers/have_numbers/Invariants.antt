@@ -1,5 +1,5 @@
 use Rattle.std.proofs.Common.{◌<◌, ℕ, ℤ, get_or}
-use Rattle.box_search.specs.Boxes.{IsSide}
+use Rattle.search_hits.specs.Boxes.{IsSide}
 use Rattle.box_search.proofs.layers.have_numbers.Given as goal
 
 abbrev pub invariant-loop-low : goal.invariant-loop-low

@@ -1,5 +1,5 @@
 use Rattle.std.proofs.Common.{◌≤◌}
-use Rattle.box_search.specs.Regions.{greatest_states}
+use Rattle.search_hits.specs.Regions.{greatest_states}
 use Rattle.box_search.proofs.places.greatest_states.Given as goal
 
 abbrev pub invariant-loop-machine : goal.invariant-loop-machine

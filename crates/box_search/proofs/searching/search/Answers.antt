@@ -1,6 +1,6 @@
 use Rattle.std.proofs.Common.{◌+◌, length}
-use Rattle.box_search.specs.Hits.{runs_total}
-use Rattle.box_search.specs.UnknownLaws.{have-sides}
+use Rattle.search_hits.specs.Hits.{runs_total}
+use Rattle.search_hits.specs.UnknownLaws.{have-sides}
 use Rattle.box_search.proofs.SearchLemmas.{hit-good}
 use Rattle.box_search.proofs.searching.search.Goals as goal
 

@@ -1,5 +1,6 @@
 use Rattle.std.proofs.Common.{◌<◌, arith}
-use Rattle.decide.proofs.Sharing.{asked-block, known-block}
+use Rattle.verdict_tally.proofs.Sharing.{known-block}
+use Rattle.decide.proofs.Asking.{asked-block}
 use Rattle.decide.proofs.passing.count_refuted_by.Goals as goal
 
 pub has_no_values-requires : goal.has_no_values-requires

@@ -1,6 +1,6 @@
 use Rattle.std.proofs.Common.{◌+◌, sym, subst, arith}
 use Rattle.sv_linear.specs.Rows.{IsRowWithin}
-use Rattle.box_search.specs.Hits.{HaveRegisters}
+use Rattle.search_hits.specs.Hits.{HaveRegisters}
 use Rattle.parikh_flow.specs.Rows.{IsSystemOf}
 use Rattle.leaf_solve.proofs.systems.system.Goals as goal
 

@@ -1,5 +1,5 @@
 use Rattle.std.proofs.Common.{◌≡◌, ◌+◌, take}
-use Rattle.box_search.specs.Hits.{characters}
+use Rattle.search_hits.specs.Hits.{characters}
 use Rattle.leaf_solve.proofs.words.are_within.Given as goal
 
 abbrev pub invariant-loop-run : goal.invariant-loop-run

@@ -1,7 +1,7 @@
 use Rattle.std.proofs.Common.{◌≤◌, List, subst, arith}
 use Rattle.machine_core.specs.declared.run.Run.{Run}
 use Rattle.std.proofs.Common.{ℕ, ◌∙◌, ap, map, ◌<◌}
-use Rattle.box_search.specs.Hits.{characters}
+use Rattle.search_hits.specs.Hits.{characters}
 use Rattle.leaf_solve.proofs.RunLemmas.{few-characters}
 use Rattle.leaf_solve.proofs.RegionLemmas.{shortest-hit, long-words, words-decided, not-within}
 use Rattle.leaf_solve.proofs.words.by_words.Goals as goal

@@ -1,8 +1,8 @@
 use Rattle.std.proofs.Common.{◌≡◌, ◌∙◌, ℕ, List, [], ◌∷◌, ◌++◌, length, false, ap}
 use Rattle.std.proofs.lemmas.List.Elements.{All-nil, All-cons}
 use Rattle.machine_core.specs.declared.graph.Graph.{Graph}
-use Rattle.box_search.specs.declared.region.Region.{Region}
-use Rattle.box_search.specs.Regions.{FitsRegion, IsQuestion}
+use Rattle.search_hits.specs.declared.region.Region.{Region}
+use Rattle.search_hits.specs.Regions.{FitsRegion, IsQuestion}
 use Rattle.leaf_tests.proofs.box_search_calls.make_pieces.Goals as goal
 
 -- a question of three machines and no row

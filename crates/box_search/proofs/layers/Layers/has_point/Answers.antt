@@ -1,5 +1,5 @@
 use Rattle.std.proofs.Common.{◌≡◌, ◌∙◌, true, false}
-use Rattle.box_search.specs.Regions.{sides_of}
+use Rattle.search_hits.specs.Regions.{sides_of}
 use Rattle.box_search.proofs.SideLemmas.{some-none, good-sides, not-some}
 use Rattle.box_search.proofs.layers.Layers.has_point.Goals as goal
 

@@ -1,6 +1,6 @@
 use Rattle.std.proofs.Common.{◌≡◌, ◌∙◌, pos, ◌++◌, map, false, true, All, ap, sym, subst}
-use Rattle.box_search.specs.Regions.{AreWithin, whole_side}
-use Rattle.box_search.specs.Boxes.{IsSide, IsPointFound, point_side}
+use Rattle.search_hits.specs.Regions.{AreWithin, whole_side}
+use Rattle.search_hits.specs.Boxes.{IsSide, IsPointFound, point_side}
 use Rattle.box_search.specs.Layers.{AreGood}
 use Rattle.box_search.proofs.SideLemmas.{known-box, known-some, known-none, good-integers}
 use Rattle.box_search.proofs.layers.Layers.numbers.Goals as goal

@@ -1,0 +1,4 @@
+pub mod Hits
+pub mod Regions
+pub mod Boxes
+pub mod UnknownLaws

@@ -1,0 +1,4 @@
+pub mod CubeValues
+pub mod Folds
+pub mod Passing
+pub mod Tallies
