@@ -18,8 +18,15 @@ conf-width width (Some m ∷ ms) wide words totals h =
     ap length (sym h.4) ∙ add_costs-length h.0 h.1 width (run_width m.states m.registers m.edges m.ends m.formed (words 0) 0 h.0 h.2 ∙ wide zero m refl)
     (conf-width width ms (λ v n e. wide (suc v) n e) (after words) h.1 h.3)
 
-same-machine : (k m : Graph) (o : Option Graph) → Some (Some k) ≡ Some o → o ≡ Some m → k ≡ m
-same-machine k m o e f = cc
+-- which machine stands at a place
+no-machine : (v : ℕ) (m : Graph) → HasMachine [] v m → ⊥
+no-machine v m h = cc
+
+none-machine : (ms : Family) (m : Graph) → HasMachine (None ∷ ms) zero m → ⊥
+none-machine ms m h = cc
+
+first-machine : (k m : Graph) (ms : Family) → HasMachine (Some k ∷ ms) zero m → k ≡ m
+first-machine k m ms h = cc
 
 -- with a machine that reads its words together with something else, that is read besides
 module _ (width : ℕ) (m n : Graph) (L : Word → List ℕ → Type 0)
@@ -29,10 +36,10 @@ module _ (width : ℕ) (m n : Graph) (L : Word → List ℕ → Type 0)
 
   pub grow-out : (ms : Family) (v : ℕ) → HasMachine ms v m → (words : Words) (totals : List ℕ) → Conf width (slice_set ms v (Some n)) words totals
       → (a b : List ℕ) × L (words v) a × Conf width ms words b × (add_costs a b ≡ totals)
-  grow-out [] v h words totals c = cc
-  grow-out (None ∷ ms) zero h words totals c = cc
+  grow-out [] v h words totals c = absurd (no-machine v m h)
+  grow-out (None ∷ ms) zero h words totals c = absurd (none-machine ms m h)
   grow-out (Some k ∷ ms) zero h words totals c =
-      let same : m ≡ k = cc in
+      let same = sym (first-machine k m ms h) in
       let r = (both (words 0) c.0).0 c.2 in (
         r.1,
         add_costs r.0 c.1,
@@ -47,10 +54,10 @@ module _ (width : ℕ) (m n : Graph) (L : Word → List ℕ → Type 0)
 
   pub grow-in : (ms : Family) (v : ℕ) → HasMachine ms v m → (words : Words) (totals : List ℕ)
       → (a b : List ℕ) × L (words v) a × Conf width ms words b × (add_costs a b ≡ totals) → Conf width (slice_set ms v (Some n)) words totals
-  grow-in [] v h words totals c = cc
-  grow-in (None ∷ ms) zero h words totals c = cc
+  grow-in [] v h words totals c = absurd (no-machine v m h)
+  grow-in (None ∷ ms) zero h words totals c = absurd (none-machine ms m h)
   grow-in (Some k ∷ ms) zero h words totals c =
-      let same : k ≡ m = cc in
+      let same = first-machine k m ms h in
       let rest = c.3 in (
         add_costs rest.0 c.0,
         rest.1,
@@ -72,9 +79,9 @@ module _ (width : ℕ) (m n : Graph) (L : Word → List ℕ → Type 0)
 module _ (width : ℕ) (m : Graph) where
   pub take-out : (ms : Family) (x : ℕ) → HasMachine ms x m → (words : Words) (totals : List ℕ) → Conf width ms words totals
       → (a b : List ℕ) × Accepts m (words x) a × Conf width (without ms x) words b × (add_costs a b ≡ totals)
-  take-out [] x h words totals c = cc
-  take-out (None ∷ ms) zero h words totals c = cc
-  take-out (Some k ∷ ms) zero h words totals c = let same : k ≡ m = cc in (c.0, c.1, subst (λ g. Accepts g (words 0) c.0) same c.2, c.3, c.4)
+  take-out [] x h words totals c = absurd (no-machine x m h)
+  take-out (None ∷ ms) zero h words totals c = absurd (none-machine ms m h)
+  take-out (Some k ∷ ms) zero h words totals c = let same = first-machine k m ms h in (c.0, c.1, subst (λ g. Accepts g (words 0) c.0) same c.2, c.3, c.4)
   take-out (None ∷ ms) (suc x) h words totals c = take-out ms x h (after words) totals c
   take-out (Some k ∷ ms) (suc x) h words totals c =
       let r = take-out ms x h (after words) c.1 c.3 in
@@ -82,9 +89,9 @@ module _ (width : ℕ) (m : Graph) where
 
   pub take-in : (ms : Family) (x : ℕ) → HasMachine ms x m → (words : Words) (totals : List ℕ)
       → (a b : List ℕ) × Accepts m (words x) a × Conf width (without ms x) words b × (add_costs a b ≡ totals) → Conf width ms words totals
-  take-in [] x h words totals c = cc
-  take-in (None ∷ ms) zero h words totals c = cc
-  take-in (Some k ∷ ms) zero h words totals c = let same : m ≡ k = cc in (c.0, c.1, subst (λ g. Accepts g (words 0) c.0) same c.2, c.3, c.4)
+  take-in [] x h words totals c = absurd (no-machine x m h)
+  take-in (None ∷ ms) zero h words totals c = absurd (none-machine ms m h)
+  take-in (Some k ∷ ms) zero h words totals c = let same = sym (first-machine k m ms h) in (c.0, c.1, subst (λ g. Accepts g (words 0) c.0) same c.2, c.3, c.4)
   take-in (None ∷ ms) (suc x) h words totals c = take-in ms x h (after words) totals c
   take-in (Some k ∷ ms) (suc x) h words totals c =
       let rest = c.3 in (
@@ -123,8 +130,8 @@ set-other (z ∷ zs) (suc i) (suc j) y h = set-other zs i j y (λ e. h (ap suc e
 
 -- a machine that is left isn't that of the variable that was taken out
 pub without-other : (ms : Family) (x v : ℕ) (m : Graph) → HasMachine (without ms x) v m → v ≡ x → ⊥
-without-other [] x v m h e = cc
-without-other (o ∷ ms) zero zero m h e = cc
+without-other [] x v m h e = no-machine v m h
+without-other (o ∷ ms) zero zero m h e = none-machine ms m h
 without-other (o ∷ ms) zero (suc v) m h e = omega (arith, e)
 without-other (o ∷ ms) (suc x) zero m h e = omega (arith, e)
 without-other (o ∷ ms) (suc x) (suc v) m h e = without-other ms x v m h (omega (arith, e))
@@ -144,9 +151,9 @@ free-put width ms x words w totals = (
 
 -- machines of one width make a family of this width
 pub all-wide : (width : ℕ) (machines : List Graph) → ((m : Graph) → Contains machines m → m.registers ≡ width) → AreWide width (map Some machines)
-all-wide width [] h v m e = cc
+all-wide width [] h v m e = absurd (no-machine v m e)
 all-wide width (k ∷ ks) h zero m e =
-    let same : k ≡ m = cc in
+    let same = first-machine k m (map Some ks) e in
     ap (λ (g : Graph). g.registers) (sym same) ∙ h k (zero, omega arith, refl)
 all-wide width (k ∷ ks) h (suc v) m e = all-wide width ks (λ n i. h n (suc i.0, omega (arith, i.1), i.2)) v m e
 

@@ -20,10 +20,20 @@ pub enum FamilyOrigin {
 
 /// A family of machines by the numbers of their variables: one for each variable that isn't carried
 /// yet, and none for the others. All have the same number of registers.
-#[derive(Drop)]
 pub struct LeafState {
     pub registers: usize,
     pub machines: Items<Option<Explicit>>,
     pub made: FamilyOrigin,
     pub ghost wide: { AreWide registers machines },
+}
+
+// A drop by hand is one call where a derived one is a call for each vector inside.
+impl Drop for LeafState {
+    fn drop(self) {
+        let Self {
+            registers: _,
+            machines: _,
+            made: _,
+        } = self;
+    }
 }

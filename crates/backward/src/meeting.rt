@@ -13,10 +13,16 @@ use trim_search::{BuildFault, Built, lifted_runs_are_runs, materialise, trim_nam
 
 /// A machine met with a part of another one's runs: the product with the pair of each state, and what
 /// was left of it, with the product's state of each state.
-#[derive(Drop)]
 pub struct MetPart {
     pub both: Built<Items<u32>>,
     pub small: Built<u32>,
+}
+
+// A drop by hand is one call where a derived one is a call for each vector inside.
+impl Drop for MetPart {
+    fn drop(self) {
+        let Self { both: _, small: _ } = self;
+    }
 }
 
 /// A run of the machine, and one of the part that it was met with.

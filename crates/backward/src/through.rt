@@ -19,9 +19,15 @@ use sv_terms::Transducer;
 use trim_search::{BuildFault, Built, lifted_runs_are_runs, materialise};
 
 /// A pre-image that was explored, with the pair of states of each state.
-#[derive(Drop)]
 pub struct PreBuilt {
     pub built: Built<(u32, u32)>,
+}
+
+// A drop by hand is one call where a derived one is a call for each vector inside.
+impl Drop for PreBuilt {
+    fn drop(self) {
+        let Self { built: _ } = self;
+    }
 }
 
 // The pre-image of a machine, with one state for each pair of states that is reached.

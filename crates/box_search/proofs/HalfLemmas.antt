@@ -1,5 +1,5 @@
 -- A box with another side at one place.
-use Rattle.std.proofs.Common.{◌≡◌, ℕ, zero, suc, ◌*◌, ◌<◌, ◌≤◌, ◌⊎◌, inl, inr, max, ℤ, pos, ◌+ℤ◌, ◌-ℤ◌, ◌≤ℤ◌, ◌<ℤ◌, List, [], ◌∷◌, length, get_or, slice_get, slice_set, Some, None, All, map, int_le, Bool, true, false, cond, unsigned_abs, refl, ap, sym, subst, arith}
+use Rattle.std.proofs.Common.{◌≡◌, ℕ, zero, suc, ◌*◌, ◌<◌, ◌≤◌, ◌⊎◌, inl, inr, max, ℤ, pos, ◌+ℤ◌, ◌-ℤ◌, ◌≤ℤ◌, ◌<ℤ◌, List, [], ◌∷◌, length, get_or, slice_get, slice_set, Option, Some, None, All, map, int_le, Bool, true, false, cond, unsigned_abs, refl, ap, sym, subst, arith}
 use Rattle.std.proofs.lemmas.Int.{ints, by_lt_z}
 use Rattle.std.proofs.Math.Nat.{mul-le-mul_left}
 use Rattle.std.proofs.lemmas.List.Elements.{All-head, All-tail, All-weaker, All-set}
@@ -114,12 +114,17 @@ module _ (rows : List Row) (sides : List (ℤ × ℤ)) (box : IsBox rows sides) 
     pub below-found : (point : List ℤ) → IsPointFound rows (slice_set sides i (low, half)) (Some point) → IsPointFound rows sides (Some point)
     below-found point h = (within-wider sides i (low, high) (low, half) point at (λ v w. let a = w.0 in let b = w.1 in (a, omega (arith, ints))) h.0, h.1)
 
-    pub above-found : (point : List ℤ) → IsPointFound rows (slice_set sides i (half +ℤ pos 1, high)) (Some point) → IsPointFound rows sides (Some point)
+    above-found : (point : List ℤ) → IsPointFound rows (slice_set sides i (half +ℤ pos 1, high)) (Some point) → IsPointFound rows sides (Some point)
     above-found point h = (within-wider sides i (low, high) (half +ℤ pos 1, high) point at (λ v w. let a = w.0 in let b = w.1 in (omega (arith, ints), b)) h.0, h.1)
 
     split : (v : ℤ) → IsWithin (low, high) v → IsWithin (low, half) v ⊎ IsWithin (half +ℤ pos 1, high) v
     split v w = let a = w.0 in let b = w.1 in
         by_lt_z half v (λ lt. let c : (half +ℤ pos 1) ≤ℤ v = omega (arith, ints) in inr (c, b)) (λ le. inl (a, le))
 
-    pub none-found : IsPointFound rows (slice_set sides i (low, half)) None → IsPointFound rows (slice_set sides i (half +ℤ pos 1, high)) None → IsPointFound rows sides None
+    none-found : IsPointFound rows (slice_set sides i (low, half)) None → IsPointFound rows (slice_set sides i (half +ℤ pos 1, high)) None → IsPointFound rows sides None
     none-found f g = λ point w m. elim (within-half sides i (low, high) (low, half) (half +ℤ pos 1, high) point at split w) [ inl a ↦ f point a m | inr b ↦ g point b m ]
+
+    -- where the lower half holds no point, what is found in the upper one is what the box holds
+    pub upper-found : (found : Option (List ℤ)) → IsPointFound rows (slice_set sides i (low, half)) None → IsPointFound rows (slice_set sides i (half +ℤ pos 1, high)) found → IsPointFound rows sides found
+    upper-found None none found = none-found none found
+    upper-found (Some point) none found = above-found point found

@@ -1,48 +1,83 @@
 -- A run of all machines in turn that grows by a step at its end, and short hits.
-use Rattle.std.proofs.Common.{◌≡◌, ℕ, ℤ, ◌+◌, ◌*◌, ◌≤◌, List, [], ◌∷◌, ◌++◌, length, ap, sym, ◌∙◌, subst, arith}
+use Rattle.std.proofs.Common.{◌≡◌, ℕ, ℤ, suc, ◌+◌, ◌*◌, ◌≤◌, List, [], ◌∷◌, ◌++◌, length, slice_get, Bool, true, false, Some, IfSome, refl, ap, sym, ◌∙◌, subst, arith}
+use Rattle.std.specs.Bool.{then_some}
 use Rattle.std.proofs.Math.Nat.{mul_comm}
 use Rattle.sv_linear.specs.declared.row.Row.{Row}
 use Rattle.machine_core.specs.declared.graph.Graph.{Graph}
 use Rattle.machine_core.specs.declared.run.Run.{Run}
+use Rattle.machine_core.specs.Costs.{zeros}
 use Rattle.machine_core.specs.Runs.{IsPath}
-use Rattle.machine_core.specs.RunLaws.{path_push}
+use Rattle.machine_core.specs.RunLaws.{path_push, path_lengths}
 use Rattle.search_hits.specs.declared.region.Region.{Region}
 use Rattle.search_hits.specs.Hits.{characters}
 use Rattle.search_hits.specs.Regions.{IsHitWithin, IsShortHit, greatest_states}
 use Rattle.box_search.specs.declared.layer.Layer.{Layer}
-use Rattle.box_search.specs.LayerLaws.{next-layer}
-use Rattle.box_search.specs.Layers.{IsLayerOf, LayerStep}
+use Rattle.box_search.specs.Cuts.{IsWay, IsRunOfAll}
+use Rattle.box_search.specs.LayerLaws.{first-layer, next-layer}
+use Rattle.box_search.specs.Layers.{layer, uppers_of, AreGoodTotals, IsLayerOf, LayerStep, LayerEnd}
+use Rattle.box_search.proofs.CutLemmas.{path-last}
 use Rattle.box_search.proofs.ShortLemmas.{few-characters}
 
-module _ (machines : List Graph) (uppers : List ℕ) (good : List ℕ → Type 0) (first : Layer) where
-  -- steps lead from the first layer to this one
-  pub record IsWay (states : List Layer) (word : List ℕ) (costs : List (List ℕ)) (at : Layer) : Type 0 where
-    pub after : List Layer
-    pub begins : states ≡ first ∷ after
-    pub path : IsPath (LayerStep machines uppers good) first after word costs at
-    pub is : IsLayerOf machines uppers good at
+module _ (machines : List Graph) (rows : List Row) (region : Region) where
+  abbrev Steps : Layer → ℕ → List ℕ → Layer → Type 0
+  Steps = LayerStep machines (uppers_of region) (AreGoodTotals rows region)
 
-  pub way-push : (states : List Layer) (word : List ℕ) (costs : List (List ℕ)) (at to : Layer) (c : ℕ) (k : List ℕ)
-      → IsWay states word costs at → LayerStep machines uppers good at c k to → IsWay (states ++ to ∷ []) (word ++ c ∷ []) (costs ++ k ∷ []) to
-  way-push states word costs at to c k way step = record {
-    after = way.after ++ to ∷ [];
-    begins = ap (λ (l : List Layer). l ++ to ∷ []) way.begins;
-    path = path_push (LayerStep machines uppers good) first way.after word costs at c k to way.path step;
-    is = next-layer machines uppers good at to c k way.is step;
-  }
+  abbrev first : Layer
+  first = layer 0 0 (zeros (length region.registers))
 
-  pub way-start : (states : List Layer) (word : List ℕ) (costs : List (List ℕ)) (at : Layer) → IsLayerOf machines uppers good first → at ≡ first → states ≡ [] ++ at ∷ [] → word ≡ [] → costs ≡ [] → IsWay states word costs at
-  way-start states word costs at is same begins none free = record {
+  pub way-begun : (run : Run Layer) (start : Layer) → start ≡ first → run.states ≡ [] ++ start ∷ [] → run.word ≡ [] → run.costs ≡ [] → IsWay machines rows region run
+  way-begun run start same begins none free = record {
     after = [];
-    begins = begins ∙ ap (λ (l : Layer). l ∷ []) same;
-    path = subst (λ ks. IsPath (LayerStep machines uppers good) first [] word ks at) (sym free) (subst (λ w. IsPath (LayerStep machines uppers good) first [] w [] at) (sym none) (sym same));
-    is = subst (IsLayerOf machines uppers good) (sym same) is;
+    stop = start;
+    states = begins ∙ ap (λ (l : Layer). l ∷ []) same;
+    path = subst (λ ks. IsPath Steps first [] run.word ks start) (sym free) (subst (λ w. IsPath Steps first [] w [] start) (sym none) (sym same));
+    is = subst (IsLayerOf machines (uppers_of region) (AreGoodTotals rows region)) (sym same) (first-layer machines region (AreGoodTotals rows region));
   }
 
-  pub way-grown : (states grown : List Layer) (word more : List ℕ) (costs paid : List (List ℕ)) (at to : Layer) (c : ℕ) (k : List ℕ)
-      → IsWay states word costs at → LayerStep machines uppers good at c k to → grown ≡ states ++ to ∷ [] → more ≡ word ++ c ∷ [] → paid ≡ costs ++ k ∷ [] → IsWay grown more paid to
-  way-grown states grown word more costs paid at to c k way step a b d =
-      subst (λ (l : List Layer). IsWay l more paid to) (sym a) (subst (λ w. IsWay (states ++ to ∷ []) w paid to) (sym b) (subst (λ ks. IsWay (states ++ to ∷ []) (word ++ c ∷ []) ks to) (sym d) (way-push states word costs at to c k way step)))
+  module _ (run : Run Layer) (way : IsWay machines rows region run) where
+    sizes : (length way.after ≡ length run.word) × (length run.costs ≡ length run.word)
+    sizes = path_lengths Steps first way.after run.word run.costs way.stop way.path
+
+    -- one state more than characters
+    pub way-size : length run.states ≡ suc (length run.word)
+    way-size = ap length way.states ∙ ap suc sizes.0
+
+    -- the state where the run stops
+    pub way-stop : (at : Layer) → slice_get run.states (length run.word) ≡ Some at → way.stop ≡ at
+    way-stop at e = path-last Steps first way.after run.word run.costs way.stop at way.path (subst (λ l. slice_get l (length run.word) ≡ Some at) way.states e)
+
+    pub way-layer : (at : Layer) → slice_get run.states (length run.word) ≡ Some at → IsLayerOf machines (uppers_of region) (AreGoodTotals rows region) at
+    way-layer at e = subst (IsLayerOf machines (uppers_of region) (AreGoodTotals rows region)) (way-stop at e) way.is
+
+    pub way-grown : (more : Run Layer) (at to : Layer) (c : ℕ) (k : List ℕ) → slice_get run.states (length run.word) ≡ Some at → Steps at c k to
+        → more.states ≡ run.states ++ to ∷ [] → more.word ≡ run.word ++ c ∷ [] → more.costs ≡ run.costs ++ k ∷ [] → IsWay machines rows region more
+    way-grown more at to c k e step states word costs =
+        let step' = subst (λ (l : Layer). Steps l c k to) (sym (way-stop at e)) step in
+        record {
+          after = way.after ++ to ∷ [];
+          stop = to;
+          states = states ∙ ap (λ (l : List Layer). l ++ to ∷ []) way.states;
+          path = subst (λ ks. IsPath Steps first (way.after ++ to ∷ []) more.word ks to) (sym costs)
+              (subst (λ w. IsPath Steps first (way.after ++ to ∷ []) w (run.costs ++ k ∷ []) to) (sym word)
+              (path_push Steps first way.after run.word run.costs way.stop c k to way.path step'));
+          is = next-layer machines (uppers_of region) (AreGoodTotals rows region) way.stop to c k way.is step';
+        }
+
+    pub way-ended : (whole : Run Layer) (at : Layer) → slice_get run.states (length run.word) ≡ Some at → LayerEnd machines (uppers_of region) (AreGoodTotals rows region) at whole.last
+        → whole.states ≡ run.states → whole.word ≡ run.word → whole.costs ≡ run.costs → IsRunOfAll machines rows region whole
+    way-ended whole at e end states word costs = record {
+      after = way.after;
+      stop = at;
+      states = states ∙ way.states;
+      path = subst (λ ks. IsPath Steps first way.after whole.word ks at) (sym costs) (subst (λ w. IsPath Steps first way.after w run.costs at) (sym word)
+          (subst (IsPath Steps first way.after run.word run.costs) (way-stop at e) way.path));
+      last = end;
+    }
+
+-- what is told where it holds
+pub told-some : {A : Type 0} (P : A → Type 0) (b : Bool) (x : A) → (b ≡ true → P x) → IfSome (then_some b x) P
+told-some P true x h = h refl
+told-some P false x h = tt
 
 -- a hit with no more characters than the steps that were counted
 pub counted-hit : (machines : List Graph) (integers : ℕ) (rows : List Row) (region : Region) (side : ℕ × ℕ) (runs : List (Run ℕ)) (numbers : List ℤ) (steps : ℕ)

@@ -2,18 +2,26 @@
 use Rattle.std.specs.Prelude.{◌≡◌, ℕ, ◌+◌, ◌⊎◌, List, [], ◌∷◌, ◌++◌, length, slice_get, Some}
 use Rattle.sv_linear.specs.declared.row.Row.{Row}
 use Rattle.machine_core.specs.Costs.{zeros}
-use Rattle.machine_core.specs.Runs.{IsRun}
+use Rattle.machine_core.specs.Runs.{IsPath, IsRun}
 use Rattle.machine_core.specs.declared.graph.Graph.{Graph}
 use Rattle.machine_core.specs.declared.run.Run.{Run}
 use Rattle.search_hits.specs.declared.region.Region.{Region}
 use Rattle.search_hits.specs.Hits.{AreRunsOf, runs_total, characters}
 use Rattle.box_search.specs.declared.layer.Layer.{Layer}
-use Rattle.box_search.specs.Layers.{layer, uppers_of, AreGoodTotals, LayerStep, LayerEnd}
+use Rattle.box_search.specs.Layers.{layer, uppers_of, AreGoodTotals, LayerStep, LayerEnd, IsLayerOf}
 
 -- a run of all machines in turn
 abbrev pub IsRunOfAll : List Graph → List Row → Region → Run Layer → Type 0
 IsRunOfAll machines rows region =
     IsRun (LayerEnd machines (uppers_of region) (AreGoodTotals rows region)) (LayerStep machines (uppers_of region) (AreGoodTotals rows region)) (layer 0 0 (zeros (length region.registers)))
+
+-- the run leads from the first layer to the one where it stops, whatever its last cost
+pub record IsWay (machines : List Graph) (rows : List Row) (region : Region) (run : Run Layer) : Type 0 where
+  pub after : List Layer
+  pub stop : Layer
+  pub states : run.states ≡ layer 0 0 (zeros (length region.registers)) ∷ after
+  pub path : IsPath (LayerStep machines (uppers_of region) (AreGoodTotals rows region)) (layer 0 0 (zeros (length region.registers))) after run.word run.costs stop
+  pub is : IsLayerOf machines (uppers_of region) (AreGoodTotals rows region) stop
 
 -- a run of each machine: together they cost what is spent behind the last machine, and have all characters but the one that leads on from each machine
 pub record IsCutInto (machines : List Graph) (registers : ℕ) (run : Run Layer) (runs : List (Run ℕ)) : Type 0 where

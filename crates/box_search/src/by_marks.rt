@@ -1,6 +1,7 @@
 //! The search where there is one register: by a bit for each pair of a state and a total.
 ghost use Rattle.std.specs.Prelude.{◌≡◌, ◌≤◌, ◌+◌, ◌*◌, ◌<◌, ◌^◌, ◌∷◌, ℕ, [], true, false, None, length, IfOk, IfSome};
 ghost use Rattle.search_hits.specs.Regions.{greatest_states, IsShortHit};
+ghost use Rattle.box_search.specs.Cuts.{IsRunOfAll};
 ghost use Rattle.box_search.specs.Layers.{AreGoodTotals};
 ghost use Rattle.box_search.specs.Marks.{HasBit, MarksAreClosed};
 ghost use Rattle.box_search.specs.Told.{IsTold};
@@ -8,13 +9,14 @@ ghost use Rattle.box_search.specs.Told.{IsTold};
 use crate::arcs::Arcs;
 use crate::covering::are_closed;
 use crate::hitting::hit_of;
+use crate::layer::Layer;
 use crate::layers::Layers;
 use crate::marking::mark_reached;
 use crate::marks::{Marks, has_bit};
 use crate::places::greatest_states;
 use crate::retracing::retrace;
 use crate::tracing::{Pair, trace};
-use machine_core::Explicit;
+use machine_core::{Explicit, Run};
 use search_hits::{Hit, Region};
 use std::alloc::{AllocError, Global};
 
@@ -125,6 +127,45 @@ fn are_few(machines: &[Explicit], most: u64, characters: usize) -> bool
     }
 }
 
+// A run with this total; `None` where none is found.
+fn trace_run(
+    alloc: Global,
+    layers: &Layers,
+    marks: &Marks,
+    arcs: &Arcs,
+    size: Size,
+    total: u64,
+) -> Result<Option<Run<Layer>>, AllocError>
+    ensures { IfOk result (λ o. IfSome o (IsRunOfAll layers.now.machines.now layers.now.rows.now layers.now.region.now)) }
+{
+    let last = Pair {
+        row: size.rows.saturating_sub(1),
+        total,
+    };
+    let Some(pairs) = trace(alloc, marks, arcs, size.rows, last)? else {
+        return Ok(None);
+    };
+    retrace(alloc, layers, pairs.as_slice(), size.states)
+}
+
+// The hit of the run, if it has as few characters as a hit may have.
+fn short_hit(
+    alloc: Global,
+    layers: &Layers,
+    run: &Run<Layer>,
+    side: (u64, u64),
+) -> Result<Option<Hit>, AllocError>
+    requires one { layers.now.region.now.registers ≡ side ∷ [] }
+    requires some { layers.now.region.now.empty ≡ false }
+    requires run { IsRunOfAll layers.now.machines.now layers.now.rows.now layers.now.region.now run.now }
+    ensures { IfOk result (λ o. IfSome o (λ hit. IsShortHit layers.now.machines.now layers.now.integers layers.now.rows.now layers.now.region.now hit.runs hit.integers)) }
+{
+    if !are_few(layers.machines, side.1, run.word.len()) {
+        return Ok(None);
+    }
+    Ok(Some(hit_of(alloc, layers, run)?))
+}
+
 // A hit with this total; `None` where none is found.
 fn trace_marks(
     alloc: Global,
@@ -139,20 +180,10 @@ fn trace_marks(
     requires some { layers.now.region.now.empty ≡ false }
     ensures { IfOk result (λ o. IfSome o (λ hit. IsShortHit layers.now.machines.now layers.now.integers layers.now.rows.now layers.now.region.now hit.runs hit.integers)) }
 {
-    let last = Pair {
-        row: size.rows.saturating_sub(1),
-        total,
-    };
-    let Some(pairs) = trace(alloc, marks, arcs, size.rows, last)? else {
+    let Some(run) = trace_run(alloc, layers, marks, arcs, size, total)? else {
         return Ok(None);
     };
-    let Some(run) = retrace(alloc, layers, pairs.as_slice(), size.states)? else {
-        return Ok(None);
-    };
-    if !are_few(layers.machines, side.1, run.word.len()) {
-        return Ok(None);
-    }
-    Ok(Some(hit_of(alloc, layers, &run)?))
+    short_hit(alloc, layers, &run, side)
 }
 
 // What the marks tell.

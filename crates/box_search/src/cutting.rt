@@ -1,12 +1,13 @@
 //! A run of all machines in turn, cut into a run of each.
-ghost use Rattle.std.specs.Prelude.{◌≡◌, ◌+◌, ◌<◌, ◌≤◌, length, slice_get, Some, IfOk};
+ghost use Rattle.std.specs.Prelude.{◌≡◌, ◌+◌, ◌<◌, ◌≤◌, length, slice_get, Some, IfOk, OnOk};
 ghost use Rattle.sv_word.specs.Words.{greatest_character};
-ghost use Rattle.box_search.specs.Cuts.{IsRunOfAll, IsCutInto, IsOpened, CutsBy};
+ghost use Rattle.box_search.specs.Cuts.{IsRunOfAll, IsCutInto, IsOpened, AddsStep, BeginsNext, CutsBy};
 
 use crate::layer::Layer;
 use crate::layers::Layers;
 use machine_core::{Cost, Run};
 use std::alloc::{AllocError, Global};
+use std::mem::replace;
 use sv_list::{Copied, Items};
 use sv_word::Word;
 
@@ -24,44 +25,54 @@ fn open_run(alloc: Global) -> Result<Run<u32>, AllocError>
     })
 }
 
+// One step more of the open run, to this layer.
+fn add_step(
+    alloc: Global,
+    current: &mut Run<u32>,
+    to: &Layer,
+    character: u32,
+    cost: &Cost,
+) -> Result<(), AllocError>
+    requires { character ≤ greatest_character }
+    ensures { OnOk result (AddsStep to.now character cost.now current.old current.new) }
+{
+    current.word.push(character)?;
+    current.states.push(to.state)?;
+    current.costs.push(cost.copy(alloc)?)
+}
+
+// The open run ends at this cost, and another one begins.
+fn begin_next(
+    alloc: Global,
+    runs: &mut Items<Run<u32>>,
+    current: &mut Run<u32>,
+    cost: &Cost,
+) -> Result<(), AllocError>
+    ensures { OnOk result (BeginsNext cost.now runs.old runs.new current.old current.new) }
+{
+    current.last = cost.copy(alloc)?;
+    let ended = replace(current, open_run(alloc)?);
+    runs.push(ended)
+}
+
 // One step more, from one layer to the next: the open run goes on, or ends and another one begins.
 fn cut_step(
     alloc: Global,
     runs: &mut Items<Run<u32>>,
-    current: Run<u32>,
+    current: &mut Run<u32>,
     from: &Layer,
     to: &Layer,
     character: u32,
     cost: &Cost,
-) -> Result<Run<u32>, AllocError>
+) -> Result<(), AllocError>
     requires { character ≤ greatest_character }
-    ensures { IfOk result (CutsBy from.now to.now character cost.now runs.old runs.new current) }
+    ensures { OnOk result (CutsBy from.now to.now character cost.now runs.old runs.new current.old current.new) }
 {
-    let paid = cost.copy(alloc)?;
-    let Run {
-        mut word,
-        mut states,
-        mut costs,
-        last,
-    } = current;
     if to.machine == from.machine {
-        word.push(character)?;
-        states.push(to.state)?;
-        costs.push(paid)?;
-        return Ok(Run {
-            word,
-            states,
-            costs,
-            last,
-        });
+        add_step(alloc, current, to, character, cost)
+    } else {
+        begin_next(alloc, runs, current, cost)
     }
-    runs.push(Run {
-        word,
-        states,
-        costs,
-        last: paid,
-    })?;
-    open_run(alloc)
 }
 
 /// The layer at this place of a run.
@@ -100,7 +111,7 @@ pub fn cut(alloc: Global, layers: &Layers, run: &Run<Layer>) -> Result<Items<Run
         let to = layer_at(run.states.as_slice(), place + 1);
         let character = character_at(&run.word, place);
         let cost = cost_at(run.costs.as_slice(), place);
-        current = cut_step(alloc, &mut runs, current, from, to, character, cost)?;
+        cut_step(alloc, &mut runs, &mut current, from, to, character, cost)?;
     }
     Ok(runs)
 }

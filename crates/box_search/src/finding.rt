@@ -178,8 +178,5 @@ pub fn find(
         return Ok(Some(point));
     }
     let above = with_side(alloc, sides, at, half + 1, high)?;
-    match find(alloc, rows, above.as_slice())? {
-        Some(point) => Ok(Some(point)),
-        None => Ok(None),
-    }
+    find(alloc, rows, above.as_slice())
 }

@@ -201,11 +201,16 @@ impl<'a> Machine for Layers<'a> {
         }
         let machine = machine_at(self.machines, at.machine as usize);
         let sides = self.region.registers.as_slice();
-        let inner = machine.moves(alloc, &at.state)?;
-        let mut all = steps(alloc, inner.as_slice(), at, sides)?;
-        let last = machine.ends(alloc, &at.state)?;
-        let on = Ranges::of(alloc, 0, 0)?;
-        all.append(ends(alloc, &on, last.as_slice(), at, sides)?)?;
+        let mut all = {
+            let inner = machine.moves(alloc, &at.state)?;
+            steps(alloc, inner.as_slice(), at, sides)?
+        };
+        let next = {
+            let last = machine.ends(alloc, &at.state)?;
+            let on = Ranges::of(alloc, 0, 0)?;
+            ends(alloc, &on, last.as_slice(), at, sides)?
+        };
+        all.append(next)?;
         Ok(all)
     }
 }

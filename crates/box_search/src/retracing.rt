@@ -1,15 +1,16 @@
 //! A run of all machines in turn, through given layers.
-ghost use Rattle.std.specs.Prelude.{IfOk, IfSome};
+ghost use Rattle.std.specs.Prelude.{◌≡◌, true, IfOk, IfSome};
 ghost use Rattle.machine_core.specs.Moves.{Moves};
-ghost use Rattle.box_search.specs.Cuts.{IsRunOfAll};
+ghost use Rattle.box_search.specs.Cuts.{IsWay, IsRunOfAll};
 ghost use Rattle.box_search.specs.Layers.{uppers_of, AreGoodTotals, LayerStep, IsLayerOf};
 
+use crate::cutting::layer_at;
 use crate::layer::Layer;
 use crate::layers::Layers;
 use crate::tracing::Pair;
 use machine_core::{Cost, Machine, Move, Run};
 use std::alloc::{AllocError, Global};
-use sv_list::{Copied, Items};
+use sv_list::Items;
 use sv_word::Word;
 
 // A step to a layer.
@@ -58,6 +59,74 @@ fn step_of(next: Move<Layer>) -> Option<Step>
     })
 }
 
+// The run of no characters, in the first layer.
+fn begin(alloc: Global, layers: &Layers) -> Result<Run<Layer>, AllocError>
+    ensures { IfOk result (IsWay layers.now.machines.now layers.now.rows.now layers.now.region.now) }
+{
+    let mut states = Items::new(alloc);
+    states.push(layers.start(alloc)?)?;
+    Ok(Run {
+        word: Word::new(alloc),
+        states,
+        costs: Items::new(alloc),
+        last: Cost::new(alloc),
+    })
+}
+
+// Takes one step more, to the layer of the pair. Whether one was found.
+fn go_on(
+    alloc: Global,
+    layers: &Layers,
+    run: &mut Run<Layer>,
+    pair: Pair,
+    states: usize,
+) -> Result<bool, AllocError>
+    requires { IsWay layers.now.machines.now layers.now.rows.now layers.now.region.now run.old }
+    ensures { IfOk result (λ found. found ≡ true → IsWay layers.now.machines.now layers.now.rows.now layers.now.region.now run.new) }
+{
+    let at = layer_at(run.states.as_slice(), run.word.len());
+    let Some(step) = step_to(alloc, layers, at, pair, states)? else {
+        return Ok(false);
+    };
+    run.word.push(step.character)?;
+    run.costs.push(step.cost)?;
+    run.states.push(step.to)?;
+    Ok(true)
+}
+
+// Ends the run where it has come to. Whether it may end there.
+fn end(alloc: Global, layers: &Layers, run: &mut Run<Layer>) -> Result<bool, AllocError>
+    requires { IsWay layers.now.machines.now layers.now.rows.now layers.now.region.now run.old }
+    ensures { IfOk result (λ ends. ends ≡ true → IsRunOfAll layers.now.machines.now layers.now.rows.now layers.now.region.now run.new) }
+{
+    let at = layer_at(run.states.as_slice(), run.word.len());
+    let mut ends = layers.ends(alloc, at)?;
+    let Some(last) = ends.pop() else {
+        return Ok(false);
+    };
+    run.last = last;
+    Ok(true)
+}
+
+// Goes on through the layers of these pairs but the first, and ends. Whether it came to an end.
+fn follow(
+    alloc: Global,
+    layers: &Layers,
+    run: &mut Run<Layer>,
+    pairs: &[Pair],
+    states: usize,
+) -> Result<bool, AllocError>
+    requires { IsWay layers.now.machines.now layers.now.rows.now layers.now.region.now run.old }
+    ensures { IfOk result (λ ends. ends ≡ true → IsRunOfAll layers.now.machines.now layers.now.rows.now layers.now.region.now run.new) }
+{
+    for place in 1..pairs.len() {
+        if !go_on(alloc, layers, run, pairs[place], states)? {
+            return Ok(false);
+        }
+    }
+    end(alloc, layers, run)
+}
+
 /// A run through the layers of these pairs, which begin with that of the first layer; `None` where none is found.
 pub fn retrace(
     alloc: Global,
@@ -67,29 +136,7 @@ pub fn retrace(
 ) -> Result<Option<Run<Layer>>, AllocError>
     ensures { IfOk result (λ o. IfSome o (IsRunOfAll layers.now.machines.now layers.now.rows.now layers.now.region.now)) }
 {
-    let mut at = layers.start(alloc)?;
-    let mut word = Word::new(alloc);
-    let mut states_of = Items::new(alloc);
-    let mut costs = Items::new(alloc);
-    states_of.push(at.copy(alloc)?)?;
-    for place in 1..pairs.len() {
-        let Some(step) = step_to(alloc, layers, &at, pairs[place], states)? else {
-            return Ok(None);
-        };
-        word.push(step.character)?;
-        costs.push(step.cost)?;
-        states_of.push(step.to.copy(alloc)?)?;
-        at = step.to;
-    }
-    let ends = layers.ends(alloc, &at)?;
-    let Some(last) = ends.get(0) else {
-        return Ok(None);
-    };
-    let last = last.copy(alloc)?;
-    Ok(Some(Run {
-        word,
-        states: states_of,
-        costs,
-        last,
-    }))
+    let mut run = begin(alloc, layers)?;
+    let ends = follow(alloc, layers, &mut run, pairs, states)?;
+    Ok(ends.then_some(run))
 }

@@ -1,10 +1,11 @@
 ghost use Rattle.std.specs.Prelude.{◌≡◌, ℤ, ℕ, false, List, length, IfOk, MatchOption};
 ghost use Rattle.machine_core.specs.Costs.{zeros};
 ghost use Rattle.machine_core.specs.Edges.{EndsAt, StepsBy};
-ghost use Rattle.machine_core.specs.Graphs.{IsRunOf};
+ghost use Rattle.machine_core.specs.Graphs.{Accepts, IsRunOf};
 ghost use Rattle.machine_core.specs.Language.{SameRuns};
 ghost use Rattle.machine_core.specs.declared.run.Run.{Run};
 ghost use Rattle.trim_search.specs.Lifted.{IsLift};
+ghost use Rattle.trim_search.specs.Shortest.{IsShortestRun};
 ghost use Rattle.search_hits.specs.Regions.{IsQuestion, IsHitWithin, IsShortHit};
 ghost use Rattle.box_search.specs.Layers.{layer, uppers_of, AreGoodTotals, LayerStep, LayerEnd};
 ghost use Rattle.box_search.specs.Cuts.{IsRunOfAll};
@@ -16,7 +17,7 @@ use crate::layer::Layer;
 use crate::layer_table::LayerTable;
 use crate::layers::Layers;
 use crate::places::TotalPlaces;
-use machine_core::Explicit;
+use machine_core::{Explicit, Run};
 use search_hits::{Hit, Region};
 use std::alloc::{AllocError, Global};
 use sv_linear::Row;
@@ -77,11 +78,43 @@ fn by_layers(alloc: Global, layers: &Layers) -> Result<Option<Hit>, AllocError>
         (λ hit. IsShortHit layers.now.machines.now layers.now.integers layers.now.rows.now layers.now.region.now hit.runs hit.integers)) }
 {
     let built = explore_layers(alloc, layers)?;
+    shortest_hit(alloc, layers, &built)
+}
+
+// The hit of a shortest run of the layers that are reached; `None` exactly where there is none.
+fn shortest_hit(
+    alloc: Global,
+    layers: &Layers,
+    built: &Built<Layer>,
+) -> Result<Option<Hit>, AllocError>
+    requires some { layers.now.region.now.empty ≡ false }
+    requires runs { SameRuns
+        (LayerEnd layers.now.machines.now (uppers_of layers.now.region.now) (AreGoodTotals layers.now.rows.now layers.now.region.now))
+        (LayerStep layers.now.machines.now (uppers_of layers.now.region.now) (AreGoodTotals layers.now.rows.now layers.now.region.now))
+        (layer 0 0 (zeros (length layers.now.region.now.registers)))
+        (EndsAt built.now.machine.ends) (StepsBy built.now.machine.edges) 0 }
+    requires lifts { (run : Run ℕ) (lifted : Run Layer) → IsRunOf built.now.machine run → IsLift built.now.names run lifted
+        → IsRunOfAll layers.now.machines.now layers.now.rows.now layers.now.region.now lifted }
+    ensures { IfOk result (λ o. MatchOption o
+        ((runs : List (Run ℕ)) (numbers : List ℤ) → IsHitWithin layers.now.machines.now layers.now.integers layers.now.rows.now layers.now.region.now runs numbers → ⊥)
+        (λ hit. IsShortHit layers.now.machines.now layers.now.integers layers.now.rows.now layers.now.region.now hit.runs hit.integers)) }
+{
+    let Some(run) = shortest_run(alloc, built)? else {
+        return Ok(None);
+    };
+    Ok(Some(hit_of(alloc, layers, &run)?))
+}
+
+// A shortest run of the layers that are reached; `None` exactly where there is none.
+fn shortest_run(alloc: Global, built: &Built<Layer>) -> Result<Option<Run<Layer>>, AllocError>
+    ensures { IfOk result (λ o. MatchOption o
+        ((word cost : List ℕ) → Accepts built.now.machine word cost → ⊥)
+        (λ run. (numbered : Run ℕ) × IsShortestRun built.now.machine numbered × IsLift built.now.names numbered run)) }
+{
     let Some(numbered) = shortest(alloc, &built.machine)? else {
         return Ok(None);
     };
-    let run = built.lift(alloc, &numbered)?;
-    Ok(Some(hit_of(alloc, layers, &run)?))
+    Ok(Some(built.lift(alloc, &numbered)?))
 }
 
 // All layers that are reached.

@@ -88,28 +88,41 @@ fn step_back(
         by: 0,
     })?;
     see(&mut way.seen, from.row, round);
+    search_back(alloc, marks, arcs, way, &mut near, from.total, round)
+}
+
+// The same, by breadth through the rows that are near.
+fn search_back(
+    alloc: Global,
+    marks: &Marks,
+    arcs: &Arcs,
+    way: &mut Way,
+    near: &mut Vec<Near>,
+    total: u64,
+    round: u64,
+) -> Result<Step, AllocError> {
     for at in 0..usize::MAX {
         let Some(next) = near.get(at).copied() else {
             return Ok(Step::Nowhere);
         };
-        if next.row == 0 && from.total == 0 {
-            push_near(alloc, &mut way.back, near.as_slice(), at, from.total)?;
+        if next.row == 0 && total == 0 {
+            push_near(alloc, &mut way.back, near.as_slice(), at, total)?;
             return Ok(Step::Begun);
         }
         if let Some(arc) = look_back(
             marks,
             arcs,
-            &mut near,
+            near,
             &mut way.seen,
             at,
             next.row,
-            from.total,
+            total,
             round,
         )? {
-            push_near(alloc, &mut way.back, near.as_slice(), at, from.total)?;
+            push_near(alloc, &mut way.back, near.as_slice(), at, total)?;
             let before = Pair {
                 row: arc.from,
-                total: from.total.saturating_sub(arc.cost),
+                total: total.saturating_sub(arc.cost),
             };
             way.back.push(before)?;
             return Ok(Step::To(before));

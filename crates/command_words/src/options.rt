@@ -39,14 +39,10 @@ fn plain<'a>(alloc: Global) -> Command<'a>
 fn command<'a>(alloc: Global) -> Result<Command<'a>, AllocError>
     ensures { IfOk result (λ command. app_of command ≡ form_app) }
 {
-    let workers = option(alloc, "workers");
-    let generate = option(alloc, "generate");
-    let size = option(alloc, "size");
-    let file = Arg::new(alloc, "file");
-    let first = plain(alloc).arg(workers)?;
-    let second = first.arg(generate)?;
-    let third = second.arg(size)?;
-    third.arg(file)
+    let first = plain(alloc).arg(option(alloc, "workers"))?;
+    let second = first.arg(option(alloc, "generate"))?;
+    let third = second.arg(option(alloc, "size"))?;
+    third.arg(Arg::new(alloc, "file"))
 }
 
 fn parse<'a>(alloc: Global, words: &'a [String]) -> Result<ArgMatches<'a>, Error>
@@ -123,13 +119,18 @@ pub fn read_options<'a>(alloc: Global, words: &'a [String]) -> Result<Options<'a
             return Err(WordsFault::Outside);
         }
     };
-    let workers = number_of(text_of(&found, "workers"), 1, 64)?;
-    let seed = number_of(text_of(&found, "generate"), 0, u64::MAX)?;
-    let size = number_of(text_of(&found, "size"), 1, 100_000)?;
+    let workers = text_of(&found, "workers");
+    let seed = text_of(&found, "generate");
+    let size = text_of(&found, "size");
+    let file = text_of(&found, "file");
+    drop(found);
+    let workers = number_of(workers, 1, 64)?;
+    let seed = number_of(seed, 0, u64::MAX)?;
+    let size = number_of(size, 1, 100_000)?;
     Ok(Options {
         workers,
         seed,
         size,
-        file: text_of(&found, "file"),
+        file,
     })
 }

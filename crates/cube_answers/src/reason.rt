@@ -20,7 +20,6 @@ pub enum Shown {
 }
 
 /// Why a cube is left open.
-#[derive(Drop)]
 pub enum OpenReason {
     /// It isn't straight. No answer for a flat cube has this reason.
     Fragment(Shown),
@@ -36,6 +35,21 @@ pub enum OpenReason {
     Length(Items<Explicit>, LongShown),
     /// The solver gave up on the system of these machines.
     Arithmetic(Items<Explicit>, System, Evidence),
+}
+
+// A drop by hand is one call where a derived one is a call for each vector inside.
+impl Drop for OpenReason {
+    fn drop(self) {
+        match self {
+            Self::Fragment(_) => {}
+            Self::Wide(_) => {}
+            Self::States(_) => {}
+            Self::Splits(_) => {}
+            Self::Growth(_) => {}
+            Self::Length(_, _) => {}
+            Self::Arithmetic(_, _, _) => {}
+        }
+    }
 }
 
 fn crosses<T: Send + Sync>() {}

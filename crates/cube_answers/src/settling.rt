@@ -3,9 +3,8 @@ ghost use Rattle.std.specs.Prelude.{◌≡◌};
 ghost use Rattle.cube_answers.specs.Tallies.{first_some, hit_of, left_of, one_more, settled};
 
 use crate::answer::CubeAnswer;
-use crate::reason::OpenReason;
 use crate::tally::{GivenUpLeaf, LeafTally, LongLeaf};
-use leaf_solve::{Closing, LeafAnswer, LongShown};
+use leaf_solve::{Closing, LeafAnswer};
 use machine_core::Explicit;
 use search_hits::Hit;
 use sv_list::Items;
@@ -25,7 +24,7 @@ pub fn settle(tally: &mut LeafTally, machines: Items<Explicit>, answer: LeafAnsw
             None
         }
         LeafAnswer::Long(shown) => {
-            keep_long(tally, machines, shown);
+            keep_long(tally, LongLeaf { machines, shown });
             None
         }
         LeafAnswer::Open(system, evidence) => {
@@ -51,26 +50,22 @@ pub fn open_answer(tally: LeafTally) -> CubeAnswer
         closed,
     } = tally;
     if let Some(given) = given {
-        return CubeAnswer::Open(OpenReason::Arithmetic(
-            given.machines,
-            given.system,
-            given.evidence,
-        ));
+        return CubeAnswer::Open(given.into_reason());
     }
     if let Some(long) = long {
-        return CubeAnswer::Open(OpenReason::Length(long.machines, long.shown));
+        return CubeAnswer::Open(long.into_reason());
     }
     CubeAnswer::Unsat(closed)
 }
 
 // Keeps a leaf that is too long, if it is the first.
-fn keep_long(tally: &mut LeafTally, machines: Items<Explicit>, shown: LongShown)
+fn keep_long(tally: &mut LeafTally, long: LongLeaf)
     ensures given { tally.new.given ≡ tally.old.given }
-    ensures long { tally.new.long ≡ first_some tally.old.long (record { machines = machines; shown = shown }) }
+    ensures long { tally.new.long ≡ first_some tally.old.long long }
     ensures closed { tally.new.closed ≡ tally.old.closed }
 {
     if tally.long.is_none() {
-        tally.long = Some(LongLeaf { machines, shown });
+        tally.long = Some(long);
     }
 }
 

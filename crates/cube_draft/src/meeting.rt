@@ -23,7 +23,6 @@ use sv_word::Word;
 
 /// A draft that literals are added to, with what finds the place of a term, the number of a quantity and
 /// the value of a Bool constant that came before.
-#[derive(Drop)]
 pub struct DraftBuilder {
     pub names: Items<Option<Name>>,
     pub places: CodeNumbers,
@@ -35,6 +34,24 @@ pub struct DraftBuilder {
     pub rows: Items<Row>,
     pub truths: Truths,
     pub broken: bool,
+}
+
+// A drop by hand is one call where a derived one is a call for each vector inside.
+impl Drop for DraftBuilder {
+    fn drop(self) {
+        let Self {
+            names: _,
+            places: _,
+            parts: _,
+            definitions: _,
+            equalities: _,
+            quantities: _,
+            numbers: _,
+            rows: _,
+            truths: _,
+            broken: _,
+        } = self;
+    }
 }
 
 /// The place of a term, and whether the term came before.

@@ -1,5 +1,5 @@
 -- What stands between the steps of an answer.
-use Rattle.std.specs.Prelude.{◌≡◌, ℕ, ℤ, ◌≤◌, List, length, All, Option, Some, slice_get}
+use Rattle.std.specs.Prelude.{◌≡◌, ℕ, ℤ, ◌≤◌, List, length, All, true, false, Option, Some, slice_get}
 use Rattle.std.specs.List.{AllZip}
 use Rattle.sv_linear.specs.Rows.{IsRowWithin}
 use Rattle.sv_linear.specs.declared.row.Row.{Row}
@@ -12,11 +12,13 @@ use Rattle.lia_branch.specs.Outcomes.{CountsEdges}
 use Rattle.search_hits.specs.Hits.{characters}
 use Rattle.parikh_flow.specs.Rows.{IsSystemOf}
 use Rattle.parikh_flow.specs.Solutions.{HasFlowAt, HaveFlowsAt}
-use Rattle.leaf_solve.specs.Questions.{IsAsked}
-use Rattle.leaf_solve.specs.Answers.{IsLeafAnswer}
-use Rattle.leaf_solve.specs.Longs.{HasRun}
+use Rattle.leaf_solve.specs.Questions.{IsAsked, EachHit, LieIn}
+use Rattle.leaf_solve.specs.Answers.{IsLeafAnswer, IsClosedAnswer}
+use Rattle.leaf_solve.specs.Longs.{HasRun, IsBeyond}
 use Rattle.leaf_solve.specs.declared.leaf_answer.LeafAnswer.{LeafAnswer}
 use Rattle.leaf_solve.specs.declared.question.Question.{Question}
+use Rattle.leaf_solve.specs.declared.rows.PastReach.{PastReach}
+use Rattle.leaf_solve.specs.declared.rows.PastReach.TheVariants.{Nothing, Something}
 use Rattle.leaf_solve.specs.declared.shortest.Shortest.{Shortest}
 use Rattle.leaf_solve.specs.declared.shortest.Shortest.TheVariants.{Empty, Runs}
 
@@ -28,6 +30,15 @@ AnswersQuestion q = IsLeafAnswer q.machines.now q.integers q.rows.now q.region.n
 
 abbrev pub IsSystemFor : Question → Option ℕ → System → Type 0
 IsSystemFor q = IsSystemOf q.machines.now q.integers (length q.region.now.registers) q.rows.now
+
+-- a closing, or what lies beyond the reach, where the region needn't hold each hit
+abbrev pub TellsPast : Question → PastReach → Type 0
+TellsPast q (Nothing closing) = IsClosedAnswer q.machines.now (length q.region.now.registers) q.integers q.rows.now q.small closing
+TellsPast q (Something beyond) = (q.small ≡ true → ⊥) × IsBeyond q.machines.now (length q.region.now.registers) q.integers q.rows.now q.small beyond
+
+-- the region holds no hit, and needn't hold each
+abbrev pub HoldsNothing : Question → Type 0
+HoldsNothing q = (q.small ≡ false) × EachHit q.machines.now (length q.region.now.registers) q.integers q.rows.now (λ runs numbers. LieIn q.region.now runs numbers → ⊥)
 
 -- a machine without a run, or a shortest run of each machine
 abbrev pub IsShortest : List Graph → Shortest → Type 0

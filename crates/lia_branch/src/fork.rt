@@ -24,18 +24,20 @@ impl Fork {
     pub(crate) fn tree(self, alloc: Global, first: Tree, second: Tree) -> Result<Tree, AllocError>
         ensures { IfOk result (λ t. t ≡ fork_tree self first second) }
     {
+        let first = Boxed::new(alloc, first)?;
+        let second = Boxed::new(alloc, second)?;
         match self {
             Fork::Unknown { unknown, at } => Ok(Tree::Split {
                 unknown,
                 at,
-                low: Boxed::new(alloc, first)?,
-                high: Boxed::new(alloc, second)?,
+                low: first,
+                high: second,
             }),
             Fork::Set { net, states } => Ok(Tree::SetSplit {
                 net,
                 states,
-                none: Boxed::new(alloc, first)?,
-                some: Boxed::new(alloc, second)?,
+                none: first,
+                some: second,
             }),
         }
     }

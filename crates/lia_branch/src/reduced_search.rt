@@ -1,14 +1,17 @@
-ghost use Rattle.std.specs.Prelude.{◌≡◌, All, Some, IfOk, IfSome};
+ghost use Rattle.std.specs.Prelude.{◌≡◌, ℕ, [], All, Some, slice_get, IfOk, IfSome};
 ghost use Rattle.farkas_check.specs.Cuts.{IsNetWithin};
 ghost use Rattle.lia_branch.specs.Outcomes.{CountsEdges, IfSolution, IfClosed, IfGaveUp, IsSolution, IsAccepted};
 ghost use Rattle.lia_quick.specs.Finds.{IsPointOf};
-ghost use Rattle.sv_linear.specs.Rows.{NameUnknowns};
+ghost use Rattle.sv_linear.specs.Rows.{NameUnknowns, IsRowWithin};
+ghost use Rattle.sv_linear.specs.declared.row.Row.{Row};
 
 use crate::no_cut::NoCut;
 use crate::outcome::Outcome;
 use crate::searching::search_tree;
-use farkas_check::{Cutter, System};
-use lia_quick::{Elimination, QuickAnswer, reduce, restore_point, restore_tree, solve_by_bounds};
+use farkas_check::{Cutter, System, Tree};
+use lia_quick::{
+    Elimination, QuickAnswer, Reduced, reduce, restore_point, restore_tree, solve_by_bounds,
+};
 use std::alloc::{AllocError, Global};
 use sv_list::Items;
 
@@ -35,11 +38,52 @@ pub(crate) fn solve_reduced<C: Cutter>(
     let Some(reduced) = reduce(alloc, system, elimination)? else {
         return Ok(None);
     };
-    match solve_by_bounds(alloc, system, elimination, &reduced)? {
-        Some(QuickAnswer::Point(point)) => return joining_point(alloc, system, cutter, point),
-        Some(QuickAnswer::Closed(tree)) => return Ok(Some(Outcome::Closed(tree))),
-        None => {}
+    solve_left(alloc, system, cutter, elimination, &reduced)
+}
+
+/// Solves the system by what is left of it: by the bounds of its unknowns, and then by its tree.
+fn solve_left<C: Cutter>(
+    alloc: Global,
+    system: &System,
+    cutter: &C,
+    elimination: &Elimination,
+    reduced: &Reduced,
+) -> Result<Option<Outcome>, AllocError>
+    requires names { NameUnknowns system.now.unknowns system.now.rows }
+    requires nets { All (IsNetWithin system.now.unknowns) system.now.nets }
+    requires counts { CountsEdges system.now }
+    requires cutter { C.nets cutter.now ≡ system.now.nets }
+    requires no_nets { reduced.now.system.nets ≡ [] }
+    requires rows { (i : ℕ) (r : Row) → slice_get reduced.now.system.rows i ≡ Some r → IsRowWithin reduced.now.system.unknowns r }
+    ensures solution { IfOk result (λ o. IfSome o (λ a. IfSolution a (IsSolution system.now))) }
+    ensures closed { IfOk result (λ o. IfSome o (λ a. IfClosed a (IsAccepted system.now))) }
+    ensures whole { IfOk result (λ o. IfSome o (λ a. IfGaveUp a (λ _. ⊥))) }
+{
+    match solve_by_bounds(alloc, system, elimination, reduced)? {
+        Some(QuickAnswer::Point(point)) => joining_point(alloc, system, cutter, point),
+        Some(QuickAnswer::Closed(tree)) => Ok(Some(Outcome::Closed(tree))),
+        None => search_left(alloc, system, cutter, elimination, reduced),
     }
+}
+
+/// Solves the system by the tree of what is left of it, where that isn't the system itself.
+fn search_left<C: Cutter>(
+    alloc: Global,
+    system: &System,
+    cutter: &C,
+    elimination: &Elimination,
+    reduced: &Reduced,
+) -> Result<Option<Outcome>, AllocError>
+    requires names { NameUnknowns system.now.unknowns system.now.rows }
+    requires nets { All (IsNetWithin system.now.unknowns) system.now.nets }
+    requires counts { CountsEdges system.now }
+    requires cutter { C.nets cutter.now ≡ system.now.nets }
+    requires no_nets { reduced.now.system.nets ≡ [] }
+    requires rows { (i : ℕ) (r : Row) → slice_get reduced.now.system.rows i ≡ Some r → IsRowWithin reduced.now.system.unknowns r }
+    ensures solution { IfOk result (λ o. IfSome o (λ a. IfSolution a (IsSolution system.now))) }
+    ensures closed { IfOk result (λ o. IfSome o (λ a. IfClosed a (IsAccepted system.now))) }
+    ensures whole { IfOk result (λ o. IfSome o (λ a. IfGaveUp a (λ _. ⊥))) }
+{
     if elimination.is_idle() {
         return Ok(None);
     }
@@ -48,11 +92,26 @@ pub(crate) fn solve_reduced<C: Cutter>(
             Some(point) => joining_point(alloc, system, cutter, point),
             None => Ok(None),
         },
-        Outcome::Closed(tree) => match restore_tree(alloc, system, elimination, &reduced, &tree)? {
-            Some(tree) => Ok(Some(Outcome::Closed(tree))),
-            None => Ok(None),
-        },
+        Outcome::Closed(tree) => lifted_tree(alloc, system, elimination, reduced, &tree),
         Outcome::GaveUp(_) => Ok(None),
+    }
+}
+
+/// The tree of what is left, lifted, where it closes the system.
+fn lifted_tree(
+    alloc: Global,
+    system: &System,
+    elimination: &Elimination,
+    reduced: &Reduced,
+    tree: &Tree,
+) -> Result<Option<Outcome>, AllocError>
+    requires { NameUnknowns system.now.unknowns system.now.rows }
+    ensures closed { IfOk result (λ o. IfSome o (λ a. IfClosed a (IsAccepted system.now))) }
+    ensures only { IfOk result (λ o. IfSome o (λ a. IfSolution a (λ _. ⊥) × IfGaveUp a (λ _. ⊥))) }
+{
+    match restore_tree(alloc, system, elimination, reduced, tree)? {
+        Some(tree) => Ok(Some(Outcome::Closed(tree))),
+        None => Ok(None),
     }
 }
 

@@ -8,7 +8,7 @@ ghost use Rattle.farkas_check.specs.declared.tree.Tree.TheVariants.{Open};
 ghost use Rattle.lia_branch.specs.Nodes.{Node, BeginsAt, IsFirstBasis};
 ghost use Rattle.lia_branch.specs.EvidenceHolds.{IsPastAt, Holds};
 ghost use Rattle.lia_branch.specs.Founds.{IsReadyTableau, IsSystemNode, IsNodeStop};
-ghost use Rattle.lia_branch.specs.Forks.{VisitHolds, IsForkAt, IsResumed, EnteredHolds, NextHolds, IsNextSmaller, EnteredBy, is_first};
+ghost use Rattle.lia_branch.specs.Forks.{VisitHolds, IsForkAt, IsClosing, IsResumed, EnteredHolds, NextHolds, IsNextSmaller, EnteredBy, is_first};
 ghost use Rattle.lia_branch.specs.Outcomes.{CountsEdges, IfSolution, IfClosed, IfGaveUp, IsSolution, IsAccepted};
 ghost use Rattle.farkas_check.specs.Cuts.{IsNetWithin};
 ghost use Rattle.sv_linear.specs.declared.row.Row.{Row as AnyRow};
@@ -142,6 +142,55 @@ fn cross(
     enter(alloc, tableau, row)
 }
 
+/// Goes to the first side of a split that is due; stops where it is the last that may be made.
+fn go_down(
+    alloc: Global,
+    system: &System,
+    levels: &mut Items<SplitLevel>,
+    left: u32,
+    tableau: Tableau,
+    fork: Fork,
+) -> Result<NextNode, AllocError>
+    requires left { 0 < left }
+    requires due { (node : Node) × (Path system.now levels.old node left × IsForkAt system.now node tableau fork) }
+    requires ready { IsReadyTableau system.now tableau.rows tableau }
+    ensures found { IfOk result (NextHolds system.now levels.new) }
+    ensures smaller { IfOk result (IsNextSmaller levels.old levels.new left) }
+{
+    if left == 1 {
+        let tree = fork.tree(alloc, Tree::Open, Tree::Open)?;
+        return Ok(NextNode::Stopped {
+            tree,
+            stop: StopReason::Branches,
+        });
+    }
+    let entered = descend(alloc, system, levels, tableau, fork)?;
+    Ok(entered.next(left - 1))
+}
+
+/// Goes from a node that the leaf closes to the second side of the nearest split where that waits.
+fn go_back(
+    alloc: Global,
+    system: &System,
+    levels: &mut Items<SplitLevel>,
+    left: u32,
+    leaf: Tree,
+) -> Result<NextNode, AllocError>
+    requires left { 0 < left }
+    requires closing { IsClosing system.now levels.old left leaf }
+    ensures found { IfOk result (NextHolds system.now levels.new) }
+    ensures smaller { IfOk result (IsNextSmaller levels.old levels.new left) }
+{
+    match resume(alloc, levels, leaf)? {
+        Resumed::Whole(tree) => Ok(NextNode::Closed(tree)),
+        Resumed::Waiting { fork, tree, packed } => {
+            let waiting = packed.unpack(alloc)?;
+            let entered = cross(alloc, system, levels, waiting, fork, tree)?;
+            Ok(entered.next(left))
+        }
+    }
+}
+
 /// Where the search goes from a node that was visited.
 fn next(
     alloc: Global,
@@ -163,25 +212,8 @@ fn next(
             tree: Tree::Open,
             stop,
         }),
-        Visit::Split(fork) => {
-            if left == 1 {
-                let tree = fork.tree(alloc, Tree::Open, Tree::Open)?;
-                return Ok(NextNode::Stopped {
-                    tree,
-                    stop: StopReason::Branches,
-                });
-            }
-            let entered = descend(alloc, system, levels, tableau, fork)?;
-            Ok(entered.next(left - 1))
-        }
-        Visit::Closed(leaf) => match resume(alloc, levels, leaf)? {
-            Resumed::Whole(tree) => Ok(NextNode::Closed(tree)),
-            Resumed::Waiting { fork, tree, packed } => {
-                let waiting = packed.unpack(alloc)?;
-                let entered = cross(alloc, system, levels, waiting, fork, tree)?;
-                Ok(entered.next(left))
-            }
-        },
+        Visit::Split(fork) => go_down(alloc, system, levels, left, tableau, fork),
+        Visit::Closed(leaf) => go_back(alloc, system, levels, left, leaf),
     }
 }
 

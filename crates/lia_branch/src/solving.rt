@@ -31,10 +31,28 @@ pub fn solve<C: Cutter>(alloc: Global, system: &System, cutter: &C) -> Result<Ou
     let Some(elimination) = Elimination::of(alloc, system)? else {
         return search_tree(alloc, system, cutter);
     };
-    if let Some(tree) = close_by_divisor(alloc, system, &elimination)? {
+    solve_eliminated(alloc, system, cutter, &elimination)
+}
+
+/// As `solve`, with the system's elimination.
+fn solve_eliminated<C: Cutter>(
+    alloc: Global,
+    system: &System,
+    cutter: &C,
+    elimination: &Elimination,
+) -> Result<Outcome, AllocError>
+    requires rows { (i : ℕ) (r : Row) → slice_get system.now.rows i ≡ Some r → IsRowWithin system.now.unknowns r }
+    requires nets { All (IsNetWithin system.now.unknowns) system.now.nets }
+    requires counts { CountsEdges system.now }
+    requires cutter { C.nets cutter.now ≡ system.now.nets }
+    ensures solution { IfOk result (λ o. IfSolution o (IsSolution system.now)) }
+    ensures closed { IfOk result (λ o. IfClosed o (IsAccepted system.now)) }
+    ensures gave_up { IfOk result (λ o. IfGaveUp o (Holds system.now)) }
+{
+    if let Some(tree) = close_by_divisor(alloc, system, elimination)? {
         return Ok(Outcome::Closed(tree));
     }
-    match solve_reduced(alloc, system, cutter, &elimination)? {
+    match solve_reduced(alloc, system, cutter, elimination)? {
         Some(outcome) => Ok(outcome),
         None => search_tree(alloc, system, cutter),
     }

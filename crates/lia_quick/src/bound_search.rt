@@ -44,128 +44,215 @@ struct CutLevel {
     facts: usize,
 }
 
+/// A search within bounds, at one of its nodes.
+#[derive(Drop)]
+struct BoundSearch {
+    bounds: Bounds,
+    lifter: Lifter,
+    /// The splits on the way from the root to the node.
+    levels: Vec<CutLevel>,
+    /// How many cuts may still be made.
+    left: u32,
+}
+
+/// What a search does behind a node.
+#[derive(Drop)]
+enum NextStep {
+    GoesOn,
+    Ends(BoundsEnding),
+    /// A number leaves 128 bits, or too much would have to be looked at.
+    GivesUp,
+}
+
 /// Searches the reduced system within the bounds of its unknowns; `None` where a number leaves
 /// 128 bits or too much would have to be looked at.
 pub(crate) fn search(
     alloc: Global,
     reduction: Reduction,
 ) -> Result<Option<BoundsEnding>, AllocError> {
-    let rows = reduction.reduced.system.rows.as_slice();
-    let unknowns = reduction.reduced.system.unknowns;
-    let mut bounds = Bounds::new(alloc, rows, unknowns)?;
-    let mut lifter = Lifter::new(alloc, reduction)?;
-    let mut levels: Vec<CutLevel> = Vec::new(alloc);
-    let mut left = MOST_CUTS;
-    for _ in 0..u32::MAX {
-        match bounds.settle(alloc, rows)? {
-            BoundStep::Spent => return Ok(None),
-            BoundStep::Conflict(reason) => {
-                let Some(leaf) = leaf_of(
-                    alloc,
-                    reduction,
-                    &mut lifter,
-                    &mut bounds,
-                    levels.len(),
-                    &reason,
-                    None,
-                )?
-                else {
-                    return Ok(None);
-                };
-                if let Some(tree) = close(alloc, &mut bounds, &mut levels, leaf)? {
-                    return Ok(Some(BoundsEnding::Closed(tree)));
-                }
-            }
-            BoundStep::Rounded(rounding) => {
-                left = left.saturating_sub(1);
-                if left == 0
-                    || !round(
-                        alloc,
-                        reduction,
-                        &mut lifter,
-                        &mut bounds,
-                        &mut levels,
-                        rounding,
-                    )?
-                {
-                    return Ok(None);
-                }
-            }
-            BoundStep::Quiet => {
-                let Some(choice) = choose(&bounds, unknowns) else {
-                    return Ok(Some(BoundsEnding::Point(point_of(alloc, &bounds, unknowns)?)));
-                };
-                left = left.saturating_sub(1);
-                if left == 0 {
-                    return Ok(None);
-                }
-                let Choice { cut, low_first } = choice;
-                enter(&mut bounds, &mut levels, cut, low_first, Other::Waits)?;
-            }
-        }
-    }
-    Ok(None)
+    let mut root = BoundSearch::new(alloc, reduction)?;
+    root.run(alloc, reduction)
 }
 
-/// The leaf of a reason, over the rows of the whole system, and then over those of so many branches.
-fn leaf_of(
-    alloc: Global,
-    reduction: Reduction,
-    lifter: &mut Lifter,
-    bounds: &mut Bounds,
-    branches: usize,
-    reason: &BoundReason,
-    far: Option<Far>,
-) -> Result<Option<Tree>, AllocError> {
-    let rows = reduction.reduced.sums.len();
-    let Some(multipliers) = multipliers_of(alloc, bounds.facts(), rows, branches, reason, far)?
-    else {
-        return Ok(None);
-    };
-    match lifter.lift(alloc, reduction, multipliers.as_slice())? {
-        None => Ok(None),
-        Some(multipliers) => {
-            bounds.spend(multipliers.len());
-            Ok(Some(Tree::Farkas { multipliers }))
+impl BoundSearch {
+    /// A search at its root.
+    fn new(alloc: Global, reduction: Reduction) -> Result<BoundSearch, AllocError> {
+        let system = &reduction.reduced.system;
+        Ok(BoundSearch {
+            bounds: Bounds::new(alloc, system.rows.as_slice(), system.unknowns)?,
+            lifter: Lifter::new(alloc, reduction)?,
+            levels: Vec::new(alloc),
+            left: MOST_CUTS,
+        })
+    }
+
+    /// Goes from node to node until the search ends.
+    fn run(
+        &mut self,
+        alloc: Global,
+        reduction: Reduction,
+    ) -> Result<Option<BoundsEnding>, AllocError> {
+        for _ in 0..u32::MAX {
+            match self.step(alloc, reduction)? {
+                NextStep::GoesOn => {}
+                NextStep::Ends(ending) => return Ok(Some(ending)),
+                NextStep::GivesUp => return Ok(None),
+            }
+        }
+        Ok(None)
+    }
+
+    /// Narrows the ranges at the node, and goes on from there.
+    fn step(&mut self, alloc: Global, reduction: Reduction) -> Result<NextStep, AllocError> {
+        let system = &reduction.reduced.system;
+        match self.bounds.settle(alloc, system.rows.as_slice())? {
+            BoundStep::Spent => Ok(NextStep::GivesUp),
+            BoundStep::Conflict(reason) => self.leave(alloc, reduction, &reason),
+            BoundStep::Rounded(rounding) => self.round(alloc, reduction, &rounding),
+            BoundStep::Quiet => self.cut(alloc, system.unknowns),
         }
     }
-}
 
-/// Goes up from a node that the tree closes, and to the other side of the nearest split where that waits; the tree of
-/// all where none does.
-fn close(
-    alloc: Global,
-    bounds: &mut Bounds,
-    levels: &mut Vec<CutLevel>,
-    leaf: Tree,
-) -> Result<Option<Tree>, AllocError> {
-    let mut tree = leaf;
-    for _ in 0..levels.len() {
-        let Some(level) = levels.pop() else {
-            return Ok(Some(tree));
+    /// Leaves a node that the reason closes.
+    fn leave(
+        &mut self,
+        alloc: Global,
+        reduction: Reduction,
+        reason: &BoundReason,
+    ) -> Result<NextStep, AllocError> {
+        let branches = self.levels.len();
+        let Some(leaf) = self.leaf_of(alloc, reduction, branches, reason, None)? else {
+            return Ok(NextStep::GivesUp);
         };
-        let CutLevel {
+        match self.close(alloc, leaf)? {
+            Some(tree) => Ok(NextStep::Ends(BoundsEnding::Closed(tree))),
+            None => Ok(NextStep::GoesOn),
+        }
+    }
+
+    /// Splits at a rounded bound, whose other side is closed at once.
+    fn round(
+        &mut self,
+        alloc: Global,
+        reduction: Reduction,
+        rounding: &Rounding,
+    ) -> Result<NextStep, AllocError> {
+        if !self.count_cut() {
+            return Ok(NextStep::GivesUp);
+        }
+        let Some(Choice { cut, low_first }) = rounded(rounding) else {
+            return Ok(NextStep::GivesUp);
+        };
+        let branch = self.levels.len();
+        let far = Far {
+            branch,
+            times: rounding.factor,
+        };
+        let branches = branch.saturating_add(1);
+        let Some(leaf) = self.leaf_of(alloc, reduction, branches, &rounding.reason, Some(far))?
+        else {
+            return Ok(NextStep::GivesUp);
+        };
+        self.enter(cut, low_first, Other::Closed(leaf))?;
+        Ok(NextStep::GoesOn)
+    }
+
+    /// Cuts the range of some unknown; where all are of one number, these are the point.
+    fn cut(&mut self, alloc: Global, unknowns: u32) -> Result<NextStep, AllocError> {
+        let Some(Choice { cut, low_first }) = choose(&self.bounds, unknowns) else {
+            let point = point_of(alloc, &self.bounds, unknowns)?;
+            return Ok(NextStep::Ends(BoundsEnding::Point(point)));
+        };
+        if !self.count_cut() {
+            return Ok(NextStep::GivesUp);
+        }
+        self.enter(cut, low_first, Other::Waits)?;
+        Ok(NextStep::GoesOn)
+    }
+
+    /// Counts a cut; false where it is one too many.
+    fn count_cut(&mut self) -> bool {
+        self.left = self.left.saturating_sub(1);
+        self.left > 0
+    }
+
+    /// The leaf of a reason, over the rows of the whole system, and then over those of so many branches.
+    fn leaf_of(
+        &mut self,
+        alloc: Global,
+        reduction: Reduction,
+        branches: usize,
+        reason: &BoundReason,
+        far: Option<Far>,
+    ) -> Result<Option<Tree>, AllocError> {
+        let rows = reduction.reduced.sums.len();
+        let facts = self.bounds.facts();
+        let Some(multipliers) = multipliers_of(alloc, facts, rows, branches, reason, far)? else {
+            return Ok(None);
+        };
+        match self.lifter.lift(alloc, reduction, multipliers.as_slice())? {
+            None => Ok(None),
+            Some(multipliers) => {
+                self.bounds.spend(multipliers.len());
+                Ok(Some(Tree::Farkas { multipliers }))
+            }
+        }
+    }
+
+    /// Goes up from a node that the tree closes, and to the other side of the nearest split where that waits; the tree of
+    /// all where none does.
+    fn close(&mut self, alloc: Global, leaf: Tree) -> Result<Option<Tree>, AllocError> {
+        let mut tree = leaf;
+        for _ in 0..self.levels.len() {
+            let Some(level) = self.levels.pop() else {
+                return Ok(Some(tree));
+            };
+            let CutLevel {
+                cut,
+                is_low,
+                other,
+                facts,
+            } = level;
+            self.bounds.undo(facts);
+            match other {
+                Other::Waits => {
+                    self.enter(cut, !is_low, Other::Closed(tree))?;
+                    return Ok(None);
+                }
+                Other::Closed(closed) => {
+                    tree = if is_low {
+                        split(alloc, cut, tree, closed)?
+                    } else {
+                        split(alloc, cut, closed, tree)?
+                    };
+                }
+            }
+        }
+        Ok(Some(tree))
+    }
+
+    /// Goes to one side of a split.
+    fn enter(&mut self, cut: BoundCut, is_low: bool, other: Other) -> Result<(), AllocError> {
+        let branch = self.levels.len();
+        self.levels.push(CutLevel {
             cut,
             is_low,
             other,
-            facts,
-        } = level;
-        bounds.undo(facts);
-        match other {
-            Other::Waits => {
-                enter(bounds, levels, cut, !is_low, Other::Closed(tree))?;
-                return Ok(None);
-            }
-            Other::Closed(closed) => {
-                tree = if is_low {
-                    split(alloc, cut, tree, closed)?
-                } else {
-                    split(alloc, cut, closed, tree)?
-                };
-            }
+            facts: self.bounds.facts().len(),
+        })?;
+        let origin = Origin::Branch(branch);
+        if is_low {
+            self.bounds
+                .add(cut.unknown, BoundSide::Upper, cut.at, origin)
+        } else {
+            self.bounds.add(
+                cut.unknown,
+                BoundSide::Lower,
+                cut.at.saturating_add(1),
+                origin,
+            )
         }
     }
-    Ok(Some(tree))
 }
 
 fn split(alloc: Global, cut: BoundCut, low: Tree, high: Tree) -> Result<Tree, AllocError> {
@@ -177,83 +264,32 @@ fn split(alloc: Global, cut: BoundCut, low: Tree, high: Tree) -> Result<Tree, Al
     })
 }
 
-/// Splits at a rounded bound, whose other side is closed at once; false where a number leaves 128 bits.
-fn round(
-    alloc: Global,
-    reduction: Reduction,
-    lifter: &mut Lifter,
-    bounds: &mut Bounds,
-    levels: &mut Vec<CutLevel>,
-    rounding: Rounding,
-) -> Result<bool, AllocError> {
-    let far = Far {
-        branch: levels.len(),
-        times: rounding.factor,
-    };
-    let branches = levels.len().saturating_add(1);
-    let Some(leaf) = leaf_of(
-        alloc,
-        reduction,
-        lifter,
-        bounds,
-        branches,
-        &rounding.reason,
-        Some(far),
-    )?
-    else {
-        return Ok(false);
-    };
-    let unknown = rounding.unknown;
-    let (at, is_low) = match rounding.side {
-        BoundSide::Upper => (Some(rounding.amount), true),
-        BoundSide::Lower => (rounding.amount.checked_sub(1), false),
-    };
-    let Some(at) = at else {
-        return Ok(false);
-    };
-    enter(
-        bounds,
-        levels,
-        BoundCut { unknown, at },
-        is_low,
-        Other::Closed(leaf),
-    )?;
-    Ok(true)
-}
-
-/// Goes to one side of a split.
-fn enter(
-    bounds: &mut Bounds,
-    levels: &mut Vec<CutLevel>,
-    cut: BoundCut,
-    is_low: bool,
-    other: Other,
-) -> Result<(), AllocError> {
-    let branch = levels.len();
-    levels.push(CutLevel {
-        cut,
-        is_low,
-        other,
-        facts: bounds.facts().len(),
-    })?;
-    let origin = Origin::Branch(branch);
-    if is_low {
-        bounds.add(cut.unknown, BoundSide::Upper, cut.at, origin)
-    } else {
-        bounds.add(
-            cut.unknown,
-            BoundSide::Lower,
-            cut.at.saturating_add(1),
-            origin,
-        )
-    }
-}
-
 /// A split to be made, and which side comes first.
 #[derive(Clone, Copy)]
 struct Choice {
     cut: BoundCut,
     low_first: bool,
+}
+
+/// The split at a rounded bound, whose open side comes first; `None` where a number leaves 128 bits.
+fn rounded(rounding: &Rounding) -> Option<Choice> {
+    let unknown = rounding.unknown;
+    match rounding.side {
+        BoundSide::Upper => Some(Choice {
+            cut: BoundCut {
+                unknown,
+                at: rounding.amount,
+            },
+            low_first: true,
+        }),
+        BoundSide::Lower => Some(Choice {
+            cut: BoundCut {
+                unknown,
+                at: rounding.amount.checked_sub(1)?,
+            },
+            low_first: false,
+        }),
+    }
 }
 
 /// Where the range of some unknown is cut; `None` where all are of one number.

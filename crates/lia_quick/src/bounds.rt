@@ -124,27 +124,33 @@ impl Bounds {
     /// No bounds; all rows are to be looked at.
     pub fn new(alloc: Global, rows: &[Row], unknowns: u32) -> Result<Bounds, AllocError> {
         let mut bounds = Bounds {
+            queue: Queue::new(alloc, rows)?,
             ranges: Vec::new(alloc),
             facts: Vec::new(alloc),
             holders: Vec::new(alloc),
             in_equation: Vec::new(alloc),
-            queue: Queue::new(alloc, rows)?,
             most_facts: rows.len().saturating_mul(8).saturating_add(256),
             work: WORK,
         };
+        bounds.take_in(alloc, rows, unknowns)?;
+        Ok(bounds)
+    }
+
+    /// Takes so many unknowns in, and then the rows.
+    fn take_in(&mut self, alloc: Global, rows: &[Row], unknowns: u32) -> Result<(), AllocError> {
         for _ in 0..unknowns {
-            bounds.ranges.push(Range {
+            self.ranges.push(Range {
                 lower: None,
                 upper: None,
             })?;
-            bounds.holders.push(Vec::new(alloc))?;
-            bounds.in_equation.push(false)?;
+            self.holders.push(Vec::new(alloc))?;
+            self.in_equation.push(false)?;
         }
         for (at, row) in rows.iter().enumerate() {
-            bounds.hold(row, at)?;
-            bounds.queue.put(at)?;
+            self.hold(row, at)?;
+            self.queue.put(at)?;
         }
-        Ok(bounds)
+        Ok(())
     }
 
     fn hold(&mut self, row: &Row, at: usize) -> Result<(), AllocError> {

@@ -4,10 +4,11 @@ ghost use Rattle.farkas_check.specs.Closings.{Closes};
 ghost use Rattle.farkas_check.specs.Fitting.{SumsFit};
 
 use crate::elimination::{Elimination, RowSum};
-use crate::weights::Weights;
+use crate::taken::Taken;
 use farkas_check::{LeafTest, System, Tree, test_divisor};
 use std::alloc::{AllocError, Global};
 use sv_linear::{Form, gcd};
+use sv_list::Items;
 
 /// A tree of one leaf that closes the system by a divisor, where elimination shows one.
 ///
@@ -42,15 +43,9 @@ fn leaf_of(
     requires divisor { pos 1 <ℤ divisor }
     ensures { IfOk result (λ o. IfSome o (λ t. Closes system.now t × SumsFit system.now t)) }
 {
-    let mut rows = Weights::new(alloc, system.rows.len(), Some(divisor))?;
-    let mut sums = Weights::new(alloc, elimination.sums().len(), Some(divisor))?;
-    let is_taken = rows.add(sum.row, 1)
-        && sums.add_each(sum.steps.as_slice(), 1)
-        && elimination.unfold(&mut sums, &mut rows);
-    if !is_taken {
+    let Some(multipliers) = multipliers_of(alloc, system, elimination, sum, divisor)? else {
         return Ok(None);
-    }
-    let multipliers = rows.entries(alloc)?;
+    };
     match test_divisor(
         alloc,
         system.unknowns,
@@ -65,6 +60,21 @@ fn leaf_of(
         LeafTest::Fails => Ok(None),
         LeafTest::Past(_) => Ok(None),
     }
+}
+
+/// How often each row is taken for the sum, up to multiples of the divisor; `None` where a number leaves 128 bits.
+fn multipliers_of(
+    alloc: Global,
+    system: &System,
+    elimination: &Elimination,
+    sum: &RowSum,
+    divisor: i128,
+) -> Result<Option<Items<(u32, i128)>>, AllocError> {
+    let mut taken = Taken::new(alloc, system, elimination, Some(divisor))?;
+    if !taken.add(sum, 1) {
+        return Ok(None);
+    }
+    taken.multipliers(alloc, elimination, Items::new(alloc))
 }
 
 /// A number of at least 2 that divides each coefficient and not the constant.

@@ -50,22 +50,31 @@ impl Elimination {
     /// number squared, times their terms.
     pub fn of(alloc: Global, system: &System) -> Result<Option<Elimination>, AllocError> {
         let mut elimination = Elimination {
+            owners: no_owners(alloc, system.unknowns)?,
             sums: Items::new(alloc),
             owned: Items::new(alloc),
-            owners: no_owners(alloc, system.unknowns)?,
             unknowns: system.unknowns,
         };
+        if elimination.take_equations(alloc, system)? {
+            Ok(Some(elimination))
+        } else {
+            Ok(None)
+        }
+    }
+
+    /// Takes the equations in, the short ones first; false where a number leaves 128 bits.
+    fn take_equations(&mut self, alloc: Global, system: &System) -> Result<bool, AllocError> {
         for long in [false, true] {
             for (at, row) in system.rows.as_slice().iter().enumerate() {
                 if matches!(row.kind, RowKind::Eq) && is_long(&row.form) == long {
-                    match elimination.reduce(alloc, at, &row.form)? {
-                        None => return Ok(None),
-                        Some(sum) => elimination.take(sum)?,
+                    match self.reduce(alloc, at, &row.form)? {
+                        None => return Ok(false),
+                        Some(sum) => self.take(sum)?,
                     }
                 }
             }
         }
-        Ok(Some(elimination))
+        Ok(true)
     }
 
     /// The sums, in the order in which they were taken.
@@ -166,33 +175,37 @@ impl Elimination {
         row: usize,
         form: &Form,
     ) -> Result<Option<RowSum>, AllocError> {
-        let mut numbers = Vec::new(alloc);
-        for _ in 0..self.owners.len() {
-            numbers.push(0i128)?;
-        }
-        let mut steps: Items<(usize, i128)> = Items::new(alloc);
-        if !add_terms(&mut numbers, form, 1) {
+        let mut dense = DenseForm::zero(alloc, self.owners.len())?;
+        if !dense.add(form, 1) {
             return Ok(None);
         }
-        let mut constant = form.constant;
-        for (at, sum) in self.sums.as_slice().iter().enumerate() {
-            let Some(by) = self.factor_at(at, &numbers) else {
-                return Ok(None);
-            };
-            if by == 0 {
-                continue;
-            }
-            if !add_terms(&mut numbers, &sum.form, by) {
-                return Ok(None);
-            }
-            let Some(next) = add_times(constant, by, sum.form.constant) else {
-                return Ok(None);
-            };
-            constant = next;
-            steps.push((at, by))?;
-        }
-        let form = form_of(alloc, self.unknowns, &numbers, constant)?;
+        let Some(steps) = self.put_out(alloc, &mut dense)? else {
+            return Ok(None);
+        };
+        let form = form_of(alloc, self.unknowns, &dense.numbers, dense.constant)?;
         Ok(Some(RowSum { row, form, steps }))
+    }
+
+    /// Adds each sum whose unknown the form holds, so that it goes out: their numbers, and how often; `None` where a
+    /// number leaves 128 bits.
+    fn put_out(
+        &self,
+        alloc: Global,
+        dense: &mut DenseForm,
+    ) -> Result<Option<Items<(usize, i128)>>, AllocError> {
+        let mut steps: Items<(usize, i128)> = Items::new(alloc);
+        for (at, sum) in self.sums.as_slice().iter().enumerate() {
+            let Some(by) = self.factor_at(at, &dense.numbers) else {
+                return Ok(None);
+            };
+            if by != 0 {
+                if !dense.add(&sum.form, by) {
+                    return Ok(None);
+                }
+                steps.push((at, by))?;
+            }
+        }
+        Ok(Some(steps))
     }
 
     /// How often the sum with this number is added so that its unknown goes out: 0 where it isn't there.
@@ -268,6 +281,35 @@ fn plus(alloc: Global, form: &Form, other: &Form, by: i128) -> Result<Option<For
         Ok(sum) => Ok(Some(sum)),
         Err(CombineFault::Outside(_)) => Ok(None),
         Err(CombineFault::Memory(error)) => Err(error),
+    }
+}
+
+/// A form with the coefficients of all unknowns, that of unknown u at place u.
+#[derive(Drop)]
+struct DenseForm {
+    numbers: Vec<i128>,
+    constant: i128,
+}
+
+impl DenseForm {
+    fn zero(alloc: Global, unknowns: usize) -> Result<DenseForm, AllocError> {
+        let mut numbers = Vec::new(alloc);
+        for _ in 0..unknowns {
+            numbers.push(0i128)?;
+        }
+        Ok(DenseForm {
+            numbers,
+            constant: 0,
+        })
+    }
+
+    /// Adds a form so often; false where a sum leaves 128 bits.
+    fn add(&mut self, form: &Form, by: i128) -> bool {
+        let Some(constant) = add_times(self.constant, by, form.constant) else {
+            return false;
+        };
+        self.constant = constant;
+        add_terms(&mut self.numbers, form, by)
     }
 }
 

@@ -29,6 +29,7 @@ mod queue;
 mod reasons;
 mod reducing;
 mod restoring;
+mod taken;
 mod weights;
 
 pub use dividing::close_by_divisor;

@@ -1,5 +1,5 @@
-use crate::lifting::{Reduction, branch_place, lift_multipliers};
-use crate::weights::Weights;
+use crate::lifting::{Reduction, lift_multipliers, push_branch};
+use crate::taken::Taken;
 use std::alloc::{AllocError, Global};
 use sv_list::Items;
 
@@ -18,10 +18,8 @@ struct Named {
 #[derive(Drop)]
 pub(crate) struct Lifter {
     named: Vec<Named>,
-    /// How often each row of the whole system is taken.
-    rows: Weights,
-    /// How often each sum of the elimination is taken.
-    sums: Weights,
+    /// What is taken of the whole system.
+    taken: Taken,
 }
 
 impl Lifter {
@@ -35,8 +33,7 @@ impl Lifter {
         }
         Ok(Lifter {
             named,
-            rows: Weights::new(alloc, reduction.system.rows.len(), None)?,
-            sums: Weights::new(alloc, reduction.elimination.sums().len(), None)?,
+            taken: Taken::new(alloc, reduction.system, reduction.elimination, None)?,
         })
     }
 
@@ -48,27 +45,20 @@ impl Lifter {
         reduction: Reduction,
         multipliers: &[(u32, i128)],
     ) -> Result<Option<Items<(u32, i128)>>, AllocError> {
-        self.rows.clear();
-        self.sums.clear();
-        let mut branches: Items<(u32, i128)> = Items::new(alloc);
+        self.taken.clear();
+        let mut branches = Items::new(alloc);
         for (at, times) in multipliers {
-            if (*at as usize) < self.named.len() {
-                if !self.take(alloc, reduction, *at, *times)? {
-                    return Ok(None);
-                }
+            let is_taken = if (*at as usize) < self.named.len() {
+                self.take(alloc, reduction, *at, *times)?
             } else {
-                let Some(place) = branch_place(reduction, *at) else {
-                    return Ok(None);
-                };
-                branches.push((place, *times))?;
+                push_branch(&mut branches, reduction, *at, *times)?
+            };
+            if !is_taken {
+                return Ok(None);
             }
         }
-        if !reduction.elimination.unfold(&mut self.sums, &mut self.rows) {
-            return Ok(None);
-        }
-        let mut list = self.rows.entries(alloc)?;
-        list.append(branches)?;
-        Ok(Some(list))
+        self.taken
+            .multipliers(alloc, reduction.elimination, branches)
     }
 
     /// Takes a row of the reduced system so often; false where a number leaves 128 bits.
@@ -92,10 +82,8 @@ impl Lifter {
             self.named[at].unfolded = lift_multipliers(alloc, reduction, &[(row, 1)], None)?;
         }
         match &self.named[at].unfolded {
-            Some(rows) => Ok(self.rows.add_rows(rows.as_slice(), times)),
-            None => Ok(
-                self.rows.add(sum.row, times) && self.sums.add_each(sum.steps.as_slice(), times),
-            ),
+            Some(rows) => Ok(self.taken.add_rows(rows.as_slice(), times)),
+            None => Ok(self.taken.add(sum, times)),
         }
     }
 }

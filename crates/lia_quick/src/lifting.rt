@@ -1,6 +1,6 @@
 use crate::elimination::Elimination;
 use crate::reducing::Reduced;
-use crate::weights::Weights;
+use crate::taken::Taken;
 use farkas_check::{System, Tree};
 use std::alloc::{AllocError, Global};
 use sv_list::{Boxed, Items};
@@ -47,34 +47,50 @@ fn lift_from(
             let Some(low) = lift_from(alloc, reduction, low.get(), depth - 1)? else {
                 return Ok(None);
             };
+            let low = Boxed::new(alloc, low)?;
             let Some(high) = lift_from(alloc, reduction, high.get(), depth - 1)? else {
                 return Ok(None);
             };
             Ok(Some(Tree::Split {
                 unknown: *unknown,
                 at: *at,
-                low: Boxed::new(alloc, low)?,
+                low,
                 high: Boxed::new(alloc, high)?,
             }))
         }
-        Tree::Farkas { multipliers } => {
-            match lift_multipliers(alloc, reduction, multipliers.as_slice(), None)? {
-                None => Ok(None),
-                Some(multipliers) => Ok(Some(Tree::Farkas { multipliers })),
-            }
-        }
+        Tree::Farkas { multipliers } => lift_farkas(alloc, reduction, multipliers.as_slice()),
         Tree::Divisor {
             multipliers,
             divisor,
-        } => match lift_multipliers(alloc, reduction, multipliers.as_slice(), Some(*divisor))? {
-            None => Ok(None),
-            Some(multipliers) => Ok(Some(Tree::Divisor {
-                multipliers,
-                divisor: *divisor,
-            })),
-        },
+        } => lift_divisor(alloc, reduction, multipliers.as_slice(), *divisor),
         Tree::SetSplit { .. } => Ok(None),
         Tree::Open => Ok(None),
+    }
+}
+
+fn lift_farkas(
+    alloc: Global,
+    reduction: Reduction,
+    multipliers: &[(u32, i128)],
+) -> Result<Option<Tree>, AllocError> {
+    match lift_multipliers(alloc, reduction, multipliers, None)? {
+        None => Ok(None),
+        Some(multipliers) => Ok(Some(Tree::Farkas { multipliers })),
+    }
+}
+
+fn lift_divisor(
+    alloc: Global,
+    reduction: Reduction,
+    multipliers: &[(u32, i128)],
+    divisor: i128,
+) -> Result<Option<Tree>, AllocError> {
+    match lift_multipliers(alloc, reduction, multipliers, Some(divisor))? {
+        None => Ok(None),
+        Some(multipliers) => Ok(Some(Tree::Divisor {
+            multipliers,
+            divisor,
+        })),
     }
 }
 
@@ -86,39 +102,50 @@ pub(crate) fn lift_multipliers(
     multipliers: &[(u32, i128)],
     divisor: Option<i128>,
 ) -> Result<Option<Items<(u32, i128)>>, AllocError> {
-    let Reduction {
-        system,
-        elimination,
-        reduced,
-    } = reduction;
-    let mut rows = Weights::new(alloc, system.rows.len(), divisor)?;
-    let mut sums = Weights::new(alloc, elimination.sums().len(), divisor)?;
-    let mut branches: Items<(u32, i128)> = Items::new(alloc);
-    for (at, times) in multipliers {
-        match reduced.sums.get(*at as usize) {
-            Some(sum) => {
-                if !rows.add(sum.row, *times) || !sums.add_each(sum.steps.as_slice(), *times) {
-                    return Ok(None);
-                }
-            }
-            None => {
-                let Some(place) = branch_place(reduction, *at) else {
-                    return Ok(None);
-                };
-                branches.push((place, *times))?;
-            }
-        }
-    }
-    if !elimination.unfold(&mut sums, &mut rows) {
+    let mut taken = Taken::new(alloc, reduction.system, reduction.elimination, divisor)?;
+    let mut branches = Items::new(alloc);
+    if !take_each(reduction, multipliers, &mut taken, &mut branches)? {
         return Ok(None);
     }
-    let mut list = rows.entries(alloc)?;
-    list.append(branches)?;
-    Ok(Some(list))
+    taken.multipliers(alloc, reduction.elimination, branches)
+}
+
+/// Takes each row of the reduced system so often, and each branch behind them; false where a number leaves 128 bits, or
+/// a branch's number 32.
+fn take_each(
+    reduction: Reduction,
+    multipliers: &[(u32, i128)],
+    taken: &mut Taken,
+    branches: &mut Items<(u32, i128)>,
+) -> Result<bool, AllocError> {
+    for (at, times) in multipliers {
+        let is_taken = match reduction.reduced.sums.get(*at as usize) {
+            Some(sum) => taken.add(sum, *times),
+            None => push_branch(branches, reduction, *at, *times)?,
+        };
+        if !is_taken {
+            return Ok(false);
+        }
+    }
+    Ok(true)
+}
+
+/// Adds a branch of the reduced system that is taken so often; false where its number leaves 32 bits.
+pub(crate) fn push_branch(
+    branches: &mut Items<(u32, i128)>,
+    reduction: Reduction,
+    at: u32,
+    times: i128,
+) -> Result<bool, AllocError> {
+    let Some(place) = branch_place(reduction, at) else {
+        return Ok(false);
+    };
+    branches.push((place, times))?;
+    Ok(true)
 }
 
 /// The number of a branch's row behind the rows of the whole system.
-pub(crate) fn branch_place(reduction: Reduction, at: u32) -> Option<u32> {
+fn branch_place(reduction: Reduction, at: u32) -> Option<u32> {
     let branch = (at as usize).checked_sub(reduction.reduced.sums.len())?;
     let place = branch.checked_add(reduction.system.rows.len())?;
     if place <= u32::MAX as usize {

@@ -21,29 +21,43 @@ pub(crate) fn multipliers_of(
     far: Option<Far>,
 ) -> Result<Option<Items<(u32, i128)>>, AllocError> {
     let mut taken = Weights::new(alloc, rows.saturating_add(branches), None)?;
-    let mut times = Weights::new(alloc, facts.len(), None)?;
-    if !add(&mut times, &mut taken, reason, 1) {
-        return Ok(None);
-    }
     if let Some(Far { branch, times }) = far {
         if !taken.add(rows.saturating_add(branch), times) {
             return Ok(None);
         }
+    }
+    if !take_apart(alloc, facts, rows, reason, &mut taken)? {
+        return Ok(None);
+    }
+    Ok(Some(taken.entries(alloc)?))
+}
+
+/// Takes what a reason is made of, the branches' rows behind so many others; false where a number leaves 128 bits.
+fn take_apart(
+    alloc: Global,
+    facts: &[Fact],
+    rows: usize,
+    reason: &BoundReason,
+    taken: &mut Weights,
+) -> Result<bool, AllocError> {
+    let mut times = Weights::new(alloc, facts.len(), None)?;
+    if !add(&mut times, taken, reason, 1) {
+        return Ok(false);
     }
     for behind in 0..facts.len() {
         let at = facts.len() - 1 - behind;
         let count = times.at(at);
         if count != 0 {
             let is_taken = match &facts[at].origin {
-                Origin::Row(reason) => add(&mut times, &mut taken, reason, count),
+                Origin::Row(reason) => add(&mut times, taken, reason, count),
                 Origin::Branch(branch) => taken.add(rows.saturating_add(*branch), count),
             };
             if !is_taken {
-                return Ok(None);
+                return Ok(false);
             }
         }
     }
-    Ok(Some(taken.entries(alloc)?))
+    Ok(true)
 }
 
 /// Takes a reason so often; false where a number leaves 128 bits.

@@ -92,24 +92,11 @@ fn left_sums(
     elimination: &Elimination,
 ) -> Result<Option<Items<RowSum>>, AllocError> {
     let mut left = Left::new(alloc, system.rows.len())?;
-    for (at, sum) in elimination.sums().iter().enumerate() {
-        if elimination.find_owned(at).is_none()
-            && !left.put(alloc, copy_of(alloc, sum)?, RowKind::Eq)?
-        {
-            return Ok(None);
-        }
+    if left.put_all(alloc, system, elimination)? {
+        Ok(Some(left.sums))
+    } else {
+        Ok(None)
     }
-    for (at, row) in system.rows.as_slice().iter().enumerate() {
-        if matches!(row.kind, RowKind::Le) {
-            let Some(sum) = elimination.reduce(alloc, at, &row.form)? else {
-                return Ok(None);
-            };
-            if !left.put(alloc, sum, RowKind::Le)? {
-                return Ok(None);
-            }
-        }
-    }
-    Ok(Some(left.sums))
 }
 
 fn copy_of(alloc: Global, sum: &RowSum) -> Result<RowSum, AllocError> {
@@ -144,6 +131,53 @@ impl Left {
             table,
             terms: 0,
         })
+    }
+
+    /// Puts all sums that say something; false where a number leaves 128 bits or there are too many terms.
+    fn put_all(
+        &mut self,
+        alloc: Global,
+        system: &System,
+        elimination: &Elimination,
+    ) -> Result<bool, AllocError> {
+        Ok(
+            self.put_equations(alloc, elimination)?
+                && self.put_inequalities(alloc, system, elimination)?,
+        )
+    }
+
+    fn put_equations(
+        &mut self,
+        alloc: Global,
+        elimination: &Elimination,
+    ) -> Result<bool, AllocError> {
+        for (at, sum) in elimination.sums().iter().enumerate() {
+            if elimination.find_owned(at).is_none()
+                && !self.put(alloc, copy_of(alloc, sum)?, RowKind::Eq)?
+            {
+                return Ok(false);
+            }
+        }
+        Ok(true)
+    }
+
+    fn put_inequalities(
+        &mut self,
+        alloc: Global,
+        system: &System,
+        elimination: &Elimination,
+    ) -> Result<bool, AllocError> {
+        for (at, row) in system.rows.as_slice().iter().enumerate() {
+            if matches!(row.kind, RowKind::Le) {
+                let Some(sum) = elimination.reduce(alloc, at, &row.form)? else {
+                    return Ok(false);
+                };
+                if !self.put(alloc, sum, RowKind::Le)? {
+                    return Ok(false);
+                }
+            }
+        }
+        Ok(true)
     }
 
     /// Puts a sum behind the others where it says something new; false where there are too many terms.

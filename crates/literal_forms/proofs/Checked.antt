@@ -7,7 +7,7 @@ use Rattle.sv_terms.specs.declared.sort.Sort.TheVariants as sort
 use Rattle.sv_terms.specs.declared.term.Term.{Term}
 use Rattle.sv_terms.specs.declared.term.Term.TheVariants as term
 use Rattle.literal_forms.specs.Literals.{SomeOf}
-use Rattle.literal_forms.specs.Linear.{Linear, Step, added, addition, scaling, less, less_steps, linear, minus_one, of_number, scaled, steps}
+use Rattle.literal_forms.specs.Linear.{Linear, Step, addition, scaling, less, less_steps, linear, minus_one, of_number, scaled, steps}
 use Rattle.literal_forms.specs.Numbered.{AreDifferences}
 use Rattle.literal_forms.specs.Mirrors.{raw-seen, seen-Apply}
 use Rattle.literal_forms.specs.Numbered.{AreNumbered, IsFormOrPast, IsMore, IsNumbered}
@@ -74,19 +74,19 @@ module _ (s t : Shape) where
   pub equality_past : (l r : ℤ) → SomeOf (IsPast l r) (equality_steps s t) → SomeOf (IsPast l r) (comparison_steps s t)
   equality_past l r h = some_left (IsPast l r) (equality_steps s t) plus h
 
-  module _ (us : List (List ℤ)) (d : Differences) (one : TermForm) (h : AreDifferences us (linear s) (linear t) d) (n : (us : List (List ℤ)) → IsNumbered us (of_number (pos 1)) one) where
-    pub less_one_past : (l r : ℤ) → ((us : List (List ℤ)) (a b : Linear) → AreNumbered us → IsNumbered us a d.less → IsNumbered us b one → SomeOf (IsPast l r) (addition a b ∷ [])) → SomeOf (IsPast l r) (comparison_steps s t)
-    less_one_past l r k = some_right (IsPast l r) (equality_steps s t) plus (some_left (IsPast l r) (addition (less (linear s) (linear t)) (of_number (pos 1)) ∷ []) (addition (scaled (less (linear s) (linear t)) minus_one) (of_number (pos 1)) ∷ []) (k us (less (linear s) (linear t)) (of_number (pos 1)) h.numbered h.first (n us)))
+  module _ (us : List (List ℤ)) (d : Differences) (h : AreDifferences us (linear s) (linear t) d) where
+    pub less_one_past : (l r : ℤ) → ((us : List (List ℤ)) (a : Linear) → AreNumbered us → IsNumbered us a d.less → SomeOf (IsPast l r) (addition a (of_number (pos 1)) ∷ [])) → SomeOf (IsPast l r) (comparison_steps s t)
+    less_one_past l r k = some_right (IsPast l r) (equality_steps s t) plus (some_left (IsPast l r) (addition (less (linear s) (linear t)) (of_number (pos 1)) ∷ []) (addition (scaled (less (linear s) (linear t)) minus_one) (of_number (pos 1)) ∷ []) (k us (less (linear s) (linear t)) h.numbered h.first))
 
-    pub more_one_past : (l r : ℤ) → ((us : List (List ℤ)) (a b : Linear) → AreNumbered us → IsNumbered us a d.more → IsNumbered us b one → SomeOf (IsPast l r) (addition a b ∷ [])) → SomeOf (IsPast l r) (comparison_steps s t)
-    more_one_past l r k = some_right (IsPast l r) (equality_steps s t) plus (some_right (IsPast l r) (addition (less (linear s) (linear t)) (of_number (pos 1)) ∷ []) (addition (scaled (less (linear s) (linear t)) minus_one) (of_number (pos 1)) ∷ []) (k us (scaled (less (linear s) (linear t)) minus_one) (of_number (pos 1)) h.numbered h.second (n us)))
+    pub more_one_past : (l r : ℤ) → ((us : List (List ℤ)) (a : Linear) → AreNumbered us → IsNumbered us a d.more → SomeOf (IsPast l r) (addition a (of_number (pos 1)) ∷ [])) → SomeOf (IsPast l r) (comparison_steps s t)
+    more_one_past l r k = some_right (IsPast l r) (equality_steps s t) plus (some_right (IsPast l r) (addition (less (linear s) (linear t)) (of_number (pos 1)) ∷ []) (addition (scaled (less (linear s) (linear t)) minus_one) (of_number (pos 1)) ∷ []) (k us (scaled (less (linear s) (linear t)) minus_one) h.numbered h.second))
 
-    pub order_plain : (x y : TermForm) → ArePlain (equality_steps s t) → ((us : List (List ℤ)) (a b : Linear) → AreNumbered us → IsNumbered us a d.less → IsNumbered us b one → ArePlain (addition a b ∷ []) × IsNumbered us (added a b) x)
-        → ((us : List (List ℤ)) (a b : Linear) → AreNumbered us → IsNumbered us a d.more → IsNumbered us b one → ArePlain (addition a b ∷ []) × IsNumbered us (added a b) y) → ArePlain (comparison_steps s t)
-    order_plain x y p k j =
-        let u = k us (less (linear s) (linear t)) (of_number (pos 1)) h.numbered h.first (n us) in
-        let v = j us (scaled (less (linear s) (linear t)) minus_one) (of_number (pos 1)) h.numbered h.second (n us) in
-        plain_join (equality_steps s t) plus p (plain_join (addition (less (linear s) (linear t)) (of_number (pos 1)) ∷ []) (addition (scaled (less (linear s) (linear t)) minus_one) (of_number (pos 1)) ∷ []) u.0 v.0)
+    pub order_plain : ArePlain (equality_steps s t) → ((us : List (List ℤ)) (a : Linear) → AreNumbered us → IsNumbered us a d.less → ArePlain (addition a (of_number (pos 1)) ∷ []))
+        → ((us : List (List ℤ)) (a : Linear) → AreNumbered us → IsNumbered us a d.more → ArePlain (addition a (of_number (pos 1)) ∷ [])) → ArePlain (comparison_steps s t)
+    order_plain p k j =
+        let u = k us (less (linear s) (linear t)) h.numbered h.first in
+        let v = j us (scaled (less (linear s) (linear t)) minus_one) h.numbered h.second in
+        plain_join (equality_steps s t) plus p (plain_join (addition (less (linear s) (linear t)) (of_number (pos 1)) ∷ []) (addition (scaled (less (linear s) (linear t)) minus_one) (of_number (pos 1)) ∷ []) u v)
 
 -- an atom by its head
 two_of : (t : Term) (o : Op) (ts : List Term) (x y : Term) → t ≡ term.Apply o ts → length ts ≡ 2 → x ≡ get_or ts 0 x → y ≡ get_or ts 1 y → atom_steps (seen t) ≡ relation_steps (relation_of o) (seen x) (seen y)
@@ -160,11 +160,11 @@ module _ (X : Type 0) (s t : Shape) (us vs : List (List ℤ)) (f g : TermForm) (
   more_fault d (Past l r) h k = more_past s t us vs f g m a b d l r h k
   more_fault d (Memory e) h k = tt
 
-module _ (X : Type 0) (s t : Shape) (us : List (List ℤ)) (d : Differences) (one : TermForm) (h : AreDifferences us (linear s) (linear t) d) (n : (us : List (List ℤ)) → IsNumbered us (of_number (pos 1)) one) where
-  pub less_one_fault : (e : FormFault) → ((us : List (List ℤ)) (a b : Linear) → AreNumbered us → IsNumbered us a d.less → IsNumbered us b one → IsFormOrPast us (added a b) (addition a b ∷ []) (Err e)) → IsPlainExactly {X = X} (comparison_steps s t) (Err e)
-  less_one_fault (Past l r) k = less_one_past s t us d one h n l r k
+module _ (X : Type 0) (s t : Shape) (us : List (List ℤ)) (d : Differences) (h : AreDifferences us (linear s) (linear t) d) where
+  pub less_one_fault : (e : FormFault) → ((us : List (List ℤ)) (a : Linear) → AreNumbered us → IsNumbered us a d.less → IsPlainExactly {X = X} (addition a (of_number (pos 1)) ∷ []) (Err e)) → IsPlainExactly {X = X} (comparison_steps s t) (Err e)
+  less_one_fault (Past l r) k = less_one_past s t us d h l r k
   less_one_fault (Memory x) k = tt
 
-  pub more_one_fault : (e : FormFault) → ((us : List (List ℤ)) (a b : Linear) → AreNumbered us → IsNumbered us a d.more → IsNumbered us b one → IsFormOrPast us (added a b) (addition a b ∷ []) (Err e)) → IsPlainExactly {X = X} (comparison_steps s t) (Err e)
-  more_one_fault (Past l r) k = more_one_past s t us d one h n l r k
+  pub more_one_fault : (e : FormFault) → ((us : List (List ℤ)) (a : Linear) → AreNumbered us → IsNumbered us a d.more → IsPlainExactly {X = X} (addition a (of_number (pos 1)) ∷ []) (Err e)) → IsPlainExactly {X = X} (comparison_steps s t) (Err e)
+  more_one_fault (Past l r) k = more_one_past s t us d h l r k
   more_one_fault (Memory x) k = tt

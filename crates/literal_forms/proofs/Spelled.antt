@@ -29,6 +29,13 @@ three a b c d x y z e f g = chain_two a c d (x ∷ y ∷ []) (z ∷ []) (two a b
 pub four : (a b c d h : List ℤ) (x y z w : ℤ) → b ≡ a ++ x ∷ [] → c ≡ b ++ y ∷ [] → d ≡ c ++ z ∷ [] → h ≡ d ++ w ∷ [] → h ≡ a ++ x ∷ y ∷ z ∷ w ∷ []
 four a b c d h x y z w e f g i = chain_two a d h (x ∷ y ∷ z ∷ []) (w ∷ []) (three a b c d x y z e f g) i
 
+-- what opens a pair under a tag whose first is a small number
+abbrev pub numbered : ℕ → ℕ → List ℤ
+numbered tag n = (opening tag ++ pos 2 ∷ []) ++ flat (word (n ∷ []))
+
+pub numbered_made : (a b c d : List ℤ) (tag n : ℕ) → b ≡ a ++ opening tag → c ≡ b ++ pos 2 ∷ [] → d ≡ c ++ flat (word (n ∷ [])) → d ≡ a ++ numbered tag n
+numbered_made a b c d tag n p q r = chain_two a c d (opening tag ++ pos 2 ∷ []) (flat (word (n ∷ []))) (chain_two a b c (opening tag) (pos 2 ∷ []) p q) r
+
 abbrev pub begun : List ℕ → ℕ → List ℤ
 begun w k = pos 1 ∷ pos (length w) ∷ map pos (take k w)
 
@@ -67,7 +74,7 @@ pub each_all : (a b : List ℤ) (ts : List Term) (k : ℕ) → length ts ≤ k �
 each_all a b ts k l h = sym (append-nil b) ∙ ap (λ us. b ++ each_of us) (sym (drop_all k ts l)) ∙ h
 
 -- the code of a term, by its head
-module _ (a b c d e f : List ℤ) (t : Term) where
+module _ (a b c d e : List ℤ) (t : Term) where
   pub truth_arm : (x : Bool) (n : ℕ) → t ≡ term.Truth x → b ≡ a ++ opening 0 → n ≡ truth_number x → c ≡ b ++ flat (word (n ∷ [])) → c ≡ a ++ flat (code (seen t))
   truth_arm x n i p q r = chain_two a b c (opening 0) (flat (word (n ∷ []))) p r ∙ ap (λ m. a ++ (opening 0 ++ flat (word (m ∷ [])))) q ∙ ap (λ s. a ++ flat (code s)) (sym (ap seen i ∙ seen-Truth x))
 
@@ -77,21 +84,16 @@ module _ (a b c d e f : List ℤ) (t : Term) where
   pub text_arm : (x : List ℕ) → t ≡ term.Text x → b ≡ a ++ opening 2 → c ≡ b ++ flat (word x) → c ≡ a ++ flat (code (seen t))
   text_arm x i p r = chain_two a b c (opening 2) (flat (word x)) p r ∙ ap (λ s. a ++ flat (code s)) (sym (ap seen i ∙ seen-Text x))
 
-  pub constant_arm : (x : List ℕ) (s : Sort) (n : ℕ) → t ≡ term.Constant x s → b ≡ a ++ opening 3 → c ≡ b ++ pos 2 ∷ [] → n ≡ sort_number s → d ≡ c ++ flat (word (n ∷ [])) → e ≡ d ++ flat (word x) → e ≡ a ++ flat (code (seen t))
-  constant_arm x s n i p q k r m =
-      let v = flat (word (n ∷ [])) in
-      let one = chain_two a b c (opening 3) (pos 2 ∷ []) p q in
-      let two_of = chain_two a c d (opening 3 ++ pos 2 ∷ []) (flat (word (n ∷ []))) one r in
-      chain_two a d e ((opening 3 ++ pos 2 ∷ []) ++ flat (word (n ∷ []))) (flat (word x)) two_of m
-      ∙ ap (λ j. a ++ (((opening 3 ++ pos 2 ∷ []) ++ flat (word (j ∷ []))) ++ flat (word x))) k ∙ ap (λ z. a ++ flat (code z)) (sym (ap seen i ∙ seen-Constant x s))
+  pub constant_arm : (x : List ℕ) (s : Sort) (n : ℕ) → t ≡ term.Constant x s → n ≡ sort_number s → b ≡ a ++ numbered 3 n → c ≡ b ++ flat (word x) → c ≡ a ++ flat (code (seen t))
+  constant_arm x s n i k p m =
+      chain_two a b c (numbered 3 n) (flat (word x)) p m
+      ∙ ap (λ j. a ++ (numbered 3 j ++ flat (word x))) k ∙ ap (λ z. a ++ flat (code z)) (sym (ap seen i ∙ seen-Constant x s))
 
-  pub apply_arm : (o : Op) (ts : List Term) (n : ℕ) → t ≡ term.Apply o ts → b ≡ a ++ opening 4 → c ≡ b ++ pos 2 ∷ [] → n ≡ op_number o → d ≡ c ++ flat (word (n ∷ [])) → e ≡ d ++ each_of (drop 0 ts) → f ≡ e ++ closing → f ≡ a ++ flat (code (seen t))
-  apply_arm o ts n i p q k r m z =
-      let one = chain_two a b c (opening 4) (pos 2 ∷ []) p q in
-      let two_of = chain_two a c d (opening 4 ++ pos 2 ∷ []) (flat (word (n ∷ []))) one r in
-      let rest = chain_two d e f (each_of ts) closing m z ∙ ap (λ x. d ++ x) (sym (flat_codes (shapes (map seen ts)))) in
-      chain_two a d f ((opening 4 ++ pos 2 ∷ []) ++ flat (word (n ∷ []))) (flat (codes (shapes (map seen ts)))) two_of rest
-      ∙ ap (λ j. a ++ (((opening 4 ++ pos 2 ∷ []) ++ flat (word (j ∷ []))) ++ flat (codes (shapes (map seen ts))))) k ∙ ap (λ z. a ++ flat (code z)) (sym (ap seen i ∙ seen-Apply o ts))
+  pub apply_arm : (o : Op) (ts : List Term) (n : ℕ) → t ≡ term.Apply o ts → n ≡ op_number o → b ≡ a ++ numbered 4 n → c ≡ b ++ each_of (drop 0 ts) → d ≡ c ++ closing → d ≡ a ++ flat (code (seen t))
+  apply_arm o ts n i k p m z =
+      let rest = chain_two b c d (each_of ts) closing m z ∙ ap (λ x. b ++ x) (sym (flat_codes (shapes (map seen ts)))) in
+      chain_two a b d (numbered 4 n) (flat (codes (shapes (map seen ts)))) p rest
+      ∙ ap (λ j. a ++ (numbered 4 j ++ flat (codes (shapes (map seen ts))))) k ∙ ap (λ z. a ++ flat (code z)) (sym (ap seen i ∙ seen-Apply o ts))
 
   pub member_arm : (x : Term) (r : Regex) → t ≡ term.InRe x r → b ≡ a ++ opening 5 → c ≡ b ++ flat (code (seen x)) → c ≡ a ++ flat (code (seen t))
   member_arm x r i p q = chain_two a b c (opening 5) (flat (code (seen x))) p q ∙ ap (λ s. a ++ flat (code s)) (sym (ap seen i ∙ seen-InRe x r))
@@ -106,14 +108,11 @@ module _ (a b c d e f : List ℤ) (t : Term) where
   opaque_arm s n i p q r = chain_two a b c (opening 7) (flat (word (n ∷ []))) p r ∙ ap (λ m. a ++ (opening 7 ++ flat (word (m ∷ [])))) q ∙ ap (λ x. a ++ flat (code x)) (sym (ap seen i ∙ seen-Opaque s))
 
   -- with nested concatenations written as one
-  concat_arm : (ts : List Term) (n : ℕ) → t ≡ term.Apply op.Concat ts → b ≡ a ++ opening 4 → c ≡ b ++ pos 2 ∷ [] → n ≡ 16 → d ≡ c ++ flat (word (n ∷ [])) → e ≡ d ++ each_flat (pieces (shapes (map seen ts))) → f ≡ e ++ closing → f ≡ a ++ flat (code (written (seen t)))
-  concat_arm ts n i p q k r m z =
-      let ps = pieces (shapes (map seen ts)) in
-      let one = chain_two a b c (opening 4) (pos 2 ∷ []) p q in
-      let two_of = chain_two a c d (opening 4 ++ pos 2 ∷ []) (flat (word (n ∷ []))) one r in
-      let rest = chain_two d e f (each_flat (pieces (shapes (map seen ts)))) closing m z ∙ ap (λ x. d ++ x) (sym (flat_codes (pieces (shapes (map seen ts))))) in
-      chain_two a d f ((opening 4 ++ pos 2 ∷ []) ++ flat (word (n ∷ []))) (flat (codes (pieces (shapes (map seen ts))))) two_of rest
-      ∙ ap (λ j. a ++ (((opening 4 ++ pos 2 ∷ []) ++ flat (word (j ∷ []))) ++ flat (codes (pieces (shapes (map seen ts)))))) k ∙ ap (λ z. a ++ flat (code (written z))) (sym (ap seen i ∙ seen-Apply op.Concat ts))
+  concat_arm : (ts : List Term) (n : ℕ) → t ≡ term.Apply op.Concat ts → n ≡ 16 → b ≡ a ++ numbered 4 n → c ≡ b ++ each_flat (pieces (shapes (map seen ts))) → d ≡ c ++ closing → d ≡ a ++ flat (code (written (seen t)))
+  concat_arm ts n i k p m z =
+      let rest = chain_two b c d (each_flat (pieces (shapes (map seen ts)))) closing m z ∙ ap (λ x. b ++ x) (sym (flat_codes (pieces (shapes (map seen ts))))) in
+      chain_two a b d (numbered 4 n) (flat (codes (pieces (shapes (map seen ts))))) p rest
+      ∙ ap (λ j. a ++ (numbered 4 j ++ flat (codes (pieces (shapes (map seen ts)))))) k ∙ ap (λ z. a ++ flat (code (written z))) (sym (ap seen i ∙ seen-Apply op.Concat ts))
 
 pub ruleset arms = (truth_arm, number_arm, text_arm, constant_arm, apply_arm, member_arm, related_arm, opaque_arm)
 
@@ -175,29 +174,24 @@ replaced_arm a b t o ts e h p =
 pub leaf_arm : (a b : List ℤ) (t : Term) → ((o : Op) (ts : List Term) → t ≡ term.Apply o ts → ⊥) → b ≡ a ++ flat (code (seen t)) → b ≡ a ++ flat (code (written (seen t)))
 leaf_arm a b t h p = p ∙ ap (λ z. a ++ flat (code z)) (sym (written_leaf t h))
 
-pub concat_written : (a b c d e f : List ℤ) (t : Term) (o : Op) (ts : List Term) (n : ℕ) → t ≡ term.Apply o ts → o ≡ op.Concat → b ≡ a ++ opening 4 → c ≡ b ++ pos 2 ∷ [] → n ≡ op_number op.Concat → d ≡ c ++ flat (word (n ∷ [])) → e ≡ d ++ each_flat (pieces (shapes (map seen ts))) → f ≡ e ++ closing → f ≡ a ++ flat (code (written (seen t)))
-concat_written a b c d e f t o ts n i j p q k r m z = concat_arm a b c d e f t ts n (i ∙ ap (λ x. term.Apply x ts) j) p q k r m z
+pub concat_written : (a b c d : List ℤ) (t : Term) (o : Op) (ts : List Term) (n : ℕ) → t ≡ term.Apply o ts → o ≡ op.Concat → n ≡ op_number op.Concat → b ≡ a ++ numbered 4 n → c ≡ b ++ each_flat (pieces (shapes (map seen ts))) → d ≡ c ++ closing → d ≡ a ++ flat (code (written (seen t)))
+concat_written a b c d t o ts n i j k p m z = concat_arm a b c d [] t ts n (i ∙ ap (λ x. term.Apply x ts) j) k p m z
 
 pub ruleset string_arms = (concat_written, other_arm, replaced_arm, leaf_arm)
 
 -- a replacement
-pub replacement_none : (a b c d e : List ℤ) (o : Op) (ts : List Term) (n : ℕ) → b ≡ a ++ opening 4 → c ≡ b ++ pos 2 ∷ [] → n ≡ op_number o → d ≡ c ++ flat (word (n ∷ [])) → length ts ≡ 0 → e ≡ d ++ closing → e ≡ a ++ flat (code (replaced o (shapes (map seen ts))))
-replacement_none a b c d e o (t ∷ ts) n p q k r l m = absurd (omega arith)
-replacement_none a b c d e o [] n p q k r l m =
-    let one = chain_two a b c (opening 4) (pos 2 ∷ []) p q in
-    let two_of = chain_two a c d (opening 4 ++ pos 2 ∷ []) (flat (word (n ∷ []))) one r in
-    chain_two a d e ((opening 4 ++ pos 2 ∷ []) ++ flat (word (n ∷ []))) closing two_of m ∙ ap (λ j. a ++ (((opening 4 ++ pos 2 ∷ []) ++ flat (word (j ∷ []))) ++ closing)) k
+pub replacement_none : (a d e : List ℤ) (o : Op) (ts : List Term) (n : ℕ) → n ≡ op_number o → d ≡ a ++ numbered 4 n → length ts ≡ 0 → e ≡ d ++ closing → e ≡ a ++ flat (code (replaced o (shapes (map seen ts))))
+replacement_none a d e o (t ∷ ts) n k p l m = absurd (omega arith)
+replacement_none a d e o [] n k p l m = chain_two a d e (numbered 4 n) closing p m ∙ ap (λ j. a ++ (numbered 4 j ++ closing)) k
 
-pub replacement_some : (a b c d e f g h : List ℤ) (o : Op) (ts : List Term) (t : Term) (n : ℕ) → b ≡ a ++ opening 4 → c ≡ b ++ pos 2 ∷ [] → n ≡ op_number o → d ≡ c ++ flat (word (n ∷ [])) → (length ts ≡ 0 → ⊥) → e ≡ d ++ pos 2 ∷ [] → t ≡ get_or ts 0 t → f ≡ e ++ flat (code (written (seen t))) → g ≡ f ++ each_of (drop 1 ts) → h ≡ g ++ closing → h ≡ a ++ flat (code (replaced o (shapes (map seen ts))))
-replacement_some a b c d e f g h o [] t n p q k r l m i s u v = absurd (l refl)
-replacement_some a b c d e f g h o (x ∷ ts) t n p q k r l m i s u v =
-    let one = chain_two a b c (opening 4) (pos 2 ∷ []) p q in
-    let two_of = chain_two a c d (opening 4 ++ pos 2 ∷ []) (flat (word (n ∷ []))) one r in
+pub replacement_some : (a d e f g h : List ℤ) (o : Op) (ts : List Term) (t : Term) (n : ℕ) → n ≡ op_number o → d ≡ a ++ numbered 4 n → (length ts ≡ 0 → ⊥) → e ≡ d ++ pos 2 ∷ [] → t ≡ get_or ts 0 t → f ≡ e ++ flat (code (written (seen t))) → g ≡ f ++ each_of (drop 1 ts) → h ≡ g ++ closing → h ≡ a ++ flat (code (replaced o (shapes (map seen ts))))
+replacement_some a d e f g h o [] t n k p l m i s u v = absurd (l refl)
+replacement_some a d e f g h o (x ∷ ts) t n k p l m i s u v =
     let tail = chain_two f g h (each_of ts) closing u v ∙ ap (λ y. f ++ y) (sym (flat_codes (shapes (map seen ts)))) in
     let head = chain_two d e f (pos 2 ∷ []) (flat (code (written (seen t)))) m s in
     let rest = chain_two d f h (pos 2 ∷ flat (code (written (seen t)))) (flat (codes (shapes (map seen ts)))) head tail in
-    chain_two a d h ((opening 4 ++ pos 2 ∷ []) ++ flat (word (n ∷ []))) (pos 2 ∷ (flat (code (written (seen t))) ++ flat (codes (shapes (map seen ts))))) two_of rest
-    ∙ (λ j. a ++ (((opening 4 ++ pos 2 ∷ []) ++ flat (word (k j ∷ []))) ++ (pos 2 ∷ (flat (code (written (seen (i j)))) ++ flat (codes (shapes (map seen ts)))))))
+    chain_two a d h (numbered 4 n) (pos 2 ∷ (flat (code (written (seen t))) ++ flat (codes (shapes (map seen ts))))) p rest
+    ∙ (λ j. a ++ (numbered 4 (k j) ++ (pos 2 ∷ (flat (code (written (seen (i j)))) ++ flat (codes (shapes (map seen ts)))))))
 
 -- pieces of concatenations
 set_flat : (ss ts : Shapes) → each_flat (set_before ss ts) ≡ each_flat ss ++ each_flat ts

@@ -50,6 +50,17 @@ impl Written {
         self.numbers.push(2)
     }
 
+    // Opens a pair under this tag whose first is a small number.
+    #[tactic(auto, using(crate::proofs::Spelled::numbered_made))]
+    fn open_numbered(&mut self, tag: u32, number: u32) -> Result<(), AllocError>
+        ensures { OnOk result (self.new.numbers ≡ self.old.numbers ++ ((opening tag ++ pos 2 ∷ []) ++ flat (word (number ∷ [])))) }
+    {
+        self.open(tag)?;
+        self.pair()?;
+        self.small(number)?;
+        Ok(())
+    }
+
     #[tactic(auto, using(crate::proofs::Spelled::two))]
     fn put_signed(&mut self, number: i128) -> Result<(), AllocError>
         ensures { OnOk result (self.new.numbers ≡ self.old.numbers ++ pos 0 ∷ number ∷ []) }
@@ -91,50 +102,38 @@ impl Written {
         match term {
             Term::Truth(b) => {
                 self.open(0)?;
-                self.small(truth_number(*b))?;
-                Ok(())
+                self.small(truth_number(*b))
             }
             Term::Number(n) => {
                 self.open(1)?;
-                self.put_signed(*n)?;
-                Ok(())
+                self.put_signed(*n)
             }
             Term::Text(w) => {
                 self.open(2)?;
-                self.text(w.as_slice())?;
-                Ok(())
+                self.text(w.as_slice())
             }
             Term::Constant(name, sort) => {
-                self.open(3)?;
-                self.pair()?;
-                self.small(sort_number(*sort))?;
-                self.name(name.as_bytes())?;
-                Ok(())
+                self.open_numbered(3, sort_number(*sort))?;
+                self.name(name.as_bytes())
             }
             Term::Apply(op, terms) => {
-                self.open(4)?;
-                self.pair()?;
-                self.small(op_number(*op))?;
+                self.open_numbered(4, op_number(*op))?;
                 self.each(terms.as_slice(), 0)?;
-                self.close()?;
-                Ok(())
+                self.close()
             }
             Term::InRe(tested, _) => {
                 self.open(5)?;
-                self.term(tested.get())?;
-                Ok(())
+                self.term(tested.get())
             }
             Term::Related(_, read, written) => {
                 self.open(6)?;
                 self.pair()?;
                 self.term(read.get())?;
-                self.term(written.get())?;
-                Ok(())
+                self.term(written.get())
             }
             Term::Opaque(sort) => {
                 self.open(7)?;
-                self.small(sort_number(*sort))?;
-                Ok(())
+                self.small(sort_number(*sort))
             }
         }
     }
@@ -161,9 +160,7 @@ impl Written {
         match term {
             Term::Apply(op, terms) => {
                 if is_concat(*op) {
-                    self.open(4)?;
-                    self.pair()?;
-                    self.small(op_number(Op::Concat))?;
+                    self.open_numbered(4, op_number(Op::Concat))?;
                     self.pieces(terms.as_slice())?;
                     self.close()?;
                     Ok(())
@@ -187,9 +184,7 @@ impl Written {
     fn replacement(&mut self, op: Op, terms: &[Term]) -> Result<(), AllocError>
         ensures { OnOk result (self.new.numbers ≡ self.old.numbers ++ flat (code (replaced op (shapes (map seen terms.now))))) }
     {
-        self.open(4)?;
-        self.pair()?;
-        self.small(op_number(op))?;
+        self.open_numbered(4, op_number(op))?;
         if terms.is_empty() {
             self.close()?;
             return Ok(());

@@ -1,7 +1,7 @@
 //! The differences of two terms of sort Int, and whether the forms of an atom stay within 128 bits.
-ghost use Rattle.std.specs.Prelude.{◌≡◌, IfOk};
-ghost use Rattle.literal_forms.specs.Linear.{linear};
-ghost use Rattle.literal_forms.specs.Numbered.{AreDifferences, AreNumbered};
+ghost use Rattle.std.specs.Prelude.{◌≡◌, [], ◌∷◌, ℤ, List, pos, IfOk};
+ghost use Rattle.literal_forms.specs.Linear.{Linear, addition, linear, of_number};
+ghost use Rattle.literal_forms.specs.Numbered.{AreDifferences, AreNumbered, IsNumbered};
 ghost use Rattle.literal_forms.specs.Past.{IsPlainExactly, atom_steps, comparison_steps, equality_steps};
 ghost use Rattle.literal_forms.specs.Shapes.{seen};
 
@@ -52,15 +52,23 @@ fn equality(alloc: Global, left: &Term, right: &Term) -> Result<(), FormFault>
     Ok(())
 }
 
+// Whether the form plus 1 stays within 128 bits.
+fn check_successor(alloc: Global, form: &TermForm) -> Result<(), FormFault>
+    ensures { (us : List (List ℤ)) (a : Linear) → AreNumbered us → IsNumbered us a form.now → IsPlainExactly (addition a (of_number (pos 1)) ∷ []) result }
+{
+    let one = TermForm::number(alloc, 1);
+    let _sum = form.add(alloc, &one)?;
+    Ok(())
+}
+
 #[tactic(auto, using(crate::proofs::Checked::order_plain, crate::proofs::Checked::equality_past, crate::proofs::Checked::less_one_past, crate::proofs::Checked::more_one_past))]
 fn order(alloc: Global, left: &Term, right: &Term) -> Result<(), FormFault>
     ensures { IsPlainExactly (comparison_steps (seen left.now) (seen right.now)) result }
 {
     let mut unknowns = Unknowns::new(alloc);
     let both = subtract(&mut unknowns, alloc, left, right)?;
-    let one = TermForm::number(alloc, 1);
-    let _less = both.less.add(alloc, &one)?;
-    let _more = both.more.add(alloc, &one)?;
+    check_successor(alloc, &both.less)?;
+    check_successor(alloc, &both.more)?;
     Ok(())
 }
 

@@ -23,11 +23,21 @@ use sv_word::Ranges;
 /// Contracts see a [`Graph`]. Beside the lists it keeps, for each state, the places of its edges and
 /// of its ends, so that what leaves a state is found without a look at the others. Memory is linear
 /// in states, edges and ends, and so is a copy.
-#[derive(Drop)]
 pub struct Explicit {
     graph: Graph,
     edge_places: Index,
     end_places: Index,
+}
+
+// A drop by hand is one call where a derived one is a call for each vector inside.
+impl Drop for Explicit {
+    fn drop(self) {
+        let Self {
+            graph: _,
+            edge_places: _,
+            end_places: _,
+        } = self;
+    }
 }
 
 impl Model for Explicit {
@@ -161,17 +171,43 @@ impl Explicit {
     {
         let mut wide = Explicit::new(alloc, self.states(), registers)?;
         for edge in self.edges() {
-            wide.add_edge(
-                edge.from,
-                edge.on.copy(alloc)?,
-                Cost::zeros(alloc, registers)?,
-                edge.to,
-            )?;
+            wide.add_free_edge(alloc, edge)?;
         }
         for end in self.finals() {
-            wide.add_end(end.at, Cost::zeros(alloc, registers)?)?;
+            wide.add_free_end(alloc, end)?;
         }
         Ok(wide)
+    }
+
+    // Adds the edge at no cost.
+    fn add_free_edge(&mut self, alloc: Global, edge: &Edge) -> Result<(), AllocError>
+        requires from { edge.now.from < self.old.states }
+        requires to { edge.now.to < self.old.states }
+        requires on { IsInhabited edge.now.on }
+        ensures states { self.new.states ≡ self.old.states }
+        ensures registers { self.new.registers ≡ self.old.registers }
+        ensures ends { self.new.ends ≡ self.old.ends }
+        ensures ok { OnOk result (self.new.edges ≡ self.old.edges ++ wide_edge self.old.registers edge.now ∷ []) }
+        ensures err { OnErr result (self.new.edges ≡ self.old.edges) }
+    {
+        let on = edge.on.copy(alloc)?;
+        let cost = Cost::zeros(alloc, self.registers())?;
+        self.add_edge(edge.from, on, cost, edge.to)?;
+        Ok(())
+    }
+
+    // Adds the end at no cost.
+    fn add_free_end(&mut self, alloc: Global, end: &End) -> Result<(), AllocError>
+        requires { end.now.at < self.old.states }
+        ensures states { self.new.states ≡ self.old.states }
+        ensures registers { self.new.registers ≡ self.old.registers }
+        ensures edges { self.new.edges ≡ self.old.edges }
+        ensures ok { OnOk result (self.new.ends ≡ self.old.ends ++ wide_end self.old.registers end.now ∷ []) }
+        ensures err { OnErr result (self.new.ends ≡ self.old.ends) }
+    {
+        let cost = Cost::zeros(alloc, self.registers())?;
+        self.add_end(end.at, cost)?;
+        Ok(())
     }
 }
 

@@ -11,12 +11,23 @@ use thiserror::Error;
 
 /// A run of a machine over its states `T`: the characters that it reads, the states that it goes
 /// through, which are one more than the characters, the cost of each step and that of the end.
-#[derive(Drop)]
 pub struct Run<T> {
     pub word: Word,
     pub states: Items<T>,
     pub costs: Items<Cost>,
     pub last: Cost,
+}
+
+// A drop by hand is one call where a derived one is a call for each vector inside.
+impl<T: Drop> Drop for Run<T> {
+    fn drop(self) {
+        let Self {
+            word: _,
+            states: _,
+            costs: _,
+            last: _,
+        } = self;
+    }
 }
 
 impl<T: Copied> Copied for Run<T> {

@@ -2,7 +2,7 @@ ghost use Rattle.std.specs.Prelude.{◌≡◌, ℕ, ◌+◌, ◌<◌, ◌≤◌,
 ghost use Rattle.machine_core.specs.declared.machine.Move.{Move};
 ghost use Rattle.machine_core.specs.Graphs.{Accepts, graph_top};
 ghost use Rattle.machine_core.specs.Moves.{IsMove};
-ghost use Rattle.machine_meet.specs.Builds.{after_edge, after_end, AddsPart, InTurn};
+ghost use Rattle.machine_meet.specs.Builds.{after_edge, after_end, placed_edge, placed_end, AddsPart, InTurn};
 ghost use Rattle.machine_meet.specs.Joins.{CanAdd};
 
 use crate::place::{count, place_edges, place_ends};
@@ -24,15 +24,29 @@ pub fn concat(alloc: Global, a: &Explicit, b: &Explicit) -> Result<Explicit, All
     ensures top { IfOk result (λ m. graph_top m ≤ graph_top a.now + graph_top b.now) }
 {
     let first = a.states();
+    let mut whole = side_by_side(alloc, a, b)?;
+    for end in a.finals() {
+        go_on(alloc, &mut whole, end, b, first)?;
+    }
+    Ok(whole)
+}
+
+// The states and edges of both, those of `b` behind those of `a`, and the ends of `b` alone.
+fn side_by_side(alloc: Global, a: &Explicit, b: &Explicit) -> Result<Explicit, AllocError>
+    requires { b.now.registers ≡ a.now.registers }
+    ensures states { IfOk result (λ m. m.states ≡ a.now.states + b.now.states) }
+    ensures limit { IfOk result (λ m. m.states < 2 ^ 32) }
+    ensures registers { IfOk result (λ m. m.registers ≡ a.now.registers) }
+    ensures edges { IfOk result (λ m. m.edges ≡ map (placed_edge 0) a.now.edges ++ map (placed_edge a.now.states) b.now.edges) }
+    ensures ends { IfOk result (λ m. m.ends ≡ map (placed_end a.now.states) b.now.ends) }
+{
+    let first = a.states();
     let last = b.states();
     let states = count(first, last)?;
     let mut whole = Explicit::new(alloc, states, a.registers())?;
     place_edges(alloc, &mut whole, a, 0)?;
     place_edges(alloc, &mut whole, b, first)?;
     place_ends(alloc, &mut whole, b, first)?;
-    for end in a.finals() {
-        go_on(alloc, &mut whole, end, b, first)?;
-    }
     Ok(whole)
 }
 

@@ -1,6 +1,9 @@
-ghost use Rattle.std.specs.Prelude.{◌≡◌, ℕ, ◌+◌, ◌<◌, ◌≤◌, ◌^◌, ◌∷◌, [], ◌↔◌, List, Contains, IfOk, OnOk};
+ghost use Rattle.std.specs.Prelude.{◌≡◌, ℕ, ◌+◌, ◌<◌, ◌≤◌, ◌^◌, ◌++◌, ◌∷◌, [], ◌↔◌, List, Any, Contains, map, IfOk, OnOk};
+ghost use Rattle.machine_core.specs.declared.machine.Move.{Move};
+ghost use Rattle.machine_core.specs.Edges.{StepsBy, ending};
 ghost use Rattle.machine_core.specs.Graphs.{Accepts, graph_top};
-ghost use Rattle.machine_meet.specs.Builds.{Returns, Repeated};
+ghost use Rattle.machine_core.specs.Moves.{Moves};
+ghost use Rattle.machine_meet.specs.Builds.{leaving_edge, Returns, Repeated};
 
 use crate::place::{count, leave, place_edges};
 use machine_core::{Cost, Edge, Explicit, Machine};
@@ -25,10 +28,24 @@ pub fn star(alloc: Global, a: &Explicit) -> Result<Explicit, AllocError>
     for edge in a.edges() {
         lead_back(alloc, &mut whole, a, edge)?;
     }
-    let moves = whole.moves(alloc, &1)?;
-    leave(alloc, &mut whole, 0, moves.as_slice(), 0)?;
-    whole.add_end(0, Cost::new(alloc))?;
+    begin_and_end(alloc, &mut whole)?;
     Ok(whole)
+}
+
+// What leads on from state 1 leads on from the start too, where a word may also end.
+fn begin_and_end(alloc: Global, whole: &mut Explicit) -> Result<(), AllocError>
+    requires limit { whole.old.states < 2 ^ 32 }
+    requires one { 1 < whole.old.states }
+    requires free { whole.old.registers ≡ 0 }
+    ensures states { OnOk result (whole.new.states ≡ whole.old.states) }
+    ensures registers { OnOk result (whole.new.registers ≡ whole.old.registers) }
+    ensures ends { OnOk result (whole.new.ends ≡ whole.old.ends ++ ending 0 [] ∷ []) }
+    ensures edges { OnOk result ((moves : List (Move ℕ)) × ((c : ℕ) (k : List ℕ) (t : ℕ) → StepsBy whole.old.edges 1 c k t ↔ Any (Moves c k t) moves) × (whole.new.edges ≡ whole.old.edges ++ map (leaving_edge 0 0) moves)) }
+{
+    let moves = whole.moves(alloc, &1)?;
+    leave(alloc, whole, 0, moves.as_slice(), 0)?;
+    whole.add_end(0, Cost::new(alloc))?;
+    Ok(())
 }
 
 // Where a word may end after the edge, the edge also leads back to the start.

@@ -22,6 +22,14 @@ use Rattle.parikh_flow.specs.Tours.{IsWalk, IsDrained, IsToured, IsMet}
 use Rattle.parikh_flow.proofs.Gets.{slice_get-below, slice_get-some}
 use Rattle.parikh_flow.proofs.CountLemmas.{occurs, occurs-at, occurrences-reverse}
 
+abbrev parts : List ℕ → List ℕ → List (List ℕ) → List ℕ → Run ℕ
+parts word states costs last = record { word = word; states = states; costs = costs; last = last }
+
+-- runs of the same parts
+pub run-parts : (w v s t : List ℕ) (k j : List (List ℕ)) (last : List ℕ) → w ≡ v → s ≡ t → k ≡ j
+    → parts w s k last ≡ parts v t j last
+run-parts w v s t k j last e f g = ap (λ x. parts x s k last) e ∙ ap (λ x. parts v x k last) f ∙ ap (λ x. parts v t x last) g
+
 -- a walk stops in one state
 pub walk-stop : (edges : List Edge) (s : ℕ) (ps : List ℕ) (t u : ℕ) → IsWalk edges s ps t → IsWalk edges s ps u → t ≡ u
 walk-stop edges s [] t u a b = sym a ∙ b

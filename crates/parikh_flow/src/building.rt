@@ -1,8 +1,9 @@
-ghost use Rattle.std.specs.Prelude.{◌≡◌, ℕ, ◌+◌, ◌<◌, ◌^◌, Some, slice_get, IfOk};
+ghost use Rattle.std.specs.Prelude.{◌≡◌, ℕ, ◌+◌, ◌<◌, ◌^◌, ◌++◌, List, All, Some, slice_get, IfOk, IfSome, OnOk};
 ghost use Rattle.sv_linear.specs.Rows.{IsRowWithin};
 ghost use Rattle.sv_linear.specs.declared.row.Row.{Row};
 ghost use Rattle.search_hits.specs.Hits.{HaveRegisters};
-ghost use Rattle.parikh_flow.specs.Rows.{IsSystemOf};
+ghost use Rattle.parikh_flow.specs.Building.{CostsFit};
+ghost use Rattle.parikh_flow.specs.Rows.{unknowns_after, run_rows, AreSameRows, IsSystemOf};
 
 use crate::nets::nets_of;
 use crate::rows::{family_rows, not_negative_rows, reach_rows, register_rows};
@@ -42,16 +43,39 @@ pub fn system_of(
         return Err(AllocError);
     };
     let mut all = copy_rows(alloc, rows)?;
-    all.append(register_rows(alloc, machines, integers, registers)?)?;
-    all.append(not_negative_rows(alloc, integers, unknowns)?)?;
-    all.append(family_rows(alloc, machines, base)?)?;
-    all.append(reach_rows(alloc, machines, base, reach)?)?;
+    append_run_rows(
+        alloc, &mut all, machines, integers, registers, unknowns, reach,
+    )?;
     let nets = nets_of(alloc, machines, base)?;
     Ok(System {
         unknowns,
         rows: all,
         nets,
     })
+}
+
+// Adds the rows that say of the unknowns that they are totals and counts of runs.
+fn append_run_rows(
+    alloc: Global,
+    all: &mut Items<Row>,
+    machines: &[Explicit],
+    integers: u32,
+    registers: u32,
+    unknowns: u32,
+    reach: Option<u64>,
+) -> Result<(), AllocError>
+    requires registers { HaveRegisters registers machines.now }
+    requires few { integers + registers < 2 ^ 31 }
+    requires unknowns { unknowns ≡ unknowns_after (integers + registers) machines.now }
+    ensures rows { OnOk result ((more : List Row) × (all.new ≡ all.old ++ more) × AreSameRows more (run_rows machines.now integers registers reach)) }
+    ensures fit { OnOk result ((k : ℕ) → k < registers → All (CostsFit k) machines.now) }
+    ensures fits { OnOk result (IfSome reach (λ most. most < 2 ^ 64)) }
+{
+    let base = integers + registers;
+    all.append(register_rows(alloc, machines, integers, registers)?)?;
+    all.append(not_negative_rows(alloc, integers, unknowns)?)?;
+    all.append(family_rows(alloc, machines, base)?)?;
+    all.append(reach_rows(alloc, machines, base, reach)?)
 }
 
 fn copy_rows(alloc: Global, rows: &[Row]) -> Result<Items<Row>, AllocError>

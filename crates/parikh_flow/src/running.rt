@@ -1,8 +1,9 @@
-ghost use Rattle.std.specs.Prelude.{◌≡◌, ℕ, ◌+◌, ◌<◌, ◌≤◌, ◌↔◌, true, false, List, ◌∷◌, length, reverse, slice_get, slice_index, Some, IfOk, Err, Contains};
+ghost use Rattle.std.specs.Prelude.{◌≡◌, ℕ, ◌+◌, ◌<◌, ◌≤◌, ◌↔◌, true, false, List, [], ◌∷◌, ◌++◌, length, reverse, slice_get, slice_index, Some, IfOk, OnOk, Err, Contains};
 ghost use Rattle.std.specs.List.Sorted.{IsStrictlyIncreasing};
 ghost use Rattle.machine_core.specs.declared.edge.Edge.{Edge};
 ghost use Rattle.machine_core.specs.declared.run.Run.{Run};
 ghost use Rattle.sv_word.specs.Ranges.{least_of};
+ghost use Rattle.sv_word.specs.Words.{greatest_character};
 ghost use Rattle.machine_core.specs.Graphs.{IsRunOf};
 ghost use Rattle.parikh_flow.specs.declared.flow_fault.FlowFault.TheVariants.{Apart};
 ghost use Rattle.parikh_flow.specs.Counts.{total_count};
@@ -36,8 +37,7 @@ pub fn run_of(alloc: Global, machine: &Explicit, counts: &[u64]) -> Result<Run<u
     let end = &machine.finals()[last];
     let walked = tour_of(alloc, machine, of_edges, end.at)?;
     if is_spent(walked.left.as_slice()) {
-        let cost = end.cost.copy(alloc)?;
-        Ok(run_along(alloc, machine, walked.back.as_slice(), cost)?)
+        Ok(run_along(alloc, machine, walked.back.as_slice(), &end.cost)?)
     } else {
         let set = unmet_states(alloc, machine, walked.back.as_slice())?;
         Err(FlowFault::Apart(set))
@@ -130,36 +130,54 @@ fn edge_at(edges: &[Edge], place: usize) -> &Edge
     &edges[place]
 }
 
+// The run of no characters, with this last cost and room for so many steps.
+fn open_run(alloc: Global, steps: usize, last: Cost) -> Result<Run<u32>, AllocError>
+    ensures { IfOk result (λ run. run ≡ record { word = []; states = 0 ∷ []; costs = []; last = last }) }
+{
+    let room = Vec::with_capacity(alloc, steps.saturating_add(1))?;
+    let mut states = Items::from_vec(room);
+    states.push(0)?;
+    let room = Vec::with_capacity(alloc, steps)?;
+    Ok(Run {
+        word: Word::new(alloc),
+        states,
+        costs: Items::from_vec(room),
+        last,
+    })
+}
+
+// One step more, along this edge.
+fn add_step(alloc: Global, run: &mut Run<u32>, edge: &Edge) -> Result<(), AllocError>
+    requires { least_of edge.now.on ≤ greatest_character }
+    ensures { OnOk result (run.new ≡ record {
+      word = run.old.word ++ least_of edge.now.on ∷ [];
+      states = run.old.states ++ edge.now.to ∷ [];
+      costs = run.old.costs ++ edge.now.cost ∷ [];
+      last = run.old.last;
+    }) }
+{
+    run.word.push(least(&edge.on))?;
+    run.costs.push(edge.cost.copy(alloc)?)?;
+    run.states.push(edge.to)
+}
+
 // The run along these edges, of which the last comes first, with this last cost.
 fn run_along(
     alloc: Global,
     machine: &Explicit,
     back: &[usize],
-    cost: Cost,
+    last: &Cost,
 ) -> Result<Run<u32>, AllocError>
     requires { (t : ℕ) × IsWalk machine.now.edges 0 (reverse back.now) t }
     ensures leads { IfOk result (λ run. (t : ℕ) × IsWalk machine.now.edges 0 (reverse back.now) t
         × (after : List ℕ) × (run.states ≡ 0 ∷ after) × LeadsAlong machine.now.edges 0 (reverse back.now) after run.word run.costs t) }
-    ensures last { IfOk result (λ run. run.last ≡ cost) }
+    ensures last { IfOk result (λ run. run.last ≡ last.now) }
 {
-    let mut word = Word::new(alloc);
-    let room = Vec::with_capacity(alloc, back.len().saturating_add(1))?;
-    let mut states = Items::from_vec(room);
-    let room = Vec::with_capacity(alloc, back.len())?;
-    let mut costs = Items::from_vec(room);
-    states.push(0)?;
+    let mut run = open_run(alloc, back.len(), last.copy(alloc)?)?;
     let mut k = back.len();
     while k > 0 {
         k -= 1;
-        let edge = edge_at(machine.edges(), back[k]);
-        word.push(least(&edge.on))?;
-        costs.push(edge.cost.copy(alloc)?)?;
-        states.push(edge.to)?;
+        add_step(alloc, &mut run, edge_at(machine.edges(), back[k]))?;
     }
-    Ok(Run {
-        word,
-        states,
-        costs,
-        last: cost,
-    })
+    Ok(run)
 }

@@ -1,12 +1,14 @@
 //! The machine of one part.
-ghost use Rattle.std.specs.Prelude.{◌≡◌, ℕ, ◌+◌, ◌≤◌, ◌<◌, Err, IfOk, length};
+ghost use Rattle.std.specs.Prelude.{◌≡◌, ℕ, ◌+◌, ◌≤◌, ◌<◌, Err, IfOk, if◌then◌else◌, length};
 ghost use Rattle.trim_search.specs.declared.build_fault.BuildFault.TheVariants.{States};
 ghost use Rattle.cube_bounds.specs.Bounds.{part_bound};
 ghost use Rattle.flat_cubes.specs.declared.variable.Own.TheVariants.{InRe};
 ghost use Rattle.sv_terms.specs.Bounds.{size};
 ghost use Rattle.sv_terms.specs.declared.regex.Regex.TheVariants.{Comp};
+ghost use Rattle.part_machines.specs.Chains.{follows, ranges_of as ranges_of_word};
 ghost use Rattle.part_machines.specs.Kept.{IsMachineOf};
-ghost use Rattle.part_machines.specs.Parts.{IsOfPart};
+ghost use Rattle.part_machines.specs.Parts.{Decides, IsOfPart};
+ghost use Rattle.part_machines.specs.Patterns.{finds};
 
 use crate::chains::{chain, ranges_of};
 use crate::machines::Machines;
@@ -74,7 +76,32 @@ fn language(
     }
     languages_are_words();
     let others = others_of(alloc, regex)?;
-    let machine = kept_machine(alloc, &others, machines)?;
+    kept_machine(alloc, &others, machines)
+}
+
+// Of the word's characters one after the other, with `longer` and whatever follows; within the limit.
+fn word_chain(alloc: Global, word: &Word, longer: bool, holds: bool) -> Result<Explicit, BuildFault>
+    ensures machine { IfOk result (Decides (follows longer (ranges_of_word word.now)) holds (length (ranges_of_word word.now) + (if holds then 1 else 2))) }
+    ensures refused { (n : ℕ) → result ≡ Err (States n) → MOST_STATES < length word.now + 1 }
+{
+    check_length(word)?;
+    let ranges = ranges_of(alloc, word)?;
+    let machine = chain(alloc, ranges.as_slice(), longer, holds)?;
+    Ok(machine)
+}
+
+// Of the words where the word occurs, with `stays` anywhere, or else at the end; within the limit.
+fn word_pattern(
+    alloc: Global,
+    word: &Word,
+    stays: bool,
+    holds: bool,
+) -> Result<Explicit, BuildFault>
+    ensures machine { IfOk result (Decides (finds stays word.now) holds (length word.now + 1)) }
+    ensures refused { (n : ℕ) → result ≡ Err (States n) → MOST_STATES < length word.now + 1 }
+{
+    check_length(word)?;
+    let machine = pattern_machine(alloc, word, stays, holds)?;
     Ok(machine)
 }
 
@@ -98,15 +125,11 @@ pub fn part_machine(
     let holds = part.1;
     match &part.0 {
         Own::Word(word) => {
-            check_length(word)?;
-            let ranges = ranges_of(alloc, word)?;
-            let machine = chain(alloc, ranges.as_slice(), false, holds)?;
+            let machine = word_chain(alloc, word, false, holds)?;
             Ok(machine)
         }
         Own::Prefix(word) => {
-            check_length(word)?;
-            let ranges = ranges_of(alloc, word)?;
-            let machine = chain(alloc, ranges.as_slice(), true, holds)?;
+            let machine = word_chain(alloc, word, true, holds)?;
             Ok(machine)
         }
         Own::Digit => {
@@ -114,13 +137,11 @@ pub fn part_machine(
             Ok(machine)
         }
         Own::Contains(word) => {
-            check_length(word)?;
-            let machine = pattern_machine(alloc, word, true, holds)?;
+            let machine = word_pattern(alloc, word, true, holds)?;
             Ok(machine)
         }
         Own::Suffix(word) => {
-            check_length(word)?;
-            let machine = pattern_machine(alloc, word, false, holds)?;
+            let machine = word_pattern(alloc, word, false, holds)?;
             Ok(machine)
         }
         Own::InRe(regex) => {

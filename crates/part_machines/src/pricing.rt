@@ -1,8 +1,10 @@
 //! Machines whose characters all cost the same.
-ghost use Rattle.std.specs.Prelude.{◌≡◌, IfOk};
-ghost use Rattle.part_machines.specs.Parts.{IsPriced};
+ghost use Rattle.std.specs.Prelude.{◌≡◌, ◌<◌, [], ◌∷◌, ◌++◌, length, IfOk, OnOk, OnErr};
+ghost use Rattle.machine_core.specs.Edges.{wide_end};
+ghost use Rattle.part_machines.specs.Parts.{IsPriced, priced_edge};
+ghost use Rattle.sv_word.specs.Ranges.{IsInhabited};
 
-use machine_core::{Cost, Explicit};
+use machine_core::{Cost, Edge, End, Explicit, Machine};
 use std::alloc::{AllocError, Global};
 use sv_list::Copied;
 
@@ -15,13 +17,47 @@ pub fn price(alloc: Global, machine: &Explicit, each: &Cost) -> Result<Explicit,
     let registers = each.as_slice().len();
     let mut priced = Explicit::new(alloc, machine.states(), registers)?;
     for edge in machine.edges() {
-        let on = edge.on.copy(alloc)?;
-        let cost = each.copy(alloc)?;
-        priced.add_edge(edge.from, on, cost, edge.to)?;
+        add_priced(alloc, &mut priced, edge, each)?;
     }
     for end in machine.finals() {
-        let nothing = Cost::zeros(alloc, registers)?;
-        priced.add_end(end.at, nothing)?;
+        add_free(alloc, &mut priced, end)?;
     }
     Ok(priced)
+}
+
+// Adds the edge at the cost `each`.
+fn add_priced(
+    alloc: Global,
+    priced: &mut Explicit,
+    edge: &Edge,
+    each: &Cost,
+) -> Result<(), AllocError>
+    requires from { edge.now.from < priced.old.states }
+    requires to { edge.now.to < priced.old.states }
+    requires on { IsInhabited edge.now.on }
+    requires each { length each.now ≡ priced.old.registers }
+    ensures states { priced.new.states ≡ priced.old.states }
+    ensures registers { priced.new.registers ≡ priced.old.registers }
+    ensures ends { priced.new.ends ≡ priced.old.ends }
+    ensures ok { OnOk result (priced.new.edges ≡ priced.old.edges ++ priced_edge each.now edge.now ∷ []) }
+    ensures err { OnErr result (priced.new.edges ≡ priced.old.edges) }
+{
+    let on = edge.on.copy(alloc)?;
+    let cost = each.copy(alloc)?;
+    priced.add_edge(edge.from, on, cost, edge.to)?;
+    Ok(())
+}
+
+// Adds the end at no cost.
+fn add_free(alloc: Global, priced: &mut Explicit, end: &End) -> Result<(), AllocError>
+    requires { end.now.at < priced.old.states }
+    ensures states { priced.new.states ≡ priced.old.states }
+    ensures registers { priced.new.registers ≡ priced.old.registers }
+    ensures edges { priced.new.edges ≡ priced.old.edges }
+    ensures ok { OnOk result (priced.new.ends ≡ priced.old.ends ++ wide_end priced.old.registers end.now ∷ []) }
+    ensures err { OnErr result (priced.new.ends ≡ priced.old.ends) }
+{
+    let nothing = Cost::zeros(alloc, priced.registers())?;
+    priced.add_end(end.at, nothing)?;
+    Ok(())
 }

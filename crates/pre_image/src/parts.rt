@@ -1,5 +1,5 @@
 //! What a transducer wrote in a step of a run, or at its end, with the target's way along it.
-ghost use Rattle.std.specs.Prelude.{◌≡◌, ◌*◌, ◌<◌, ◌≤◌, ◌^◌, length, IfOk, MatchOption};
+ghost use Rattle.std.specs.Prelude.{◌≡◌, ◌*◌, ◌<◌, ◌≤◌, ◌^◌, [], ◌++◌, length, IfOk, OnOk, MatchOption};
 ghost use Rattle.machine_core.specs.Edges.{EndsAt, StepsBy, edges_top};
 ghost use Rattle.machine_core.specs.Language.{RunsFrom};
 ghost use Rattle.pre_image.specs.Leading.{EndsInPair, Passes};
@@ -22,6 +22,31 @@ use transducer_core::text_at;
 pub struct SpelledWord {
     pub word: Word,
     pub way: CostedPath,
+}
+
+impl SpelledWord {
+    /// No character, and the path of no step.
+    pub fn new(alloc: Global) -> SpelledWord
+        ensures word { result.word ≡ [] }
+        ensures states { result.way.states ≡ [] }
+        ensures costs { result.way.costs ≡ [] }
+    {
+        SpelledWord {
+            word: Word::new(alloc),
+            way: CostedPath::new(alloc),
+        }
+    }
+
+    /// Adds what is written from where this ends.
+    pub fn append(&mut self, more: SpelledWord) -> Result<(), AllocError>
+        ensures word { OnOk result (self.new.word ≡ self.old.word ++ more.word) }
+        ensures states { OnOk result (self.new.way.states ≡ self.old.way.states ++ more.way.states) }
+        ensures costs { OnOk result (self.new.way.costs ≡ self.old.way.costs ++ more.way.costs) }
+    {
+        let SpelledWord { word, way } = more;
+        self.word.append(&word)?;
+        self.way.append(way)
+    }
 }
 
 /// The same at the end of a run, with the target's end cost.

@@ -1,5 +1,5 @@
 //! Paths of a target on a written word, by what they cost in all.
-ghost use Rattle.std.specs.Prelude.{◌≡◌, ℕ, ◌+◌, ◌*◌, ◌<◌, ◌^◌, ◌↔◌, ◌∷◌, List, length, IfOk, MatchOption, Any, IsTrue};
+ghost use Rattle.std.specs.Prelude.{◌≡◌, ℕ, ◌+◌, ◌*◌, ◌<◌, ◌^◌, ◌↔◌, [], ◌∷◌, ◌++◌, List, length, IfOk, OnOk, MatchOption, Any, IsTrue};
 ghost use Rattle.machine_core.specs.declared.machine.Move.{Move};
 ghost use Rattle.machine_core.specs.Edges.{edges_top};
 ghost use Rattle.pre_image.specs.Leading.{Goes};
@@ -15,6 +15,38 @@ use sv_list::{Copied, Items};
 pub struct CostedPath {
     pub states: Items<u32>,
     pub costs: Items<Cost>,
+}
+
+impl CostedPath {
+    /// The path of no step.
+    pub fn new(alloc: Global) -> CostedPath
+        ensures states { result.states ≡ [] }
+        ensures costs { result.costs ≡ [] }
+    {
+        CostedPath {
+            states: Items::new(alloc),
+            costs: Items::new(alloc),
+        }
+    }
+
+    /// Adds a step to the state `to`.
+    fn push(&mut self, to: u32, cost: Cost) -> Result<(), AllocError>
+        ensures states { OnOk result (self.new.states ≡ self.old.states ++ to ∷ []) }
+        ensures costs { OnOk result (self.new.costs ≡ self.old.costs ++ cost ∷ []) }
+    {
+        self.states.push(to)?;
+        self.costs.push(cost)
+    }
+
+    /// Adds the steps of a path from where this one ends.
+    pub fn append(&mut self, more: CostedPath) -> Result<(), AllocError>
+        ensures states { OnOk result (self.new.states ≡ self.old.states ++ more.states) }
+        ensures costs { OnOk result (self.new.costs ≡ self.old.costs ++ more.costs) }
+    {
+        let CostedPath { states, costs } = more;
+        self.states.append(states)?;
+        self.costs.append(costs)
+    }
 }
 
 /// A step to the state `to`, and what is left to be paid behind it.
@@ -154,16 +186,14 @@ pub fn way_on(
     requires goes { Goes target.now from word.now cost.now to }
     ensures { IfOk result (λ w. IsWay target.now from word.now to cost.now w.states w.costs) }
 {
-    let mut states = Items::new(alloc);
-    let mut costs = Items::new(alloc);
+    let mut way = CostedPath::new(alloc);
     let mut at = from;
     let mut left = cost.copy(alloc)?;
     for i in 0..word.len() {
         let next = next_step(alloc, target, at, word[i], &word[i + 1..], to, &left)?;
-        states.push(next.to)?;
-        costs.push(next.cost)?;
+        way.push(next.to, next.cost)?;
         at = next.to;
         left = next.left;
     }
-    Ok(CostedPath { states, costs })
+    Ok(way)
 }

@@ -87,6 +87,15 @@ turn-none = record {
 
 pub ruleset thens = (same-refl, then-none, then-none-rest, then-done, then-done-rest, then-join, turn-one, turn-none)
 
+-- what stands behind may be written otherwise
+pub then-rest : (a f g d : Regex) → SameWords d (v.Concat (a ∷ f ∷ [])) → SameWords f g → SameWords d (v.Concat (a ∷ g ∷ []))
+then-rest a f g d h s = record {
+  only = λ w k. let t = of-pair a f w (h.only w k) in in-pair a g w (t.0, t.1, t.2, t.3, s.only t.1 t.4);
+  all = λ w k. let t = of-pair a g w k in h.all w (in-pair a f w (t.0, t.1, t.2, t.3, s.all t.1 t.4));
+}
+
+pub ruleset behinds = (then-rest)
+
 -- unions
 pub in_union : (rs : List Regex) (w : Word) → InOneOf In rs w → In (v.Union rs) w
 in_union rs w h = rw In-Union h

@@ -161,17 +161,17 @@ d-Comp r e d c l h g = record {
   all = λ w k. let q : IsWord (c ∷ w) × (In r (c ∷ w) → ⊥) = rw In-Comp at k in g.all w (rw In-Comp (q.0.1, λ z. q.1 (h.only w z)));
 }
 
-pub d-Loop : (r e f d : Regex) (i j m n c : ℕ) → 0 < j → m ≡ i - 1 → n ≡ j - 1 → IsDerivative r c e → SameWords f (v.Loop r m n) → SameWords d (v.Concat (e ∷ f ∷ [])) → IsDerivative (v.Loop r i j) c d
-d-Loop r e f d i j m n c l p q h s g = record {
+pub d-Loop : (r e d : Regex) (i j m n c : ℕ) → 0 < j → m ≡ i - 1 → n ≡ j - 1 → IsDerivative r c e → SameWords d (v.Concat (e ∷ v.Loop r m n ∷ [])) → IsDerivative (v.Loop r i j) c d
+d-Loop r e d i j m n c l p q h g = record {
   only = λ w k.
-      let t = of-pair e f w (g.only w k) in
-      let x : Times (In r) m n t.1 = rw In-Loop at (s.only t.1 t.4) in
+      let t = of-pair e (v.Loop r m n) w (g.only w k) in
+      let x : Times (In r) m n t.1 = rw In-Loop at t.4 in
       rw In-Loop (after_times (In r) i j c w l (t.0, t.1, t.2, h.only t.0 t.3, (x.0, omega (arith, x.1, p), omega (arith, x.2, q), x.3)));
   all = λ w k.
       let x : Times (In r) i j (c ∷ w) = rw In-Loop at k in
       let t = times_after (In r) i j c w x in
       let y = t.4 in
-      g.all w (in-pair e f w (t.0, t.1, t.2, h.all t.0 t.3, s.all t.1 (rw In-Loop (y.0, omega (arith, y.1, p), omega (arith, y.2, q), y.3))));
+      g.all w (in-pair e (v.Loop r m n) w (t.0, t.1, t.2, h.all t.0 t.3, rw In-Loop (y.0, omega (arith, y.1, p), omega (arith, y.2, q), y.3)));
 }
 
 no_power : (P : Language) (n c : ℕ) (w : Word) → n ≤ 0 → Power P n (c ∷ w) → ⊥

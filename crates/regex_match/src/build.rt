@@ -1,8 +1,11 @@
 //! Regular expressions made of others, with unions and intersections flat, in order and without
 //! repeats, so that few of them differ.
+//!
+//! What isn't needed is given to `drop`: at the end of its scope it would be dropped in place, with
+//! a branch for each form.
 ghost use Rattle.std.specs.Prelude.{◌≡◌, ◌≤◌, [], ◌∷◌, IfOk, IsTrue, OnOk, length};
 ghost use Rattle.regex_match.specs.Derivative.{SameWords};
-ghost use Rattle.sv_terms.specs.declared.regex.Regex.TheVariants.{Comp, Concat, Diff, Empty, Inter, Loop, All, Text, Union};
+ghost use Rattle.sv_terms.specs.declared.regex.Regex.TheVariants.{Comp, Concat, Diff, Empty, Inter, Loop, All, Star, Text, Union};
 
 use crate::ordered::order;
 use std::alloc::{AllocError, Global};
@@ -50,17 +53,59 @@ pub fn then(alloc: Global, first: Regex, rest: Regex) -> Result<Regex, AllocErro
     ensures { IfOk result (λ d. SameWords d (Concat (first ∷ rest ∷ []))) }
 {
     if is_none(&first) {
+        drop((first, rest));
         return Ok(Regex::Empty);
     }
     if is_none(&rest) {
+        drop((first, rest));
         return Ok(Regex::Empty);
     }
     if is_empty_word(&first) {
+        drop(first);
         return Ok(rest);
     }
     if is_empty_word(&rest) {
+        drop(rest);
         return Ok(first);
     }
+    joined(alloc, first, rest)
+}
+
+/// A word of the first and then any number of words of `r`.
+#[tactic(auto, using(crate::proofs::Builds::thens))]
+pub fn then_any(alloc: Global, first: Regex, r: &Regex) -> Result<Regex, AllocError>
+    ensures { IfOk result (λ d. SameWords d (Concat (first ∷ Star r.now ∷ []))) }
+{
+    let rest = star(alloc, r)?;
+    then(alloc, first, rest)
+}
+
+/// A word of the first and then from `i` to `j` words of `r`.
+#[tactic(auto, using(crate::proofs::Builds::behinds))]
+pub fn then_times(
+    alloc: Global,
+    first: Regex,
+    r: &Regex,
+    i: u32,
+    j: u32,
+) -> Result<Regex, AllocError>
+    ensures { IfOk result (λ d. SameWords d (Concat (first ∷ Loop r.now i j ∷ []))) }
+{
+    let rest = times(alloc, r, i, j)?;
+    then(alloc, first, rest)
+}
+
+fn star(alloc: Global, r: &Regex) -> Result<Regex, AllocError>
+    ensures { IfOk result (λ d. d ≡ Star r.now) }
+{
+    Ok(Regex::Star(Boxed::new(alloc, r.copy(alloc)?)?))
+}
+
+// The parts of the first and then those of the second.
+#[tactic(auto, using(crate::proofs::Builds::thens))]
+fn joined(alloc: Global, first: Regex, rest: Regex) -> Result<Regex, AllocError>
+    ensures { IfOk result (λ d. SameWords d (Concat (first ∷ rest ∷ []))) }
+{
     let mut all = in_turn(alloc, first)?;
     all.append(in_turn(alloc, rest)?)?;
     Ok(Regex::Concat(all))
@@ -93,6 +138,7 @@ fn insert_part(parts: &mut Items<Regex>, r: Regex) -> Result<(), AllocError>
 {
     let at = place(parts.as_slice(), &r);
     if at < parts.len() && parts.as_slice()[at].same(&r) {
+        drop(r);
         return Ok(());
     }
     parts.insert(at, r)
@@ -150,6 +196,7 @@ fn insert_need(parts: &mut Items<Regex>, r: Regex) -> Result<(), AllocError>
 {
     let at = place(parts.as_slice(), &r);
     if at < parts.len() && parts.as_slice()[at].same(&r) {
+        drop(r);
         return Ok(());
     }
     parts.insert(at, r)
@@ -202,15 +249,15 @@ pub fn minus(alloc: Global, a: Regex, b: Regex) -> Result<Regex, AllocError>
     ensures { IfOk result (λ d. SameWords d (Diff (a ∷ b ∷ []))) }
 {
     if is_none(&a) {
+        drop((a, b));
         return Ok(Regex::Empty);
     }
     if is_none(&b) {
+        drop(b);
         return Ok(a);
     }
-    let mut parts = Items::new(alloc);
-    parts.push(a)?;
-    parts.push(b)?;
-    Ok(Regex::Diff(parts))
+    let parts = Vec::from_array(alloc, [a, b])?;
+    Ok(Regex::Diff(Items::from_vec(parts)))
 }
 
 #[tactic(auto, using(crate::proofs::Builds::others))]
@@ -228,9 +275,10 @@ pub fn complement(alloc: Global, r: Regex) -> Result<Regex, AllocError>
     }
 }
 
+// From `i` to `j` words of `r`, which is copied only where it is needed.
 #[tactic(auto, using(crate::proofs::Builds::others))]
-pub fn times(alloc: Global, r: Regex, i: u32, j: u32) -> Result<Regex, AllocError>
-    ensures { IfOk result (λ d. SameWords d (Loop r i j)) }
+fn times(alloc: Global, r: &Regex, i: u32, j: u32) -> Result<Regex, AllocError>
+    ensures { IfOk result (λ d. SameWords d (Loop r.now i j)) }
 {
     if j < i {
         return Ok(Regex::Empty);
@@ -238,8 +286,9 @@ pub fn times(alloc: Global, r: Regex, i: u32, j: u32) -> Result<Regex, AllocErro
     if j == 0 {
         return Ok(empty_word(alloc));
     }
+    let part = r.copy(alloc)?;
     if i == 1 && j == 1 {
-        return Ok(r);
+        return Ok(part);
     }
-    Ok(Regex::Loop(Boxed::new(alloc, r)?, i, j))
+    Ok(Regex::Loop(Boxed::new(alloc, part)?, i, j))
 }

@@ -32,7 +32,9 @@ pub fn contains(alloc: Global, regex: &Regex, word: &Word) -> Result<bool, Alloc
             None => return Ok(false),
         }
     }
-    Ok(is_nullable(&left))
+    let ends = is_nullable(&left);
+    drop(left);
+    Ok(ends)
 }
 
 // Reads a literal at the front of what is left, or else one character.
@@ -48,13 +50,13 @@ fn step(
 {
     match left {
         Regex::Empty => Ok(None),
-        Regex::Concat(parts) => Ok(read_front(alloc, parts, word, at)?),
+        Regex::Concat(parts) => read_front(alloc, parts, word, at),
         Regex::Text(text) => {
             let mut parts = Items::new(alloc);
             parts.push(Regex::Text(text))?;
-            Ok(read_front(alloc, parts, word, at)?)
+            read_front(alloc, parts, word, at)
         }
-        left => Ok(read_one(alloc, left, word, at)?),
+        left => read_one(alloc, left, word, at),
     }
 }
 
@@ -72,10 +74,15 @@ fn read_one(
     prove!(at < end);
     match word.get(at) {
         Some(c) => {
-            let rest = derive(alloc, &left, c)?;
-            Ok(Some((rest, at + 1)))
+            let rest = derive(alloc, &left, c);
+            // before the `?`, so that it stands here once
+            drop(left);
+            Ok(Some((rest?, at + 1)))
         }
-        None => Ok(None),
+        None => {
+            drop(left);
+            Ok(None)
+        }
     }
 }
 
@@ -128,7 +135,7 @@ fn read_front(
     match front(parts.as_slice()) {
         Some(text) => {
             if text.is_empty() {
-                return Ok(read_one(alloc, Regex::Concat(parts), word, at)?);
+                return read_one(alloc, Regex::Concat(parts), word, at);
             }
             text.is_word();
             match behind(text, word, at) {
@@ -139,6 +146,6 @@ fn read_front(
                 None => Ok(None),
             }
         }
-        None => Ok(read_one(alloc, Regex::Concat(parts), word, at)?),
+        None => read_one(alloc, Regex::Concat(parts), word, at),
     }
 }

@@ -1,14 +1,14 @@
 //! What is left of a regular expression once a character is read.
 ghost use Rattle.std.specs.Prelude.{◌≡◌, [], ◌∷◌, ◌++◌, ◌<◌, ℕ, List, drop, length, slice_index, IfOk, OnOk, MatchOption};
 ghost use Rattle.regex_match.specs.Derivative.{IsDerivative, SameWords};
-ghost use Rattle.sv_terms.specs.declared.regex.Regex.TheVariants.{Concat, Inter, Union};
+ghost use Rattle.sv_terms.specs.declared.regex.Regex.TheVariants.{Concat, Inter, Text, Union};
 
 use crate::build::{
-    add_need, add_part, all_of, complement, empty_word, minus, one_of, then, times,
+    add_need, add_part, all_of, complement, empty_word, minus, one_of, then, then_any, then_times,
 };
 use crate::nullable::is_nullable;
 use std::alloc::{AllocError, Global};
-use sv_list::{Boxed, Items};
+use sv_list::Items;
 use sv_terms::Regex;
 use sv_word::{GREATEST_CHARACTER, Word};
 
@@ -25,13 +25,7 @@ pub fn derive(alloc: Global, regex: &Regex, c: u32) -> Result<Regex, AllocError>
         Regex::Empty => Ok(Regex::Empty),
         Regex::All => Ok(Regex::All),
         Regex::AnyChar => Ok(empty_word(alloc)),
-        Regex::Text(text) => {
-            text.is_word();
-            match after(alloc, text, c)? {
-                Some(rest) => Ok(Regex::Text(rest)),
-                None => Ok(Regex::Empty),
-            }
-        }
+        Regex::Text(text) => derive_text(alloc, text, c),
         Regex::Range(lo, hi) => {
             if *lo <= c && c <= *hi {
                 Ok(empty_word(alloc))
@@ -46,19 +40,23 @@ pub fn derive(alloc: Global, regex: &Regex, c: u32) -> Result<Regex, AllocError>
             [] => Ok(Regex::Empty),
             [r, rest @ ..] => {
                 let a = derive(alloc, r, c)?;
-                let b = derive_one(alloc, rest, c)?;
-                Ok(minus(alloc, a, b)?)
+                match derive_one(alloc, rest, c) {
+                    Ok(b) => minus(alloc, a, b),
+                    Err(error) => {
+                        // as in `build`, by one call
+                        drop(a);
+                        Err(error)
+                    }
+                }
             }
         },
         Regex::Star(r) => {
             let first = derive(alloc, r.get(), c)?;
-            let rest = Regex::Star(Boxed::new(alloc, r.get().copy(alloc)?)?);
-            then(alloc, first, rest)
+            then_any(alloc, first, r.get())
         }
         Regex::Plus(r) => {
             let first = derive(alloc, r.get(), c)?;
-            let rest = Regex::Star(Boxed::new(alloc, r.get().copy(alloc)?)?);
-            then(alloc, first, rest)
+            then_any(alloc, first, r.get())
         }
         Regex::Opt(r) => derive(alloc, r.get(), c),
         Regex::Comp(r) => {
@@ -70,8 +68,7 @@ pub fn derive(alloc: Global, regex: &Regex, c: u32) -> Result<Regex, AllocError>
                 return Ok(Regex::Empty);
             }
             let first = derive(alloc, r.get(), c)?;
-            let rest = times(alloc, r.get().copy(alloc)?, i.saturating_sub(1), *j - 1)?;
-            then(alloc, first, rest)
+            then_times(alloc, first, r.get(), i.saturating_sub(1), *j - 1)
         }
     }
 }
@@ -119,6 +116,18 @@ fn after(alloc: Global, text: &Word, c: u32) -> Result<Option<Word>, AllocError>
     }
 }
 
+// What is left of a text.
+#[tactic(auto, using(crate::proofs::Derives::derives))]
+fn derive_text(alloc: Global, text: &Word, c: u32) -> Result<Regex, AllocError>
+    ensures { IfOk result (IsDerivative (Text text.now) c) }
+{
+    text.is_word();
+    match after(alloc, text, c)? {
+        Some(rest) => Ok(Regex::Text(rest)),
+        None => Ok(Regex::Empty),
+    }
+}
+
 fn copies(alloc: Global, rs: &[Regex]) -> Result<Items<Regex>, AllocError>
     ensures { IfOk result (λ all. all ≡ rs.now) }
 {
@@ -140,6 +149,15 @@ fn rest_in_turn(alloc: Global, rs: &[Regex]) -> Result<Regex, AllocError>
     }
 }
 
+// A word of the first and then one of each of the others.
+#[tactic(auto, using(crate::proofs::Builds::behinds))]
+fn then_parts(alloc: Global, first: Regex, rs: &[Regex]) -> Result<Regex, AllocError>
+    ensures { IfOk result (λ d. SameWords d (Concat (first ∷ Concat rs.now ∷ []))) }
+{
+    let rest = rest_in_turn(alloc, rs)?;
+    then(alloc, first, rest)
+}
+
 #[cycle(derive)]
 #[tactic(auto, using(crate::proofs::Derives::derives))]
 fn derive_in_turn(alloc: Global, rs: &[Regex], c: u32) -> Result<Regex, AllocError>
@@ -149,8 +167,7 @@ fn derive_in_turn(alloc: Global, rs: &[Regex], c: u32) -> Result<Regex, AllocErr
     for i in 0..rs.len() {
         let r = &rs[i];
         let first = derive(alloc, r, c)?;
-        let rest = rest_in_turn(alloc, &rs[i + 1..])?;
-        let d = then(alloc, first, rest)?;
+        let d = then_parts(alloc, first, &rs[i + 1..])?;
         add_part(&mut parts, d)?;
         if !is_nullable(r) {
             return Ok(one_of(parts));

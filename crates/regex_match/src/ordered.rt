@@ -27,14 +27,14 @@ pub fn order(a: &Regex, b: &Regex) -> Ordering {
     match (a, b) {
         (Regex::Text(s), Regex::Text(t)) => s.cmp(t),
         (Regex::Range(i, j), Regex::Range(k, l)) => order_two(*i, *j, *k, *l),
-        (Regex::Concat(xs), Regex::Concat(ys)) => order_all(xs.as_slice(), ys.as_slice()),
-        (Regex::Union(xs), Regex::Union(ys)) => order_all(xs.as_slice(), ys.as_slice()),
-        (Regex::Inter(xs), Regex::Inter(ys)) => order_all(xs.as_slice(), ys.as_slice()),
-        (Regex::Diff(xs), Regex::Diff(ys)) => order_all(xs.as_slice(), ys.as_slice()),
-        (Regex::Star(x), Regex::Star(y)) => order(x.get(), y.get()),
-        (Regex::Plus(x), Regex::Plus(y)) => order(x.get(), y.get()),
-        (Regex::Opt(x), Regex::Opt(y)) => order(x.get(), y.get()),
-        (Regex::Comp(x), Regex::Comp(y)) => order(x.get(), y.get()),
+        (Regex::Concat(xs), Regex::Concat(ys))
+        | (Regex::Union(xs), Regex::Union(ys))
+        | (Regex::Inter(xs), Regex::Inter(ys))
+        | (Regex::Diff(xs), Regex::Diff(ys)) => order_all(xs.as_slice(), ys.as_slice()),
+        (Regex::Star(x), Regex::Star(y))
+        | (Regex::Plus(x), Regex::Plus(y))
+        | (Regex::Opt(x), Regex::Opt(y))
+        | (Regex::Comp(x), Regex::Comp(y)) => order(x.get(), y.get()),
         (Regex::Loop(x, i, j), Regex::Loop(y, k, l)) => match order_two(*j, *i, *l, *k) {
             Ordering::Equal => order(x.get(), y.get()),
             other => other,

@@ -37,7 +37,6 @@ pub enum LastVerdict {
 /// `exit` was answered.
 ///
 /// Contracts see these four, the levels as those of the stack.
-#[derive(Drop)]
 pub struct Session {
     stack: Stack,
     verdict: Option<LastVerdict>,
@@ -45,6 +44,19 @@ pub struct Session {
     ended: bool,
     /// How many threads do the cubes of a check.
     workers: u32,
+}
+
+// A drop by hand is one call where a derived one is a call for each vector inside.
+impl Drop for Session {
+    fn drop(self) {
+        let Self {
+            stack: _,
+            verdict: _,
+            prints: _,
+            ended: _,
+            workers: _,
+        } = self;
+    }
 }
 
 impl std::marker::Model for Session {

@@ -28,12 +28,24 @@ pub struct TransEdge {
 ///
 /// The states are the numbers below `states`. `ends` lists pairs of a state and the word that is
 /// written there at the end.
-#[derive(Debug, Drop)]
+#[derive(Debug)]
 pub struct Transducer {
     pub states: u32,
     pub start: u32,
     pub edges: Items<TransEdge>,
     pub ends: Items<(u32, Word)>,
+}
+
+// A drop by hand is one call where a derived one is a call for each vector inside.
+impl Drop for Transducer {
+    fn drop(self) {
+        let Self {
+            states: _,
+            start: _,
+            edges: _,
+            ends: _,
+        } = self;
+    }
 }
 
 impl Copied for Item {

@@ -104,14 +104,14 @@ fn one<T: Drop>(mut items: Items<T>) -> Option<T>
 
 /// The two of a list of two.
 #[tactic(auto, using(crate::proofs::Shapes::few))]
-fn two(mut bodies: Items<Body>) -> Option<(Body, Body)>
-    ensures { MatchOption result (length bodies ≡ 2 → ⊥) (λ p. bodies ≡ p.0 ∷ p.1 ∷ []) }
+fn two<T: Drop>(mut items: Items<T>) -> Option<(T, T)>
+    ensures { MatchOption result (length items ≡ 2 → ⊥) (λ p. items ≡ p.0 ∷ p.1 ∷ []) }
 {
-    if bodies.len() != 2 {
+    if items.len() != 2 {
         return None;
     }
-    match bodies.pop() {
-        Some(second) => match bodies.pop() {
+    match items.pop() {
+        Some(second) => match items.pop() {
             Some(first) => Some((first, second)),
             None => None,
         },
@@ -125,11 +125,21 @@ fn membership(alloc: Global, bodies: Items<Body>) -> Result<Body, AllocError>
 {
     match two(bodies) {
         Some((word, regex)) => {
+            let regex = into_regex(regex);
             let word = Boxed::new(alloc, into_term(word))?;
-            Ok(Body::Term(Term::InRe(word, into_regex(regex))))
+            Ok(Body::Term(Term::InRe(word, regex)))
         }
         None => Ok(opaque(Sort::Bool)),
     }
+}
+
+/// Two values on the heap.
+fn boxes<T: Drop>(alloc: Global, first: T, second: T) -> Result<(Boxed<T>, Boxed<T>), AllocError>
+    ensures { IfOk result (λ p. (p.0 ≡ first) × (p.1 ≡ second)) }
+{
+    let first = Boxed::new(alloc, first)?;
+    let second = Boxed::new(alloc, second)?;
+    Ok((first, second))
 }
 
 /// That a transducer may write the one term where it reads the other.
@@ -137,14 +147,12 @@ fn membership(alloc: Global, bodies: Items<Body>) -> Result<Body, AllocError>
 pub fn relate_terms(
     alloc: Global,
     transducer: &Transducer,
-    read: Term,
-    written: Term,
+    read: Boxed<Term>,
+    written: Boxed<Term>,
 ) -> Result<Term, AllocError>
     ensures { IfOk result (λ x. x ≡ Term.Related transducer.now read written) }
 {
     let transducer = Boxed::new(alloc, transducer.copy(alloc)?)?;
-    let read = Boxed::new(alloc, read)?;
-    let written = Boxed::new(alloc, written)?;
     Ok(Term::Related(transducer, read, written))
 }
 
@@ -160,7 +168,7 @@ pub fn relate(
 {
     match two(bodies) {
         Some((read, written)) => {
-            let (read, written) = (into_term(read), into_term(written));
+            let (read, written) = boxes(alloc, into_term(read), into_term(written))?;
             Ok(Body::Term(relate_terms(alloc, transducer, read, written)?))
         }
         None => Ok(opaque(Sort::Bool)),
@@ -295,6 +303,13 @@ fn one_character(alloc: Global, c: u32) -> Result<Word, AllocError>
     Ok(word)
 }
 
+/// The literal of a character.
+fn character(alloc: Global, c: u32) -> Result<Body, AllocError>
+    ensures { IfOk result (λ x. x ≡ Body.Term (Term.Text (r.word_of c))) }
+{
+    Ok(Body::Term(Term::Text(one_character(alloc, c)?)))
+}
+
 /// An application that isn't opaque, in time linear in the number of arguments.
 #[inline(never)]
 pub fn apply(alloc: Global, sense: Interpretation, bodies: Items<Body>) -> Result<Body, AllocError>
@@ -314,7 +329,7 @@ pub fn apply(alloc: Global, sense: Interpretation, bodies: Items<Body>) -> Resul
         Interpretation::Empty => Ok(Body::Language(Regex::Empty)),
         Interpretation::All => Ok(Body::Language(Regex::All)),
         Interpretation::AnyChar => Ok(Body::Language(Regex::AnyChar)),
-        Interpretation::Character(c) => Ok(Body::Term(Term::Text(one_character(alloc, c)?))),
+        Interpretation::Character(c) => character(alloc, c),
         Interpretation::Concat => Ok(Body::Language(Regex::Concat(into_regexes(alloc, bodies)?))),
         Interpretation::Union => Ok(Body::Language(Regex::Union(into_regexes(alloc, bodies)?))),
         Interpretation::Inter => Ok(Body::Language(Regex::Inter(into_regexes(alloc, bodies)?))),

@@ -270,8 +270,8 @@ fn put_in_related(
 ) -> Result<Term, AllocError>
     ensures { IfOk result (λ x. let put = bodies.put_in (drafts.term_found (drafts.senses parts.now) index.now arguments.now) in x ≡ Term.Related transducer.now (put read.now) (put written.now)) }
 {
-    let read = put_in(alloc, parts, arguments, index, read)?;
-    let written = put_in(alloc, parts, arguments, index, written)?;
+    let read = Boxed::new(alloc, put_in(alloc, parts, arguments, index, read)?)?;
+    let written = Boxed::new(alloc, put_in(alloc, parts, arguments, index, written)?)?;
     Ok(relate_terms(alloc, transducer, read, written)?)
 }
 

@@ -28,12 +28,22 @@ use term_draft::{TermDraft, build_at};
 use term_weight::{Declarations, Macro, same_sort};
 
 /// What is known in the middle of a walk over terms.
-#[derive(Drop)]
 pub struct Walk<'a> {
     pub scope: Scope,
     pub draft: TermDraft<'a>,
     /// Whether some value of a `let` is too large.
     pub is_past: bool,
+}
+
+// A drop by hand is one call where a derived one is a call for each vector inside.
+impl Drop for Walk<'_> {
+    fn drop(self) {
+        let Self {
+            scope: _,
+            draft: _,
+            is_past: _,
+        } = self;
+    }
 }
 
 fn opaque(walk: &mut Walk<'_>, sort: Sort) -> Result<usize, CheckFault>

@@ -19,7 +19,6 @@ use sv_terms::{Model, Term};
 pub const BATCH: usize = 64;
 
 /// What the answers for the cubes so far come to.
-#[derive(Drop)]
 pub struct CubeTally {
     /// The first assertion with an opaque part.
     pub opaque: Option<Term>,
@@ -31,6 +30,19 @@ pub struct CubeTally {
     pub open_cubes: Items<(u64, OpenReason)>,
     /// How many leaves of the others were closed, and by what.
     pub refuted: Refutation,
+}
+
+// A drop by hand is one call where a derived one is a call for each vector inside.
+impl Drop for CubeTally {
+    fn drop(self) {
+        let Self {
+            opaque: _,
+            count: _,
+            model: _,
+            open_cubes: _,
+            refuted: _,
+        } = self;
+    }
 }
 
 /// The counts added up, up to 2^64 - 1.
@@ -137,10 +149,11 @@ impl CubeTally {
         ensures { result ≡ verdict_of self }
     {
         let CubeTally {
+            opaque: _,
+            count: _,
             model,
             open_cubes,
             refuted,
-            ..
         } = self;
         if let Some(model) = model {
             return Verdict::Sat(model);

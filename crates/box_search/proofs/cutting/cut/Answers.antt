@@ -36,7 +36,7 @@ loop-place-preserved c = λ p at.
     let to = subst (λ (l : List Layer). slice_get l (c.loop-place.place + 1) ≡ Some c.layer_at-to.result.now) c.as_slice-in-loop-place.ensures c.layer_at-to.ensures in
     let cost = subst (λ (l : List (List ℕ)). slice_get l c.loop-place.place ≡ Some c.cost_at-cost.result.now) c.as_slice-in-loop-place-2.ensures c.cost_at-cost.ensures in
     run-next c.args.layers.now.machines.now c.args.layers.now.rows.now c.args.layers.now.region.now c.args.layers.now.registers c.args.run.now c.requires c.loop-place.place c.layer_at-from.result.now c.layer_at-to.result.now p c.character_at-character.result c.cost_at-cost.result.now
-    c.loop-place.runs c.cut_step.new.runs c.loop-place.current c.in_ok-current-2.current from to c.character_at-character.ensures.is cost (c.loop-place.invariant c.layer_at-from.result.now from) c.in_ok-current-2.ensures at
+    c.loop-place.runs c.cut_step.new.runs c.loop-place.current c.cut_step.new.current from to c.character_at-character.ensures.is cost (c.loop-place.invariant c.layer_at-from.result.now from) c.in_ok-cut_step.ensures at
 
 pub returns : goal.returns
 returns c =

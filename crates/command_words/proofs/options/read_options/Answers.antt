@@ -10,15 +10,15 @@ numbers least most text = option_and_then (number_in least most) text
 pub returns-clause-seed : goal.returns-clause-seed
 returns-clause-seed c =
     let rows : rows_of (found_of c.in-Ok.found) ≡ matches_of form_app (map string_bytes c.args.words.now) = c.in-Ok.ensures.rows in
-    c.in_ok-seed.ensures.ok ∙ ap (numbers 0 18446744073709551615) (c.text_of-2.ensures ∙ ap (λ (r : List Row). first_of (codes "generate") r) rows)
+    c.in_ok-seed.ensures.ok ∙ ap (numbers 0 18446744073709551615) (c.text_of-seed.ensures ∙ ap (λ (r : List Row). first_of (codes "generate") r) rows)
 
 pub returns-clause-form : goal.returns-clause-form
 returns-clause-form c =
     let rows : rows_of (found_of c.in-Ok.found) ≡ matches_of form_app (map string_bytes c.args.words.now) = c.in-Ok.ensures.rows in
     let faults : fault_of form_app (map string_bytes c.args.words.now) ≡ [] = c.in-Ok.ensures.ok in
-    let workers = c.text_of.ensures ∙ ap (λ (r : List Row). first_of (codes "workers") r) rows in
-    let seed = c.text_of-2.ensures ∙ ap (λ (r : List Row). first_of (codes "generate") r) rows in
-    let size = c.text_of-3.ensures ∙ ap (λ (r : List Row). first_of (codes "size") r) rows in
+    let workers = c.text_of-workers.ensures ∙ ap (λ (r : List Row). first_of (codes "workers") r) rows in
+    let seed = c.text_of-seed.ensures ∙ ap (λ (r : List Row). first_of (codes "generate") r) rows in
+    let size = c.text_of-size.ensures ∙ ap (λ (r : List Row). first_of (codes "size") r) rows in
     let is_workers : is_right (codes "workers") 1 64 (map string_bytes c.args.words.now) ≡ true = sym (ap₂ is_right_text workers (c.in_ok-workers.ensures.ok ∙ ap (numbers 1 64) workers)) ∙ c.in_ok-workers.ensures.right in
     let is_seed : is_right (codes "generate") 0 18446744073709551615 (map string_bytes c.args.words.now) ≡ true = sym (ap₂ is_right_text seed (c.in_ok-seed.ensures.ok ∙ ap (numbers 0 18446744073709551615) seed)) ∙ c.in_ok-seed.ensures.right in
     let is_size : is_right (codes "size") 1 100000 (map string_bytes c.args.words.now) ≡ true = sym (ap₂ is_right_text size (c.in_ok-size.ensures.ok ∙ ap (numbers 1 100000) size)) ∙ c.in_ok-size.ensures.right in
@@ -27,6 +27,6 @@ returns-clause-form c =
 pub returns-in_err-seed-clause-outside : goal.returns-in_err-seed-clause-outside
 returns-in_err-seed-clause-outside c = λ _.
     let rows : rows_of (found_of c.in-Ok.found) ≡ matches_of form_app (map string_bytes c.args.words.now) = c.in-Ok.ensures.rows in
-    let seed = c.text_of-2.ensures ∙ ap (λ (r : List Row). first_of (codes "generate") r) rows in
+    let seed = c.text_of-seed.ensures ∙ ap (λ (r : List Row). first_of (codes "generate") r) rows in
     let is_seed : is_right (codes "generate") 0 18446744073709551615 (map string_bytes c.args.words.now) ≡ false = sym (ap₂ is_right_text seed (ap (numbers 0 18446744073709551615) seed)) ∙ c.in_err-seed.ensures.wrong.1 in
     second_wrong _ _ _ _ is_seed

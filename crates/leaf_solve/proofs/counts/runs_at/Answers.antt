@@ -1,7 +1,6 @@
 use Rattle.std.proofs.Common.{ℕ, ◌+◌, List, take, sym, subst, arith}
 use Rattle.machine_core.specs.declared.run.Run.{Run}
 use Rattle.farkas_check.specs.Cuts.{values_of}
-use Rattle.parikh_flow.specs.Counts.{size_of}
 use Rattle.parikh_flow.specs.Solutions.{HasFlowAt, HaveFlowsAt}
 use Rattle.parikh_flow.proofs.FormLemmas.{after-more, after-room}
 use Rattle.leaf_solve.proofs.CountLemmas.{flows-more, short-flow}

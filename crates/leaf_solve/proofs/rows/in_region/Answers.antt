@@ -1,35 +1,26 @@
-use Rattle.leaf_solve.proofs.RegionLemmas.{found-hit, none-found, none-held}
-use Rattle.leaf_solve.proofs.SystemLemmas.{names}
+use Rattle.std.proofs.Common.{◌∙◌, Ok, ap, sym, subst, IfOk, Result}
+use Rattle.std.specs.Option.{unwrap_or}
+use Rattle.std.specs.declared.alloc.AllocError.{AllocError}
+use Rattle.leaf_solve.specs.Answers.{IsDecided}
+use Rattle.leaf_solve.specs.Steps.{AnswersQuestion, HoldsNothing}
+use Rattle.leaf_solve.specs.declared.leaf_answer.LeafAnswer.{LeafAnswer}
+use Rattle.leaf_solve.specs.declared.leaf_answer.LeafAnswer.TheVariants.{Open}
+use Rattle.leaf_solve.proofs.AnswerLemmas.{told-or, told-decided}
 use Rattle.leaf_solve.proofs.rows.in_region.Goals as goal
 
-pub search-requires : goal.search-requires
-search-requires c = λ e. record {
-  registers = c.requires.asked.registers;
-  integer_sides = c.requires.asked.sides e;
-  unknowns = names c.args.question.now.machines.now c.args.question.now.integers c.args.question.now.rows.now c.args.question.now.region.now c.args.question.now.small c.args.question.now.reach c.requires.asked;
-  fits = c.requires.asked.fits e;
-}
+pub returns-clause-answer : goal.returns-clause-answer
+returns-clause-answer c =
+    subst (λ (r : Result LeafAnswer AllocError). IfOk r (AnswersQuestion c.args.question.now)) (sym (c.unwrap_or.ensures ∙ ap (λ o. unwrap_or o (Ok (Open c.args.bounded c.args.evidence))) c.transpose-told.ensures))
+    (told-or (HoldsNothing c.args.question.now) (AnswersQuestion c.args.question.now) c.search_region.result (Open c.args.bounded c.args.evidence) c.search_region.ensures.answer (λ none. record {
+      inhabited = c.requires.inhabited;
+      has_rows = c.requires.has_rows;
+      not_small = none.0;
+      none_in_region = none.1;
+      is_system = c.requires.bounded;
+      evidence_holds = c.requires.gave_up;
+    }))
 
-pub returns-in-Some-clause-answer : goal.returns-in-Some-clause-answer
-returns-in-Some-clause-answer c =
-    let f = found-hit c.args.question.now.machines.now c.args.question.now.integers c.args.question.now.rows.now c.args.question.now.region.now c.args.question.now.small c.args.question.now.reach c.requires.asked
-    c.in-Some.hit.runs c.in-Some.hit.integers (rw c.in-Some.is at c.in_ok-found.ensures) in
-    record { is_hit = f.0; within = f.1 }
-
-pub returns-then-question-clause-answer : goal.returns-then-question-clause-answer
-returns-then-question-clause-answer c = record {
-  none = none-held c.args.question.now.machines.now c.args.question.now.integers c.args.question.now.rows.now c.args.question.now.region.now c.args.question.now.small c.args.question.now.reach c.requires.asked
-      (rw c.in-None.is at c.in_ok-found.ensures) c.if-question.true;
-  shown = c.if-question.true;
-}
-
-pub returns-else-question-clause-answer : goal.returns-else-question-clause-answer
-returns-else-question-clause-answer c = record {
-  inhabited = c.requires.inhabited;
-  has_rows = c.requires.has_rows;
-  not_small = c.if-question.false;
-  none_in_region = none-found c.args.question.now.machines.now c.args.question.now.integers c.args.question.now.rows.now c.args.question.now.region.now c.args.question.now.small c.args.question.now.reach c.requires.asked
-      (rw c.in-None.is at c.in_ok-found.ensures);
-  is_system = c.requires.bounded;
-  evidence_holds = c.requires.gave_up;
-}
+pub returns-clause-decided : goal.returns-clause-decided
+returns-clause-decided c = λ small.
+    subst (λ (r : Result LeafAnswer AllocError). IfOk r IsDecided) (sym (c.unwrap_or.ensures ∙ ap (λ o. unwrap_or o (Ok (Open c.args.bounded c.args.evidence))) c.transpose-told.ensures))
+    (told-decided (HoldsNothing c.args.question.now) (AnswersQuestion c.args.question.now) c.search_region.result (Open c.args.bounded c.args.evidence) c.search_region.ensures.answer c.search_region.ensures.decided (λ none. let n = none.0 in cc))

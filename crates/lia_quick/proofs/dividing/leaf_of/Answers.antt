@@ -9,5 +9,5 @@ use Rattle.lia_quick.proofs.dividing.leaf_of.Goals as goal
 pub returns-in-Closes : goal.returns-in-Closes
 returns-in-Closes c =
     let fd : SFits w128 c.args.divisor = search rules in
-    let told = rw (c.in-Closes.is, to_z-of_z w128 _ fd, c.as_slice-2.ensures, c.as_slice-3.ensures) at c.in_ok-test_divisor.ensures in
-    rw (to_z-of_z w128 _ fd) (divisor_closed c.args.system.now.nets (rows_of c.args.system.now) c.in_ok-multipliers.multipliers c.args.divisor told)
+    let told = rw (c.in-Closes.is, to_z-of_z w128 _ fd, c.as_slice.ensures, c.as_slice-2.ensures) at c.in_ok-test_divisor.ensures in
+    rw (to_z-of_z w128 _ fd) (divisor_closed c.args.system.now.nets (rows_of c.args.system.now) c.in-Some.multipliers c.args.divisor told)

@@ -12,18 +12,18 @@ returns-in_err-both c =
     subst (IsPlainExactly {X = Unit {0}} (comparison_steps (seen c.args.left.now) (seen c.args.right.now))) (sym e)
     (err_kept Differences (Unit {0}) (equality_steps (seen c.args.left.now) (seen c.args.right.now)) (comparison_steps (seen c.args.left.now) (seen c.args.right.now)) c.in_err-both.field-0.0 (equality_past (seen c.args.left.now) (seen c.args.right.now)) c.in_err-both.ensures.steps)
 
-pub returns-in_err-_less : goal.returns-in_err-_less
-returns-in_err-_less c =
-    let e : c.from_residual-in_err-_less.result ≡ Err c.in_err-_less.field-0.0 = search rules in
+pub returns-in_err-check_successor : goal.returns-in_err-check_successor
+returns-in_err-check_successor c =
+    let e : c.from_residual-in_err-check_successor.result ≡ Err c.in_err-check_successor.field-0.0 = search rules in
     subst (IsPlainExactly {X = Unit {0}} (comparison_steps (seen c.args.left.now) (seen c.args.right.now))) (sym e)
-    (less_one_fault (Unit {0}) (seen c.args.left.now) (seen c.args.right.now) c.subtract.new.unknowns.codes c.in_ok-both.both c.number-one.result c.in_ok-both.ensures.forms c.number-one.ensures c.in_err-_less.field-0.0 c.in_err-_less.ensures)
+    (less_one_fault (Unit {0}) (seen c.args.left.now) (seen c.args.right.now) c.subtract.new.unknowns.codes c.in_ok-both.both c.in_ok-both.ensures.forms c.in_err-check_successor.field-0.0 c.in_err-check_successor.ensures)
 
-pub returns-in_err-_more : goal.returns-in_err-_more
-returns-in_err-_more c =
-    let e : c.from_residual-in_err-_more.result ≡ Err c.in_err-_more.field-0.0 = search rules in
+pub returns-in_err-check_successor-2 : goal.returns-in_err-check_successor-2
+returns-in_err-check_successor-2 c =
+    let e : c.from_residual-in_err-check_successor-2.result ≡ Err c.in_err-check_successor-2.field-0.0 = search rules in
     subst (IsPlainExactly {X = Unit {0}} (comparison_steps (seen c.args.left.now) (seen c.args.right.now))) (sym e)
-    (more_one_fault (Unit {0}) (seen c.args.left.now) (seen c.args.right.now) c.subtract.new.unknowns.codes c.in_ok-both.both c.number-one.result c.in_ok-both.ensures.forms c.number-one.ensures c.in_err-_more.field-0.0 c.in_err-_more.ensures)
+    (more_one_fault (Unit {0}) (seen c.args.left.now) (seen c.args.right.now) c.subtract.new.unknowns.codes c.in_ok-both.both c.in_ok-both.ensures.forms c.in_err-check_successor-2.field-0.0 c.in_err-check_successor-2.ensures)
 
 pub returns : goal.returns
 returns c =
-    order_plain (seen c.args.left.now) (seen c.args.right.now) c.subtract.new.unknowns.codes c.in_ok-both.both c.number-one.result c.in_ok-both.ensures.forms c.number-one.ensures c.in_ok-_less._less c.in_ok-_more._more c.in_ok-both.ensures.steps c.in_ok-_less.ensures c.in_ok-_more.ensures
+    order_plain (seen c.args.left.now) (seen c.args.right.now) c.subtract.new.unknowns.codes c.in_ok-both.both c.in_ok-both.ensures.forms c.in_ok-both.ensures.steps c.in_ok-check_successor.ensures c.in_ok-check_successor-2.ensures

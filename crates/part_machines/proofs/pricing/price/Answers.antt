@@ -3,16 +3,16 @@ use Rattle.machine_core.specs.Edges.{wide_end}
 use Rattle.part_machines.proofs.PriceLemmas.{is-priced, read-in, took-all}
 use Rattle.part_machines.proofs.pricing.price.Goals as goal
 
-pub add_edge-requires-clause-from : goal.add_edge-requires-clause-from
-add_edge-requires-clause-from c =
+pub add_priced-requires-clause-from : goal.add_priced-requires-clause-from
+add_priced-requires-clause-from c =
     rw c.loop-edge.invariant.states (c.args.machine.now.formed.edge c.edge-item.result (read-in c.args.machine.now.edges c.edges-edge-items.result.now c.loop-edge.edge-index c.edge-item.result c.edges-edge-items.ensures c.loop-edge-test.true c.edge-item.is)).from
 
-pub add_edge-requires-clause-to : goal.add_edge-requires-clause-to
-add_edge-requires-clause-to c =
+pub add_priced-requires-clause-to : goal.add_priced-requires-clause-to
+add_priced-requires-clause-to c =
     rw c.loop-edge.invariant.states (c.args.machine.now.formed.edge c.edge-item.result (read-in c.args.machine.now.edges c.edges-edge-items.result.now c.loop-edge.edge-index c.edge-item.result c.edges-edge-items.ensures c.loop-edge-test.true c.edge-item.is)).to
 
-pub add_end-requires-clause-at : goal.add_end-requires-clause-at
-add_end-requires-clause-at c =
+pub add_free-requires : goal.add_free-requires
+add_free-requires c =
     rw c.loop-end.invariant.states (c.args.machine.now.formed.ending c.end-item.result (read-in c.args.machine.now.ends c.finals-end-items.result.now c.loop-end.end-index c.end-item.result c.finals-end-items.ensures c.loop-end-test.true c.end-item.is)).at
 
 pub returns : goal.returns

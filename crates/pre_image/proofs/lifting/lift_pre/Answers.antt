@@ -1,4 +1,4 @@
-use Rattle.std.proofs.Common.{◌≡◌, ℕ, length, get_or, List, [], ◌∷◌, ◌++◌, refl, sym, ap, ap₂, ◌∙◌, subst, arith}
+use Rattle.std.proofs.Common.{◌≡◌, ℕ, length, get_or, List, ◌∷◌, sym, ap, ap₂, ◌∙◌, subst, arith}
 use Rattle.machine_core.specs.Costs.{zeros, total_of}
 use Rattle.machine_core.specs.RunLaws.{path_lengths}
 use Rattle.sv_terms.specs.Transduction.{Pairs}
@@ -23,46 +23,47 @@ returns-clause-pair c =
     let t = c.args.pre.now.through.now in
     let m = c.args.pre.now.target.now in
     let run = c.args.run.now in
-    let s = c.in_ok-so_far.so_far in
+    let s = c.in_ok-whole.whole in
     let e = c.in_ok-ending.ending in
     let at : ℕ × ℕ = get_or run.states (length run.word) (0, 0) in
     let same : get_or c.as_slice.result.now (length c.as_slice-2.result.now) (0, 0) ≡ at = ap₂ (λ (l : List (ℕ × ℕ)) (n : ℕ). get_or l n (0, 0)) c.as_slice.ensures (ap length c.as_slice-2.ensures) in
     let last : IsLiftedEnd t m at run.last e.word e.way.states e.way.costs e.last = subst (λ q. IsLiftedEnd t m q run.last e.word e.way.states e.way.costs e.last) same c.in_ok-ending.ensures in
     let total = total_of run.costs (zeros m.registers) in
-    subst (Pairs t run.word) (sym (c.in_ok-pair.ensures ∙ c.in_ok-append.ensures.ok)) (lifting-pair t m at run.word s.word s.way.states s.way.costs total c.in_ok-so_far.ensures run.last e.word e.way.states e.way.costs e.last last)
+    subst (Pairs t run.word) (sym (c.in_ok-lifted.ensures.pair ∙ c.in_ok-append.ensures.word)) (lifting-pair t m at run.word s.word s.way.states s.way.costs total c.in_ok-whole.ensures run.last e.word e.way.states e.way.costs e.last last)
 
 pub returns-clause-run : goal.returns-clause-run
 returns-clause-run c =
     let t = c.args.pre.now.through.now in
     let m = c.args.pre.now.target.now in
     let run = c.args.run.now in
-    let s = c.in_ok-so_far.so_far in
+    let s = c.in_ok-whole.whole in
     let e = c.in_ok-ending.ending in
     let at : ℕ × ℕ = get_or run.states (length run.word) (0, 0) in
     let same : get_or c.as_slice.result.now (length c.as_slice-2.result.now) (0, 0) ≡ at = ap₂ (λ (l : List (ℕ × ℕ)) (n : ℕ). get_or l n (0, 0)) c.as_slice.ensures (ap length c.as_slice-2.ensures) in
     let last : IsLiftedEnd t m at run.last e.word e.way.states e.way.costs e.last = subst (λ q. IsLiftedEnd t m q run.last e.word e.way.states e.way.costs e.last) same c.in_ok-ending.ensures in
     let total = total_of run.costs (zeros m.registers) in
-    let states : c.append-4.new.self ≡ 0 ∷ (s.way.states ++ e.way.states) =
-    c.in_ok-append-4.ensures.ok ∙ ap (λ (l : List ℕ). l ++ e.way.states) (c.in_ok-append-3.ensures.ok ∙ ap (λ (l : List ℕ). l ++ s.way.states) (c.in_ok-push.ensures.ok ∙ ap (λ (l : List ℕ). l ++ 0 ∷ []) c.new-states.ensures)) in
-    lifting-run t m at run.word s.word s.way.states s.way.costs total c.in_ok-so_far.ensures run.last e.word e.way.states e.way.costs e.last last
-    (record { word = c.append.new.self; states = c.append-4.new.self; costs = c.append-2.new.self; last = e.last })
-    c.in_ok-append.ensures.ok states c.in_ok-append-2.ensures.ok refl
+    lifting-run t m at run.word s.word s.way.states s.way.costs total c.in_ok-whole.ensures run.last e.word e.way.states e.way.costs e.last last
+    c.in_ok-lifted.lifted.1
+    (c.in_ok-lifted.ensures.word ∙ c.in_ok-append.ensures.word)
+    (c.in_ok-lifted.ensures.states ∙ ap (λ (l : List ℕ). 0 ∷ l) c.in_ok-append.ensures.states)
+    (c.in_ok-lifted.ensures.costs ∙ c.in_ok-append.ensures.costs)
+    c.in_ok-lifted.ensures.last
 
 pub returns-clause-total : goal.returns-clause-total
 returns-clause-total c =
     let t = c.args.pre.now.through.now in
     let m = c.args.pre.now.target.now in
     let run = c.args.run.now in
-    let s = c.in_ok-so_far.so_far in
+    let s = c.in_ok-whole.whole in
     let e = c.in_ok-ending.ending in
     let at : ℕ × ℕ = get_or run.states (length run.word) (0, 0) in
     let same : get_or c.as_slice.result.now (length c.as_slice-2.result.now) (0, 0) ≡ at = ap₂ (λ (l : List (ℕ × ℕ)) (n : ℕ). get_or l n (0, 0)) c.as_slice.ensures (ap length c.as_slice-2.ensures) in
     let last : IsLiftedEnd t m at run.last e.word e.way.states e.way.costs e.last = subst (λ q. IsLiftedEnd t m q run.last e.word e.way.states e.way.costs e.last) same c.in_ok-ending.ensures in
     let total = total_of run.costs (zeros m.registers) in
     let wide : length run.last ≡ m.registers = (c.runs_are_formed.ensures.costs run c.requires).1 in
-    lifting-total t m at run.word s.word s.way.states s.way.costs total c.in_ok-so_far.ensures run.last e.word e.way.states e.way.costs e.last last
-    (record { word = c.append.new.self; states = c.append-4.new.self; costs = c.append-2.new.self; last = e.last })
-    c.in_ok-append-2.ensures.ok refl ∙ sym (behind run.costs run.last m.registers wide)
+    lifting-total t m at run.word s.word s.way.states s.way.costs total c.in_ok-whole.ensures run.last e.word e.way.states e.way.costs e.last last
+    c.in_ok-lifted.lifted.1
+    (c.in_ok-lifted.ensures.costs ∙ c.in_ok-append.ensures.costs) c.in_ok-lifted.ensures.last ∙ sym (behind run.costs run.last m.registers wide)
 
 pub last_part-requires-clause-end : goal.last_part-requires-clause-end
 last_part-requires-clause-end c =

@@ -9,7 +9,7 @@ use Rattle.pre_image.proofs.PartLemmas.{path-step}
 use Rattle.pre_image.proofs.lifting.lift_steps.Goals as goal
 
 pub loop-i-init : goal.loop-i-init
-loop-i-init c = rw (c.new-word.ensures, c.new-after.ensures, c.new-costs.ensures, c.requires.states) (lifting-first c.args.pre.now.through.now c.args.pre.now.target.now)
+loop-i-init c = rw (c.new-so_far.ensures.word, c.new-so_far.ensures.states, c.new-so_far.ensures.costs, c.requires.states) (lifting-first c.args.pre.now.through.now c.args.pre.now.target.now)
 
 pub bounds-states-i : goal.bounds-states-i
 bounds-states-i c =
@@ -79,13 +79,13 @@ loop-i-preserved c =
     let k = c.index-paid-i.result in
     let is : k ≡ get_or run.costs i k = c.index-paid-i.is ∙ ap (λ (l : List (List ℕ)). get_or l i k) c.as_slice-paid.ensures in
     let wide : length k ≡ m.registers = ap length is ∙ (c.runs_are_formed.ensures.costs run c.requires).0 i k (omega arith) in
-    lifting-next t m run.word run.states run.costs i (omega arith) (omega arith) c.loop-i.word c.loop-i.after c.loop-i.costs c.loop-i.invariant
+    lifting-next t m run.word run.states run.costs i (omega arith) (omega arith) c.loop-i.so_far.word c.loop-i.so_far.way.states c.loop-i.so_far.way.costs c.loop-i.invariant
     (get_or c.as_slice-states.result.now i (0, 0)) (ap (λ (l : List (ℕ × ℕ)). get_or l i (0, 0)) c.as_slice-states.ensures)
     (get_or c.as_slice-read.result.now i 0) (ap (λ (l : List ℕ). get_or l i 0) c.as_slice-read.ensures)
     k is
     (get_or c.as_slice-states.result.now (i + 1) (0, 0)) (ap (λ (l : List (ℕ × ℕ)). get_or l (i + 1) (0, 0)) c.as_slice-states.ensures)
     wide c.in_ok-part.part.word c.in_ok-part.part.way.states c.in_ok-part.part.way.costs c.in_ok-part.ensures
-    c.append.new.self c.in_ok-append.ensures.ok c.append-in-loop-i.new.self c.in_ok-append-2.ensures.ok c.append-in-loop-i-2.new.self c.in_ok-append-3.ensures.ok
+    c.append.new.self.word c.in_ok-append.ensures.word c.append.new.self.way.states c.in_ok-append.ensures.states c.append.new.self.way.costs c.in_ok-append.ensures.costs
 
 pub returns : goal.returns
 returns c =
@@ -98,9 +98,9 @@ returns c =
     let same : c.loop-i.i ≡ length c.args.run.now.word = omega arith in
     let a = lens.1 in
     let all : total_of (take c.loop-i.i c.args.run.now.costs) (zeros m.registers) ≡ total_of c.args.run.now.costs (zeros m.registers) = ap (λ l. total_of l (zeros m.registers)) (take_all c.loop-i.i c.args.run.now.costs (omega arith)) in
-    subst (IsLifting t m (get_or c.args.run.now.states (length c.args.run.now.word) (0, 0)) c.args.run.now.word c.loop-i.word c.loop-i.after c.loop-i.costs) all
-    (subst (λ w. IsLifting t m (get_or c.args.run.now.states (length c.args.run.now.word) (0, 0)) w c.loop-i.word c.loop-i.after c.loop-i.costs (total_of (take c.loop-i.i c.args.run.now.costs) (zeros m.registers))) (take_all c.loop-i.i c.args.run.now.word (omega arith))
-    (subst (λ n. IsLifting t m (get_or c.args.run.now.states n (0, 0)) (take c.loop-i.i c.args.run.now.word) c.loop-i.word c.loop-i.after c.loop-i.costs (total_of (take c.loop-i.i c.args.run.now.costs) (zeros m.registers))) same c.loop-i.invariant))
+    subst (IsLifting t m (get_or c.args.run.now.states (length c.args.run.now.word) (0, 0)) c.args.run.now.word c.loop-i.so_far.word c.loop-i.so_far.way.states c.loop-i.so_far.way.costs) all
+    (subst (λ w. IsLifting t m (get_or c.args.run.now.states (length c.args.run.now.word) (0, 0)) w c.loop-i.so_far.word c.loop-i.so_far.way.states c.loop-i.so_far.way.costs (total_of (take c.loop-i.i c.args.run.now.costs) (zeros m.registers))) (take_all c.loop-i.i c.args.run.now.word (omega arith))
+    (subst (λ n. IsLifting t m (get_or c.args.run.now.states n (0, 0)) (take c.loop-i.i c.args.run.now.word) c.loop-i.so_far.word c.loop-i.so_far.way.states c.loop-i.so_far.way.costs (total_of (take c.loop-i.i c.args.run.now.costs) (zeros m.registers))) same c.loop-i.invariant))
 
 pub step_part-requires-clause-step : goal.step_part-requires-clause-step
 step_part-requires-clause-step c =

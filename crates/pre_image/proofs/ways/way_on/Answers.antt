@@ -10,7 +10,7 @@ loop-i-init c =
     let m = c.args.target.now in
     let U : List ℕ → List (List ℕ) → Type 0 = IsUnderway m c.args.from c.args.word.now c.args.to c.args.cost.now 0 c.args.from c.in_ok-left.left in
     let first = way-first m c.args.from c.args.word.now c.args.to c.args.cost.now c.requires.from c.requires.width c.requires.goes c.in_ok-left.left c.in_ok-left.ensures in
-    subst (λ s. U s c.new-costs.result) (sym c.new-states.ensures) (subst (λ k. U [] k) (sym c.new-costs.ensures) first)
+    subst (λ s. U s c.new-way.result.costs) (sym c.new-way.ensures.states) (subst (λ k. U [] k) (sym c.new-way.ensures.costs) first)
 
 pub loop-i-preserved : goal.loop-i-preserved
 loop-i-preserved c =
@@ -19,13 +19,13 @@ loop-i-preserved c =
     let i = c.loop-i.i in
     let n = c.in_ok-next.next in
     let U : List ℕ → List (List ℕ) → Type 0 = IsUnderway m c.args.from word c.args.to c.args.cost.now (i + 1) n.to n.left in
-    let more = way-next m c.args.from word c.args.to c.args.cost.now i c.loop-i.at c.loop-i.left c.loop-i.states c.loop-i.costs c.loop-i-test.true c.loop-i.invariant
+    let more = way-next m c.args.from word c.args.to c.args.cost.now i c.loop-i.at c.loop-i.left c.loop-i.way.states c.loop-i.way.costs c.loop-i-test.true c.loop-i.invariant
     (get_or word i 0) refl (take (length word - (i + 1)) (drop (i + 1) word)) (take_rest word (i + 1)) n.cost n.to n.left c.in_ok-next.ensures in
-    subst (λ s. U s c.push-in-loop-i.new.self) (sym c.in_ok-push.ensures.ok) (subst (λ k. U (c.loop-i.states ++ n.to ∷ []) k) (sym c.in_ok-push-2.ensures.ok) more)
+    subst (λ s. U s c.push.new.self.costs) (sym c.in_ok-push.ensures.states) (subst (λ k. U (c.loop-i.way.states ++ n.to ∷ []) k) (sym c.in_ok-push.ensures.costs) more)
 
 pub returns : goal.returns
 returns c =
-    way-last c.args.target.now c.args.from c.args.word.now c.args.to c.args.cost.now c.loop-i.i c.loop-i.at c.loop-i.left c.loop-i.states c.loop-i.costs c.loop-i-test.false c.loop-i.invariant
+    way-last c.args.target.now c.args.from c.args.word.now c.args.to c.args.cost.now c.loop-i.i c.loop-i.at c.loop-i.left c.loop-i.way.states c.loop-i.way.costs c.loop-i-test.false c.loop-i.invariant
 
 pub next_step-requires-clause-goes : goal.next_step-requires-clause-goes
 next_step-requires-clause-goes c =

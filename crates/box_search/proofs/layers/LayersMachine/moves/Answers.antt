@@ -42,8 +42,8 @@ ends-requires-2-clause-sides c = ap length c.as_slice-sides.ensures ∙ sym (spe
 pub returns-clause-exact : goal.returns-clause-exact
 returns-clause-exact c = λ read cost to.
     let e : c.append.new.self ≡ step_moves (uppers_of c.args.self.now.region.now) c.args.at.now c.in_ok-inner.inner ++ end_moves (uppers_of c.args.self.now.region.now) c.in_ok-on.on c.args.at.now c.in_ok-last.last =
-    c.in_ok-append.ensures.ok ∙ ap (λ l. l ++ c.in_ok-ends.field-0) c.in_ok-all.ensures
-    ∙ ap (λ l. step_moves (map (λ s. s.1) c.as_slice-sides.result.now) c.args.at.now c.as_slice.result.now ++ l) c.in_ok-ends.ensures
+    c.in_ok-append.ensures.ok ∙ ap (λ l. l ++ c.in_ok-next.next) c.in_ok-all.ensures
+    ∙ ap (λ l. step_moves (map (λ s. s.1) c.as_slice-sides.result.now) c.args.at.now c.as_slice.result.now ++ l) c.in_ok-next.ensures
     ∙ ap (λ l. step_moves (map (λ s. s.1) l) c.args.at.now c.as_slice.result.now ++ end_moves (map (λ s. s.1) l) c.in_ok-on.on c.args.at.now c.as_slice-2.result.now) c.as_slice-sides.ensures
     ∙ ap (λ l. step_moves (uppers_of c.args.self.now.region.now) c.args.at.now l ++ end_moves (uppers_of c.args.self.now.region.now) c.in_ok-on.on c.args.at.now c.as_slice-2.result.now) c.as_slice.ensures
     ∙ ap (λ l. step_moves (uppers_of c.args.self.now.region.now) c.args.at.now c.in_ok-inner.inner ++ end_moves (uppers_of c.args.self.now.region.now) c.in_ok-on.on c.args.at.now l) c.as_slice-2.ensures in
@@ -53,8 +53,8 @@ returns-clause-exact c = λ read cost to.
 pub returns-clause-inhabited : goal.returns-clause-inhabited
 returns-clause-inhabited c =
     let e : c.append.new.self ≡ step_moves (uppers_of c.args.self.now.region.now) c.args.at.now c.in_ok-inner.inner ++ end_moves (uppers_of c.args.self.now.region.now) c.in_ok-on.on c.args.at.now c.in_ok-last.last =
-    c.in_ok-append.ensures.ok ∙ ap (λ l. l ++ c.in_ok-ends.field-0) c.in_ok-all.ensures
-    ∙ ap (λ l. step_moves (map (λ s. s.1) c.as_slice-sides.result.now) c.args.at.now c.as_slice.result.now ++ l) c.in_ok-ends.ensures
+    c.in_ok-append.ensures.ok ∙ ap (λ l. l ++ c.in_ok-next.next) c.in_ok-all.ensures
+    ∙ ap (λ l. step_moves (map (λ s. s.1) c.as_slice-sides.result.now) c.args.at.now c.as_slice.result.now ++ l) c.in_ok-next.ensures
     ∙ ap (λ l. step_moves (map (λ s. s.1) l) c.args.at.now c.as_slice.result.now ++ end_moves (map (λ s. s.1) l) c.in_ok-on.on c.args.at.now c.as_slice-2.result.now) c.as_slice-sides.ensures
     ∙ ap (λ l. step_moves (uppers_of c.args.self.now.region.now) c.args.at.now l ++ end_moves (uppers_of c.args.self.now.region.now) c.in_ok-on.on c.args.at.now c.as_slice-2.result.now) c.as_slice.ensures
     ∙ ap (λ l. step_moves (uppers_of c.args.self.now.region.now) c.args.at.now c.in_ok-inner.inner ++ end_moves (uppers_of c.args.self.now.region.now) c.in_ok-on.on c.args.at.now l) c.as_slice-2.ensures in

@@ -1,4 +1,5 @@
 use Rattle.std.proofs.Common.{[], ap, ◌++◌, ◌∙◌, arith, drop}
+use Rattle.std.proofs.lemmas.Result.{on_ok_weaker}
 use Rattle.literal_forms.specs.Codes.{code, word}
 use Rattle.literal_forms.specs.Flats.{flat}
 use Rattle.literal_forms.specs.Shapes.{seen}
@@ -8,30 +9,30 @@ use Rattle.literal_forms.proofs.code.Written.+codes.Goals as goal
 pub each-returns : goal.each-returns
 each-returns t c = each_all (c.args.self.now.numbers ++ each_of (drop c.args.from c.args.terms.now)) c.loop-i.self.numbers c.args.terms.now c.loop-i.i (omega arith) c.loop-i.invariant
 
-pub term-returns-in_ok-name-in-Constant : goal.term-returns-in_ok-name-in-Constant
-term-returns-in_ok-name-in-Constant t c =
-    constant_arm c.args.self.now.numbers c.open-in-Constant.new.self.numbers c.pair.new.self.numbers c.small-in-Constant.new.self.numbers c.name.new.self.numbers [] c.args.term.now c.in-Constant.name c.in-Constant.sort c.sort_number.result
-    c.in-Constant.is c.in_ok-open-in-Constant.ensures c.in_ok-pair-in-Constant.ensures c.sort_number.ensures c.in_ok-small-in-Constant.ensures
-    (c.in_ok-name-in-Constant.ensures ∙ ap (λ w. c.small-in-Constant.new.self.numbers ++ flat (word w)) c.as_bytes.ensures)
+pub term-returns-in_ok-open_numbered-in-Constant : goal.term-returns-in_ok-open_numbered-in-Constant
+term-returns-in_ok-open_numbered-in-Constant t c =
+    on_ok_weaker c.name.result (λ e. constant_arm c.args.self.now.numbers c.open_numbered.new.self.numbers c.name.new.self.numbers [] [] c.args.term.now c.in-Constant.name c.in-Constant.sort c.sort_number.result
+    c.in-Constant.is c.sort_number.ensures c.in_ok-open_numbered-in-Constant.ensures
+    (e ∙ ap (λ w. c.open_numbered.new.self.numbers ++ flat (word w)) c.as_bytes.ensures)) c.name.ensures
 
-pub term-returns-in_ok-close-in-Apply : goal.term-returns-in_ok-close-in-Apply
-term-returns-in_ok-close-in-Apply t c =
-    apply_arm c.args.self.now.numbers c.open-in-Apply.new.self.numbers c.pair-in-Apply.new.self.numbers c.small-in-Apply.new.self.numbers c.each.new.self.numbers c.close.new.self.numbers c.args.term.now c.in-Apply.op c.in-Apply.terms c.op_number.result
-    c.in-Apply.is c.in_ok-open-in-Apply.ensures c.in_ok-pair-in-Apply.ensures c.op_number.ensures c.in_ok-small-in-Apply.ensures
-    (c.in_ok-each-in-Apply.ensures ∙ ap (λ us. c.small-in-Apply.new.self.numbers ++ each_of (drop 0 us)) c.as_slice-in-Apply.ensures) c.in_ok-close-in-Apply.ensures
+pub term-returns-in_ok-each-in-Apply : goal.term-returns-in_ok-each-in-Apply
+term-returns-in_ok-each-in-Apply t c =
+    on_ok_weaker c.close.result (apply_arm c.args.self.now.numbers c.open_numbered-in-Apply.new.self.numbers c.each.new.self.numbers c.close.new.self.numbers [] c.args.term.now c.in-Apply.op c.in-Apply.terms c.op_number.result
+    c.in-Apply.is c.op_number.ensures c.in_ok-open_numbered-in-Apply.ensures
+    (c.in_ok-each-in-Apply.ensures ∙ ap (λ us. c.open_numbered-in-Apply.new.self.numbers ++ each_of (drop 0 us)) c.as_slice-in-Apply.ensures)) c.close.ensures
 
-pub term-returns-in_ok-term-in-InRe : goal.term-returns-in_ok-term-in-InRe
-term-returns-in_ok-term-in-InRe t c =
-    member_arm c.args.self.now.numbers c.open-in-InRe.new.self.numbers c.term.new.self.numbers [] [] [] c.args.term.now c.in-InRe.tested c.in-InRe.field-1 c.in-InRe.is c.in_ok-open-in-InRe.ensures
-    (c.in_ok-term-in-InRe.ensures ∙ ap (λ x. c.open-in-InRe.new.self.numbers ++ flat (code (seen x))) c.get.ensures)
+pub term-returns-in_ok-open-in-InRe : goal.term-returns-in_ok-open-in-InRe
+term-returns-in_ok-open-in-InRe t c =
+    on_ok_weaker c.term.result (λ e. member_arm c.args.self.now.numbers c.open-in-InRe.new.self.numbers c.term.new.self.numbers [] [] c.args.term.now c.in-InRe.tested c.in-InRe.field-1 c.in-InRe.is c.in_ok-open-in-InRe.ensures
+    (e ∙ ap (λ x. c.open-in-InRe.new.self.numbers ++ flat (code (seen x))) c.get.ensures)) c.term.ensures
 
-pub term-returns-in_ok-term-in-Related-2 : goal.term-returns-in_ok-term-in-Related-2
-term-returns-in_ok-term-in-Related-2 t c =
-    related_arm c.args.self.now.numbers c.open-in-Related.new.self.numbers c.pair-in-Related.new.self.numbers c.term-in-Related.new.self.numbers c.term-in-Related-2.new.self.numbers [] c.args.term.now c.in-Related.field-0 c.in-Related.read c.in-Related.written
+pub term-returns-in_ok-term-in-Related : goal.term-returns-in_ok-term-in-Related
+term-returns-in_ok-term-in-Related t c =
+    on_ok_weaker c.term-in-Related-2.result (λ e. related_arm c.args.self.now.numbers c.open-in-Related.new.self.numbers c.pair.new.self.numbers c.term-in-Related.new.self.numbers c.term-in-Related-2.new.self.numbers c.args.term.now c.in-Related.field-0 c.in-Related.read c.in-Related.written
     c.in-Related.is c.in_ok-open-in-Related.ensures c.in_ok-pair-in-Related.ensures
-    (c.in_ok-term-in-Related.ensures ∙ ap (λ x. c.pair-in-Related.new.self.numbers ++ flat (code (seen x))) c.get-in-Related.ensures)
-    (c.in_ok-term-in-Related-2.ensures ∙ ap (λ x. c.term-in-Related.new.self.numbers ++ flat (code (seen x))) c.get-in-Related-2.ensures)
+    (c.in_ok-term-in-Related.ensures ∙ ap (λ x. c.pair.new.self.numbers ++ flat (code (seen x))) c.get-in-Related.ensures)
+    (e ∙ ap (λ x. c.term-in-Related.new.self.numbers ++ flat (code (seen x))) c.get-in-Related-2.ensures)) c.term-in-Related-2.ensures
 
-pub term-returns-in_ok-small-in-Opaque : goal.term-returns-in_ok-small-in-Opaque
-term-returns-in_ok-small-in-Opaque t c =
-    opaque_arm c.args.self.now.numbers c.open-in-Opaque.new.self.numbers c.small-in-Opaque.new.self.numbers [] [] [] c.args.term.now c.in-Opaque.sort c.sort_number-in-Opaque.result c.in-Opaque.is c.in_ok-open-in-Opaque.ensures c.sort_number-in-Opaque.ensures c.in_ok-small-in-Opaque.ensures
+pub term-returns-in_ok-open-in-Opaque : goal.term-returns-in_ok-open-in-Opaque
+term-returns-in_ok-open-in-Opaque t c =
+    on_ok_weaker c.small-in-Opaque.result (opaque_arm c.args.self.now.numbers c.open-in-Opaque.new.self.numbers c.small-in-Opaque.new.self.numbers [] [] c.args.term.now c.in-Opaque.sort c.sort_number-in-Opaque.result c.in-Opaque.is c.in_ok-open-in-Opaque.ensures c.sort_number-in-Opaque.ensures) c.small-in-Opaque.ensures

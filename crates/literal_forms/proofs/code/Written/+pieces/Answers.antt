@@ -18,11 +18,11 @@ pieces-loop-i-preserved t c = pieces_step (c.args.self.now.numbers ++ pieces_of 
 
 pub replacement-returns : goal.replacement-returns
 replacement-returns t c =
-    replacement_some c.args.self.now.numbers c.open.new.self.numbers c.pair.new.self.numbers c.small.new.self.numbers c.pair-2.new.self.numbers c.string.new.self.numbers c.each.new.self.numbers c.close-2.new.self.numbers c.args.op c.args.terms.now c.index-terms-0.result c.op_number.result
-    c.in_ok-open.ensures c.in_ok-pair.ensures c.op_number.ensures c.in_ok-small.ensures (λ z. let y = (Decides-eqb (length c.args.terms.now) 0).1 z in let w = sym c.is_empty.ensures ∙ c.if-is_empty.false in cc) c.in_ok-pair-2.ensures c.index-terms-0.is c.in_ok-string.ensures c.in_ok-each.ensures c.in_ok-close-2.ensures
+    replacement_some c.args.self.now.numbers c.open_numbered.new.self.numbers c.pair.new.self.numbers c.string.new.self.numbers c.each.new.self.numbers c.close-2.new.self.numbers c.args.op c.args.terms.now c.index-terms-0.result c.op_number.result
+    c.op_number.ensures c.in_ok-open_numbered.ensures (λ z. let y = (Decides-eqb (length c.args.terms.now) 0).1 z in let w = sym c.is_empty.ensures ∙ c.if-is_empty.false in cc) c.in_ok-pair.ensures c.index-terms-0.is c.in_ok-string.ensures c.in_ok-each.ensures c.in_ok-close-2.ensures
 
 pub string-returns-in_ok-close-in-Apply : goal.string-returns-in_ok-close-in-Apply
 string-returns-in_ok-close-in-Apply t c =
-    concat_written c.args.self.now.numbers c.open.new.self.numbers c.pair.new.self.numbers c.small.new.self.numbers c.pieces.new.self.numbers c.close.new.self.numbers c.args.term.now c.in-Apply.op c.in-Apply.terms c.op_number.result
-    c.in-Apply.is (c.is_concat.ensures.0 c.if-is_concat.true) c.in_ok-open-in-Apply.ensures c.in_ok-pair-in-Apply.ensures c.op_number.ensures c.in_ok-small-in-Apply.ensures
-    (c.in_ok-pieces-in-Apply.ensures ∙ ap (λ us. c.small.new.self.numbers ++ pieces_of us) c.as_slice.ensures) c.in_ok-close-in-Apply.ensures
+    concat_written c.args.self.now.numbers c.open_numbered.new.self.numbers c.pieces.new.self.numbers c.close.new.self.numbers c.args.term.now c.in-Apply.op c.in-Apply.terms c.op_number.result
+    c.in-Apply.is (c.is_concat.ensures.0 c.if-is_concat.true) c.op_number.ensures c.in_ok-open_numbered-in-Apply.ensures
+    (c.in_ok-pieces-in-Apply.ensures ∙ ap (λ us. c.open_numbered.new.self.numbers ++ pieces_of us) c.as_slice.ensures) c.in_ok-close-in-Apply.ensures

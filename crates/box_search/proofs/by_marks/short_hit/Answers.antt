@@ -1,6 +1,6 @@
 use Rattle.std.proofs.Common.{sym, ◌∙◌}
 use Rattle.box_search.proofs.TraceLemmas.{counted-hit}
-use Rattle.box_search.proofs.by_marks.trace_marks.Goals as goal
+use Rattle.box_search.proofs.by_marks.short_hit.Goals as goal
 
 pub returns : goal.returns
 returns c =

@@ -1,0 +1,5 @@
+use Rattle.box_search.specs.Cuts.{IsWay}
+use Rattle.box_search.proofs.retracing.follow.Given as goal
+
+abbrev pub invariant-loop-place : goal.invariant-loop-place
+invariant-loop-place l = IsWay l.layers.machines.now l.layers.rows.now l.layers.region.now l.run
