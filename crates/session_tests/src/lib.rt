@@ -1,4 +1,5 @@
-//! Tests of the public calls on answers that no script shows: that two threads are under way at once.
+//! Tests of the public calls on answers, and of the program's call `run`, of what no stored run shows: that two threads
+//! are under way at once, how scripts are cut into pieces, what limits and faults come to.
 //!
 //! A module for each crate that is called. They stand apart from what they call, so that proving them proves no crate
 //! a second time.
@@ -6,3 +7,5 @@
 
 #[cfg(test)]
 mod decide_calls;
+#[cfg(test)]
+mod program_run_calls;
