@@ -3,7 +3,7 @@ ghost use Rattle.std.specs.Prelude.{◌≡◌, ◌<◌, ◌≤◌, ◌*◌, ◌+
 ghost use Rattle.std.specs.List.{AllByRecursion};
 ghost use Rattle.bool_cubes.specs.Cubes.{cubes_of};
 ghost use Rattle.bool_cubes.specs.Laws.{IsClearBool};
-ghost use Rattle.bool_cubes.specs.Refusing.{count_of};
+ghost use Rattle.bool_cubes.specs.Refusing.{count_of, most_cubes};
 ghost use Rattle.verdict_tally.specs.Passing.{is_single, shared_of};
 ghost use Rattle.verdict_tally.specs.Tallies.{batch};
 
@@ -119,7 +119,8 @@ pub fn shared_literals(
 pub fn block_of(terms: &[Term], first: usize) -> u64
     requires sorted { AllByRecursion IsClearBool terms.now }
     requires first { first ≤ length terms.now }
-    ensures { 0 < result → result ≡ count_of (drop first terms.now) }
+    ensures counted { 0 < result → result ≡ count_of (drop first terms.now) }
+    ensures few { count_of (drop first terms.now) ≤ most_cubes → result ≡ count_of (drop first terms.now) }
 {
     let cubes = count(&terms[first..]);
     if cubes > MOST_CUBES {
@@ -133,6 +134,7 @@ pub fn count_ahead(block: u64, given: u64) -> u64
     ensures whole { (batches : ℕ) × (result ≡ batches * batch) }
     ensures below { result ≤ block }
     ensures within { 0 < result → given % block + result ≤ block }
+    ensures most { block < given % block + result + batch }
 {
     if block == 0 {
         return 0;
