@@ -34,7 +34,11 @@ fn plain(made: Command, parts: &[Sexpr]) -> Result<Command, CheckFault>
 {
     match parts {
         [] => Ok(made),
-        _ => Err(CheckFault::Shape),
+        _ => {
+            // by one call, where the end of the scope would be a way for each variant
+            drop(made);
+            Err(CheckFault::Shape)
+        }
     }
 }
 
@@ -269,6 +273,8 @@ fn define_macro(
     ensures { (ps : Forms) → variables.now ≡ binders.variables ps → Answers (commands.defined name ps sort (body ∷ [])) result }
 {
     if !same_sort(sort, body_sort(&body)) {
+        // as in `plain`, by one call
+        drop(body);
         return Err(CheckFault::Sort);
     }
     let parameters = escape_parameters(alloc, variables)?;
@@ -384,6 +390,8 @@ fn assert_body(body: Body) -> Result<Command, CheckFault>
     if same_sort(Sort::Bool, body_sort(&body)) {
         Ok(Command::Assert(into_term(body)))
     } else {
+        // as in `plain`, by one call
+        drop(body);
         Err(CheckFault::Sort)
     }
 }
@@ -500,6 +508,8 @@ fn term_of(body: Body) -> Result<Term, CheckFault>
     if has_values(body_sort(&body)) {
         Ok(into_term(body))
     } else {
+        // as in `plain`, by one call
+        drop(body);
         Err(CheckFault::Sort)
     }
 }
