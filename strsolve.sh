@@ -1,8 +1,8 @@
 #!/usr/bin/env bash
 # Runs the program in the caller's folder, with the caller's words and input, and ends with its status. Where it isn't
-# built from the present sources, it is proved and built first, by the gate's own command over the crates that it stands
-# on, without their wrong bodies: what the gate or an earlier run proved on this machine, also one that was broken off,
-# isn't proved again. How far it has come is told on standard error.
+# built from the present sources, it is proved and built first, crates that don't stand on each other at the same time,
+# which is told on standard error. What is done stays in crates/*/out: a run that was broken off goes on where it was,
+# and `rt check` in a crate finds those below it.
 set -u
 root=$(cd "$(dirname "${BASH_SOURCE[0]}")" && pwd) || exit 70
 program=$root/crates/strsolve/out/strsolve
@@ -12,61 +12,136 @@ is_built() {
         -name must-fail -prune -o -type f -newer "$program" -print -quit)" ]
 }
 
-# Puts the program's crate and those that it stands on into the list `names`, each once.
-names=(strsolve)
+# Puts into `below` the crates of the repository that each crate uses; the toolchain's are left out.
+declare -A below
+read_crates() {
+    local head names name
+    while IFS=: read -r head names; do
+        for name in $names; do
+            if [ -d "$root/crates/$name" ]; then below[${head%% *}]+=" $name"; fi
+        done
+    done < <(grep '^[a-z]' "$root/crates.txt")
+}
+
+# Puts the crate $1 into the list `order`, behind those that it stands on, each once.
+order=()
 list_crates() {
-    local at below
-    for ((at = 0; at < ${#names[@]}; at++)); do
-        for below in $(sed -n "s/^${names[at]}\( [^:]*\)\{0,1\}://p" "$root/crates.txt"); do
-            if [ -d "$root/crates/$below" ] && [[ " ${names[*]} " != *" $below "* ]]; then names+=("$below"); fi
-        done
-    done
+    local name
+    if [[ " ${order[*]} " == *" $1 "* ]]; then return; fi
+    for name in ${below[$1]:-}; do list_crates "$name"; done
+    order+=("$1")
 }
 
-# Makes $1 a repository of these crates, of what a proof reads of them. Its HANDLES tells when that was begun.
-copy_crates() {
-    local name part
-    mkdir -p "$1/.git" && cp "$root/HANDLES" "$1" || return 1
-    for name in "${names[@]}"; do
-        mkdir -p "$1/crates/$name" && grep "^$name[ :]" "$root/crates.txt" >>"$1/crates.txt" || return 1
-        for part in src specs proofs; do
-            if [ -e "$root/crates/$name/$part" ]; then
-                cp -R "$root/crates/$name/$part" "$1/crates/$name" || return 1
-            fi
+# Sorts `order`: first those on which most lines of source wait, in the longest chain of crates above.
+declare -A lines
+sort_by_chains() {
+    local at name under
+    for ((at = ${#order[@]} - 1; at >= 0; at--)); do
+        name=${order[at]}
+        lines[$name]=$((${lines[$name]:-0} + $(cat "$root/crates/$name/src/"*.rt | wc -l)))
+        for under in ${below[$name]:-}; do
+            if [ "${lines[$under]:-0}" -lt "${lines[$name]}" ]; then lines[$under]=${lines[$name]}; fi
         done
     done
+    mapfile -t order < <(for name in "${order[@]}"; do echo "${lines[$name]} $name"; done | sort -rn | cut -d ' ' -f 2)
 }
 
-# Runs the gate's command in the repository $1, and tells each crate that is proved; where one isn't, what was said but
-# for what is proved.
-prove() {
-    (cd "$1" && rt ci) </dev/null 2>&1 9>&- | tee "$1.log" | awk -v all="${#names[@]}" \
-        '/^rt: [a-z_]+ (proved|is kept)/ { print "strsolve:   " $2 " is proved, " ++done " of " all; fflush() }' >&2
-    if [ "${PIPESTATUS[0]}" -ne 0 ]; then
-        grep -vE ': proved|^(statements|library|crate|logic) ' "$1.log" >&2
+# Makes $building/$1 a repository of links, of the crate $1, with what an earlier run kept of it, and those below. A run
+# of the toolchain keeps others out of each folder that it reads, so that over one folder they would go in turn.
+link_crates() {
+    local -a order=()
+    local name part to
+    list_crates "$1"
+    for name in "${order[@]}"; do
+        to=$building/$1/crates/$name
+        mkdir -p "$to/out" && grep "^$name[ :]" "$root/crates.txt" >>"$building/$1/crates.txt" || return 1
+        for part in src specs proofs out/rlib; do
+            if [ -e "$root/crates/$name/$part" ]; then cp -al "$root/crates/$name/$part" "$to/$part" || return 1; fi
+        done
+    done
+    if [ -d "$root/crates/$1/out/incremental" ]; then
+        cp -a "$root/crates/$1/out/incremental" "$building/$1/crates/$1/out" || return 1
+    fi
+}
+
+# Proves the crate $1 by $2 jobs, and builds its library, or the program; says why it can't.
+build_crate() {
+    local verb=lib log=$building/$1.log status
+    if [ "$1" = strsolve ]; then verb=run; fi
+    link_crates "$1" || return 1
+    (cd "$building/$1/crates/$1" && rt "$verb" --jobs "$2") </dev/null >"$log" 2>&1 9>&-
+    status=$?
+    rm -rf "$root/crates/$1/out"
+    mv "$building/$1/crates/$1/out" "$root/crates/$1/out" && rm -rf "${building:?}/$1" || return 1
+    if [ "$status" -ne 0 ]; then
+        cat "$log" >&2
         return 1
     fi
 }
 
+# Whether all crates below the crate $1 are done.
+declare -A is_done
+is_ready() {
+    local name
+    for name in ${below[$1]:-}; do
+        [ -n "${is_done[$name]:-}" ] || return 1
+    done
+}
+
+# Builds the crates of `order`, each as soon as those below it are done, as many at once as there are processors; begins
+# none after the first that fails. A crate gets the processors that no other one waits for.
+build_all() {
+    local -A name_of=()
+    local -a waiting=("${order[@]}") left
+    local name job idle ready
+    while [ ${#waiting[@]} -gt 0 ] || [ ${#name_of[@]} -gt 0 ]; do
+        left=()
+        ready=0
+        for name in "${waiting[@]}"; do
+            if is_ready "$name"; then ready=$((ready + 1)); fi
+        done
+        idle=$(($(nproc) - ${#name_of[@]}))
+        for name in "${waiting[@]}"; do
+            if [ "$idle" -gt 0 ] && is_ready "$name"; then
+                build_crate "$name" $((idle > ready ? idle / ready : 1)) &
+                name_of[$!]=$name
+                idle=$((idle - 1))
+                ready=$((ready - 1))
+            else
+                left+=("$name")
+            fi
+        done
+        waiting=("${left[@]}")
+        wait -n -p job "${!name_of[@]}" || return 1
+        is_done[${name_of[$job]}]=yes
+        echo "strsolve:   ${name_of[$job]} is proved, ${#is_done[@]} of ${#order[@]}" >&2
+        unset "name_of[$job]"
+    done
+}
+
 build() {
-    mkdir -p "$root/out" "${program%/*}"
+    mkdir -p "$root/out"
     exec 9>"$root/out/lock"
     flock 9
     # Another run may have built it meanwhile.
     if ! is_built; then
         echo "strsolve: proving and building the program, crate by crate, which takes long the first time" >&2
-        room=$(mktemp -d) || exit 70
-        trap 'rm -rf "$room"' EXIT
-        list_crates
-        if ! { copy_crates "$room/repository" && prove "$room/repository" &&
-            mv "$room/repository/crates/strsolve/out/strsolve" "$program"; }; then
+        touch "$root/out/begun"
+        building=$root/out/building
+        # A run of the toolchain over the whole repository refuses what is linked there.
+        trap 'wait; rm -rf "$building"' EXIT
+        rm -rf "$building" "$program"
+        read_crates
+        list_crates strsolve
+        sort_by_chains
+        if ! build_all; then
             echo "strsolve: it could not be built" >&2
             exit 70
         fi
-        # What was changed since the copy was begun is newer.
-        touch -r "$room/repository/HANDLES" "$program"
-        rm -rf "$room"
+        rm -rf "$building"
         trap - EXIT
+        # What was changed since is newer.
+        touch -r "$root/out/begun" "$program"
     fi
     exec 9>&-
 }

@@ -4,9 +4,9 @@
     python3 docs/gate_times.py [rt ci's own words]
 
 For each crate: the processor seconds of its proof, of its tests' proof, and of its must-fail edits with the check that
-they begin with; then the whole by the clock. What `rt ci` prints goes to standard error. Only what this run does counts:
-with --anew it does everything. Works by looking at the processes every two seconds, so a figure is short of the truth
-by up to two seconds for each check.
+they begin with; then the whole by the clock. What `rt ci` prints goes to standard error. Only what this run does counts,
+which is everything, unless the toolchain keeps what its gate passed: then --anew asks for everything. Works by looking
+at the processes every two seconds, so a figure is short of the truth by up to two seconds for each check.
 """
 import os
 import subprocess

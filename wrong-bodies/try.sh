@@ -3,12 +3,14 @@
 #
 #     bash wrong-bodies/try.sh [CRATE ..]     all crates, where none is named
 #
-# Works in a copy of the files that git knows, over what `rt check` kept. The last line is that of `rt must-fail`.
+# Works in a copy of the files that git knows, with the libraries that ./strsolve.sh or `rt check` left in crates/*/out;
+# those that aren't there are proved first. The last line is that of `rt must-fail`.
 set -eu
 cd "$(dirname "$0")/.."
 copy=$(mktemp -d)
 trap 'rm -rf "$copy"' EXIT
 git ls-files -z -- crates crates.txt HANDLES | xargs -0 cp --parents -t "$copy"
+find crates -path '*/out/rlib' -prune -print0 | xargs -0r cp -R --parents -t "$copy"
 git init -q "$copy"
 names=("$@")
 if [ ${#names[@]} -eq 0 ]; then
