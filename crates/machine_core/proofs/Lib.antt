@@ -3,3 +3,5 @@ pub mod FoundLemmas
 pub mod FormedLemmas
 pub mod WideLemmas
 pub mod GraphLemmas
+pub mod LikeLemmas
+pub mod JoinedLemmas

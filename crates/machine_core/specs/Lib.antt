@@ -4,6 +4,7 @@ pub mod Lists
 pub mod Counts
 pub mod Orders
 pub mod Moves
+pub mod Joined
 pub mod Language
 pub mod LanguageLaws
 pub mod Runs

@@ -1,6 +1,6 @@
 -- Lists of which some element has a fact, and lists that grow at their end.
-use Rattle.std.specs.Prelude.{◌≡◌, ℕ, zero, suc, ◌⊎◌, List, [], ◌∷◌, ◌++◌, length, map, slice_get, Some, Any, Contains}
-use Rattle.std.proofs.Common.{arith, refl, sym, ap, subst, inl, inr}
+use Rattle.std.specs.Prelude.{◌≡◌, ℕ, zero, suc, ◌<◌, ◌⊎◌, List, [], ◌∷◌, ◌++◌, length, map, slice_get, slice_set, get_or, Some, Any, Contains}
+use Rattle.std.proofs.Common.{arith, refl, sym, ap, ◌∙◌, subst, inl, inr, append_assoc}
 
 module _ {X : Type 0} (P : X → Type 0) where
   pub Any-none : Any P [] → ⊥
@@ -90,3 +90,41 @@ pub slice_get-contains : {X : Type 0} (xs : List X) (n : ℕ) (x : X) → slice_
 slice_get-contains [] n x e = cc
 slice_get-contains (z ∷ zs) zero x e = (zero, omega arith, cc)
 slice_get-contains (z ∷ zs) (suc n) x e = Contains-there z zs x (slice_get-contains zs n x e)
+
+-- what stands where a list is cut is in it
+pub in-split : {X : Type 0} (all ys rest rest' : List X) (x : X) → all ≡ ys ++ rest → rest ≡ x ∷ rest' → Contains all x
+in-split {X = X} all ys rest rest' x e f = subst (λ l. Contains l x) (sym (e ∙ ap (λ r. ys ++ r) f)) (mid ys)
+  where
+    mid : (ys : List X) → Contains (ys ++ x ∷ rest') x
+    mid [] = (zero, omega arith, refl)
+    mid (y ∷ ys) = let r = mid ys in (suc r.0, omega (arith, r.1), r.2)
+
+-- the cut, one element further
+pub split-step : {X : Type 0} (all ys rest rest' : List X) (x : X) → all ≡ ys ++ rest → rest ≡ x ∷ rest' → all ≡ (ys ++ x ∷ []) ++ rest'
+split-step all ys rest rest' x e f = simp append_assoc (e ∙ ap (λ r. ys ++ r) f)
+
+-- the element at a place
+pub stands-at : {X : Type 0} (xs : List X) (at : ℕ) (x : X) → at < length xs → x ≡ get_or xs at x → slice_get xs at ≡ Some x
+stands-at [] at x lt e = absurd (omega (arith, lt))
+stands-at (y ∷ ys) zero x lt e = ap Some (sym e)
+stands-at (y ∷ ys) (suc at) x lt e = stands-at ys at x (omega (arith, lt)) e
+
+-- what was read at the place where an element stands is that element
+at-place : {X : Type 0} (ys : List X) (n : ℕ) (l x : X) → slice_get ys n ≡ Some l → get_or ys n x ≡ l
+at-place [] n l x h = cc
+at-place (y ∷ ys) zero l x h = cc
+at-place (y ∷ ys) (suc n) l x h = at-place ys n l x h
+
+pub read-at : {X : Type 0} (xs items : List X) → items ≡ xs → (at : ℕ) (l x : X) → slice_get xs at ≡ Some l → get_or items at x ≡ l
+read-at {X} xs items e at l x stands = ap (λ (ys : List X). get_or ys at x) e ∙ at-place xs at l x stands
+
+-- an element of a changed list is the new one, or one of the old list
+pub set-contains : {X : Type 0} (xs : List X) (at : ℕ) (y x : X) → Contains (slice_set xs at y) x → Contains xs x ⊎ (y ≡ x)
+set-contains [] at y x h = inl h
+set-contains (z ∷ zs) zero y x (zero, lt, e) = inr e
+set-contains (z ∷ zs) zero y x (suc k, lt, e) = inl (suc k, lt, e)
+set-contains (z ∷ zs) (suc at) y x (zero, lt, e) = inl (zero, omega arith, e)
+set-contains (z ∷ zs) (suc at) y x (suc k, lt, e) = elim (set-contains zs at y x (k, omega arith, e)) [
+  | inl (k', lt', e') ↦ inl (suc k', omega arith, e')
+  | inr same ↦ inr same
+]

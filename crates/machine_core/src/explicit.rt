@@ -196,8 +196,8 @@ impl Explicit {
         Ok(())
     }
 
-    // Adds the end at no cost.
-    fn add_free_end(&mut self, alloc: Global, end: &End) -> Result<(), AllocError>
+    /// Adds the end, whatever it costs, at no cost. As `add_end`, and linear in the registers.
+    pub fn add_free_end(&mut self, alloc: Global, end: &End) -> Result<(), AllocError>
         requires { end.now.at < self.old.states }
         ensures states { self.new.states ≡ self.old.states }
         ensures registers { self.new.registers ≡ self.old.registers }

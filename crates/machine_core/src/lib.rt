@@ -12,6 +12,7 @@
 //! - [`Explicit`] keeps its edges and ends in lists, and finds what leaves a state without a look at
 //!   the others. It takes memory linear in states, edges and ends; adding is amortised constant, and
 //!   `moves` and `ends` are linear in what they answer.
+//! - [`join_moves`] makes the moves of a state to one state at one cost one.
 //! - [`Index`] finds places in a list by the row that each belongs to, in constant time.
 //! - [`Run`] is one run with its states and costs, and [`total`] adds the costs up.
 //! - [`Cost`] keeps up to two numbers in place, and allocates nothing for them.
@@ -31,6 +32,7 @@ mod end;
 mod explicit;
 mod graph;
 mod index;
+mod joined;
 mod laws;
 mod machine;
 mod run;
@@ -42,6 +44,7 @@ pub use end::End;
 pub use explicit::Explicit;
 pub use graph::Graph;
 pub use index::Index;
+pub use joined::join_moves;
 pub use laws::{language_of_runs, listed_costs_are_bounded, runs_are_formed, runs_bounded_by_top};
 pub use machine::{Machine, Move};
 pub use run::{CostFault, Run, total};

@@ -1,10 +1,9 @@
 //! Machines whose characters all cost the same.
 ghost use Rattle.std.specs.Prelude.{◌≡◌, ◌<◌, [], ◌∷◌, ◌++◌, length, IfOk, OnOk, OnErr};
-ghost use Rattle.machine_core.specs.Edges.{wide_end};
 ghost use Rattle.part_machines.specs.Parts.{IsPriced, priced_edge};
 ghost use Rattle.sv_word.specs.Ranges.{IsInhabited};
 
-use machine_core::{Cost, Edge, End, Explicit, Machine};
+use machine_core::{Cost, Edge, Explicit, Machine};
 use std::alloc::{AllocError, Global};
 use sv_list::Copied;
 
@@ -20,7 +19,7 @@ pub fn price(alloc: Global, machine: &Explicit, each: &Cost) -> Result<Explicit,
         add_priced(alloc, &mut priced, edge, each)?;
     }
     for end in machine.finals() {
-        add_free(alloc, &mut priced, end)?;
+        priced.add_free_end(alloc, end)?;
     }
     Ok(priced)
 }
@@ -45,19 +44,5 @@ fn add_priced(
     let on = edge.on.copy(alloc)?;
     let cost = each.copy(alloc)?;
     priced.add_edge(edge.from, on, cost, edge.to)?;
-    Ok(())
-}
-
-// Adds the end at no cost.
-fn add_free(alloc: Global, priced: &mut Explicit, end: &End) -> Result<(), AllocError>
-    requires { end.now.at < priced.old.states }
-    ensures states { priced.new.states ≡ priced.old.states }
-    ensures registers { priced.new.registers ≡ priced.old.registers }
-    ensures edges { priced.new.edges ≡ priced.old.edges }
-    ensures ok { OnOk result (priced.new.ends ≡ priced.old.ends ++ wide_end priced.old.registers end.now ∷ []) }
-    ensures err { OnErr result (priced.new.ends ≡ priced.old.ends) }
-{
-    let nothing = Cost::zeros(alloc, priced.registers())?;
-    priced.add_end(end.at, nothing)?;
     Ok(())
 }

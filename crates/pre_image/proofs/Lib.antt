@@ -2,7 +2,6 @@ pub mod PreRuns
 pub mod PreBounds
 pub mod JoinLemmas
 pub mod LeadLemmas
-pub mod LikeLemmas
 pub mod MoreLemmas
 pub mod EndLemmas
 pub mod WayLemmas

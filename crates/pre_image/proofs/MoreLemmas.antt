@@ -73,6 +73,9 @@ alike New Old P Q h e = (
   λ s. elim s [ inl o ↦ h.1 (inl o) | inr q ↦ h.1 (inr (e.1 q)) ],
 )
 
+pub same-as : (A B C : Type 0) → A ↔ B → B ↔ C → A ↔ C
+same-as A B C h e = (λ a. e.0 (h.0 a), λ c. h.1 (e.1 c))
+
 -- what is spelled, with one character more
 pub spelled-more : (xs new : List Letter) (n : Letter) (c : ℕ) → new ≡ xs ++ n ∷ [] → spelled new c ≡ spelled xs c ++ next_of n c ∷ []
 spelled-more xs new n c e = ap (λ l. spelled l c) e ∙ by xs

@@ -46,13 +46,6 @@ pub record IsLead (m : Graph) (lead : Move ℕ) : Type 0 where
   pub width : length lead.cost ≡ m.registers
   pub fits : (k : ℕ) → slice_index lead.cost k + edges_top m.edges < 2 ^ 64
 
--- the lead at this place ends in the same state at the same cost as this one
-pub record IsLike (leads : List (Move ℕ)) (further : Move ℕ) (at : ℕ) : Type 0 where
-  pub lead : Move ℕ
-  pub stands : slice_get leads at ≡ Some lead
-  pub to : lead.to ≡ further.to
-  pub cost : lead.cost ≡ further.cost
-
 -- for the characters from `low` to `high` these are the ends and costs of the paths from s on what `W` has for the character
 pub record AreLeads (m : Graph) (s low high : ℕ) (W : ℕ → List ℕ) (leads : List (Move ℕ)) : Type 0 where
   pub exact : (c : ℕ) (cost : List ℕ) (to : ℕ) → ((low ≤ c) × (c ≤ high) × Goes m s (W c) cost to) ↔ Any (Moves c cost to) leads

@@ -5,11 +5,11 @@ ghost use Rattle.machine_core.specs.declared.machine.Move.{Move};
 ghost use Rattle.machine_core.specs.Moves.{Moves};
 ghost use Rattle.machine_core.specs.Edges.{edges_top};
 ghost use Rattle.pre_image.specs.Spelling.{moved_to, spelling};
-ghost use Rattle.pre_image.specs.Leading.{CanAdd, next_of, spelled, GoesOn, Led, IsLead, IsLike, AreLeads};
+ghost use Rattle.pre_image.specs.Leading.{CanAdd, next_of, spelled, GoesOn, Led, IsLead, AreLeads};
 ghost use Rattle.sv_word.specs.Words.{greatest_character};
 
 use crate::letter::Letter;
-use machine_core::{Cost, Explicit, Machine, Move};
+use machine_core::{Cost, Explicit, Machine, Move, join_moves};
 use std::alloc::{AllocError, Global};
 use sv_list::{Copied, Items};
 use sv_terms::Item;
@@ -146,65 +146,8 @@ fn follow(
     }))
 }
 
-// The place of a lead that ends in the same state at the same cost, if there is one.
-fn place_of(leads: &[Move<u32>], further: &Move<u32>) -> Option<usize>
-    ensures { IfSome result (λ at. IsLike leads.now further.now at) }
-{
-    for at in 0..leads.len() {
-        let lead = &leads[at];
-        if lead.to == further.to && lead.cost.as_slice() == further.cost.as_slice() {
-            return Some(at);
-        }
-    }
-    None
-}
-
-// Joins the characters of the lead at this place with those of a lead like it.
-fn join_lead(
-    alloc: Global,
-    leads: &mut Items<Move<u32>>,
-    at: usize,
-    further: Move<u32>,
-) -> Result<(), AllocError>
-    requires like { IsLike leads.old further at }
-    requires old { (l : Move ℕ) → Contains leads.old l → IsInhabited l.on }
-    ensures exact { OnOk result ((c : ℕ) (cost : List ℕ) (to : ℕ) →
-        Any (Moves c cost to) leads.new ↔ (Any (Moves c cost to) leads.old ⊎ Moves c cost to further)) }
-    ensures inhabited { OnOk result ((l : Move ℕ) → Contains leads.new l → IsInhabited l.on) }
-{
-    let on = leads.as_slice()[at].on.join(alloc, &further.on)?;
-    let _ = on.as_slice();
-    let Move { on: _, cost, to } = further;
-    leads.set(at, Move { on, cost, to });
-    Ok(())
-}
-
-// Adds a lead; one with the same end and cost becomes one with it, for the characters of both, so that
-// there is one lead for each end and cost.
-fn add_lead(
-    alloc: Global,
-    leads: &mut Items<Move<u32>>,
-    further: Move<u32>,
-) -> Result<(), AllocError>
-    requires old { (l : Move ℕ) → Contains leads.old l → IsInhabited l.on }
-    requires inhabited { IsInhabited further.on }
-    ensures exact { OnOk result ((c : ℕ) (cost : List ℕ) (to : ℕ) →
-        Any (Moves c cost to) leads.new ↔ (Any (Moves c cost to) leads.old ⊎ Moves c cost to further)) }
-    ensures inhabited { OnOk result ((l : Move ℕ) → Contains leads.new l → IsInhabited l.on) }
-{
-    if let Some(at) = place_of(leads.as_slice(), &further) {
-        return join_lead(alloc, leads, at, further);
-    }
-    leads.push(further)?;
-    Ok(())
-}
-
 // Adds a lead, where there is one.
-fn push_some(
-    alloc: Global,
-    leads: &mut Items<Move<u32>>,
-    lead: Option<Move<u32>>,
-) -> Result<(), AllocError>
+fn push_some(leads: &mut Items<Move<u32>>, lead: Option<Move<u32>>) -> Result<(), AllocError>
     requires old { (l : Move ℕ) → Contains leads.old l → IsInhabited l.on }
     requires some { MatchOption lead ⊤ (λ m. IsInhabited m.on) }
     ensures exact { OnOk result ((c : ℕ) (cost : List ℕ) (to : ℕ) →
@@ -214,7 +157,7 @@ fn push_some(
     match lead {
         None => Ok(()),
         Some(further) => {
-            add_lead(alloc, leads, further)?;
+            leads.push(further)?;
             Ok(())
         }
     }
@@ -236,12 +179,13 @@ fn follow_all(
 {
     for step in steps {
         let further = follow(alloc, lead, step, next)?;
-        push_some(alloc, leads, further)?;
+        push_some(leads, further)?;
     }
     Ok(())
 }
 
-// The leads, gone on by the target's steps on what is written next.
+// The leads, gone on by the target's steps on what is written next; those that end in one state at one cost are one,
+// for the characters of all of them.
 fn go_on(
     alloc: Global,
     target: &Explicit,
@@ -257,7 +201,7 @@ fn go_on(
         let steps = target.moves(alloc, &lead.to)?;
         follow_all(alloc, &mut all, lead, steps.as_slice(), next)?;
     }
-    Ok(all)
+    join_moves(alloc, all)
 }
 
 /// Where the target may be, from the state `from` on, once it went along what is written for a

@@ -238,13 +238,6 @@ precedes-as P Q a b old new rest now front same le p = record {
   few = let f = p.few in omega arith;
 }
 
-pub in-split : {X : Type 0} (all ys rest more : List X) (x : X) → all ≡ ys ++ rest → rest ≡ x ∷ more → Contains all x
-in-split {X = X} all ys rest more x e f = subst (λ l. Contains l x) (sym (e ∙ ap (λ r. ys ++ r) f)) (mid ys)
-  where
-    mid : (ys : List X) → Contains (ys ++ x ∷ more) x
-    mid [] = (zero, omega arith, refl)
-    mid (y ∷ ys) = let r = mid ys in (suc r.0, omega (arith, r.1), r.2)
-
 -- characters of sets of pairs that are apart are below the greatest one
 pub apart-below : (low : ℕ) (rs : List (ℕ × ℕ)) (c : ℕ) → IsApartFrom low rs → IsTrue (in_ranges rs c) → c ≤ greatest_character
 apart-below low [] c h i = absurd (cc)

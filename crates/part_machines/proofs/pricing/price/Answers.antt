@@ -11,8 +11,8 @@ pub add_priced-requires-clause-to : goal.add_priced-requires-clause-to
 add_priced-requires-clause-to c =
     rw c.loop-edge.invariant.states (c.args.machine.now.formed.edge c.edge-item.result (read-in c.args.machine.now.edges c.edges-edge-items.result.now c.loop-edge.edge-index c.edge-item.result c.edges-edge-items.ensures c.loop-edge-test.true c.edge-item.is)).to
 
-pub add_free-requires : goal.add_free-requires
-add_free-requires c =
+pub add_free_end-requires : goal.add_free_end-requires
+add_free_end-requires c =
     rw c.loop-end.invariant.states (c.args.machine.now.formed.ending c.end-item.result (read-in c.args.machine.now.ends c.finals-end-items.result.now c.loop-end.end-index c.end-item.result c.finals-end-items.ensures c.loop-end-test.true c.end-item.is)).at
 
 pub returns : goal.returns

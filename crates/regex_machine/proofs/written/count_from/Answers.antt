@@ -1,5 +1,5 @@
 use Rattle.std.proofs.Common.{◌+◌, ◌<◌, ◌^◌, arith}
-use Rattle.regex_machine.proofs.OnwardLemmas.{in-split}
+use Rattle.machine_core.specs.Lists.{in-split}
 use Rattle.regex_machine.proofs.written.count_from.Goals as goal
 
 pub overflow_add-base : goal.overflow_add-base

@@ -2,8 +2,8 @@ use Rattle.std.proofs.Common.{sym, subst}
 use Rattle.std.specs.List.Sorted.{IsPermutation}
 use Rattle.std.proofs.lemmas.List.Sorted.{Contains-permutation, IsPermutation-sym}
 use Rattle.std.proofs.lemmas.Result.{IfOk-weaker}
-use Rattle.trim_search.proofs.JoinedLemmas.{joined-same, joined-sorted}
-use Rattle.trim_search.proofs.joined.join_moves.Goals as goal
+use Rattle.machine_core.proofs.JoinedLemmas.{joined-same, joined-sorted}
+use Rattle.machine_core.proofs.joined.join_moves.Goals as goal
 
 sorted : (c : goal.After-from_vec) → IsPermutation c.args.moves c.from_vec.result
 sorted c = subst (IsPermutation c.args.moves) (sym c.from_vec.ensures) (subst (λ l. IsPermutation l c.sort_unstable_by_key.new.self.items) c.into_vec-sorted.ensures c.sort_unstable_by_key.ensures.permutation)

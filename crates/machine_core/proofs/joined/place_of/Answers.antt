@@ -1,6 +1,6 @@
 use Rattle.std.proofs.Common.{rules, ◌≡◌, ◌<◌, ◌-◌, length, sym, ◌∙◌, arith}
-use Rattle.trim_search.proofs.LikeLemmas.{stands-at}
-use Rattle.trim_search.proofs.joined.place_of.Goals as goal
+use Rattle.machine_core.specs.Lists.{stands-at}
+use Rattle.machine_core.proofs.joined.place_of.Goals as goal
 
 pub returns-then-eq : goal.returns-then-eq
 returns-then-eq c =

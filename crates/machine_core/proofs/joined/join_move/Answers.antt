@@ -1,9 +1,10 @@
 use Rattle.std.proofs.Common.{◌≡◌, ℕ, List, Any, Contains, get_or, slice_set, ◌||◌, ◌⊎◌, ◌↔◌, sym, ap, ◌∙◌, subst}
 use Rattle.sv_word.specs.Ranges.{in_ranges}
+use Rattle.machine_core.specs.Lists.{read-at}
 use Rattle.machine_core.specs.declared.machine.Move.{Move}
 use Rattle.machine_core.specs.Moves.{Moves}
-use Rattle.trim_search.proofs.LikeLemmas.{joined-moves, joined-some, read-at}
-use Rattle.trim_search.proofs.joined.join_move.Goals as goal
+use Rattle.machine_core.proofs.LikeLemmas.{joined-moves, joined-some}
+use Rattle.machine_core.proofs.joined.join_move.Goals as goal
 
 pub returns-clause-exact : goal.returns-clause-exact
 returns-clause-exact c d cost to =

@@ -1,7 +1,7 @@
 use Rattle.std.proofs.Common.{◌≡◌, ◌++◌}
 use Rattle.std.specs.Vec.Iter.{into_iter_items}
-use Rattle.trim_search.specs.Joined.{AreJoinedMoves}
-use Rattle.trim_search.proofs.joined.join_sorted.Given as goal
+use Rattle.machine_core.specs.Joined.{AreJoinedMoves}
+use Rattle.machine_core.proofs.joined.join_sorted.Given as goal
 
 abbrev pub invariant-loop-step : goal.invariant-loop-step
 invariant-loop-step l = record {

@@ -1,10 +1,10 @@
 -- A move whose characters are joined with those of one like it.
-use Rattle.std.proofs.Common.{◌≡◌, ℕ, zero, suc, ◌<◌, ◌↔◌, ◌⊎◌, inl, inr, ◌&&◌, ◌||◌, nat_le, Bool, true, false, IsTrue, List, [], ◌∷◌, length, Any, Contains, Some, slice_get, slice_set, get_or, refl, sym, ap, ◌∙◌, subst, arith}
+use Rattle.std.proofs.Common.{◌≡◌, ℕ, zero, suc, ◌↔◌, ◌⊎◌, inl, inr, ◌&&◌, ◌||◌, nat_le, Bool, true, false, IsTrue, List, [], ◌∷◌, Any, Contains, Some, slice_get, slice_set, refl, sym, ◌∙◌, subst, arith}
 use Rattle.std.proofs.lemmas.Bool.{le-leb}
 use Rattle.sv_word.specs.Ranges.{in_ranges, IsInhabited, IsApartFrom, least_of}
 use Rattle.machine_core.specs.declared.machine.Move.{Move}
 use Rattle.machine_core.specs.Moves.{Moves}
-use Rattle.machine_core.specs.Lists.{Any-here, Any-there, Any-cases, slice_get-contains}
+use Rattle.machine_core.specs.Lists.{Any-here, Any-there, Any-cases, slice_get-contains, set-contains}
 
 and-true : (a b : Bool) → IsTrue a → IsTrue b → IsTrue (a && b)
 and-true true b p q = q
@@ -71,23 +71,6 @@ module _ (lead further : Move ℕ) (on : List (ℕ × ℕ)) (to : lead.to ≡ fu
         ],
       )
 
--- an element of a changed list is the new one, or one of the old list
-pub set-contains : {X : Type 0} (xs : List X) (at : ℕ) (y x : X) → Contains (slice_set xs at y) x → Contains xs x ⊎ (y ≡ x)
-set-contains [] at y x h = inl h
-set-contains (z ∷ zs) zero y x (zero, lt, e) = inr e
-set-contains (z ∷ zs) zero y x (suc k, lt, e) = inl (suc k, lt, e)
-set-contains (z ∷ zs) (suc at) y x (zero, lt, e) = inl (zero, omega arith, e)
-set-contains (z ∷ zs) (suc at) y x (suc k, lt, e) = elim (set-contains zs at y x (k, omega arith, e)) [
-  | inl (k', lt', e') ↦ inl (suc k', omega arith, e')
-  | inr same ↦ inr same
-]
-
--- the element at a place
-pub stands-at : {X : Type 0} (xs : List X) (at : ℕ) (x : X) → at < length xs → x ≡ get_or xs at x → slice_get xs at ≡ Some x
-stands-at [] at x lt e = absurd (omega (arith, lt))
-stands-at (y ∷ ys) zero x lt e = ap Some (sym e)
-stands-at (y ∷ ys) (suc at) x lt e = stands-at ys at x (omega (arith, lt)) e
-
 -- sets of pairs that are apart have their least character
 pub apart-inhabited : (low : ℕ) (rs : List (ℕ × ℕ)) (c : ℕ) → IsApartFrom low rs → IsTrue (in_ranges rs c) → IsInhabited rs
 apart-inhabited low [] c h i = cc
@@ -95,15 +78,6 @@ apart-inhabited low (p ∷ ps) c h i =
     let a = le-leb p.0 p.0 (omega arith) in
     let b = le-leb p.0 p.1 h.1 in
     or-left (nat_le p.0 p.0 && nat_le p.0 p.1) (in_ranges ps p.0) (and-true (nat_le p.0 p.0) (nat_le p.0 p.1) a b)
-
--- what was read at the place where an element stands is that element
-at-place : {X : Type 0} (ys : List X) (n : ℕ) (l x : X) → slice_get ys n ≡ Some l → get_or ys n x ≡ l
-at-place [] n l x h = cc
-at-place (y ∷ ys) zero l x h = cc
-at-place (y ∷ ys) (suc n) l x h = at-place ys n l x h
-
-pub read-at : {X : Type 0} (xs items : List X) → items ≡ xs → (at : ℕ) (l x : X) → slice_get xs at ≡ Some l → get_or items at x ≡ l
-read-at {X} xs items e at l x stands = ap (λ (ys : List X). get_or ys at x) e ∙ at-place xs at l x stands
 
 -- all moves still read some character
 pub joined-some : (leads : List (Move ℕ)) (at : ℕ) (l f : Move ℕ) (on : List (ℕ × ℕ)) → slice_get leads at ≡ Some l

@@ -1,8 +1,7 @@
 use Rattle.std.proofs.Common.{rules}
-use Rattle.trim_search.proofs.BuildLemmas.{split-step}
-use Rattle.trim_search.proofs.FlatLemmas.{in-split}
-use Rattle.trim_search.proofs.JoinedLemmas.{joined-none, joined-more}
-use Rattle.trim_search.proofs.joined.join_sorted.Goals as goal
+use Rattle.machine_core.specs.Lists.{split-step, in-split}
+use Rattle.machine_core.proofs.JoinedLemmas.{joined-none, joined-more}
+use Rattle.machine_core.proofs.joined.join_sorted.Goals as goal
 
 pub loop-step-init : goal.loop-step-init
 loop-step-init c = record {

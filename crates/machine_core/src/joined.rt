@@ -3,9 +3,9 @@ ghost use Rattle.std.specs.Prelude.{ℕ, ◌↔◌, ◌⊎◌, Any, Contains, Li
 ghost use Rattle.sv_word.specs.Ranges.{IsInhabited};
 ghost use Rattle.machine_core.specs.Moves.{Moves};
 ghost use Rattle.machine_core.specs.declared.machine.Move.{Move};
-ghost use Rattle.trim_search.specs.Joined.{IsLike, AreJoinedMoves};
+ghost use Rattle.machine_core.specs.Joined.{IsLike, AreJoinedMoves};
 
-use machine_core::Move;
+use crate::machine::Move;
 use std::alloc::{AllocError, Global};
 use sv_list::Items;
 
