@@ -11,9 +11,9 @@ use Rattle.machine_core.specs.Language.{RunsFrom}
 use Rattle.machine_core.specs.Runs.{run_total}
 use Rattle.machine_core.specs.RunLaws.{run_accepted}
 use Rattle.search_hits.specs.Hits.{HaveRegisters, AreRunsOf, runs_total, characters}
-use Rattle.box_search.specs.declared.layer.Layer.{Layer}
-use Rattle.box_search.specs.Layers as Layers
-use Rattle.box_search.specs.Layers.{layer, AreWithinGreatest}
+use Rattle.box_layers.specs.declared.layer.Layer.{Layer}
+use Rattle.box_layers.specs.Layers as Layers
+use Rattle.box_layers.specs.Layers.{layer, AreWithinGreatest}
 use Rattle.box_search.proofs.ShortLemmas.{below-parts}
 
 module _ (machines : List Graph) (uppers : List ℕ) (good : List ℕ → Type 0) where

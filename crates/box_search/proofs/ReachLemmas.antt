@@ -15,10 +15,10 @@ use Rattle.sv_linear.specs.declared.row.Row.{Row}
 use Rattle.search_hits.specs.declared.region.Region.{Region}
 use Rattle.search_hits.specs.Hits.{HaveRegisters}
 use Rattle.search_hits.specs.Regions.{AreWithin, whole_side, IsHitWithin}
-use Rattle.box_search.specs.declared.layer.Layer.{Layer}
-use Rattle.box_search.specs.LayerLaws.{first-layer, next-layer, layer-step_cost}
-use Rattle.box_search.specs.Layers.{layer, uppers_of, AreWithinGreatest, AreGoodTotals, IsLayerOf, LayerStep, LayerEnd, Turns}
-use Rattle.box_search.specs.Marks.{HasBit, IsTotalMarked, StepPasses, MarksAreClosed, charge, row_of}
+use Rattle.box_layers.specs.declared.layer.Layer.{Layer}
+use Rattle.box_layers.specs.LayerLaws.{first-layer, next-layer, layer-step_cost}
+use Rattle.box_layers.specs.Layers.{layer, uppers_of, AreWithinGreatest, AreGoodTotals, IsLayerOf, LayerStep, LayerEnd, Turns}
+use Rattle.total_marks.specs.Marks.{HasBit, IsTotalMarked, StepPasses, MarksAreClosed, charge, row_of}
 use Rattle.box_search.proofs.SearchLemmas.{hit-word}
 
 -- a list of one

@@ -1,7 +1,5 @@
 -- Hits and the words of all machines in turn.
-use Rattle.std.proofs.Common.{◌≡◌, ℕ, ℤ, pos, ◌+◌, ◌≤◌, List, [], ◌∷◌, length, map, Option, Some, None, false, refl, ap, ◌∙◌, arith}
-use Rattle.std.specs.Option.{IsSome}
-use Rattle.std.specs.Prelude.{MatchOption}
+use Rattle.std.proofs.Common.{◌≡◌, ℕ, ℤ, ◌+◌, ◌≤◌, List, length, ap, arith}
 use Rattle.machine_core.specs.declared.graph.Graph.{Graph}
 use Rattle.machine_core.specs.declared.run.Run.{Run}
 use Rattle.machine_core.specs.Costs.{zeros}
@@ -12,32 +10,12 @@ use Rattle.trim_search.specs.Shortest.{IsShortestRun}
 use Rattle.sv_linear.specs.declared.row.Row.{Row}
 use Rattle.search_hits.specs.declared.region.Region.{Region}
 use Rattle.search_hits.specs.Hits.{HaveRegisters, runs_total, characters}
-use Rattle.search_hits.specs.Regions.{AreWithin, whole_side, IsHitWithin, IsShortHit}
-use Rattle.box_search.specs.declared.layer.Layer.{Layer}
-use Rattle.box_search.specs.Layers.{layer, uppers_of, AreGood, AreGoodTotals, LayerStep, LayerEnd}
-use Rattle.box_search.specs.Cuts.{IsCutInto}
+use Rattle.search_hits.specs.Regions.{IsHitWithin, IsShortHit}
+use Rattle.box_layers.specs.declared.layer.Layer.{Layer}
+use Rattle.box_layers.specs.Layers.{layer, uppers_of, AreGoodTotals, LayerStep, LayerEnd}
+use Rattle.box_layers.specs.LayerLaws.{good-length}
 use Rattle.box_search.proofs.ShortLemmas.{hit-short, totals-below}
 use Rattle.box_search.proofs.LayerLemmas.{runs-word}
-
-pub within-length : (ss : List (ℤ × ℤ)) (xs : List ℤ) → AreWithin ss xs → length xs ≡ length ss
-within-length [] [] h = refl
-within-length [] (x ∷ xs) h = absurd h
-within-length (s ∷ ss) [] h = absurd h
-within-length (s ∷ ss) (x ∷ xs) h = let e = within-length ss xs h.1 in omega arith
-
-totals-length : (sides : List (ℕ × ℕ)) (totals : List ℕ) → AreWithin (map whole_side sides) (map pos totals) → length totals ≡ length sides
-totals-length [] [] h = refl
-totals-length [] (n ∷ ns) h = absurd h
-totals-length (s ∷ ss) [] h = absurd h
-totals-length (s ∷ ss) (n ∷ ns) h = let e = totals-length ss ns h.1 in omega arith
-
-module _ (rows : List Row) (region : Region) (totals : List ℕ) where
-  pub good-length : AreGoodTotals rows region totals → length totals ≡ length region.registers
-  good-length good = totals-length region.registers totals good.0
-
-  pub good-some : (o : Option (List ℤ)) → MatchOption o (AreGoodTotals rows region totals → ⊥) (λ numbers. AreWithin (map whole_side region.registers) (map pos totals) × AreGood rows region totals numbers) → AreGoodTotals rows region totals → IsSome o
-  good-some None h good = absurd (h good)
-  good-some (Some numbers) h good = refl
 
 module _ (machines : List Graph) (integers : ℕ) (rows : List Row) (region : Region) where
   abbrev IsHitOf : List (Run ℕ) → List ℤ → Type 0
@@ -45,17 +23,6 @@ module _ (machines : List Graph) (integers : ℕ) (rows : List Row) (region : Re
 
   pub hit-good : (runs : List (Run ℕ)) (numbers : List ℤ) → IsHitOf runs numbers → AreGoodTotals rows region (runs_total (length region.registers) runs)
   hit-good runs numbers h = (h.within.registers, numbers, record { within = h.within.numbers; meets = h.hit.meets.each })
-
-  -- runs that cost what is spent in all, and numbers that meet the rows with it
-  pub good-hit : (run : Run Layer) (runs : List (Run ℕ)) (stop : Layer) (numbers : List ℤ) → region.empty ≡ false → length region.integers ≡ integers → IsCutInto machines (length region.registers) run runs
-      → runs_total (length region.registers) runs ≡ stop.spent → AreWithin (map whole_side region.registers) (map pos stop.spent) → AreGood rows region stop.spent numbers → IsHitOf runs numbers
-  good-hit run runs stop numbers some count cut total within good = record {
-    hit = record {
-      each = cut.each;
-      meets = record { count = within-length region.integers numbers good.within ∙ count; each = rw total good.meets };
-    };
-    within = record { not_empty = some; numbers = good.within; registers = rw total within };
-  }
 
   module _ (same : HaveRegisters (length region.registers) machines) where
     abbrev Ends : Layer → List ℕ → Type 0

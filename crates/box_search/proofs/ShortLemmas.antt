@@ -21,10 +21,11 @@ use Rattle.search_hits.specs.declared.region.Region.{Region}
 use Rattle.search_hits.specs.Hits.{AreRunsOf, HaveRegisters, runs_total, characters}
 use Rattle.search_hits.specs.Regions.{IsWithin, whole_side, register_points, side_points, integer_points, points, greatest_states, IsHitWithin, IsShortHit}
 use Rattle.std.specs.Prelude.{int_le}
-use Rattle.box_search.specs.Layers.{AreWithinGreatest}
-use Rattle.box_search.specs.LayerLaws.{length-uppers}
-use Rattle.box_search.specs.Places.{number_of, numbers_below}
-use Rattle.box_search.proofs.DigitLemmas.{number-below, number-same, digit-below, digit-same, AreDifferent, different-few}
+use Rattle.box_layers.specs.Layers.{AreWithinGreatest}
+use Rattle.box_layers.specs.LayerLaws.{length-uppers}
+use Rattle.box_layers.specs.Places.{number_of, numbers_below}
+use Rattle.box_layers.specs.DigitLaws.{number-below, number-same, digit-below, digit-same}
+use Rattle.box_search.proofs.DifferentLemmas.{AreDifferent, different-few}
 
 -- of costs that add up below some numbers each is below them
 pub below-parts : (step rest us : List ℕ) → length step ≡ length rest → AreWithinGreatest (add_costs step rest) us → AreWithinGreatest step us × AreWithinGreatest rest us

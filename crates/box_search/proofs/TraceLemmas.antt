@@ -11,11 +11,12 @@ use Rattle.machine_core.specs.RunLaws.{path_push, path_lengths}
 use Rattle.search_hits.specs.declared.region.Region.{Region}
 use Rattle.search_hits.specs.Hits.{characters}
 use Rattle.search_hits.specs.Regions.{IsHitWithin, IsShortHit, greatest_states}
-use Rattle.box_search.specs.declared.layer.Layer.{Layer}
-use Rattle.box_search.specs.Cuts.{IsWay, IsRunOfAll}
-use Rattle.box_search.specs.LayerLaws.{first-layer, next-layer}
-use Rattle.box_search.specs.Layers.{layer, uppers_of, AreGoodTotals, IsLayerOf, LayerStep, LayerEnd}
-use Rattle.box_search.proofs.CutLemmas.{path-last}
+use Rattle.box_layers.specs.declared.layer.Layer.{Layer}
+use Rattle.box_layers.specs.Cuts.{IsRunOfAll}
+use Rattle.box_search.specs.Ways.{IsWay}
+use Rattle.box_layers.specs.LayerLaws.{first-layer, next-layer}
+use Rattle.box_layers.specs.Layers.{layer, uppers_of, AreGoodTotals, IsLayerOf, LayerStep, LayerEnd}
+use Rattle.box_layers.specs.PathLaws.{path-last}
 use Rattle.box_search.proofs.ShortLemmas.{few-characters}
 
 module _ (machines : List Graph) (rows : List Row) (region : Region) where

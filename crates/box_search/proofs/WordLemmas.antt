@@ -8,7 +8,7 @@ use Rattle.machine_core.specs.Edges.{EndsAt, StepsBy}
 use Rattle.machine_core.specs.EdgeLaws.{step_target}
 use Rattle.machine_core.specs.Graphs.{Accepts}
 use Rattle.machine_core.specs.Language.{RunsFrom}
-use Rattle.box_search.proofs.DigitLemmas.{AreDifferent, different-few}
+use Rattle.box_search.proofs.DifferentLemmas.{AreDifferent, different-few}
 
 module _ (m : Graph) where
   -- a run from a state, with its states

@@ -1,8 +1,2 @@
-pub mod LayerOrder
-pub mod Layers
-pub mod Moving
-pub mod Cuts
-pub mod LayerLaws
-pub mod Places
-pub mod Marks
 pub mod Told
+pub mod Ways

@@ -1,24 +1,17 @@
 //! The search where there is one register: by a bit for each pair of a state and a total.
 ghost use Rattle.std.specs.Prelude.{◌≡◌, ◌≤◌, ◌+◌, ◌*◌, ◌<◌, ◌^◌, ◌∷◌, ℕ, [], true, false, None, length, IfOk, IfSome};
 ghost use Rattle.search_hits.specs.Regions.{greatest_states, IsShortHit};
-ghost use Rattle.box_search.specs.Cuts.{IsRunOfAll};
-ghost use Rattle.box_search.specs.Layers.{AreGoodTotals};
-ghost use Rattle.box_search.specs.Marks.{HasBit, MarksAreClosed};
+ghost use Rattle.box_layers.specs.Cuts.{IsRunOfAll};
+ghost use Rattle.box_layers.specs.Layers.{AreGoodTotals};
+ghost use Rattle.total_marks.specs.Marks.{HasBit, MarksAreClosed};
 ghost use Rattle.box_search.specs.Told.{IsTold};
 
-use crate::arcs::Arcs;
-use crate::covering::are_closed;
-use crate::hitting::hit_of;
-use crate::layer::Layer;
-use crate::layers::Layers;
-use crate::marking::mark_reached;
-use crate::marks::{Marks, has_bit};
-use crate::places::greatest_states;
 use crate::retracing::retrace;
-use crate::tracing::{Pair, trace};
+use box_layers::{Layer, Layers, greatest_states, hit_of};
 use machine_core::{Explicit, Run};
 use search_hits::{Hit, Region};
 use std::alloc::{AllocError, Global};
+use total_marks::{Arcs, Marks, Pair, are_closed, has_bit, mark_reached, trace};
 
 // No marks take more words: 128 MB.
 const MOST_WORDS: usize = 16_777_216;

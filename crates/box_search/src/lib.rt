@@ -7,16 +7,11 @@
 //! multiplied, since a run that comes twice to a state with the same cost still to pay can leave out what
 //! lies between.
 //!
-//! Where there is one register, pairs of a state and a total are bits: a row of words for each state of each machine,
-//! in which an edge moves 64 totals at once. How they are set is no matter: what counts is a test that every edge and
-//! end passes on what is marked, by which no hit is missed, and a run through marked pairs that is made step by step
-//! from the machines' own moves. Where the bits would take too much room, or no such run is found, and where there
-//! are more registers, the machines are explored in turn as one machine, by breadth, over their states and what is
-//! spent so far at each register; what was seen stands in a table, which has a block for each machine, in it a row
-//! for each state, and in that a place for each totals.
-//!
-//! That the totals meet the rows with some numbers is asked behind the last machine, by halving a box as long as the
-//! bounds of the rows allow it.
+//! Where there is one register, pairs of a state and a total are marked (`total_marks`). How is no matter: what counts
+//! is a test that every edge and end passes on what is marked, by which no hit is missed, and a run through marked pairs
+//! that is made step by step from the machines' own moves. Where the marks would take too much room, or no such run is
+//! found, and where there are more registers, the machines are explored in turn as one machine, by breadth, over their
+//! states and what is spent so far at each register (`box_layers`).
 //!
 //! ```
 //! // A word of at most 20 characters, as long as twice a number from 0 to 8.
@@ -25,24 +20,10 @@
 //! ```
 #![tactic(auto)]
 
-mod arcs;
 mod by_marks;
-mod covering;
-mod cutting;
-mod finding;
-mod hitting;
 mod laws;
-mod layer;
-mod layer_table;
-mod layers;
-mod marking;
-mod marks;
-mod moving;
-mod paying;
-mod places;
 mod retracing;
 mod searching;
-mod tracing;
 
 pub use laws::{hits_are_short, words_are_short};
 pub use searching::search;

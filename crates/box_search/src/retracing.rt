@@ -1,17 +1,16 @@
 //! A run of all machines in turn, through given layers.
 ghost use Rattle.std.specs.Prelude.{◌≡◌, true, IfOk, IfSome};
 ghost use Rattle.machine_core.specs.Moves.{Moves};
-ghost use Rattle.box_search.specs.Cuts.{IsWay, IsRunOfAll};
-ghost use Rattle.box_search.specs.Layers.{uppers_of, AreGoodTotals, LayerStep, IsLayerOf};
+ghost use Rattle.box_layers.specs.Cuts.{IsRunOfAll};
+ghost use Rattle.box_search.specs.Ways.{IsWay};
+ghost use Rattle.box_layers.specs.Layers.{uppers_of, AreGoodTotals, LayerStep, IsLayerOf};
 
-use crate::cutting::layer_at;
-use crate::layer::Layer;
-use crate::layers::Layers;
-use crate::tracing::Pair;
+use box_layers::{Layer, Layers, layer_at};
 use machine_core::{Cost, Machine, Move, Run};
 use std::alloc::{AllocError, Global};
 use sv_list::Items;
 use sv_word::Word;
+use total_marks::Pair;
 
 // A step to a layer.
 #[derive(Drop)]

@@ -1,6 +1,6 @@
 use Rattle.std.proofs.Common.{ℕ, ◌<◌, ◌≤◌, ◌∷◌, []}
-use Rattle.box_search.specs.Layers.{AreGoodTotals}
-use Rattle.box_search.specs.Marks.{HasBit}
+use Rattle.box_layers.specs.Layers.{AreGoodTotals}
+use Rattle.total_marks.specs.Marks.{HasBit}
 use Rattle.box_search.proofs.by_marks.first_good.Given as goal
 
 abbrev pub invariant-loop-total : goal.invariant-loop-total

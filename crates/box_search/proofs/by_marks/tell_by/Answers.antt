@@ -1,5 +1,5 @@
 use Rattle.std.proofs.Common.{◌≡◌, ◌-◌, ◌*◌, length, sym, ap, ◌∙◌, subst, arith}
-use Rattle.box_search.specs.Marks.{HasBit, row_of}
+use Rattle.total_marks.specs.Marks.{HasBit, row_of}
 use Rattle.box_search.proofs.ReachLemmas.{no-marked-hit}
 use Rattle.box_search.proofs.by_marks.tell_by.Goals as goal
 

@@ -1,5 +1,5 @@
 use Rattle.std.proofs.Common.{ap, ◌∙◌, ◌++◌, ◌∷◌, [], List}
-use Rattle.box_search.specs.declared.layer.Layer.{Layer}
+use Rattle.box_layers.specs.declared.layer.Layer.{Layer}
 use Rattle.box_search.proofs.TraceLemmas.{way-begun}
 use Rattle.box_search.proofs.retracing.begin.Goals as goal
 

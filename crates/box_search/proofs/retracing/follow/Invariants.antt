@@ -1,4 +1,4 @@
-use Rattle.box_search.specs.Cuts.{IsWay}
+use Rattle.box_search.specs.Ways.{IsWay}
 use Rattle.box_search.proofs.retracing.follow.Given as goal
 
 abbrev pub invariant-loop-place : goal.invariant-loop-place

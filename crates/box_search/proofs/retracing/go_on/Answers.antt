@@ -1,7 +1,7 @@
 use Rattle.std.proofs.Common.{◌≡◌, List, length, slice_get, Some, ap, subst, arith}
 use Rattle.std.specs.Prelude.{IfSome}
-use Rattle.box_search.specs.declared.layer.Layer.{Layer}
-use Rattle.box_search.specs.Layers.{uppers_of, AreGoodTotals, LayerStep}
+use Rattle.box_layers.specs.declared.layer.Layer.{Layer}
+use Rattle.box_layers.specs.Layers.{uppers_of, AreGoodTotals, LayerStep}
 use Rattle.box_search.proofs.TraceLemmas.{way-size, way-layer, way-grown}
 use Rattle.box_search.proofs.retracing.go_on.Goals as goal
 

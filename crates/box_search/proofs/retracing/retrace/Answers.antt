@@ -1,6 +1,6 @@
 use Rattle.std.proofs.Common.{sym, subst}
 use Rattle.std.specs.Prelude.{IfSome}
-use Rattle.box_search.specs.Cuts.{IsRunOfAll}
+use Rattle.box_layers.specs.Cuts.{IsRunOfAll}
 use Rattle.box_search.proofs.TraceLemmas.{told-some}
 use Rattle.box_search.proofs.retracing.retrace.Goals as goal
 

@@ -1,0 +1,10 @@
+mod BoundLemmas
+mod FindLemmas
+mod HalfLemmas
+mod SideLemmas
+mod MoveLemmas
+mod ExactLemmas
+mod CutLemmas
+mod HitLemmas
+mod PlaceLemmas
+mod TableLemmas

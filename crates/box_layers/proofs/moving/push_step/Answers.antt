@@ -1,0 +1,17 @@
+use Rattle.std.proofs.Common.{map, [], ◌∷◌}
+use Rattle.machine_core.specs.Costs.{add_costs}
+use Rattle.box_layers.specs.Layers.{AreWithinGreatest}
+use Rattle.box_layers.specs.Moving.{step_moves}
+use Rattle.box_layers.proofs.MoveLemmas.{one-step-unpaid, step-pushed, nothing-pushed}
+use Rattle.box_layers.proofs.moving.push_step.Goals as goal
+
+pub returns-in_default : goal.returns-in_default
+returns-in_default c =
+    let none : AreWithinGreatest (add_costs c.args.at.now.spent c.args.step.now.cost) (map (λ s. s.1) c.args.sides.now) → ⊥ = rw (c.as_slice.ensures, c.as_slice-2.ensures, c.in_default.is) at c.in_ok-spent.ensures in
+    nothing-pushed (map (λ s. s.1) c.args.sides.now) c.args.at.now c.args.all.now (step_moves (map (λ s. s.1) c.args.sides.now) c.args.at.now (c.args.step.now ∷ []))
+    (one-step-unpaid (map (λ s. s.1) c.args.sides.now) c.args.at.now c.args.step.now none)
+
+pub returns : goal.returns
+returns c =
+    step-pushed (map (λ s. s.1) c.args.sides.now) c.args.at.now c.args.step.now c.args.all.now c.push.new.self c.in_ok-on.on c.in_ok-paid.paid c.in-Some.spent
+    (rw (c.as_slice.ensures, c.as_slice-2.ensures, c.in-Some.is) at c.in_ok-spent.ensures) c.in_ok-on.ensures c.in_ok-paid.ensures c.in_ok-push.ensures.ok

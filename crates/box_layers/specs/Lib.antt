@@ -1,0 +1,8 @@
+pub mod LayerOrder
+pub mod Layers
+pub mod Moving
+pub mod Cuts
+pub mod LayerLaws
+pub mod PathLaws
+pub mod Places
+pub mod DigitLaws

@@ -1,5 +1,0 @@
-use Rattle.box_search.proofs.MarkLemmas.{AreHeld}
-use Rattle.box_search.proofs.covering.covers.Given as goal
-
-abbrev pub invariant-loop-at : goal.invariant-loop-at
-invariant-loop-at l = AreHeld l.from l.to l.skip l.by l.at

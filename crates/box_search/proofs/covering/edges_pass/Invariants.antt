@@ -1,6 +1,0 @@
-use Rattle.std.proofs.Common.{take}
-use Rattle.box_search.specs.Marks.{EdgesPass}
-use Rattle.box_search.proofs.covering.edges_pass.Given as goal
-
-abbrev pub invariant-loop-edge : goal.invariant-loop-edge
-invariant-loop-edge l = EdgesPass l.marks.words l.marks.width l.base (take l.edge-index l.edges)

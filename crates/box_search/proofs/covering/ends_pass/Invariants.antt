@@ -1,6 +1,0 @@
-use Rattle.std.proofs.Common.{take}
-use Rattle.box_search.specs.Marks.{EndsPass}
-use Rattle.box_search.proofs.covering.ends_pass.Given as goal
-
-abbrev pub invariant-loop-end : goal.invariant-loop-end
-invariant-loop-end l = EndsPass l.marks.words l.marks.width l.base l.next (take l.end-index l.ends)
