@@ -14,11 +14,21 @@ pub(crate) struct Arc {
 }
 
 /// All arcs, found by the rows that they lead from and by those that they lead to.
-#[derive(Drop)]
 pub struct Arcs {
     arcs: Vec<Arc>,
     first_from: Vec<usize>,
     first_to: Vec<usize>,
+}
+
+// A drop by hand is one call where a derived one is a call for each vector inside.
+impl Drop for Arcs {
+    fn drop(self) {
+        let Self {
+            arcs: _,
+            first_from: _,
+            first_to: _,
+        } = self;
+    }
 }
 
 fn no_arcs(alloc: Global, rows: usize) -> Result<Vec<usize>, AllocError> {
@@ -47,19 +57,34 @@ impl Arcs {
         states: usize,
         rows: usize,
     ) -> Result<Arcs, AllocError> {
-        let mut all = Arcs {
-            arcs: Vec::new(alloc),
-            first_from: no_arcs(alloc, rows)?,
-            first_to: no_arcs(alloc, rows)?,
-        };
+        let mut all = Arcs::none(alloc, rows)?;
         let mut base = 0usize;
         for machine in machines {
             let next = base.saturating_add(states);
-            all.add_edges(machine, base)?;
-            all.add_ends(machine, base, next)?;
+            all.add_machine(machine, base, next)?;
             base = next;
         }
         Ok(all)
+    }
+
+    // No arc between so many rows.
+    fn none(alloc: Global, rows: usize) -> Result<Arcs, AllocError> {
+        Ok(Arcs {
+            arcs: Vec::new(alloc),
+            first_from: no_arcs(alloc, rows)?,
+            first_to: no_arcs(alloc, rows)?,
+        })
+    }
+
+    // The arcs of the machine whose rows begin at `base`, and those of the next one at `next`.
+    fn add_machine(
+        &mut self,
+        machine: &Explicit,
+        base: usize,
+        next: usize,
+    ) -> Result<(), AllocError> {
+        self.add_edges(machine, base)?;
+        self.add_ends(machine, base, next)
     }
 
     fn add_edges(&mut self, machine: &Explicit, base: usize) -> Result<(), AllocError> {

@@ -39,20 +39,32 @@ pub fn trace(
         back: Vec::new(alloc),
         seen: empty_marks(alloc, rows)?,
     };
+    if !go_back(alloc, marks, arcs, &mut way, last)? {
+        return Ok(None);
+    }
+    let Way { mut back, seen: _ } = way;
+    back.reverse();
+    Ok(Some(back))
+}
+
+// Goes back from this pair to the first one. Whether it came there.
+fn go_back(
+    alloc: Global,
+    marks: &Marks,
+    arcs: &Arcs,
+    way: &mut Way,
+    last: Pair,
+) -> Result<bool, AllocError> {
     way.back.push(last)?;
     let mut at = last;
     for round in 1..u64::MAX {
-        match step_back(alloc, marks, arcs, &mut way, at, round)? {
+        match step_back(alloc, marks, arcs, way, at, round)? {
             Step::To(before) => at = before,
-            Step::Begun => {
-                let Way { mut back, seen: _ } = way;
-                back.reverse();
-                return Ok(Some(back));
-            }
-            Step::Nowhere => return Ok(None),
+            Step::Begun => return Ok(true),
+            Step::Nowhere => return Ok(false),
         }
     }
-    Ok(None)
+    Ok(false)
 }
 
 fn empty_marks(alloc: Global, rows: usize) -> Result<Vec<u64>, AllocError> {
@@ -119,16 +131,28 @@ fn search_back(
             total,
             round,
         )? {
-            push_near(alloc, &mut way.back, near.as_slice(), at, total)?;
-            let before = Pair {
-                row: arc.from,
-                total: total.saturating_sub(arc.cost),
-            };
-            way.back.push(before)?;
-            return Ok(Step::To(before));
+            return leave(alloc, &mut way.back, near.as_slice(), at, total, arc);
         }
     }
     Ok(Step::Nowhere)
+}
+
+// Goes from this place of the search back along the arc, to a lesser total.
+fn leave(
+    alloc: Global,
+    back: &mut Vec<Pair>,
+    near: &[Near],
+    at: usize,
+    total: u64,
+    arc: Arc,
+) -> Result<Step, AllocError> {
+    push_near(alloc, back, near, at, total)?;
+    let before = Pair {
+        row: arc.from,
+        total: total.saturating_sub(arc.cost),
+    };
+    back.push(before)?;
+    Ok(Step::To(before))
 }
 
 // Whether the row wasn't seen in this round.
@@ -182,7 +206,16 @@ fn push_near(
     to: usize,
     total: u64,
 ) -> Result<(), AllocError> {
-    let mut between = Vec::new(alloc);
+    let rows = rows_between(alloc, near, to)?;
+    for row in rows.iter().rev() {
+        back.push(Pair { row: *row, total })?;
+    }
+    Ok(())
+}
+
+// These rows, the last one first.
+fn rows_between(alloc: Global, near: &[Near], to: usize) -> Result<Vec<usize>, AllocError> {
+    let mut rows = Vec::new(alloc);
     let mut at = to;
     for _ in 0..near.len() {
         if at == 0 {
@@ -191,14 +224,8 @@ fn push_near(
         let Some(next) = near.get(at) else {
             break;
         };
-        between.push(Pair {
-            row: next.row,
-            total,
-        })?;
+        rows.push(next.row)?;
         at = next.by;
     }
-    for pair in between.iter().rev() {
-        back.push(*pair)?;
-    }
-    Ok(())
+    Ok(rows)
 }
