@@ -19,7 +19,7 @@ use Rattle.lia_tableau.specs.Crossing.{IsPastFault}
 use Rattle.lia_tableau.specs.Pivoting.{IsPastPivot}
 use Rattle.lia_tableau.specs.declared.fault.TableauFault.{TableauFault}
 use Rattle.lia_tableau.specs.declared.fault.TableauFault.TheVariants.{Past, Memory}
-use Rattle.lia_quick.specs.RowTerms.{wider}
+use Rattle.lia_reduce.specs.RowTerms.{wider}
 use Rattle.lia_branch.specs.EvidenceHolds.{IsPastAt}
 use Rattle.lia_tableau.specs.Trails.{Trail, stay, pivot}
 use Rattle.lia_branch.specs.Nodes.{Node, BeginsAt, ComesTo, AddsSlack, IsRowOf, child_of}

@@ -5,9 +5,9 @@
 //! tree. What was given up shows evidence that can't be invented: 2,000 splits, each the one that is due,
 //! or two rows or a sum past 128 bits.
 //!
-//! First come the quick ways of `lia_quick`: equations are eliminated, and what is left, which is small where they
-//! are those of chains, is solved or closed by bounds, or else searched as a system of its own, and its solution or
-//! tree taken to the rows of the whole. All are heuristics, and tested before they are answered. Then the tree of the
+//! First equations are eliminated (`lia_reduce`), and what is left, which is small where they are those of chains, is
+//! solved or closed by bounds (`lia_quick`), or else searched as a system of its own, and its solution or tree taken to
+//! the rows of the whole. All are heuristics, and tested before they are answered. Then the tree of the
 //! whole system whose splits are due is searched, depth first and low before high, by a loop with a stack of its
 //! own. The trail of a node ends by itself, since no basis comes twice. A node that waits keeps its tableau packed, and
 //! from 65,536 bytes on over that of the node that waits below it, so that memory is the depth times 64 KB at most, or

@@ -1,7 +1,7 @@
 ghost use Rattle.std.specs.Prelude.{◌≡◌, ℕ, [], All, Some, slice_get, IfOk, IfSome};
 ghost use Rattle.farkas_check.specs.Cuts.{IsNetWithin};
 ghost use Rattle.lia_branch.specs.Outcomes.{CountsEdges, IfSolution, IfClosed, IfGaveUp, IsSolution, IsAccepted};
-ghost use Rattle.lia_quick.specs.Finds.{IsPointOf};
+ghost use Rattle.lia_reduce.specs.Points.{IsPointOf};
 ghost use Rattle.sv_linear.specs.Rows.{NameUnknowns, IsRowWithin};
 ghost use Rattle.sv_linear.specs.declared.row.Row.{Row};
 
@@ -9,9 +9,8 @@ use crate::no_cut::NoCut;
 use crate::outcome::Outcome;
 use crate::searching::search_tree;
 use farkas_check::{Cutter, System, Tree};
-use lia_quick::{
-    Elimination, QuickAnswer, Reduced, reduce, restore_point, restore_tree, solve_by_bounds,
-};
+use lia_quick::{QuickAnswer, restore_tree, solve_by_bounds};
+use lia_reduce::{Elimination, Reduced, reduce, restore_point};
 use std::alloc::{AllocError, Global};
 use sv_list::Items;
 

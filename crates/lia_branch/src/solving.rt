@@ -9,7 +9,7 @@ use crate::outcome::Outcome;
 use crate::reduced_search::solve_reduced;
 use crate::searching::search_tree;
 use farkas_check::{Cutter, System};
-use lia_quick::{Elimination, close_by_divisor};
+use lia_reduce::{Elimination, close_by_divisor};
 use std::alloc::{AllocError, Global};
 
 /// Whole numbers that meet the system's rows and join its nets, a tree that closes it, or the evidence with

@@ -1,8 +1,7 @@
 use crate::bounds::{BoundReason, BoundSide, BoundStep, Bounds, Origin, Range, Rounding};
-use crate::lifter::Lifter;
-use crate::lifting::Reduction;
 use crate::reasons::{Far, multipliers_of};
 use farkas_check::Tree;
+use lia_reduce::{Lifter, Reduction};
 use std::alloc::{AllocError, Global};
 use sv_list::{Boxed, Items};
 

@@ -1,5 +1,5 @@
 use crate::queue::Queue;
-use crate::weights::add_times;
+use lia_reduce::add_times;
 use std::alloc::{AllocError, Global};
 use sv_linear::{Form, Row, RowKind};
 use sv_list::Items;

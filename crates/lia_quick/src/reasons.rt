@@ -1,5 +1,5 @@
 use crate::bounds::{BoundReason, Fact, Origin};
-use crate::weights::Weights;
+use lia_reduce::Weights;
 use std::alloc::{AllocError, Global};
 use sv_list::Items;
 

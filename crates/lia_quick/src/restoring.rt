@@ -1,14 +1,11 @@
 ghost use Rattle.std.specs.Prelude.{IfOk, IfSome};
 ghost use Rattle.sv_linear.specs.Rows.{NameUnknowns};
-ghost use Rattle.lia_quick.specs.Finds.{IsPointOf, IsTreeOf, IsQuickAnswer};
+ghost use Rattle.lia_quick.specs.Finds.{IsTreeOf, IsQuickAnswer};
 
 use crate::accepting::accepts;
 use crate::bound_search::{BoundsEnding, search};
-use crate::elimination::Elimination;
-use crate::filling::{fill, meets};
-use crate::lifting::{Reduction, lift};
-use crate::reducing::Reduced;
 use farkas_check::{System, Tree};
+use lia_reduce::{Elimination, Reduced, Reduction, lift, restore_point};
 use std::alloc::{AllocError, Global};
 use sv_list::Items;
 
@@ -19,25 +16,6 @@ pub enum QuickAnswer {
     Point(Items<i128>),
     /// A tree that closes the system.
     Closed(Tree),
-}
-
-/// The point of a reduced system with the values of the owned unknowns, where it meets the rows of the whole system.
-/// Linear in the rows' terms.
-pub fn restore_point(
-    system: &System,
-    elimination: &Elimination,
-    point: Items<i128>,
-) -> Option<Items<i128>>
-    ensures { IfSome result (IsPointOf system.now) }
-{
-    let mut point = point.into_vec();
-    if !fill(&mut point, elimination) {
-        return None;
-    }
-    if point.len() != system.unknowns as usize || !meets(system, &point) {
-        return None;
-    }
-    Some(Items::from_vec(point))
 }
 
 /// The tree of a reduced system as one of the whole system, where that closes it. Each leaf costs the rows and unknowns

@@ -4,7 +4,7 @@ ghost use Rattle.sv_linear.specs.Rows.{IsRowWithin};
 ghost use Rattle.sv_linear.specs.declared.row.Row.{Row as AnyRow};
 
 use farkas_check::System;
-use lia_quick::is_within;
+use lia_reduce::is_within;
 use std::alloc::Global;
 use std::test::Fail;
 use sv_linear::{Form, FormFault, Row, RowKind};

@@ -2,7 +2,7 @@ use Rattle.std.proofs.Common.{suc, ◌*ℤ◌, ap, sym, subst, arith}
 use Rattle.std.specs.Int.{w128}
 use Rattle.std.proofs.lemmas.Int.{ints, to_z-of_z}
 use Rattle.sv_linear.specs.Terms.{AscendsWithin, terms_value}
-use Rattle.lia_quick.specs.RowTerms.{wider, pushed_ascends, pushed_value}
+use Rattle.lia_reduce.specs.RowTerms.{wider, pushed_ascends, pushed_value}
 use Rattle.lia_branch.proofs.EdgeRows.{pushed_small, added_small}
 use Rattle.lia_branch.proofs.edge_sums.put.Goals as goal
 

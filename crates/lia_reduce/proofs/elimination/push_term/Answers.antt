@@ -3,10 +3,10 @@ use Rattle.std.specs.Int.{w128}
 use Rattle.std.proofs.lemmas.Int.{to_z-of_z}
 use mir.Val.{SFits}
 use Rattle.sv_linear.specs.Terms.{AscendsWithin}
-use Rattle.lia_quick.specs.RowTerms.{wider}
-use Rattle.lia_quick.specs.RowTerms.{pushed_ascends}
-use Rattle.lia_quick.proofs.FormValues.{some-amount}
-use Rattle.lia_quick.proofs.elimination.push_term.Goals as goal
+use Rattle.lia_reduce.specs.RowTerms.{wider}
+use Rattle.lia_reduce.specs.RowTerms.{pushed_ascends}
+use Rattle.lia_reduce.proofs.FormValues.{some-amount}
+use Rattle.lia_reduce.proofs.elimination.push_term.Goals as goal
 
 pub returns-then-coefficient-eq0 : goal.returns-then-coefficient-eq0
 returns-then-coefficient-eq0 c = wider 0 c.args.unknown (c.args.unknown + 1) c.args.form.now.coefficients c.requires (omega arith)

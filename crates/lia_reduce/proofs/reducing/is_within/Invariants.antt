@@ -1,6 +1,6 @@
 use Rattle.std.proofs.Common.{ℕ, pos, get_or, ◌<◌}
 use Rattle.sv_linear.specs.Combining.{IsSymmetric}
-use Rattle.lia_quick.proofs.reducing.is_within.Given as goal
+use Rattle.lia_reduce.proofs.reducing.is_within.Given as goal
 
 abbrev pub invariant-loop-unknown : goal.invariant-loop-unknown
 invariant-loop-unknown l = record {

@@ -3,8 +3,8 @@ use Rattle.std.specs.Int.{w128, cast_signed}
 use Rattle.std.proofs.lemmas.Int.{to_z-of_z}
 use mir.Val.{SFits}
 use Rattle.farkas_check.specs.Cuts.{values_of}
-use Rattle.lia_quick.proofs.FormValues.{value-none, value-more, value-done}
-use Rattle.lia_quick.proofs.filling.value_of.Goals as goal
+use Rattle.lia_reduce.proofs.FormValues.{value-none, value-more, value-done}
+use Rattle.lia_reduce.proofs.filling.value_of.Goals as goal
 
 pub loop-unknown-init : goal.loop-unknown-init
 loop-unknown-init c =

@@ -5,7 +5,7 @@ use sv_list::Items;
 
 /// How often rows or sums are taken, one number for each; taken up to multiples of a divisor where there is one.
 #[derive(Drop)]
-pub(crate) struct Weights {
+pub struct Weights {
     numbers: Vec<i128>,
     divisor: Option<i128>,
 }
@@ -106,7 +106,7 @@ fn remainder(number: i128, divisor: Option<i128>) -> i128 {
 }
 
 /// The sum of a number and a product, where both fit.
-pub(crate) fn add_times(sum: i128, times: i128, factor: i128) -> Option<i128>
+pub fn add_times(sum: i128, times: i128, factor: i128) -> Option<i128>
     ensures { IfSome result (λ z. z ≡ sum +ℤ times *ℤ factor) }
 {
     sum.checked_add(times.checked_mul(factor)?)

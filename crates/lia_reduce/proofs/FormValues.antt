@@ -8,7 +8,7 @@ use Rattle.sv_linear.specs.Terms.{terms_value}
 use Rattle.sv_linear.specs.declared.form.Form.{Form}
 use Rattle.sv_linear.specs.declared.row.Row.{Row}
 use Rattle.farkas_check.specs.Systems.{Meets, constraint_of, no_constraint}
-use Rattle.lia_quick.specs.RowTerms.{pushed_value}
+use Rattle.lia_reduce.specs.RowTerms.{pushed_value}
 
 pub value-none : (x : ℕ → ℤ) (ts : List (ℕ × ℤ)) (z : ℤ) → z ≡ terms_value x (take 0 ts) +ℤ z
 value-none x [] z = omega (arith, ints)

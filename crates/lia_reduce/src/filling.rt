@@ -2,13 +2,34 @@ ghost use Rattle.std.specs.Prelude.{◌≡◌, IfSome, IsTrue, All, pos};
 ghost use Rattle.sv_linear.specs.Forms.{form_value};
 ghost use Rattle.farkas_check.specs.Cuts.{values_of};
 ghost use Rattle.farkas_check.specs.Systems.{Meets, constraint_of, rows_of};
+ghost use Rattle.lia_reduce.specs.Points.{IsPointOf};
 
 use crate::elimination::Elimination;
 use farkas_check::System;
 use sv_linear::{Form, Row, RowKind};
+use sv_list::Items;
+
+/// The point of a reduced system with the values of the owned unknowns, where it meets the rows of the whole system.
+/// Linear in the rows' terms.
+pub fn restore_point(
+    system: &System,
+    elimination: &Elimination,
+    point: Items<i128>,
+) -> Option<Items<i128>>
+    ensures { IfSome result (IsPointOf system.now) }
+{
+    let mut point = point.into_vec();
+    if !fill(&mut point, elimination) {
+        return None;
+    }
+    if point.len() != system.unknowns as usize || !meets(system, &point) {
+        return None;
+    }
+    Some(Items::from_vec(point))
+}
 
 /// Gives each owned unknown its value, the last sums first; false where a number leaves 128 bits.
-pub(crate) fn fill(point: &mut Vec<i128>, elimination: &Elimination) -> bool {
+fn fill(point: &mut Vec<i128>, elimination: &Elimination) -> bool {
     let sums = elimination.sums();
     for behind in 0..sums.len() {
         let at = sums.len() - 1 - behind;
@@ -56,7 +77,7 @@ fn value_at(point: &[i128], unknown: u32) -> i128
 }
 
 /// Whether the point meets each row of the system, with no sum past 128 bits.
-pub(crate) fn meets(system: &System, point: &[i128]) -> bool
+fn meets(system: &System, point: &[i128]) -> bool
     ensures { IsTrue result → All (Meets (values_of point.now)) (rows_of system.now) }
 {
     for row in system.rows.as_slice() {

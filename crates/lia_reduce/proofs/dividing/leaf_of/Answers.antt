@@ -4,7 +4,7 @@ use Rattle.std.proofs.lemmas.Int.{to_z-of_z}
 use mir.Val.{SFits}
 use Rattle.farkas_check.specs.Systems.{rows_of}
 use Rattle.farkas_check.specs.NodeLaws.{divisor_closed}
-use Rattle.lia_quick.proofs.dividing.leaf_of.Goals as goal
+use Rattle.lia_reduce.proofs.dividing.leaf_of.Goals as goal
 
 pub returns-in-Closes : goal.returns-in-Closes
 returns-in-Closes c =

@@ -3,8 +3,8 @@ use Rattle.std.specs.Int.{w128}
 use Rattle.std.proofs.lemmas.Int.{ints, to_z-of_z}
 use mir.Val.{SFits}
 use Rattle.sv_linear.specs.Combining.{IsSymmetric}
-use Rattle.lia_quick.specs.RowTerms.{ascends_within, entries_symmetric}
-use Rattle.lia_quick.proofs.reducing.is_within.Goals as goal
+use Rattle.lia_reduce.specs.RowTerms.{ascends_within, entries_symmetric}
+use Rattle.lia_reduce.proofs.reducing.is_within.Goals as goal
 
 pub returns : goal.returns
 returns c = λ told.

@@ -3,8 +3,8 @@ use Rattle.std.proofs.lemmas.List.{length-map}
 use Rattle.std.proofs.lemmas.List.Elements.{All-from_get_or}
 use Rattle.farkas_check.specs.Cuts.{values_of}
 use Rattle.farkas_check.specs.Systems.{Meets, constraint_of, no_constraint, rows_of}
-use Rattle.lia_quick.proofs.FormValues.{meets-more}
-use Rattle.lia_quick.proofs.filling.meets.Goals as goal
+use Rattle.lia_reduce.proofs.FormValues.{meets-more}
+use Rattle.lia_reduce.proofs.filling.meets.Goals as goal
 
 pub loop-row-preserved : goal.loop-row-preserved
 loop-row-preserved c =

@@ -16,13 +16,14 @@ struct Named {
 
 /// Takes the leaves of a search in the reduced system to the whole one, with memory that they share.
 #[derive(Drop)]
-pub(crate) struct Lifter {
+pub struct Lifter {
     named: Vec<Named>,
     /// What is taken of the whole system.
     taken: Taken,
 }
 
 impl Lifter {
+    /// No leaf is lifted yet. Costs: the rows of both systems.
     pub fn new(alloc: Global, reduction: Reduction) -> Result<Lifter, AllocError> {
         let mut named = Vec::new(alloc);
         for _ in 0..reduction.reduced.sums.len() {

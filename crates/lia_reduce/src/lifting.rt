@@ -7,7 +7,7 @@ use sv_list::{Boxed, Items};
 
 /// A system, and the one that it was reduced to.
 #[derive(Clone, Copy)]
-pub(crate) struct Reduction<'a> {
+pub struct Reduction<'a> {
     pub system: &'a System,
     pub elimination: &'a Elimination,
     pub reduced: &'a Reduced,
@@ -20,7 +20,7 @@ const MOST_DEPTH: u32 = 256;
 /// than 256 splits stand above one another.
 ///
 /// The splits stay. A row of a leaf becomes the row that it began with and what was added to it.
-pub(crate) fn lift(
+pub fn lift(
     alloc: Global,
     reduction: Reduction,
     tree: &Tree,
