@@ -20,11 +20,7 @@ const MOST_DEPTH: u32 = 256;
 /// than 256 splits stand above one another.
 ///
 /// The splits stay. A row of a leaf becomes the row that it began with and what was added to it.
-pub fn lift(
-    alloc: Global,
-    reduction: Reduction,
-    tree: &Tree,
-) -> Result<Option<Tree>, AllocError> {
+pub fn lift(alloc: Global, reduction: Reduction, tree: &Tree) -> Result<Option<Tree>, AllocError> {
     lift_from(alloc, reduction, tree, MOST_DEPTH)
 }
 
