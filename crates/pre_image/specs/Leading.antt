@@ -1,5 +1,5 @@
 -- Where a machine may be once it went along what is written for a character, by moves that say for which characters.
-use Rattle.std.specs.Prelude.{◌≡◌, ℕ, ◌+◌, ◌<◌, ◌≤◌, ◌^◌, ◌↔◌, List, map, length, slice_index, slice_get, Some, Any, Contains, IsTrue}
+use Rattle.std.specs.Prelude.{◌≡◌, ℕ, ◌+◌, ◌<◌, ◌≤◌, ◌^◌, ◌↔◌, List, map, length, slice_index, Any, Contains, IsTrue}
 use Rattle.sv_word.specs.Ranges.{in_ranges, IsInhabited}
 use Rattle.machine_core.specs.Costs.{add_costs}
 use Rattle.machine_core.specs.declared.machine.Move.{Move}

@@ -1,4 +1,4 @@
-use Rattle.std.proofs.Common.{true, None, subst, ◌≡◌, ◌*◌, Some, length, ap, sym, ◌∙◌, arith}
+use Rattle.std.proofs.Common.{None, subst, ◌≡◌, ◌*◌, Some, length, ap, sym, ◌∙◌, arith}
 use Rattle.machine_core.specs.Edges.{edges_top}
 use Rattle.sv_terms.specs.Transduction.{written_at}
 use Rattle.sv_terms.specs.TransducerSizes.{items_size}

@@ -1,4 +1,4 @@
-use Rattle.std.proofs.Common.{ℕ, List, MatchOption, true, sym, subst}
+use Rattle.std.proofs.Common.{ℕ, List, MatchOption, sym, subst}
 use Rattle.pre_image.specs.Leading.{Goes}
 use Rattle.pre_image.specs.Lifts.{IsRest}
 use Rattle.pre_image.proofs.PartLemmas.{end-goes, end-rest}

@@ -1,4 +1,3 @@
-use Rattle.std.proofs.Common.{true, false}
 use Rattle.pre_image.specs.Lifts.{EndsAs}
 use Rattle.pre_image.proofs.MoreLemmas.{more-none, all-alone}
 use Rattle.pre_image.proofs.ways.has_lead.Goals as goal

@@ -1,4 +1,4 @@
-use Rattle.std.proofs.Common.{ℕ, List, MatchOption, true, subst}
+use Rattle.std.proofs.Common.{ℕ, List, MatchOption, subst}
 use Rattle.pre_image.specs.Lifts.{IsRest}
 use Rattle.pre_image.proofs.WayLemmas.{left-goes, left-rest}
 use Rattle.pre_image.proofs.ways.try_step.Goals as goal
