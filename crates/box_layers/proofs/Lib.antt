@@ -6,5 +6,3 @@ mod MoveLemmas
 mod ExactLemmas
 mod CutLemmas
 mod HitLemmas
-mod PlaceLemmas
-mod TableLemmas

@@ -4,5 +4,3 @@ pub mod Moving
 pub mod Cuts
 pub mod LayerLaws
 pub mod PathLaws
-pub mod Places
-pub mod DigitLaws

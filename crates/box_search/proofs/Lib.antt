@@ -1,3 +1,4 @@
+mod DigitLemmas
 mod DifferentLemmas
 mod ShortLemmas
 mod LayerLemmas
@@ -5,3 +6,5 @@ mod SearchLemmas
 mod WordLemmas
 mod ReachLemmas
 mod TraceLemmas
+mod PlaceLemmas
+mod TableLemmas

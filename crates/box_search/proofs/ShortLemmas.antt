@@ -23,8 +23,8 @@ use Rattle.search_hits.specs.Regions.{IsWithin, whole_side, register_points, sid
 use Rattle.std.specs.Prelude.{int_le}
 use Rattle.box_layers.specs.Layers.{AreWithinGreatest}
 use Rattle.box_layers.specs.LayerLaws.{length-uppers}
-use Rattle.box_layers.specs.Places.{number_of, numbers_below}
-use Rattle.box_layers.specs.DigitLaws.{number-below, number-same, digit-below, digit-same}
+use Rattle.box_search.specs.Places.{number_of, numbers_below}
+use Rattle.box_search.proofs.DigitLemmas.{number-below, number-same, digit-below, digit-same}
 use Rattle.box_search.proofs.DifferentLemmas.{AreDifferent, different-few}
 
 -- of costs that add up below some numbers each is below them

@@ -6,8 +6,9 @@ ghost use Rattle.box_layers.specs.Layers.{AreGoodTotals};
 ghost use Rattle.total_marks.specs.Marks.{HasBit, MarksAreClosed};
 ghost use Rattle.box_search.specs.Told.{IsTold};
 
+use crate::places::greatest_states;
 use crate::retracing::retrace;
-use box_layers::{Layer, Layers, greatest_states, hit_of};
+use box_layers::{Layer, Layers, hit_of};
 use machine_core::{Explicit, Run};
 use search_hits::{Hit, Region};
 use std::alloc::{AllocError, Global};

@@ -11,7 +11,8 @@
 //! is a test that every edge and end passes on what is marked, by which no hit is missed, and a run through marked pairs
 //! that is made step by step from the machines' own moves. Where the marks would take too much room, or no such run is
 //! found, and where there are more registers, the machines are explored in turn as one machine, by breadth, over their
-//! states and what is spent so far at each register (`box_layers`).
+//! states and what is spent so far at each register (`box_layers`); what was seen stands in a table, which has a block
+//! for each machine, in it a row for each state, and in that a place for each totals.
 //!
 //! ```
 //! // A word of at most 20 characters, as long as twice a number from 0 to 8.
@@ -22,6 +23,8 @@
 
 mod by_marks;
 mod laws;
+mod layer_table;
+mod places;
 mod retracing;
 mod searching;
 

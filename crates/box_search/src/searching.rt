@@ -12,7 +12,9 @@ ghost use Rattle.box_layers.specs.Cuts.{IsRunOfAll};
 ghost use Rattle.box_layers.specs.declared.layer.Layer.{Layer};
 
 use crate::by_marks::{Told, by_marks};
-use box_layers::{Layer, LayerTable, Layers, TotalPlaces, hit_of};
+use crate::layer_table::LayerTable;
+use crate::places::TotalPlaces;
+use box_layers::{Layer, Layers, hit_of};
 use machine_core::{Explicit, Run};
 use search_hits::{Hit, Region};
 use std::alloc::{AllocError, Global};

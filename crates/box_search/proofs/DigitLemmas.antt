@@ -2,7 +2,7 @@
 use Rattle.std.proofs.Common.{◌≡◌, ℕ, zero, suc, ◌+◌, ◌*◌, ◌<◌, ◌≤◌, List, [], ◌∷◌, refl, ap, ◌∙◌, arith}
 use Rattle.std.proofs.Math.Nat.{mul-suc, mul-zero, mul-le-mul_left}
 use Rattle.box_layers.specs.Layers.{AreWithinGreatest}
-use Rattle.box_layers.specs.Places.{number_of, numbers_below}
+use Rattle.box_search.specs.Places.{number_of, numbers_below}
 
 -- a digit below its base, and what stands above it
 pub digit-below : (v b c p : ℕ) → v < b → c < p → v + b * c < b * p

@@ -1,6 +1,6 @@
 use Rattle.std.proofs.Common.{◌≡◌, ◌≤◌, drop, length}
-use Rattle.box_layers.specs.Places.{numbers_below}
-use Rattle.box_layers.proofs.places.points_of.Given as goal
+use Rattle.box_search.specs.Places.{numbers_below}
+use Rattle.box_search.proofs.places.points_of.Given as goal
 
 abbrev pub invariant-loop-at : goal.invariant-loop-at
 invariant-loop-at l = record {

@@ -1,7 +1,7 @@
 use Rattle.std.proofs.Common.{◌≡◌, ◌<◌, ◌∙◌, length, slice_set, Some, refl, subst}
-use Rattle.box_layers.specs.Places.{place_of}
-use Rattle.box_layers.proofs.TableLemmas.{index-more, index-place, index-other, layer-itself}
-use Rattle.box_layers.proofs.layer_table.LayerTableStateNumberingLayer.add.Goals as goal
+use Rattle.box_search.specs.Places.{place_of}
+use Rattle.box_search.proofs.TableLemmas.{index-more, index-place, index-other, layer-itself}
+use Rattle.box_search.proofs.layer_table.LayerTableStateNumberingLayer.add.Goals as goal
 
 pub invariant_of-self-in_default : goal.invariant_of-self-in_default
 invariant_of-self-in_default c =

@@ -4,8 +4,8 @@ use Rattle.std.proofs.lemmas.Option.{slice_get-get_or}
 use Rattle.std.proofs.lemmas.Nat.{mul-le}
 use Rattle.box_layers.specs.declared.layer.Layer.{Layer}
 use Rattle.box_layers.specs.Layers.{AreWithinGreatest}
-use Rattle.box_layers.specs.Places.{number_of, numbers_below, HasPlace, place_of}
-use Rattle.box_layers.specs.DigitLaws.{digit-below, digit-same, number-below, number-same}
+use Rattle.box_search.specs.Places.{number_of, numbers_below, HasPlace, place_of}
+use Rattle.box_search.proofs.DigitLemmas.{digit-below, digit-same, number-below, number-same}
 
 pub numbers-some : (us : List ℕ) → 1 ≤ numbers_below us
 numbers-some [] = omega arith

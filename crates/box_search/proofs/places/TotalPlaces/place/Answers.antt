@@ -1,7 +1,7 @@
 use Rattle.std.proofs.Common.{◌≡◌, ◌+◌, ◌*◌, refl, ◌∙◌, arith}
-use Rattle.box_layers.specs.Places.{HasPlace, place_of}
-use Rattle.box_layers.proofs.PlaceLemmas.{place-small}
-use Rattle.box_layers.proofs.places.TotalPlaces.place.Goals as goal
+use Rattle.box_search.specs.Places.{HasPlace, place_of}
+use Rattle.box_search.proofs.PlaceLemmas.{place-small}
+use Rattle.box_search.proofs.places.TotalPlaces.place.Goals as goal
 
 pub digits-row-requires : goal.digits-row-requires
 digits-row-requires c =

@@ -11,8 +11,8 @@ use Rattle.trim_search.specs.Explored.{HasNoRepeat}
 use Rattle.trim_search.proofs.TableLemmas.{set-same, set-other}
 use Rattle.box_layers.specs.declared.layer.Layer.{Layer}
 use Rattle.box_layers.specs.LayerOrder.{layer-same}
-use Rattle.box_layers.specs.Places.{layer_cmp, HasPlace, place_of, IsLayerIndex}
-use Rattle.box_layers.proofs.PlaceLemmas.{place-same}
+use Rattle.box_search.specs.Places.{layer_cmp, HasPlace, place_of, IsLayerIndex}
+use Rattle.box_search.proofs.PlaceLemmas.{place-same}
 
 pub layer-itself : (s : Layer) → is_eq (layer_cmp s s) ≡ true
 layer-itself s = rw (tied_itself nat_cmp_total s.machine, tied_itself nat_cmp_total s.state, tied_itself nat_list_cmp_total s.spent) refl

@@ -2,9 +2,9 @@
 ghost use Rattle.std.specs.Prelude.{◌≡◌, ◌+◌, ◌*◌, ◌<◌, ◌≤◌, ◌^◌, true, IfSome, MatchOption};
 ghost use Rattle.search_hits.specs.Regions.{greatest_states};
 ghost use Rattle.box_layers.specs.Layers.{AreWithinGreatest};
-ghost use Rattle.box_layers.specs.Places.{number_of, numbers_below, HasPlace, place_of};
+ghost use Rattle.box_search.specs.Places.{number_of, numbers_below, HasPlace, place_of};
 
-use crate::layer::Layer;
+use box_layers::Layer;
 use machine_core::Explicit;
 use std::alloc::{AllocError, Global};
 use sv_list::Items;

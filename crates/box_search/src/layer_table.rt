@@ -1,8 +1,8 @@
 //! Layers with their numbers, in the order in which they were found.
 ghost use Rattle.std.specs.Prelude.{◌≡◌, []};
 
-use crate::layer::Layer;
 use crate::places::TotalPlaces;
+use box_layers::Layer;
 use std::alloc::{AllocError, Global};
 use std::collections::BTreeMap;
 use std::marker::Model;
@@ -22,7 +22,7 @@ pub struct LayerTable {
 impl Model for LayerTable {
     ghost use Rattle.std.specs.Prelude.{List};
     ghost use Rattle.box_layers.specs.declared.layer.Layer.{Layer};
-    ghost use Rattle.box_layers.specs.Places.{IsLayerIndex};
+    ghost use Rattle.box_search.specs.Places.{IsLayerIndex};
 
     ghost Value = { List Layer };
 

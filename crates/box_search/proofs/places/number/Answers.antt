@@ -1,6 +1,6 @@
 use Rattle.std.proofs.Common.{◌^◌, arith}
-use Rattle.box_layers.proofs.PlaceLemmas.{few-before}
-use Rattle.box_layers.proofs.places.number.Goals as goal
+use Rattle.box_search.proofs.PlaceLemmas.{few-before}
+use Rattle.box_search.proofs.places.number.Goals as goal
 
 pub overflow_add-uppers : goal.overflow_add-uppers
 overflow_add-uppers c =

@@ -1,8 +1,8 @@
 use Rattle.std.proofs.Common.{◌≡◌, Some, slice_get, sym, subst}
 use Rattle.std.specs.BTreeMap.{get}
-use Rattle.box_layers.specs.Places.{layer_cmp}
-use Rattle.box_layers.proofs.TableLemmas.{find-table, find-other}
-use Rattle.box_layers.proofs.layer_table.LayerTableStateNumberingLayer.find.Goals as goal
+use Rattle.box_search.specs.Places.{layer_cmp}
+use Rattle.box_search.proofs.TableLemmas.{find-table, find-other}
+use Rattle.box_search.proofs.layer_table.LayerTableStateNumberingLayer.find.Goals as goal
 
 pub returns-in_default : goal.returns-in_default
 returns-in_default c =

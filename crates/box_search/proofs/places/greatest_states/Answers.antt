@@ -3,7 +3,7 @@ use Rattle.std.specs.Prelude.{Contains}
 use Rattle.std.proofs.lemmas.List.Elements.{Contains-get_or}
 use Rattle.machine_core.specs.CostLaws.{top_by-at}
 use Rattle.machine_core.specs.declared.graph.Graph.{Graph}
-use Rattle.box_layers.proofs.places.greatest_states.Goals as goal
+use Rattle.box_search.proofs.places.greatest_states.Goals as goal
 
 pub loop-machine-preserved : goal.loop-machine-preserved
 loop-machine-preserved c =

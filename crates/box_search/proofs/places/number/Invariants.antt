@@ -1,7 +1,7 @@
 use Rattle.std.proofs.Common.{◌≡◌, ◌≤◌, drop, length}
 use Rattle.box_layers.specs.Layers.{AreWithinGreatest}
-use Rattle.box_layers.specs.Places.{number_of}
-use Rattle.box_layers.proofs.places.number.Given as goal
+use Rattle.box_search.specs.Places.{number_of}
+use Rattle.box_search.proofs.places.number.Given as goal
 
 abbrev pub invariant-loop-at : goal.invariant-loop-at
 invariant-loop-at l = record {
