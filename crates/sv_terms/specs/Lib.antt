@@ -12,6 +12,7 @@ pub mod PatternLaws
 pub mod Replacement
 pub mod ReplacementLaws
 pub mod Sorting
+pub mod SortingLaws
 pub mod TransducerSizes
 pub mod TransducerSizeLaws
 pub mod Transduction

@@ -47,7 +47,7 @@ pub use limits::{
 pub use model::Model;
 pub use name::Name;
 pub use op::Op;
-pub use regex::Regex;
+pub use regex::{Regex, copy_regexes};
 pub use sort::Sort;
 pub use symbols::Symbols;
 pub use term::Term;
