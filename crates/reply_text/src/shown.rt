@@ -1,16 +1,13 @@
 //! The texts of the parts of replies. Each function adds its text at the end.
 ghost use Rattle.std.specs.Prelude.{◌≡◌, ◌++◌, codes, map, OnOk};
 ghost use Rattle.std.specs.Fmt.{decimal};
-ghost use Rattle.std.specs.List.{list_all};
-ghost use Rattle.sexpr_reader.specs.Bytes.{is_digit, is_symbol_byte};
-ghost use Rattle.sexpr_reader.specs.Tokens.{is_symbol};
 ghost use Rattle.reply_text.specs.Replies.{cause_text, cube_cause_text, definition_text, error_text, info_text, name_text, number_text, numbered, pair_text, sexpr_text, sort_text, spaced, truth_text, value_text};
 
 use crate::cause::{Cause, CubeCause};
 use crate::error_kind::ErrorKind;
 use crate::info::Info;
 use itoa::Buffer;
-use sexpr_reader::Sexpr;
+use sexpr_reader::{Sexpr, is_symbol};
 use std::alloc::{AllocError, Global};
 use sv_terms::{Name, Sort, Value};
 use sv_word::print_literal;
@@ -22,59 +19,6 @@ fn decimal(text: &mut Text, n: u64) -> Result<(), AllocError>
 {
     let mut digits = Buffer::new();
     text.extend_from_slice(digits.format(n).as_bytes())
-}
-
-fn is_digit(byte: u8) -> bool
-    ensures { result ≡ is_digit byte }
-{
-    byte >= b'0' && byte <= b'9'
-}
-
-// Whether a symbol may hold the byte.
-fn is_symbol_byte(byte: u8) -> bool
-    ensures { result ≡ is_symbol_byte byte }
-{
-    is_digit(byte)
-        || (byte >= b'A' && byte <= b'Z')
-        || (byte >= b'a' && byte <= b'z')
-        || byte == b'~'
-        || byte == b'!'
-        || byte == b'@'
-        || byte == b'$'
-        || byte == b'%'
-        || byte == b'^'
-        || byte == b'&'
-        || byte == b'*'
-        || byte == b'_'
-        || byte == b'-'
-        || byte == b'+'
-        || byte == b'='
-        || byte == b'<'
-        || byte == b'>'
-        || byte == b'.'
-        || byte == b'?'
-        || byte == b'/'
-}
-
-fn are_symbol_bytes(bytes: &[u8]) -> bool
-    ensures { result ≡ list_all is_symbol_byte bytes.now }
-{
-    for byte in bytes {
-        if !is_symbol_byte(*byte) {
-            return false;
-        }
-    }
-    true
-}
-
-// Whether the name is a simple symbol.
-fn is_symbol(name: &[u8]) -> bool
-    ensures { result ≡ is_symbol name.now }
-{
-    match name {
-        [] => false,
-        [first, ..] => !is_digit(*first) && are_symbol_bytes(name),
-    }
 }
 
 fn name(text: &mut Text, name: &Name) -> Result<(), AllocError>

@@ -36,5 +36,6 @@ pub use laws::{
     lists_are_whole, more_bytes_may_follow, parts_are_formed, pieces_join, reading_is_unique,
 };
 pub use reader::Reader;
-pub use sexpr::Sexpr;
+pub use sexpr::{Sexpr, copy_sexprs};
 pub use syntax_fault::SyntaxFault;
+pub use token_kind::is_symbol;

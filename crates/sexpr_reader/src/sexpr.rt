@@ -24,13 +24,14 @@ impl Sexpr {
                 *kind,
                 Items::from_slice(alloc, bytes.as_slice())?,
             )),
-            Sexpr::List(items) => Ok(Sexpr::List(copy_all(alloc, items.as_slice())?)),
+            Sexpr::List(items) => Ok(Sexpr::List(copy_sexprs(alloc, items.as_slice())?)),
         }
     }
 }
 
+/// The same s-expressions. It takes time and memory in their sizes, and a frame a level of nesting.
 #[cycle(copy)]
-fn copy_all(alloc: Global, items: &[Sexpr]) -> Result<Items<Sexpr>, AllocError>
+pub fn copy_sexprs(alloc: Global, items: &[Sexpr]) -> Result<Items<Sexpr>, AllocError>
     ensures { IfOk result (λ all. all ≡ items.now) }
 {
     let mut all = Items::new(alloc);

@@ -98,7 +98,8 @@ fn are_decimal_parts(whole: &[u8], part: &[u8]) -> bool
     is_numeral(whole) && are_some_digits(part)
 }
 
-fn is_symbol(bytes: &[u8]) -> bool
+/// Whether the bytes are a simple symbol, which needs no bars around it (SMT-LIB 2.6, section 3.1).
+pub fn is_symbol(bytes: &[u8]) -> bool
     ensures { result ≡ is_symbol bytes.now }
 {
     match bytes {
