@@ -9,7 +9,7 @@ use crate::build::{
 use crate::nullable::is_nullable;
 use std::alloc::{AllocError, Global};
 use sv_list::Items;
-use sv_terms::Regex;
+use sv_terms::{Regex, copy_regexes};
 use sv_word::{GREATEST_CHARACTER, Word};
 
 /// What is left of it once the character is read, by cases on its form.
@@ -128,16 +128,6 @@ fn derive_text(alloc: Global, text: &Word, c: u32) -> Result<Regex, AllocError>
     }
 }
 
-fn copies(alloc: Global, rs: &[Regex]) -> Result<Items<Regex>, AllocError>
-    ensures { IfOk result (λ all. all ≡ rs.now) }
-{
-    let mut all = Items::new(alloc);
-    for r in rs {
-        all.push(r.copy(alloc)?)?;
-    }
-    Ok(all)
-}
-
 #[tactic(auto, using(crate::proofs::Derives::derives))]
 fn rest_in_turn(alloc: Global, rs: &[Regex]) -> Result<Regex, AllocError>
     ensures { IfOk result (λ d. SameWords d (Concat rs.now)) }
@@ -145,7 +135,7 @@ fn rest_in_turn(alloc: Global, rs: &[Regex]) -> Result<Regex, AllocError>
     match rs {
         [] => Ok(empty_word(alloc)),
         [r] => Ok(r.copy(alloc)?),
-        _ => Ok(Regex::Concat(copies(alloc, rs)?)),
+        _ => Ok(Regex::Concat(copy_regexes(alloc, rs)?)),
     }
 }
 
