@@ -3,3 +3,4 @@ pub mod Numbers
 pub mod Formed
 pub mod Combined
 pub mod Checked
+pub mod Heads

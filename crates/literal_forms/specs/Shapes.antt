@@ -2,9 +2,7 @@
 use Rattle.std.specs.Prelude.{ℕ, ℤ, Bool, List, [], ◌∷◌}
 use Rattle.sv_terms.specs.Language.{Word}
 use Rattle.sv_terms.specs.declared.op.Op.{Op}
-use Rattle.literal_forms.specs.Roles.{role_of}
-use Rattle.literal_forms.specs.declared.roles.Role.{Role}
-use Rattle.literal_forms.specs.declared.roles.Role.TheVariants as role
+use Rattle.sv_terms.specs.Sorting.{op_sort}
 use Rattle.sv_terms.specs.declared.regex.Regex.{Regex}
 use Rattle.sv_terms.specs.declared.sort.Sort.{Sort}
 use Rattle.sv_terms.specs.declared.sort.Sort.TheVariants as sort
@@ -63,20 +61,6 @@ abbrev mutual
   pub raws : Shapes → List Term
   raws end = []
   raws (s ⨾ ss) = raw s ∷ raws ss
-
--- the sort that a function with a meaning gives
-abbrev pub sort_by : Role → Sort
-sort_by role.Connective = sort.Bool
-sort_by role.Equality = sort.Bool
-sort_by role.Distinct = sort.Bool
-sort_by (role.Order o) = sort.Bool
-sort_by (role.Joined j) = sort.Int
-sort_by role.Length = sort.Int
-sort_by (role.Built b) = sort.String
-sort_by (role.Test t) = sort.Bool
-
-abbrev pub op_sort : Op → Sort
-op_sort o = sort_by (role_of o)
 
 -- the sort of a term whose functions stand at arguments of their ranks
 abbrev pub head_sort : Shape → Sort
