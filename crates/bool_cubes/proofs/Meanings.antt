@@ -18,9 +18,9 @@ use Rattle.sv_terms.specs.declared.term.Term.TheVariants as term
 use Rattle.sv_terms.specs.declared.term.Term.TheOpen.{Term-F}
 use Rattle.sv_terms.specs.declared.term.Term.TheFolds.{fold-Term, map-Term, fold-roll-Term}
 use Rattle.sv_terms.specs.Meaning.{Named, all_of, each_of, truth_of, number_of, same_truth, same_value, chained, pairwise, exclusive, implied, applied, applied_if, of_truths, of_numbers, val, val_step}
-use Rattle.sv_terms.specs.Sorting.{kind, same_sort, applied_sort, applied_sort_if, tested_sort, related_sort, sort_step, sort_of, valued_step, is_valued}
+use Rattle.sv_terms.specs.Sorting.{kind, same_sort, applied_sort, applied_sort_if, tested_sort, related_sort, sort_step, sort_of, valued_step, is_valued, op_sort}
 use Rattle.sv_terms.specs.Parts.{opaque_step, is_opaque}
-use Rattle.literal_forms.specs.Shapes.{Shape, Shapes, truth, number, text, constant, apply, member, related as pair, opaque, end, ◌⨾◌, raw, raws, op_sort}
+use Rattle.literal_forms.specs.Shapes.{Shape, Shapes, truth, number, text, constant, apply, member, related as pair, opaque, end, ◌⨾◌, raw, raws}
 use Rattle.literal_forms.specs.Shapes as shape
 use Rattle.bool_cubes.specs.Trees.{Formula, Part, negated, conjunction, disjunction, choice, comparison, equal_numbers, equal, equal_at, chain, formulas, neighbours, pairs, formula, parts}
 use Rattle.bool_cubes.specs.Trees as tree
