@@ -1,7 +1,6 @@
-// The names of the functions, sorts and commands, each found by its length and bytes.
-ghost use Rattle.std.specs.Prelude.{◌≡◌, ◌++◌, Some};
-ghost use Rattle.sv_terms.specs.declared.sort.Sort.TheVariants.{Bool, RegLan};
-ghost use Rattle.smt_names.specs.declared.function.Interpretation.TheVariants.{Meaning, Opaque};
+// The names of the functions, sorts and commands, each found in a table.
+ghost use Rattle.std.specs.Prelude.{◌≡◌};
+ghost use Rattle.std.specs.List.{list_any};
 ghost use Rattle.std.specs.Map.{lookup};
 ghost use Rattle.smt_names.specs.Form.{seen};
 ghost use Rattle.smt_names.specs.Tokens as t;
@@ -14,254 +13,143 @@ use crate::verb::CommandName;
 use sexpr_reader::Sexpr;
 use sv_terms::{Op, Sort};
 
-fn rank(takes: ArgumentSorts, gives: Sort, sense: Interpretation) -> Option<Function>
-    ensures { result ≡ Some (s.function takes gives sense) }
-{
-    Some(Function {
-        takes,
-        gives,
-        sense,
-    })
-}
-
-fn relation(takes: ArgumentSorts, op: Op) -> Option<Function>
-    ensures { result ≡ Some (s.function takes Bool (Meaning op)) }
-{
-    rank(takes, Sort::Bool, Interpretation::Meaning(op))
-}
-
-fn opaque(takes: ArgumentSorts, gives: Sort) -> Option<Function>
-    ensures { result ≡ Some (s.function takes gives Opaque) }
-{
-    rank(takes, gives, Interpretation::Opaque)
-}
-
-fn language(takes: ArgumentSorts, sense: Interpretation) -> Option<Function>
-    ensures { result ≡ Some (s.function takes RegLan sense) }
-{
-    rank(takes, Sort::RegLan, sense)
-}
-
-/// The function of the theory Core of this name.
-fn core(name: &[u8]) -> Option<Function>
-    ensures { result ≡ lookup (s.same_name name.now) s.core }
-{
-    match name {
-        b"true" => rank(
-            ArgumentSorts::Nothing,
-            Sort::Bool,
-            Interpretation::Truth(true),
-        ),
-        b"false" => rank(
-            ArgumentSorts::Nothing,
-            Sort::Bool,
-            Interpretation::Truth(false),
-        ),
-        b"not" => relation(ArgumentSorts::One(Sort::Bool), Op::Not),
-        b"and" => relation(ArgumentSorts::Each(Sort::Bool), Op::And),
-        b"or" => relation(ArgumentSorts::Each(Sort::Bool), Op::Or),
-        b"xor" => relation(ArgumentSorts::Many(Sort::Bool), Op::Xor),
-        b"=>" => relation(ArgumentSorts::Many(Sort::Bool), Op::Implies),
-        b"=" => rank(
-            ArgumentSorts::Alike,
-            Sort::Bool,
-            Interpretation::Equality(Op::Equal),
-        ),
-        b"distinct" => rank(
-            ArgumentSorts::Alike,
-            Sort::Bool,
-            Interpretation::Equality(Op::Distinct),
-        ),
-        b"ite" => rank(ArgumentSorts::Choice, Sort::Bool, Interpretation::Choice),
-        _ => None,
-    }
-}
-
-/// The function of the theory Ints of this name.
-fn integers(name: &[u8]) -> Option<Function>
-    ensures { result ≡ lookup (s.same_name name.now) s.integers }
-{
-    let each = ArgumentSorts::Each(Sort::Int);
-    let many = ArgumentSorts::Many(Sort::Int);
-    match name {
-        b"<=" => relation(many, Op::LessEqual),
-        b"<" => relation(many, Op::Less),
-        b">=" => relation(many, Op::GreaterEqual),
-        b">" => relation(many, Op::Greater),
-        b"+" => rank(each, Sort::Int, Interpretation::Meaning(Op::Add)),
-        b"-" => rank(each, Sort::Int, Interpretation::Meaning(Op::Subtract)),
-        b"*" => rank(each, Sort::Int, Interpretation::Product),
-        b"div" => opaque(many, Sort::Int),
-        b"mod" => opaque(ArgumentSorts::Two(Sort::Int, Sort::Int), Sort::Int),
-        b"abs" => opaque(ArgumentSorts::One(Sort::Int), Sort::Int),
-        _ => None,
-    }
-}
-
-/// The function of words with a meaning of this name.
-fn words(name: &[u8]) -> Option<Function>
-    ensures { result ≡ lookup (s.same_name name.now) s.words }
-{
-    let one = ArgumentSorts::One(Sort::String);
-    let each = ArgumentSorts::Each(Sort::String);
-    let member = ArgumentSorts::Two(Sort::String, Sort::RegLan);
-    match name {
-        b"str.len" => rank(one, Sort::Int, Interpretation::Meaning(Op::Length)),
-        b"str.++" => rank(each, Sort::String, Interpretation::Meaning(Op::Concat)),
-        b"str.is_digit" => relation(one, Op::IsDigit),
-        b"str.in_re" => rank(member, Sort::Bool, Interpretation::Membership),
-        _ => None,
-    }
-}
-
-/// The relation of words in words of this name.
-fn relations(name: &[u8]) -> Option<Function>
-    ensures { result ≡ lookup (s.same_name name.now) s.relations }
-{
-    let two = ArgumentSorts::Two(Sort::String, Sort::String);
-    if name == b"str.prefixof".as_slice() {
-        return relation(two, Op::PrefixOf);
-    }
-    if name == b"str.suffixof".as_slice() {
-        return relation(two, Op::SuffixOf);
-    }
-    if name == b"str.contains".as_slice() {
-        return relation(two, Op::Contains);
-    }
-    None
-}
-
-/// The replacement of this name.
-fn replacements(name: &[u8]) -> Option<Function>
-    ensures { result ≡ lookup (s.same_name name.now) s.replacements }
-{
-    let words = ArgumentSorts::Three(Sort::String, Sort::String, Sort::String);
-    let language = ArgumentSorts::Three(Sort::String, Sort::RegLan, Sort::String);
-    match name {
-        b"str.replace" => rank(
-            words,
-            Sort::String,
-            Interpretation::Replacement(Op::Replace),
-        ),
-        b"str.replace_all" => rank(
-            words,
-            Sort::String,
-            Interpretation::Replacement(Op::ReplaceAll),
-        ),
-        b"str.replace_re" => opaque(language, Sort::String),
-        b"str.replace_re_all" => opaque(language, Sort::String),
-        _ => None,
-    }
-}
-
-/// The function of places in words of this name.
-fn places(name: &[u8]) -> Option<Function>
-    ensures { result ≡ lookup (s.same_name name.now) s.places }
-{
-    if name == b"str.at".as_slice() {
-        return opaque(ArgumentSorts::Two(Sort::String, Sort::Int), Sort::String);
-    }
-    if name == b"str.substr".as_slice() {
-        return opaque(
-            ArgumentSorts::Three(Sort::String, Sort::Int, Sort::Int),
-            Sort::String,
-        );
-    }
-    if name == b"str.indexof".as_slice() {
-        return opaque(
-            ArgumentSorts::Three(Sort::String, Sort::String, Sort::Int),
-            Sort::Int,
-        );
-    }
-    None
-}
-
-/// The order of words, or the conversion, of this name.
-fn conversions(name: &[u8]) -> Option<Function>
-    ensures { result ≡ lookup (s.same_name name.now) s.conversions }
-{
-    if name == b"str.<".as_slice() || name == b"str.<=".as_slice() {
-        return opaque(ArgumentSorts::Many(Sort::String), Sort::Bool);
-    }
-    if name == b"str.to_code".as_slice() || name == b"str.to_int".as_slice() {
-        return opaque(ArgumentSorts::One(Sort::String), Sort::Int);
-    }
-    if name == b"str.from_code".as_slice() || name == b"str.from_int".as_slice() {
-        return opaque(ArgumentSorts::One(Sort::Int), Sort::String);
-    }
-    None
-}
-
-/// The regular expression of this name.
-fn languages(name: &[u8]) -> Option<Function>
-    ensures { result ≡ lookup (s.same_name name.now) s.languages }
-{
-    let one = ArgumentSorts::One(Sort::RegLan);
-    let each = ArgumentSorts::Each(Sort::RegLan);
-    match name {
-        b"str.to_re" => language(ArgumentSorts::One(Sort::String), Interpretation::TextOf),
-        b"re.none" => language(ArgumentSorts::Nothing, Interpretation::Empty),
-        b"re.all" => language(ArgumentSorts::Nothing, Interpretation::All),
-        b"re.allchar" => language(ArgumentSorts::Nothing, Interpretation::AnyChar),
-        b"re.++" => language(each, Interpretation::Concat),
-        b"re.union" => language(each, Interpretation::Union),
-        b"re.inter" => language(each, Interpretation::Inter),
-        b"re.*" => language(one, Interpretation::Star),
-        b"re.+" => language(one, Interpretation::Plus),
-        b"re.opt" => language(one, Interpretation::Opt),
-        b"re.comp" => language(one, Interpretation::Comp),
-        b"re.diff" => language(ArgumentSorts::Many(Sort::RegLan), Interpretation::Diff),
-        b"re.range" => language(
-            ArgumentSorts::Two(Sort::String, Sort::String),
-            Interpretation::Range,
-        ),
-        _ => None,
-    }
-}
-
-/// The function of places, conversion or regular expression of this name.
-#[tactic(auto, using(crate::specs::Lookups::lookups))]
-fn of_places(name: &[u8]) -> Option<Function>
-    ensures { result ≡ lookup (s.same_name name.now) (s.places ++ s.conversions ++ s.languages) }
-{
-    match places(name) {
-        Some(f) => Some(f),
-        None => match conversions(name) {
-            Some(f) => Some(f),
-            None => languages(name),
-        },
-    }
-}
-
-/// The function of words or regular expression of this name.
-#[tactic(auto, using(crate::specs::Lookups::lookups))]
-fn of_strings(name: &[u8]) -> Option<Function>
-    ensures { result ≡ lookup (s.same_name name.now) (s.words ++ s.relations ++ s.replacements ++ s.places ++ s.conversions ++ s.languages) }
-{
-    match words(name) {
-        Some(f) => Some(f),
-        None => match relations(name) {
-            Some(f) => Some(f),
-            None => match replacements(name) {
-                Some(f) => Some(f),
-                None => of_places(name),
+// Rows of a table of functions: the name, the sorts of the arguments, the sort that it gives, and what it is.
+macro_rules! rows {
+    ($($name:literal: $takes:ident $(($($sort:ident),*))? => $gives:ident, $sense:ident $(($of:expr))?;)*) => {
+        [$((
+            $name,
+            Function {
+                takes: ArgumentSorts::$takes $(($(Sort::$sort),*))?,
+                gives: Sort::$gives,
+                sense: Interpretation::$sense $(($of))?,
             },
-        },
+        )),*]
+    };
+}
+
+// The functions without an index.
+static SIGNATURE: [(&[u8], Function); 53] = rows! {
+    // the theory Core
+    b"true": Nothing => Bool, Truth(true);
+    b"false": Nothing => Bool, Truth(false);
+    b"not": One(Bool) => Bool, Meaning(Op::Not);
+    b"and": Each(Bool) => Bool, Meaning(Op::And);
+    b"or": Each(Bool) => Bool, Meaning(Op::Or);
+    b"xor": Many(Bool) => Bool, Meaning(Op::Xor);
+    b"=>": Many(Bool) => Bool, Meaning(Op::Implies);
+    b"=": Alike => Bool, Equality(Op::Equal);
+    b"distinct": Alike => Bool, Equality(Op::Distinct);
+    b"ite": Choice => Bool, Choice;
+    // the theory Ints
+    b"<=": Many(Int) => Bool, Meaning(Op::LessEqual);
+    b"<": Many(Int) => Bool, Meaning(Op::Less);
+    b">=": Many(Int) => Bool, Meaning(Op::GreaterEqual);
+    b">": Many(Int) => Bool, Meaning(Op::Greater);
+    b"+": Each(Int) => Int, Meaning(Op::Add);
+    b"-": Each(Int) => Int, Meaning(Op::Subtract);
+    b"*": Each(Int) => Int, Product;
+    b"div": Many(Int) => Int, Opaque;
+    b"mod": Two(Int, Int) => Int, Opaque;
+    b"abs": One(Int) => Int, Opaque;
+    // the theory UnicodeStrings: words that have a meaning here
+    b"str.len": One(String) => Int, Meaning(Op::Length);
+    b"str.++": Each(String) => String, Meaning(Op::Concat);
+    b"str.is_digit": One(String) => Bool, Meaning(Op::IsDigit);
+    b"str.in_re": Two(String, RegLan) => Bool, Membership;
+    // the theory UnicodeStrings: words in words
+    b"str.prefixof": Two(String, String) => Bool, Meaning(Op::PrefixOf);
+    b"str.suffixof": Two(String, String) => Bool, Meaning(Op::SuffixOf);
+    b"str.contains": Two(String, String) => Bool, Meaning(Op::Contains);
+    // the theory UnicodeStrings: replacements; those by languages are read and sorted alone
+    b"str.replace": Three(String, String, String) => String, Replacement(Op::Replace);
+    b"str.replace_all": Three(String, String, String) => String, Replacement(Op::ReplaceAll);
+    b"str.replace_re": Three(String, RegLan, String) => String, Opaque;
+    b"str.replace_re_all": Three(String, RegLan, String) => String, Opaque;
+    // the theory UnicodeStrings: places in words, which are read and sorted alone
+    b"str.at": Two(String, Int) => String, Opaque;
+    b"str.substr": Three(String, Int, Int) => String, Opaque;
+    b"str.indexof": Three(String, String, Int) => Int, Opaque;
+    // the theory UnicodeStrings: the order of words, and conversions, which are read and sorted alone
+    b"str.<": Many(String) => Bool, Opaque;
+    b"str.<=": Many(String) => Bool, Opaque;
+    b"str.to_code": One(String) => Int, Opaque;
+    b"str.to_int": One(String) => Int, Opaque;
+    b"str.from_code": One(Int) => String, Opaque;
+    b"str.from_int": One(Int) => String, Opaque;
+    // the theory UnicodeStrings: regular expressions
+    b"str.to_re": One(String) => RegLan, TextOf;
+    b"re.none": Nothing => RegLan, Empty;
+    b"re.all": Nothing => RegLan, All;
+    b"re.allchar": Nothing => RegLan, AnyChar;
+    b"re.++": Each(RegLan) => RegLan, Concat;
+    b"re.union": Each(RegLan) => RegLan, Union;
+    b"re.inter": Each(RegLan) => RegLan, Inter;
+    b"re.*": One(RegLan) => RegLan, Star;
+    b"re.+": One(RegLan) => RegLan, Plus;
+    b"re.opt": One(RegLan) => RegLan, Opt;
+    b"re.comp": One(RegLan) => RegLan, Comp;
+    b"re.diff": Many(RegLan) => RegLan, Diff;
+    b"re.range": Two(String, String) => RegLan, Range;
+};
+
+static VERBS: [(&[u8], CommandName); 18] = [
+    (b"set-logic", CommandName::SetLogic),
+    (b"set-info", CommandName::SetInfo),
+    (b"set-option", CommandName::SetOption),
+    (b"declare-const", CommandName::DeclareConst),
+    (b"declare-fun", CommandName::DeclareFun),
+    (b"define-fun", CommandName::DefineFun),
+    (b"define-transducer", CommandName::DefineTransducer),
+    (b"assert", CommandName::Assert),
+    (b"get-value", CommandName::GetValue),
+    (b"push", CommandName::Push),
+    (b"pop", CommandName::Pop),
+    (b"check-sat", CommandName::CheckSat),
+    (b"get-model", CommandName::GetModel),
+    (b"get-info", CommandName::GetInfo),
+    (b"echo", CommandName::Echo),
+    (b"reset", CommandName::Reset),
+    (b"reset-assertions", CommandName::ResetAssertions),
+    (b"exit", CommandName::Exit),
+];
+
+static INDEXED_NAMES: [&[u8]; 3] = [b"re.^", b"re.loop", b"char"];
+
+static TERM_WORDS: [&[u8]; 8] = [
+    b"!", b"_", b"as", b"exists", b"forall", b"let", b"match", b"par",
+];
+
+static SORTS: [(&[u8], Sort); 4] = [
+    (b"Bool", Sort::Bool),
+    (b"Int", Sort::Int),
+    (b"String", Sort::String),
+    (b"RegLan", Sort::RegLan),
+];
+
+/// Whether the name is one of these, in time linear in their number.
+fn stands_in(names: &[&[u8]], name: &[u8]) -> bool
+    ensures { result ≡ list_any (λ n. s.same_name name.now n.now) names.now }
+{
+    names.iter().any(|n| name == *n)
+}
+
+/// What stands beside the name in a table, in time linear in the table.
+fn find<T: Copy>(table: &[(&[u8], T)], name: &[u8]) -> Option<T>
+    ensures { result ≡ lookup (λ n. s.same_name name.now n.now) table.now }
+{
+    for row in table {
+        if name == row.0 {
+            return Some(row.1);
+        }
     }
+    None
 }
 
 /// The function of this name, if it has no index. It takes a bounded number of comparisons.
-#[tactic(auto, using(crate::specs::Lookups::lookups))]
 pub fn function(name: &[u8]) -> Option<Function>
     ensures { result ≡ lookup (s.same_name name.now) s.signature }
 {
-    match core(name) {
-        Some(f) => Some(f),
-        None => match integers(name) {
-            Some(f) => Some(f),
-            None => of_strings(name),
-        },
-    }
+    find(&SIGNATURE, name)
 }
 
 /// `((_ re.loop i j) r)`, and with one number twice `((_ re.^ n) r)`.
@@ -290,28 +178,13 @@ pub fn character(c: u32) -> Function
 pub fn is_indexed(name: &[u8]) -> bool
     ensures { result ≡ s.stands_in s.indexed_names name.now }
 {
-    match name {
-        b"re.^" => true,
-        b"re.loop" => true,
-        b"char" => true,
-        _ => false,
-    }
+    stands_in(&INDEXED_NAMES, name)
 }
 
 fn is_term_word(name: &[u8]) -> bool
     ensures { result ≡ s.stands_in s.term_words name.now }
 {
-    match name {
-        b"!" => true,
-        b"_" => true,
-        b"as" => true,
-        b"exists" => true,
-        b"forall" => true,
-        b"let" => true,
-        b"match" => true,
-        b"par" => true,
-        _ => false,
-    }
+    stands_in(&TERM_WORDS, name)
 }
 
 /// Whether the name can't be declared.
@@ -324,13 +197,7 @@ pub fn is_reserved(name: &[u8]) -> bool
 fn named_sort(name: &[u8]) -> Option<Sort>
     ensures { result ≡ lookup (s.same_name name.now) s.sorts }
 {
-    match name {
-        b"Bool" => Some(Sort::Bool),
-        b"Int" => Some(Sort::Int),
-        b"String" => Some(Sort::String),
-        b"RegLan" => Some(Sort::RegLan),
-        _ => None,
-    }
+    find(&SORTS, name)
 }
 
 /// The sort, if it is a known one.
@@ -363,47 +230,9 @@ pub fn truth(item: &Sexpr) -> Option<bool>
     }
 }
 
-fn session_verb(word: &[u8]) -> Option<CommandName>
-    ensures { result ≡ lookup (s.same_name word.now) v.session_verbs }
-{
-    match word {
-        b"push" => Some(CommandName::Push),
-        b"pop" => Some(CommandName::Pop),
-        b"check-sat" => Some(CommandName::CheckSat),
-        b"get-model" => Some(CommandName::GetModel),
-        b"get-info" => Some(CommandName::GetInfo),
-        b"echo" => Some(CommandName::Echo),
-        b"reset" => Some(CommandName::Reset),
-        b"reset-assertions" => Some(CommandName::ResetAssertions),
-        b"exit" => Some(CommandName::Exit),
-        _ => None,
-    }
-}
-
-fn script_verb(word: &[u8]) -> Option<CommandName>
-    ensures { result ≡ lookup (s.same_name word.now) v.script_verbs }
-{
-    match word {
-        b"set-logic" => Some(CommandName::SetLogic),
-        b"set-info" => Some(CommandName::SetInfo),
-        b"set-option" => Some(CommandName::SetOption),
-        b"declare-const" => Some(CommandName::DeclareConst),
-        b"declare-fun" => Some(CommandName::DeclareFun),
-        b"define-fun" => Some(CommandName::DefineFun),
-        b"define-transducer" => Some(CommandName::DefineTransducer),
-        b"assert" => Some(CommandName::Assert),
-        b"get-value" => Some(CommandName::GetValue),
-        _ => None,
-    }
-}
-
 /// The command of this word.
-#[tactic(auto, using(crate::specs::Lookups::lookups))]
 pub fn verb(word: &[u8]) -> Option<CommandName>
     ensures { result ≡ lookup (s.same_name word.now) v.verbs }
 {
-    match script_verb(word) {
-        Some(verb) => Some(verb),
-        None => session_verb(word),
-    }
+    find(&VERBS, word)
 }
