@@ -150,11 +150,19 @@ module _ (a b c : List CubeNode) (l r : NodePair) (f g : Formula) (h k : ℕ) wh
       let y' = stands_longer a b r g p.longer y in
       two_added a b c h k _ _ (conjoined f g) p q (λ i. both (x.holds i) (y.holds i)) (λ i. either (x'.fails i) (y'.fails i))
 
-  pub or_added : HasBothTrees a l f → HasBothTrees a r g → IsAddedNode a b h (either (tree_at a l.holding) (tree_at a r.holding)) → IsAddedNode b c k (both (tree_at b l.failing) (tree_at b r.failing)) → IsPlanned a c (record { holding = h; failing = k }) (disjoined f g)
-  or_added x y p q =
-      let x' = stands_longer a b l f p.longer x in
-      let y' = stands_longer a b r g p.longer y in
-      two_added a b c h k _ _ (disjoined f g) p q (λ i. either (x.holds i) (y.holds i)) (λ i. both (x'.fails i) (y'.fails i))
+-- the nodes of a negation
+turned_trees : (a : List CubeNode) (s t : NodePair) (f : Formula) → t.holding ≡ s.failing → t.failing ≡ s.holding → HasBothTrees a s f → HasBothTrees a t (negated f)
+turned_trees a s t f i j h = record {
+  holding = let w = h.failing in omega arith;
+  failing = let w = h.holding in omega arith;
+  holds = ap (tree_at a) i ∙ h.fails;
+  fails = ap (tree_at a) j ∙ h.holds;
+}
+
+pub or_by_and : (a b : List CubeNode) (l r m n s t : NodePair) (f g : Formula) → m.holding ≡ l.failing → m.failing ≡ l.holding → n.holding ≡ r.failing → n.failing ≡ r.holding → t.holding ≡ s.failing → t.failing ≡ s.holding
+    → ((f g : Formula) → HasBothTrees a m f → HasBothTrees a n g → IsPlanned a b s (conjoined f g)) → HasBothTrees a l f → HasBothTrees a r g → IsPlanned a b t (disjoined f g)
+or_by_and a b l r m n s t f g i j k h d e p x y =
+    relabelled a b t (negated (conjoined (negated f) (negated g))) (disjoined f g) (turned a b s t _ (p (negated f) (negated g) (turned_trees a l m f i j x) (turned_trees a r n g k h y)) d e) refl refl
 
 abbrev pub ways : List CubeNode → ℕ → ℕ → ℕ → ℕ → Tree
 ways ns i j k l = either (both (tree_at ns i) (tree_at ns j)) (both (tree_at ns k) (tree_at ns l))
@@ -203,12 +211,7 @@ implication_added a b c d l r n m o t f g x y p h i j k =
     let q = h g (fixed false) (stands_longer a b r g p.longer y) p.stands in
     let ac = longer_trans a b c p.longer q.longer in
     let z = stands_longer a c l f ac x in
-    let z' : HasBothTrees c t (negated f) = record {
-      holding = let w = z.failing in omega arith;
-      failing = let w = z.holding in omega arith;
-      holds = ap (tree_at c) i ∙ z.fails;
-      fails = ap (tree_at c) j ∙ z.holds;
-    } in
+    let z' = turned_trees c l t f i j z in
     let w = k (negated f) (disjoined g (fixed false)) z' q.stands in
     relabelled a d o (disjoined (negated f) (disjoined g (fixed false))) (implication f g) (planned_trans a c d o _ ac w) refl refl
 

@@ -107,25 +107,48 @@ impl Plan {
         Ok(if value { sides } else { sides.negation() })
     }
 
-    /// The nodes of a term that is a literal.
-    #[tactic(auto, using(crate::proofs::Plans::two_added))]
-    pub fn atom(&mut self, alloc: Global, term: Term) -> Result<NodePair, AllocError>
+    // The node of a term as a literal.
+    fn plan_literal(
+        &mut self,
+        alloc: Global,
+        term: &Term,
+        positive: bool,
+    ) -> Result<usize, AllocError>
         requires { IsPlan self.old.nodes }
-        ensures { IfOk result (λ s. IsPlanned self.old.nodes self.new.nodes s (atom term)) }
+        ensures { IfOk result (λ k. IsAddedNode self.old.nodes self.new.nodes k (atom term.now positive)) }
     {
         let atom = term.copy(alloc)?;
-        let holding = self.one(Literal {
-            atom,
-            positive: true,
-        })?;
-        let failing = self.one(Literal {
-            atom: term,
-            positive: false,
-        })?;
+        Ok(self.one(Literal { atom, positive })?)
+    }
+
+    /// The nodes of a term that is a literal.
+    #[tactic(auto, using(crate::proofs::Plans::two_added))]
+    pub fn atom(&mut self, alloc: Global, term: &Term) -> Result<NodePair, AllocError>
+        requires { IsPlan self.old.nodes }
+        ensures { IfOk result (λ s. IsPlanned self.old.nodes self.new.nodes s (atom term.now)) }
+    {
+        let holding = self.plan_literal(alloc, term, true)?;
+        let failing = self.plan_literal(alloc, term, false)?;
         Ok(NodePair { holding, failing })
     }
 
+    fn plan_comparison(
+        &mut self,
+        alloc: Global,
+        op: Op,
+        left: &Term,
+        right: &Term,
+        positive: bool,
+    ) -> Result<usize, AllocError>
+        requires { IsPlan self.old.nodes }
+        ensures { IfOk result (λ k. IsAddedNode self.old.nodes self.new.nodes k (comparison op left.now right.now positive)) }
+    {
+        let atom = comparison_of(alloc, op, left, right)?;
+        Ok(self.one(Literal { atom, positive })?)
+    }
+
     /// The nodes of a function of two terms as a literal.
+    #[tactic(auto, using(crate::proofs::Plans::two_added))]
     pub fn comparison(
         &mut self,
         alloc: Global,
@@ -136,25 +159,9 @@ impl Plan {
         requires { IsPlan self.old.nodes }
         ensures { IfOk result (λ s. IsPlanned self.old.nodes self.new.nodes s (comparison op left.now right.now)) }
     {
-        let term = comparison_of(alloc, op, left, right)?;
-        Ok(self.atom(alloc, term)?)
-    }
-
-    fn plan_comparison(
-        &mut self,
-        alloc: Global,
-        op: Op,
-        left: &Term,
-        right: &Term,
-    ) -> Result<usize, AllocError>
-        requires { IsPlan self.old.nodes }
-        ensures { IfOk result (λ k. IsAddedNode self.old.nodes self.new.nodes k (comparison op left.now right.now true)) }
-    {
-        let atom = comparison_of(alloc, op, left, right)?;
-        Ok(self.one(Literal {
-            atom,
-            positive: true,
-        })?)
+        let holding = self.plan_comparison(alloc, op, left, right, true)?;
+        let failing = self.plan_comparison(alloc, op, left, right, false)?;
+        Ok(NodePair { holding, failing })
     }
 
     /// The nodes of an equality of whole numbers: its negation is that the first is less or greater.
@@ -168,9 +175,9 @@ impl Plan {
         requires { IsPlan self.old.nodes }
         ensures { IfOk result (λ s. IsPlanned self.old.nodes self.new.nodes s (equal_numbers left.now right.now)) }
     {
-        let holding = self.plan_comparison(alloc, Op::Equal, left, right)?;
-        let less = self.plan_comparison(alloc, Op::Less, left, right)?;
-        let greater = self.plan_comparison(alloc, Op::Greater, left, right)?;
+        let holding = self.plan_comparison(alloc, Op::Equal, left, right, true)?;
+        let less = self.plan_comparison(alloc, Op::Less, left, right, true)?;
+        let greater = self.plan_comparison(alloc, Op::Greater, left, right, true)?;
         let failing = self.either(less, greater)?;
         Ok(NodePair { holding, failing })
     }
@@ -190,8 +197,8 @@ impl Plan {
         Ok(NodePair { holding, failing })
     }
 
-    /// The nodes of an or of two.
-    #[tactic(auto, using(crate::proofs::Plans::or_added, crate::proofs::Plans::or_within, crate::proofs::Plans::longer_trans, crate::proofs::Plans::stands_longer))]
+    /// The nodes of an or of two: its negation is the and of their negations.
+    #[tactic(auto, using(crate::proofs::Plans::or_by_and, crate::proofs::Plans::turned_within))]
     pub fn or(&mut self, left: NodePair, right: NodePair) -> Result<NodePair, AllocError>
         requires plan { IsPlan self.old.nodes }
         requires left { AreOf self.old.nodes left }
@@ -200,9 +207,8 @@ impl Plan {
         ensures within { IfOk result (λ s. AreOf self.new.nodes s) }
         ensures formula { (f g : Formula) → HasBothTrees self.old.nodes left f → HasBothTrees self.old.nodes right g → IfOk result (λ s. IsPlanned self.old.nodes self.new.nodes s (disjoined f g)) }
     {
-        let holding = self.either(left.holding, right.holding)?;
-        let failing = self.both(left.failing, right.failing)?;
-        Ok(NodePair { holding, failing })
+        let failing = self.and(left.negation(), right.negation())?;
+        Ok(failing.negation())
     }
 
     /// The nodes of this: the first fails or the second holds.

@@ -26,7 +26,7 @@ pub fn term_sides(plan: &mut Plan, alloc: Global, term: &Term) -> Result<NodePai
     match term {
         Term::Truth(b) => Ok(plan.settle(*b)?),
         Term::Apply(op, terms) => Ok(applied_sides(plan, alloc, *op, terms.as_slice(), term)?),
-        _ => Ok(plan.atom(alloc, term.copy(alloc)?)?),
+        _ => Ok(plan.atom(alloc, term)?),
     }
 }
 
@@ -65,7 +65,7 @@ fn applied_sides(
         | Op::PrefixOf
         | Op::SuffixOf
         | Op::Contains
-        | Op::IsDigit => Ok(plan.atom(alloc, term.copy(alloc)?)?),
+        | Op::IsDigit => Ok(plan.atom(alloc, term)?),
     }
 }
 
@@ -83,7 +83,7 @@ fn opposite_sides(
     if terms.len() == 1 {
         Ok(term_sides(plan, alloc, &terms[0])?.negation())
     } else {
-        Ok(plan.atom(alloc, term.copy(alloc)?)?)
+        Ok(plan.atom(alloc, term)?)
     }
 }
 
@@ -104,7 +104,7 @@ fn choice_sides(
         let second = term_sides(plan, alloc, &terms[2])?;
         Ok(plan.choice(test, first, second)?)
     } else {
-        Ok(plan.atom(alloc, term.copy(alloc)?)?)
+        Ok(plan.atom(alloc, term)?)
     }
 }
 

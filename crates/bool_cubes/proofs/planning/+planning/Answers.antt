@@ -2,9 +2,9 @@ use Rattle.std.proofs.Common.{◌≡◌, ap, arith, drop, subst, zero}
 use Rattle.sv_terms.specs.declared.op.Op.TheVariants as op
 use Rattle.bool_cubes.specs.Counting.{parts_of}
 use Rattle.bool_cubes.specs.Nodes.{IsPlanned}
-use Rattle.bool_cubes.specs.Trees.{atom, conjunction, equal, negated, pairs}
+use Rattle.bool_cubes.specs.Trees.{conjunction, equal, negated, pairs}
 use Rattle.bool_cubes.proofs.Plans.{longer_trans}
-use Rattle.bool_cubes.proofs.Steps.{all_step, and_applied, any_step, as_op, boolean_longer, choice_other, choice_three, equal_step, exclusive_step, implied_step, implies_applied, not_other, or_applied, pairs_step, planned_as, xor_applied}
+use Rattle.bool_cubes.proofs.Steps.{all_step, and_applied, any_step, as_op, boolean_longer, choice_other, choice_three, equal_step, exclusive_step, implied_step, implies_applied, not_other, or_applied, pairs_step, xor_applied}
 use Rattle.bool_cubes.proofs.planning.+planning.Goals as goal
 
 pub all_sides-loop-i-preserved : goal.all_sides-loop-i-preserved
@@ -44,8 +44,7 @@ choice_sides-returns-in_ok-choice t c =
 
 pub choice_sides-returns-in_ok-atom : goal.choice_sides-returns-in_ok-atom
 choice_sides-returns-in_ok-atom t c =
-    choice_other c.args.plan.now.nodes c.atom.new.self.nodes c.in_ok-atom.field-0 c.args.terms.now c.args.term.now c.if-terms-eq3.false
-    (planned_as c.args.plan.now.nodes c.atom.new.self.nodes c.in_ok-atom.field-0 (atom c.in_ok-copy.field-0) (atom c.args.term.now) c.in_ok-atom.ensures (ap atom c.in_ok-copy.ensures))
+    choice_other c.args.plan.now.nodes c.atom.new.self.nodes c.in_ok-atom.field-0 c.args.terms.now c.args.term.now c.if-terms-eq3.false c.in_ok-atom.ensures
 
 pub distinct_sides-loop-i-preserved : goal.distinct_sides-loop-i-preserved
 distinct_sides-loop-i-preserved t c = record {
@@ -82,5 +81,4 @@ implied_sides-loop-i-preserved t c = record {
 
 pub opposite_sides-returns-in_ok-atom : goal.opposite_sides-returns-in_ok-atom
 opposite_sides-returns-in_ok-atom t c =
-    not_other c.args.plan.now.nodes c.atom.new.self.nodes c.in_ok-atom.field-0 c.args.terms.now c.args.term.now c.if-terms-eq1.false
-    (planned_as c.args.plan.now.nodes c.atom.new.self.nodes c.in_ok-atom.field-0 (atom c.in_ok-copy.field-0) (atom c.args.term.now) c.in_ok-atom.ensures (ap atom c.in_ok-copy.ensures))
+    not_other c.args.plan.now.nodes c.atom.new.self.nodes c.in_ok-atom.field-0 c.args.terms.now c.args.term.now c.if-terms-eq1.false c.in_ok-atom.ensures
