@@ -31,7 +31,7 @@ pub fn flow_of(alloc: Global, machine: &Explicit, run: &Run<u32>) -> Result<Item
         let c = character(&run.word, k);
         let from = state_at(states, k);
         let to = state_at(states, k + 1);
-        let place = edge_of(machine, from, c, cost_at(costs, k), to);
+        let place = edge_of(machine, from, c, item_at(costs, k), to);
         let count = count_at(counts.as_slice(), place);
         counts.set(place, count + 1);
     }
@@ -79,11 +79,11 @@ fn state_at(states: &[u32], at: usize) -> u32
     states[at]
 }
 
-fn cost_at(costs: &[Cost], at: usize) -> &Cost
-    requires { at < length costs.now }
-    ensures { slice_get costs.now at ≡ Some result.now }
+fn item_at<T>(items: &[T], at: usize) -> &T
+    requires { at < length items.now }
+    ensures { slice_get items.now at ≡ Some result.now }
 {
-    &costs[at]
+    &items[at]
 }
 
 fn count_at(counts: &[u64], at: usize) -> u64
@@ -98,20 +98,6 @@ fn place_at(row: &[usize], at: usize) -> usize
     ensures { result ≡ slice_index row.now at }
 {
     row[at]
-}
-
-fn edge_at(edges: &[Edge], at: usize) -> &Edge
-    requires { at < length edges.now }
-    ensures { slice_get edges.now at ≡ Some result.now }
-{
-    &edges[at]
-}
-
-fn end_at(ends: &[End], at: usize) -> &End
-    requires { at < length ends.now }
-    ensures { slice_get ends.now at ≡ Some result.now }
-{
-    &ends[at]
 }
 
 // Whether the edge leads to this state, on this character, at this cost.
@@ -143,7 +129,7 @@ fn edge_of(machine: &Explicit, from: u32, c: u32, cost: &Cost, to: u32) -> usize
     let edges = machine.edges();
     let row = machine.edges_from(from);
     let mut i = 0;
-    while !leads(edge_at(edges, place_at(row, i)), c, cost, to) {
+    while !leads(item_at(edges, place_at(row, i)), c, cost, to) {
         i += 1;
     }
     place_at(row, i)
@@ -158,7 +144,7 @@ fn end_of(machine: &Explicit, at: u32, cost: &Cost) -> usize
     let ends = machine.finals();
     let row = machine.ends_at(at);
     let mut i = 0;
-    while !costs_so(end_at(ends, place_at(row, i)), cost) {
+    while !costs_so(item_at(ends, place_at(row, i)), cost) {
         i += 1;
     }
     place_at(row, i)
