@@ -6,6 +6,7 @@ ghost use Rattle.machine_core.specs.Edges.{EndsAt, StepsBy, move_of};
 ghost use Rattle.machine_core.specs.Graphs.{IsRunOf};
 ghost use Rattle.parikh_flow.specs.Flows.{IsFlow};
 
+use crate::items::item_at;
 use machine_core::{Cost, Edge, End, Explicit, Run};
 use std::alloc::{AllocError, Global};
 use sv_list::Items;
@@ -77,13 +78,6 @@ fn state_at(states: &[u32], at: usize) -> u32
     ensures { result ≡ slice_index states.now at }
 {
     states[at]
-}
-
-fn item_at<T>(items: &[T], at: usize) -> &T
-    requires { at < length items.now }
-    ensures { slice_get items.now at ≡ Some result.now }
-{
-    &items[at]
 }
 
 fn count_at(counts: &[u64], at: usize) -> u64

@@ -19,6 +19,7 @@ mod balances;
 mod building;
 mod counting;
 mod flow_fault;
+mod items;
 mod laws;
 mod net_cutter;
 mod nets;

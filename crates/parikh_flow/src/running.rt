@@ -13,6 +13,7 @@ ghost use Rattle.parikh_flow.specs.Nets.{AreApart};
 ghost use Rattle.parikh_flow.specs.Tours.{IsWalk, IsMet};
 
 use crate::flow_fault::FlowFault;
+use crate::items::item_at;
 use crate::tour::tour_of;
 use machine_core::{Cost, Edge, Explicit, Run};
 use std::alloc::{AllocError, Global};
@@ -123,13 +124,6 @@ fn least(on: &Ranges) -> u32
     }
 }
 
-fn edge_at(edges: &[Edge], place: usize) -> &Edge
-    requires { place < length edges.now }
-    ensures { slice_get edges.now place ≡ Some result.now }
-{
-    &edges[place]
-}
-
 // The run of no characters, with this last cost and room for so many steps.
 fn open_run(alloc: Global, steps: usize, last: Cost) -> Result<Run<u32>, AllocError>
     ensures { IfOk result (λ run. run ≡ record { word = []; states = 0 ∷ []; costs = []; last = last }) }
@@ -177,7 +171,7 @@ fn run_along(
     let mut k = back.len();
     while k > 0 {
         k -= 1;
-        add_step(alloc, &mut run, edge_at(machine.edges(), back[k]))?;
+        add_step(alloc, &mut run, item_at(machine.edges(), back[k]))?;
     }
     Ok(run)
 }

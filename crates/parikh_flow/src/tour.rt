@@ -6,6 +6,7 @@ ghost use Rattle.parikh_flow.specs.declared.tour.Tour.{Tour};
 ghost use Rattle.parikh_flow.specs.Counts.{total_count};
 ghost use Rattle.parikh_flow.specs.Tours.{IsTour, IsToured, IsNextLeft, IsDrained, Balances};
 
+use crate::items::item_at;
 use machine_core::{Edge, Explicit};
 use std::alloc::{AllocError, Global};
 use sv_list::Items;
@@ -39,13 +40,6 @@ fn next_left(row: &[usize], from: usize, left: &[u64]) -> Option<usize>
     None
 }
 
-fn edge_at(edges: &[Edge], place: usize) -> &Edge
-    requires { place < length edges.now }
-    ensures { slice_get edges.now place ≡ Some result.now }
-{
-    &edges[place]
-}
-
 // Uses the edge at this place, which leaves the present state.
 fn advance(edges: &[Edge], tour: &mut Tour, place: usize) -> Result<(), AllocError>
     requires place { place < length edges.now }
@@ -62,7 +56,7 @@ fn advance(edges: &[Edge], tour: &mut Tour, place: usize) -> Result<(), AllocErr
     let count = tour.left.as_slice()[place];
     tour.left.set(place, count - 1);
     tour.way.push(place)?;
-    tour.at = edge_at(edges, place).to;
+    tour.at = item_at(edges, place).to;
     Ok(())
 }
 
@@ -85,7 +79,7 @@ fn retreat(edges: &[Edge], tour: &mut Tour) -> Result<bool, AllocError>
         return Ok(false);
     };
     tour.back.push(place)?;
-    tour.at = edge_at(edges, place).from;
+    tour.at = item_at(edges, place).from;
     Ok(true)
 }
 
