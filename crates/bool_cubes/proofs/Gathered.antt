@@ -17,7 +17,6 @@ use Rattle.sv_terms.specs.CutOff.{cut_off}
 use Rattle.bool_cubes.specs.Past.{tree_steps}
 use Rattle.literal_forms.specs.Past.{IsPlainExactly}
 use Rattle.bool_cubes.specs.declared.fault.CubeFault.{CubeFault}
-use Rattle.bool_cubes.specs.declared.fault.CubeFault.TheVariants.{Past, TooMany, Memory}
 use Rattle.bool_cubes.specs.Trees.{both, either, conjunction, every_of, formula, tree_of, trees}
 use Rattle.literal_forms.specs.Shapes.{seen}
 use Rattle.literal_forms.specs.declared.literal.Cube.{Cube}

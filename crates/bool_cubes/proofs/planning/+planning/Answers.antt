@@ -1,4 +1,4 @@
-use Rattle.std.proofs.Common.{◌≡◌, ap, arith, drop, subst, zero}
+use Rattle.std.proofs.Common.{◌≡◌, arith, drop, subst, zero}
 use Rattle.sv_terms.specs.declared.op.Op.TheVariants as op
 use Rattle.bool_cubes.specs.Counting.{parts_of}
 use Rattle.bool_cubes.specs.Nodes.{IsPlanned}
