@@ -6,6 +6,7 @@ ghost use Rattle.farkas_check.specs.Cuts.{values_of, IsNetWithin, IsUnreached};
 ghost use Rattle.farkas_check.specs.declared.net.NetEdge.{NetEdge};
 ghost use Rattle.parikh_flow.specs.Reaching.{source_of, Marks, Traverses, IsReaching};
 
+use crate::items::item_at;
 use crate::running::unmarked_states;
 use farkas_check::{Net, NetEdge};
 use machine_core::Index;
@@ -56,13 +57,6 @@ fn traverse(
     Ok(())
 }
 
-fn edge_at(edges: &[NetEdge], place: usize) -> NetEdge
-    requires { place < length edges.now }
-    ensures { slice_get edges.now place ≡ Some result }
-{
-    edges[place]
-}
-
 // Traverses the edges at these places, which leave the state listed at `_at`.
 fn visit(
     net: &Net,
@@ -78,7 +72,7 @@ fn visit(
     ensures { OnOk result (IsReaching (values_of point.now) net.now found.new seen.new (suc _at) []) }
 {
     for place in row {
-        let edge = edge_at(net.edges.as_slice(), *place);
+        let edge = *item_at(net.edges.as_slice(), *place);
         traverse(point, found, seen, edge)?;
     }
     Ok(())
@@ -116,7 +110,7 @@ fn is_joined(edges: &[NetEdge], seen: &[bool], point: &[i128]) -> bool
 {
     let mut at = 0;
     while at < edges.len() {
-        let edge = edge_at(edges, at);
+        let edge = *item_at(edges, at);
         if point[edge.unknown as usize] > 0 && !seen[edge.from as usize] {
             return false;
         }
