@@ -117,11 +117,8 @@ fn accepts_farkas(
     requires { NameUnknowns unknowns rows.now }
     ensures { IfOk result (λ b. IsTrue b → FarkasRule (map constraint_of rows.now) multipliers.now × LeafFits (map constraint_of rows.now) multipliers.now) }
 {
-    match test_farkas(alloc, unknowns, rows, multipliers)? {
-        LeafTest::Closes => Ok(true),
-        LeafTest::Fails => Ok(false),
-        LeafTest::Past(_) => Ok(false),
-    }
+    let test = test_farkas(alloc, unknowns, rows, multipliers)?;
+    Ok(matches!(test, LeafTest::Closes))
 }
 
 fn accepts_divisor(
@@ -134,11 +131,8 @@ fn accepts_divisor(
     requires { NameUnknowns unknowns rows.now }
     ensures { IfOk result (λ b. IsTrue b → DivisorRule (map constraint_of rows.now) multipliers.now divisor × LeafFits (map constraint_of rows.now) multipliers.now) }
 {
-    match test_divisor(alloc, unknowns, rows, multipliers, divisor)? {
-        LeafTest::Closes => Ok(true),
-        LeafTest::Fails => Ok(false),
-        LeafTest::Past(_) => Ok(false),
-    }
+    let test = test_divisor(alloc, unknowns, rows, multipliers, divisor)?;
+    Ok(matches!(test, LeafTest::Closes))
 }
 
 fn at_most_row(alloc: Global, unknown: u32, at: i128) -> Result<Row, AllocError>
