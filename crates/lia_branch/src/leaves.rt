@@ -32,10 +32,7 @@ pub(crate) fn conflict_leaf(
     match test_farkas(alloc, system.unknowns, rows, multipliers.as_slice())? {
         LeafTest::Closes => Ok(Visit::Closed(Tree::Farkas { multipliers })),
         LeafTest::Fails => unreachable!(),
-        LeafTest::Past(column) => Ok(Visit::Stopped(StopReason::PastSum(number_of(
-            column,
-            system.unknowns,
-        )))),
+        LeafTest::Past(column) => Ok(past_sum(column, system.unknowns)),
     }
 }
 
@@ -66,21 +63,19 @@ pub(crate) fn divisor_leaf(
             divisor,
         })),
         LeafTest::Fails => unreachable!(),
-        LeafTest::Past(column) => Ok(Visit::Stopped(StopReason::PastSum(number_of(
-            column,
-            system.unknowns,
-        )))),
+        LeafTest::Past(column) => Ok(past_sum(column, system.unknowns)),
     }
 }
 
-/// The number of a column, where the constant's comes after the last unknown.
-fn number_of(column: Column, unknowns: u32) -> u32
-    ensures { result ≡ column_number unknowns column }
+/// What is found where the leaf's sum leaves 128 bits at a column, the constant's being that after the last unknown.
+fn past_sum(column: Column, unknowns: u32) -> Visit
+    ensures { result ≡ Visit.Stopped (StopReason.PastSum (column_number unknowns column)) }
 {
-    match column {
+    let number = match column {
         Column::Unknown(unknown) => unknown,
         Column::Constant => unknowns,
-    }
+    };
+    Visit::Stopped(StopReason::PastSum(number))
 }
 
 fn is_negative(number: i128) -> bool

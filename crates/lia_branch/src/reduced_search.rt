@@ -1,9 +1,7 @@
-ghost use Rattle.std.specs.Prelude.{◌≡◌, ℕ, [], All, Some, slice_get, IfOk, IfSome};
-ghost use Rattle.farkas_check.specs.Cuts.{IsNetWithin};
-ghost use Rattle.lia_branch.specs.Outcomes.{CountsEdges, IfSolution, IfClosed, IfGaveUp, IsSolution, IsAccepted};
+ghost use Rattle.std.specs.Prelude.{◌≡◌, [], IfOk, IfSome};
+ghost use Rattle.lia_branch.specs.Outcomes.{IfSolution, IfClosed, IsSearchable, IsFound};
 ghost use Rattle.lia_reduce.specs.Points.{IsPointOf};
-ghost use Rattle.sv_linear.specs.Rows.{NameUnknowns, IsRowWithin};
-ghost use Rattle.sv_linear.specs.declared.row.Row.{Row};
+ghost use Rattle.sv_linear.specs.Rows.{NameUnknowns};
 
 use crate::no_cut::NoCut;
 use crate::outcome::Outcome;
@@ -26,13 +24,9 @@ pub(crate) fn solve_reduced<C: Cutter>(
     cutter: &C,
     elimination: &Elimination,
 ) -> Result<Option<Outcome>, AllocError>
-    requires names { NameUnknowns system.now.unknowns system.now.rows }
-    requires nets { All (IsNetWithin system.now.unknowns) system.now.nets }
-    requires counts { CountsEdges system.now }
+    requires searchable { IsSearchable system.now }
     requires cutter { C.nets cutter.now ≡ system.now.nets }
-    ensures solution { IfOk result (λ o. IfSome o (λ a. IfSolution a (IsSolution system.now))) }
-    ensures closed { IfOk result (λ o. IfSome o (λ a. IfClosed a (IsAccepted system.now))) }
-    ensures whole { IfOk result (λ o. IfSome o (λ a. IfGaveUp a (λ _. ⊥))) }
+    ensures { IfOk result (λ o. IfSome o (IsFound system.now)) }
 {
     let Some(reduced) = reduce(alloc, system, elimination)? else {
         return Ok(None);
@@ -48,15 +42,11 @@ fn solve_left<C: Cutter>(
     elimination: &Elimination,
     reduced: &Reduced,
 ) -> Result<Option<Outcome>, AllocError>
-    requires names { NameUnknowns system.now.unknowns system.now.rows }
-    requires nets { All (IsNetWithin system.now.unknowns) system.now.nets }
-    requires counts { CountsEdges system.now }
+    requires searchable { IsSearchable system.now }
     requires cutter { C.nets cutter.now ≡ system.now.nets }
+    requires left { IsSearchable reduced.now.system }
     requires no_nets { reduced.now.system.nets ≡ [] }
-    requires rows { (i : ℕ) (r : Row) → slice_get reduced.now.system.rows i ≡ Some r → IsRowWithin reduced.now.system.unknowns r }
-    ensures solution { IfOk result (λ o. IfSome o (λ a. IfSolution a (IsSolution system.now))) }
-    ensures closed { IfOk result (λ o. IfSome o (λ a. IfClosed a (IsAccepted system.now))) }
-    ensures whole { IfOk result (λ o. IfSome o (λ a. IfGaveUp a (λ _. ⊥))) }
+    ensures { IfOk result (λ o. IfSome o (IsFound system.now)) }
 {
     match solve_by_bounds(alloc, system, elimination, reduced)? {
         Some(QuickAnswer::Point(point)) => joining_point(alloc, system, cutter, point),
@@ -73,15 +63,11 @@ fn search_left<C: Cutter>(
     elimination: &Elimination,
     reduced: &Reduced,
 ) -> Result<Option<Outcome>, AllocError>
-    requires names { NameUnknowns system.now.unknowns system.now.rows }
-    requires nets { All (IsNetWithin system.now.unknowns) system.now.nets }
-    requires counts { CountsEdges system.now }
+    requires searchable { IsSearchable system.now }
     requires cutter { C.nets cutter.now ≡ system.now.nets }
+    requires left { IsSearchable reduced.now.system }
     requires no_nets { reduced.now.system.nets ≡ [] }
-    requires rows { (i : ℕ) (r : Row) → slice_get reduced.now.system.rows i ≡ Some r → IsRowWithin reduced.now.system.unknowns r }
-    ensures solution { IfOk result (λ o. IfSome o (λ a. IfSolution a (IsSolution system.now))) }
-    ensures closed { IfOk result (λ o. IfSome o (λ a. IfClosed a (IsAccepted system.now))) }
-    ensures whole { IfOk result (λ o. IfSome o (λ a. IfGaveUp a (λ _. ⊥))) }
+    ensures { IfOk result (λ o. IfSome o (IsFound system.now)) }
 {
     if elimination.is_idle() {
         return Ok(None);
@@ -105,8 +91,8 @@ fn lifted_tree(
     tree: &Tree,
 ) -> Result<Option<Outcome>, AllocError>
     requires { NameUnknowns system.now.unknowns system.now.rows }
-    ensures closed { IfOk result (λ o. IfSome o (λ a. IfClosed a (IsAccepted system.now))) }
-    ensures only { IfOk result (λ o. IfSome o (λ a. IfSolution a (λ _. ⊥) × IfGaveUp a (λ _. ⊥))) }
+    ensures found { IfOk result (λ o. IfSome o (IsFound system.now)) }
+    ensures no_point { IfOk result (λ o. IfSome o (λ a. IfSolution a (λ _. ⊥))) }
 {
     match restore_tree(alloc, system, elimination, reduced, tree)? {
         Some(tree) => Ok(Some(Outcome::Closed(tree))),
@@ -122,11 +108,10 @@ fn joining_point<C: Cutter>(
     point: Items<i128>,
 ) -> Result<Option<Outcome>, AllocError>
     requires point { IsPointOf system.now point }
-    requires nets { All (IsNetWithin system.now.unknowns) system.now.nets }
-    requires counts { CountsEdges system.now }
+    requires searchable { IsSearchable system.now }
     requires cutter { C.nets cutter.now ≡ system.now.nets }
-    ensures solution { IfOk result (λ o. IfSome o (λ a. IfSolution a (IsSolution system.now))) }
-    ensures only { IfOk result (λ o. IfSome o (λ a. IfClosed a (λ _. ⊥) × IfGaveUp a (λ _. ⊥))) }
+    ensures found { IfOk result (λ o. IfSome o (IsFound system.now)) }
+    ensures no_tree { IfOk result (λ o. IfSome o (λ a. IfClosed a (λ _. ⊥))) }
 {
     match cutter.cut(alloc, point.as_slice())? {
         None => Ok(Some(Outcome::Solution(point))),

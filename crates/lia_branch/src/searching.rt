@@ -1,4 +1,4 @@
-ghost use Rattle.std.specs.Prelude.{◌≡◌, ℕ, suc, ◌<◌, ◌-◌, All, Some, slice_get, IfOk};
+ghost use Rattle.std.specs.Prelude.{◌≡◌, ℕ, suc, ◌<◌, ◌-◌, IfOk};
 ghost use Rattle.std.specs.List.{count_by};
 ghost use Rattle.sv_linear.specs.Rows.{IsRowWithin};
 ghost use Rattle.lia_tableau.specs.Crossing.{IsPastFault};
@@ -6,12 +6,10 @@ ghost use Rattle.lia_branch.specs.Forks.{IsForkWithin};
 ghost use Rattle.lia_branch.specs.Forks.{Path};
 ghost use Rattle.farkas_check.specs.declared.tree.Tree.TheVariants.{Open};
 ghost use Rattle.lia_branch.specs.Nodes.{Node, BeginsAt, IsFirstBasis};
-ghost use Rattle.lia_branch.specs.EvidenceHolds.{IsPastAt, Holds};
+ghost use Rattle.lia_branch.specs.EvidenceHolds.{IsPastAt};
 ghost use Rattle.lia_branch.specs.Founds.{IsReadyTableau, IsSystemNode, IsNodeStop};
 ghost use Rattle.lia_branch.specs.Forks.{VisitHolds, IsForkAt, IsClosing, IsResumed, EnteredHolds, NextHolds, IsNextSmaller, EnteredBy, is_first};
-ghost use Rattle.lia_branch.specs.Outcomes.{CountsEdges, IfSolution, IfClosed, IfGaveUp, IsSolution, IsAccepted};
-ghost use Rattle.farkas_check.specs.Cuts.{IsNetWithin};
-ghost use Rattle.sv_linear.specs.declared.row.Row.{Row as AnyRow};
+ghost use Rattle.lia_branch.specs.Outcomes.{IsSearchable, IsAnswer};
 
 use crate::fork::Fork;
 use crate::leaves::{conflict_leaf, divisor_leaf};
@@ -227,9 +225,7 @@ pub(crate) fn search<C: Cutter>(
     requires ready { IsReadyTableau system.now system.now.rows tableau }
     requires cutter { C.nets cutter.now ≡ system.now.nets }
     requires begins { IsFirstBasis system.now.unknowns system.now.rows tableau }
-    ensures solution { IfOk result (λ o. IfSolution o (IsSolution system.now)) }
-    ensures closed { IfOk result (λ o. IfClosed o (IsAccepted system.now)) }
-    ensures gave_up { IfOk result (λ o. IfGaveUp o (Holds system.now)) }
+    ensures { IfOk result (IsAnswer system.now) }
 {
     let mut tableau = tableau;
     let mut levels = Items::new(alloc);
@@ -259,13 +255,9 @@ pub(crate) fn search_tree<C: Cutter>(
     system: &System,
     cutter: &C,
 ) -> Result<Outcome, AllocError>
-    requires rows { (i : ℕ) (r : AnyRow) → slice_get system.now.rows i ≡ Some r → IsRowWithin system.now.unknowns r }
-    requires nets { All (IsNetWithin system.now.unknowns) system.now.nets }
-    requires counts { CountsEdges system.now }
+    requires searchable { IsSearchable system.now }
     requires cutter { C.nets cutter.now ≡ system.now.nets }
-    ensures solution { IfOk result (λ o. IfSolution o (IsSolution system.now)) }
-    ensures closed { IfOk result (λ o. IfClosed o (IsAccepted system.now)) }
-    ensures gave_up { IfOk result (λ o. IfGaveUp o (Holds system.now)) }
+    ensures { IfOk result (IsAnswer system.now) }
 {
     let tableau = match Tableau::new(alloc, system.rows.as_slice(), system.unknowns) {
         Ok(tableau) => tableau,

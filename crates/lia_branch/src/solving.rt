@@ -1,9 +1,5 @@
-ghost use Rattle.std.specs.Prelude.{◌≡◌, ℕ, Some, slice_get, All, IfOk};
-ghost use Rattle.sv_linear.specs.declared.row.Row.{Row};
-ghost use Rattle.farkas_check.specs.Cuts.{IsNetWithin};
-ghost use Rattle.lia_branch.specs.EvidenceHolds.{Holds};
-ghost use Rattle.lia_branch.specs.Outcomes.{CountsEdges, IfSolution, IfClosed, IfGaveUp, IsSolution, IsAccepted};
-ghost use Rattle.sv_linear.specs.Rows.{IsRowWithin};
+ghost use Rattle.std.specs.Prelude.{◌≡◌, IfOk};
+ghost use Rattle.lia_branch.specs.Outcomes.{IsSearchable, IsAnswer};
 
 use crate::outcome::Outcome;
 use crate::reduced_search::solve_reduced;
@@ -20,13 +16,9 @@ use std::alloc::{AllocError, Global};
 /// are those of chains; and where that doesn't do, the tree of the whole system is searched whose splits are due,
 /// up to 2,000 of them.
 pub fn solve<C: Cutter>(alloc: Global, system: &System, cutter: &C) -> Result<Outcome, AllocError>
-    requires rows { (i : ℕ) (r : Row) → slice_get system.now.rows i ≡ Some r → IsRowWithin system.now.unknowns r }
-    requires nets { All (IsNetWithin system.now.unknowns) system.now.nets }
-    requires counts { CountsEdges system.now }
+    requires searchable { IsSearchable system.now }
     requires cutter { C.nets cutter.now ≡ system.now.nets }
-    ensures solution { IfOk result (λ o. IfSolution o (IsSolution system.now)) }
-    ensures closed { IfOk result (λ o. IfClosed o (IsAccepted system.now)) }
-    ensures gave_up { IfOk result (λ o. IfGaveUp o (Holds system.now)) }
+    ensures { IfOk result (IsAnswer system.now) }
 {
     let Some(elimination) = Elimination::of(alloc, system)? else {
         return search_tree(alloc, system, cutter);
@@ -41,13 +33,9 @@ fn solve_eliminated<C: Cutter>(
     cutter: &C,
     elimination: &Elimination,
 ) -> Result<Outcome, AllocError>
-    requires rows { (i : ℕ) (r : Row) → slice_get system.now.rows i ≡ Some r → IsRowWithin system.now.unknowns r }
-    requires nets { All (IsNetWithin system.now.unknowns) system.now.nets }
-    requires counts { CountsEdges system.now }
+    requires searchable { IsSearchable system.now }
     requires cutter { C.nets cutter.now ≡ system.now.nets }
-    ensures solution { IfOk result (λ o. IfSolution o (IsSolution system.now)) }
-    ensures closed { IfOk result (λ o. IfClosed o (IsAccepted system.now)) }
-    ensures gave_up { IfOk result (λ o. IfGaveUp o (Holds system.now)) }
+    ensures { IfOk result (IsAnswer system.now) }
 {
     if let Some(tree) = close_by_divisor(alloc, system, elimination)? {
         return Ok(Outcome::Closed(tree));

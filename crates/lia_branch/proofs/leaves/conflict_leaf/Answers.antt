@@ -1,4 +1,4 @@
-use Rattle.std.proofs.Common.{rules, ℕ, List, map, sym, ◌∙◌, subst}
+use Rattle.std.proofs.Common.{rules, ℕ, List, map, refl, sym, ◌∙◌, subst}
 use Rattle.std.proofs.lemmas.Int.{to_z-of_z}
 use Rattle.std.specs.Int.{w128}
 use mir.Val.{SFits}
@@ -7,6 +7,8 @@ use Rattle.farkas_check.specs.Systems.{constraint_of}
 use Rattle.farkas_check.specs.Closings.{FarkasRule}
 use Rattle.farkas_check.specs.Fitting.{LeafFits}
 use Rattle.farkas_check.specs.declared.tree.Tree.TheVariants as v
+use Rattle.lia_tableau.specs.Crossing.{column_number}
+use Rattle.lia_branch.specs.Forks.{VisitHolds}
 use Rattle.lia_branch.specs.Founds.{IsNodeClosing}
 use Rattle.lia_branch.specs.LeafMultipliers.{IsPastColumn}
 use Rattle.lia_branch.proofs.ConflictFounds.{conflict_place, conflict_rule_here, conflict_closed, conflict_stopped}
@@ -38,11 +40,14 @@ returns-in-Closes c = λ node k m.
     (subst (LeafFits (map constraint_of c.args.rows.now)) (c.as_slice.ensures ∙ c.in_ok-multipliers.ensures) told.1))
 
 pub returns-in-Past : goal.returns-in-Past
-returns-in-Past c = λ node k m left.
+returns-in-Past c = λ node k m.
     let fc : SFits w128 c.identity-line.result.now.form.constant = search rules in
     let low = rw (to_z-of_z w128 _ fc) at c.is_negative-negated.ensures.negative in
     let high = rw (to_z-of_z w128 _ fc) at c.is_negative-negated.ensures.not_negative in
     let told = rw (c.in-Past.is) at c.in_ok-test_farkas.ensures in
-    conflict_stopped c.args.system.now c.args.rows.now c.args.tableau.now c.requires.ready c.args.at c.requires.status c.identity-line.result.now c.identity-line.ensures.row c.is_negative-negated.result low high node left c.number_of.result k m
-    (subst (λ l. IsPastColumn (map constraint_of c.args.rows.now) l c.args.system.now.unknowns c.number_of.result) (c.as_slice.ensures ∙ c.in_ok-multipliers.ensures)
-    (c.in-Past.column, (c.number_of.ensures, told.outside)))
+    let n = c.args.system.now.unknowns in
+    let at = column_number n c.in-Past.column in
+    subst (VisitHolds c.args.system.now c.args.tableau.now node) (sym c.past_sum.ensures) (λ left.
+    conflict_stopped c.args.system.now c.args.rows.now c.args.tableau.now c.requires.ready c.args.at c.requires.status c.identity-line.result.now c.identity-line.ensures.row c.is_negative-negated.result low high node left at k m
+    (subst (λ l. IsPastColumn (map constraint_of c.args.rows.now) l n at) (c.as_slice.ensures ∙ c.in_ok-multipliers.ensures)
+    (c.in-Past.column, (refl, told.outside))))

@@ -1,4 +1,4 @@
-use Rattle.std.proofs.Common.{rules, ℕ, List, map, sym, ◌∙◌, subst}
+use Rattle.std.proofs.Common.{rules, ℕ, List, map, refl, sym, ◌∙◌, subst}
 use Rattle.std.proofs.lemmas.Int.{to_z-of_z}
 use Rattle.std.specs.Int.{w128}
 use mir.Val.{SFits}
@@ -7,6 +7,8 @@ use Rattle.farkas_check.specs.Systems.{constraint_of}
 use Rattle.farkas_check.specs.Closings.{DivisorRule}
 use Rattle.farkas_check.specs.Fitting.{LeafFits}
 use Rattle.farkas_check.specs.declared.tree.Tree.TheVariants as v
+use Rattle.lia_tableau.specs.Crossing.{column_number}
+use Rattle.lia_branch.specs.Forks.{VisitHolds}
 use Rattle.lia_branch.specs.Founds.{IsNodeClosing}
 use Rattle.lia_branch.specs.LeafMultipliers.{IsPastColumn}
 use Rattle.lia_branch.proofs.DivisorFounds.{divisor_place, divisor_positive, divisor_rule_here, divisor_closed, divisor_stopped}
@@ -46,10 +48,13 @@ returns-in-Closes c = λ node k m.
     (subst (LeafFits (map constraint_of c.args.rows.now)) (c.as_slice.ensures ∙ is) told.1)))
 
 pub returns-in-Past : goal.returns-in-Past
-returns-in-Past c = λ node k m left.
+returns-in-Past c = λ node k m.
     let fd : SFits w128 c.unknowns_divisor-divisor.result = search rules in
     let is = rw (to_z-of_z w128 _ fd) at c.in_ok-multipliers.ensures in
     let told = rw (c.in-Past.is) at c.in_ok-test_divisor.ensures in
-    divisor_stopped c.args.system.now c.args.rows.now c.args.tableau.now c.requires.ready c.args.at c.requires.status c.identity-line.result.now c.identity-line.ensures.row c.unknowns_divisor-divisor.result c.unknowns_divisor-divisor.ensures node left c.number_of.result k m
-    (subst (λ l. IsPastColumn (map constraint_of c.args.rows.now) l c.args.system.now.unknowns c.number_of.result) (c.as_slice.ensures ∙ is)
-    (c.in-Past.column, (c.number_of.ensures, told.outside)))
+    let n = c.args.system.now.unknowns in
+    let at = column_number n c.in-Past.column in
+    subst (VisitHolds c.args.system.now c.args.tableau.now node) (sym c.past_sum.ensures) (λ left.
+    divisor_stopped c.args.system.now c.args.rows.now c.args.tableau.now c.requires.ready c.args.at c.requires.status c.identity-line.result.now c.identity-line.ensures.row c.unknowns_divisor-divisor.result c.unknowns_divisor-divisor.ensures node left at k m
+    (subst (λ l. IsPastColumn (map constraint_of c.args.rows.now) l n at) (c.as_slice.ensures ∙ is)
+    (c.in-Past.column, (refl, told.outside))))

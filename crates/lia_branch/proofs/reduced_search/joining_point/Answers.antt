@@ -9,16 +9,16 @@ pub cut-requires-clause-within : goal.cut-requires-clause-within
 cut-requires-clause-within g c =
     let size : length c.as_slice.result.now ≡ c.args.system.now.unknowns = ap length c.as_slice.ensures ∙ c.requires.point.size in
     subst (λ n. All (IsNetWithin n) (g.C.Cutter.nets c.args.cutter.now)) (sym size)
-    (subst (λ (ns : List Net). All (IsNetWithin c.args.system.now.unknowns) ns) (sym c.requires.cutter) c.requires.nets)
+    (subst (λ (ns : List Net). All (IsNetWithin c.args.system.now.unknowns) ns) (sym c.requires.cutter) c.requires.searchable.nets)
 
 pub cut-requires-clause-not_negative : goal.cut-requires-clause-not_negative
 cut-requires-clause-not_negative g c =
     let ps = c.args.point in
     subst (λ (p : List ℤ). All (λ net. All (λ e. pos 0 ≤ℤ values_of p e.unknown) net.edges) (g.C.Cutter.nets c.args.cutter.now)) (sym c.as_slice.ensures)
-    (subst (λ (ns : List Net). All (λ net. All (λ e. pos 0 ≤ℤ values_of ps e.unknown) net.edges) ns) (sym c.requires.cutter) (c.requires.counts (values_of ps) c.requires.point.meets))
+    (subst (λ (ns : List Net). All (λ net. All (λ e. pos 0 ≤ℤ values_of ps e.unknown) net.edges) ns) (sym c.requires.cutter) (c.requires.searchable.counts (values_of ps) c.requires.point.meets))
 
-pub returns-in-None-clause-solution : goal.returns-in-None-clause-solution
-returns-in-None-clause-solution g c =
+pub returns-in-None-clause-found : goal.returns-in-None-clause-found
+returns-in-None-clause-found g c =
     let ps = c.args.point in
     let joined : All (Joined (values_of ps)) c.args.system.now.nets =
     subst (λ (ns : List Net). All (Joined (values_of ps)) ns) c.requires.cutter
