@@ -9,12 +9,12 @@ use Rattle.sv_terms.specs.declared.term.Term.TheVariants as term
 use Rattle.sv_terms.specs.declared.term.Term.TheOpen.{Term-F}
 use Rattle.sv_terms.specs.declared.term.Term.TheFolds.{fold-Term, map-Term}
 use Rattle.sv_terms.specs.declared.transducer.Transducer.{Transducer}
+use Rattle.sv_terms.specs.SortingLaws.{fold-at}
 use Rattle.term_weight.specs.declared.weight.Factor.TheVariants.{Literal, Known}
 use Rattle.term_weight.specs.declared.weight.Weight.{Weight}
 use Rattle.term_weight.specs.Places.{layer_name, name_alone}
 use Rattle.smt_names.specs.Signature.{Name}
 use Rattle.term_weight.specs.Weights.{leaf, opaque_weight, regex_weight, as_term, op_weight, in_weight, related_weight, weigh_layer, weighed, or_leaf}
-use Rattle.term_weight.specs.LayerLaws.{fold-at}
 
 name-at : (t : Term) (x : Term-F Term) → roll-Term x ≡ t → name_alone t ≡ layer_name (map-Term Term (Option Name) (fold-Term (Option Name) layer_name) x)
 name-at t x e = fold-at (Option Name) layer_name t x e

@@ -10,13 +10,14 @@ use Rattle.sv_terms.specs.declared.sort.Sort.TheVariants as sort
 use Rattle.sv_terms.specs.declared.term.Term.{Term}
 use Rattle.sv_terms.specs.declared.term.Term.TheVariants as term
 use Rattle.sv_terms.specs.declared.transducer.Transducer.{Transducer}
+use Rattle.sv_terms.specs.Sorting.{op_sort}
 use Rattle.term_weight.specs.declared.share.Share.{Share}
 use Rattle.term_weight.specs.declared.summary.Summary.{Summary}
 use Rattle.term_weight.specs.declared.summary.Summary.TheVariants as summary
 use Rattle.term_weight.specs.declared.tally.MacroSummary.{MacroSummary}
 use Rattle.term_weight.specs.declared.weight.Weight.{Weight}
 use Rattle.smt_names.specs.Signature.{Name, same_name}
-use Rattle.term_weight.specs.Bodies.{op_sort, holds}
+use Rattle.term_weight.specs.Bodies.{holds}
 use Rattle.term_weight.specs.Places.{named_by, shown, weight_found}
 use Rattle.term_weight.specs.Weights.{capped, as_term, around, weighed, place_of, nth_if, argument_weight}
 use Rattle.term_weight.specs.Summaries.{share, nothing, plus, unused, empty, of_total, weight_at, part, PlacesAreWithin, Gains, TellsWeight}

@@ -15,34 +15,14 @@ use Rattle.sv_terms.specs.declared.term.Term.TheVariants as term
 use Rattle.sv_terms.specs.declared.term.Term.TheOpen.{Term-F}
 use Rattle.sv_terms.specs.declared.term.Term.TheFolds.{fold-Term}
 use Rattle.sv_terms.specs.declared.transducer.Transducer.{Transducer}
+use Rattle.sv_terms.specs.Sorting.{head_sort}
 use Rattle.term_weight.specs.declared.weight.Factor.{Factor}
 use Rattle.term_weight.specs.declared.weight.Factor.TheVariants.{Literal, Known, Unknown}
 use Rattle.smt_names.specs.Signature.{Name, same_name}
 
--- the sort that a function with a meaning gives
-abbrev pub op_sort : Op → Sort
-op_sort op.Add = sort.Int
-op_sort op.Subtract = sort.Int
-op_sort op.Multiply = sort.Int
-op_sort op.Length = sort.Int
-op_sort op.Concat = sort.String
-op_sort op.Replace = sort.String
-op_sort op.ReplaceAll = sort.String
-op_sort _ = sort.Bool
-
-abbrev pub layer_sort : {X : Type 0} → Term-F X → Sort
-layer_sort (Term-F.Truth b) = sort.Bool
-layer_sort (Term-F.Number n) = sort.Int
-layer_sort (Term-F.Text w) = sort.String
-layer_sort (Term-F.Constant n s) = s
-layer_sort (Term-F.Apply o ts) = op_sort o
-layer_sort (Term-F.InRe t r) = sort.Bool
-layer_sort (Term-F.Related m t u) = sort.Bool
-layer_sort (Term-F.Opaque s) = s
-
 -- the sort of a sorted term, or RegLan
 abbrev pub body_sort : Body → Sort
-body_sort (body.Term t) = fold-Term Sort layer_sort t
+body_sort (body.Term t) = head_sort t
 body_sort (body.Language r) = sort.RegLan
 
 abbrev pub layer_word : {X : Type 0} → Term-F X → Option (List ℕ)

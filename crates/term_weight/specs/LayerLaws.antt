@@ -1,4 +1,4 @@
--- Terms layer by layer: their sorts, words and weights.
+-- Terms layer by layer: their words and weights.
 use Rattle.std.proofs.Common.{◌≡◌, refl, sym, ap, ◌∙◌, ℕ, ◌+◌, ℤ, Bool, false, ◌||◌, List, [], ◌∷◌, ◌++◌, map, Option, Some, None, arith}
 use Rattle.sv_terms.specs.declared.regex.Regex.{Regex, roll-Regex}
 use Rattle.sv_terms.specs.declared.regex.Regex.TheVariants as re
@@ -12,44 +12,16 @@ use Rattle.sv_terms.specs.declared.sort.Sort.TheVariants as sort
 use Rattle.sv_terms.specs.declared.term.Term.{Term, roll-Term}
 use Rattle.sv_terms.specs.declared.term.Term.TheVariants as term
 use Rattle.sv_terms.specs.declared.term.Term.TheOpen.{Term-F}
-use Rattle.sv_terms.specs.declared.term.Term.TheFolds.{fold-Term, fold-roll-Term, map-Term}
+use Rattle.sv_terms.specs.declared.term.Term.TheFolds.{fold-Term, map-Term}
 use Rattle.sv_terms.specs.declared.transducer.Transducer.{Transducer}
+use Rattle.sv_terms.specs.Sorting.{op_sort, layer_sort}
+use Rattle.sv_terms.specs.SortingLaws.{fold-at}
 use Rattle.term_weight.specs.declared.weight.Factor.{Factor}
 use Rattle.term_weight.specs.declared.weight.Factor.TheVariants.{Literal, Known, Unknown}
 use Rattle.term_weight.specs.declared.weight.Weight.{Weight}
-use Rattle.term_weight.specs.Bodies.{body_sort, literal, factor, layer_sort, layer_word, layer_factor, op_sort, applied_factor, holds, is_unknown, term_of}
+use Rattle.term_weight.specs.Bodies.{body_sort, literal, factor, layer_word, layer_factor, applied_factor, holds, is_unknown, term_of}
 use Rattle.term_weight.specs.Sizes.{total, greatest, one_more, one_deeper, term_measure, regex_measure, regex_nodes, regex_nesting}
 use Rattle.term_weight.specs.Weights.{capped, weight_of, leaf, opaque_weight, language, regex_weight, as_term, op_weight, in_weight, related_weight, combined_weight}
-
--- a fold at a layer
-pub fold-at : (X : Type 0) (step : Term-F X → X) (t : Term) (x : Term-F Term) → roll-Term x ≡ t → fold-Term X step t ≡ step (map-Term Term X (fold-Term X step) x)
-fold-at X step t x e = ap (fold-Term X step) (sym e) ∙ fold-roll-Term X step x
-
-pub sort-Truth : (b : Bool) → body_sort (body.Term (term.Truth b)) ≡ sort.Bool
-sort-Truth b = fold-at Sort layer_sort _ (Term-F.Truth b) (term.rolls-Truth b)
-
-pub sort-Number : (n : ℤ) → body_sort (body.Term (term.Number n)) ≡ sort.Int
-sort-Number n = fold-at Sort layer_sort _ (Term-F.Number n) (term.rolls-Number n)
-
-pub sort-Text : (w : List ℕ) → body_sort (body.Term (term.Text w)) ≡ sort.String
-sort-Text w = fold-at Sort layer_sort _ (Term-F.Text w) (term.rolls-Text w)
-
-pub sort-Constant : (n : List ℕ) (s : Sort) → body_sort (body.Term (term.Constant n s)) ≡ s
-sort-Constant n s = fold-at Sort layer_sort _ (Term-F.Constant n s) (term.rolls-Constant n s)
-
-pub sort-Apply : (o : Op) (ts : List Term) → body_sort (body.Term (term.Apply o ts)) ≡ op_sort o
-sort-Apply o ts = fold-at Sort layer_sort _ (Term-F.Apply o ts) (term.rolls-Apply o ts)
-
-pub sort-InRe : (t : Term) (r : Regex) → body_sort (body.Term (term.InRe t r)) ≡ sort.Bool
-sort-InRe t r = fold-at Sort layer_sort _ (Term-F.InRe t r) (term.rolls-InRe t r)
-
-pub sort-Related : (m : Transducer) (t u : Term) → body_sort (body.Term (term.Related m t u)) ≡ sort.Bool
-sort-Related m t u = fold-at Sort layer_sort _ (Term-F.Related m t u) (term.rolls-Related m t u)
-
-pub sort-Opaque : (s : Sort) → body_sort (body.Term (term.Opaque s)) ≡ s
-sort-Opaque s = fold-at Sort layer_sort _ (Term-F.Opaque s) (term.rolls-Opaque s)
-
-pub ruleset sorts = (sort-Truth, sort-Number, sort-Text, sort-Constant, sort-Apply, sort-InRe, sort-Related, sort-Opaque)
 
 word-at : (t : Term) (x : Term-F Term) → roll-Term x ≡ t → literal (body.Term t) ≡ layer_word (map-Term Term (Option (List ℕ)) (fold-Term (Option (List ℕ)) layer_word) x)
 word-at t x e = fold-at (Option (List ℕ)) layer_word t x e

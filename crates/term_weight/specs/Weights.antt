@@ -15,13 +15,13 @@ use Rattle.sv_terms.specs.declared.term.Term.{Term}
 use Rattle.sv_terms.specs.declared.term.Term.TheVariants as term
 use Rattle.sv_terms.specs.declared.term.Term.TheOpen.{Term-F}
 use Rattle.sv_terms.specs.declared.term.Term.TheFolds.{fold-Term}
-use Rattle.sv_terms.specs.Sorting.{same_sort}
+use Rattle.sv_terms.specs.Sorting.{same_sort, op_sort}
 use Rattle.smt_names.specs.declared.function.Interpretation.{Interpretation}
 use Rattle.smt_names.specs.declared.function.Interpretation.TheVariants as is
 use Rattle.term_weight.specs.declared.weight.Factor.{Factor}
 use Rattle.term_weight.specs.declared.weight.Factor.TheVariants.{Literal, Known, Unknown}
 use Rattle.term_weight.specs.declared.weight.Weight.{Weight}
-use Rattle.term_weight.specs.Bodies.{body_sort, factor, literal, is_language, term_of, regex_of, opaque, op_sort, is_unknown, holds, applied_factor}
+use Rattle.term_weight.specs.Bodies.{body_sort, factor, literal, is_language, term_of, regex_of, opaque, is_unknown, holds, applied_factor}
 use Rattle.term_weight.specs.Ranks.{apply, text_of, range_of, of_one, word_of}
 use Rattle.smt_names.specs.Signature.{Name, same_name}
 use Rattle.term_weight.specs.Sizes.{nodes, nesting, one_more, one_deeper, regex_nodes, regex_nesting}

@@ -96,8 +96,14 @@ impl Declarations {
         ensures ok { OnOk result (self.new ≡ self.old ++ (name, entry) ∷ []) }
         ensures err { OnErr result (self.new ≡ self.old) }
     {
-        self.summaries.keep(self.alloc, &name, &entry)?;
-        self.symbols.declare(name, entry)
+        match self.summaries.keep(self.alloc, &name, &entry) {
+            Ok(()) => self.symbols.declare(name, entry),
+            Err(error) => {
+                // both are dropped by a call, and not in place with a branch for each form
+                drop((name, entry));
+                Err(error)
+            }
+        }
     }
 
     /// Keeps the first `n` names, in time linear in those that it takes away.

@@ -36,4 +36,4 @@ pub use declared::{Declared, Macro};
 pub use places::NamePlaces;
 pub use rank::{are_of, same_sort, takes_count, takes_sorts};
 pub use summary::Summary;
-pub use weight::{Factor, Weight, op_sort};
+pub use weight::{Factor, Weight};

@@ -8,7 +8,7 @@ use crate::places::NamePlaces;
 use crate::share::Share;
 use crate::tally::{MacroSummary, tally_of};
 use crate::weigh::weigh_regex;
-use crate::weight::{Factor, Weight, holds, op_sort};
+use crate::weight::{Factor, Weight, holds};
 use std::alloc::{AllocError, Global};
 use sv_terms::{Body, Name, Sort, Term};
 
@@ -68,7 +68,7 @@ fn of_term(
             Some(place) => Ok(Summary::Parameter(place, *sort)),
             None => Ok(Summary::Same(Weight::leaf(*sort, Factor::Unknown))),
         },
-        Term::Apply(op, _) => Ok(function(alloc, parameters, places, op_sort(*op), term)?),
+        Term::Apply(op, _) => Ok(function(alloc, parameters, places, op.sort(), term)?),
         Term::InRe(_, _) => Ok(function(alloc, parameters, places, Sort::Bool, term)?),
         Term::Related(_, _, _) => Ok(function(alloc, parameters, places, Sort::Bool, term)?),
         Term::Opaque(sort) => Ok(Summary::Same(Weight::opaque(*sort))),

@@ -87,17 +87,6 @@ impl Weight {
     }
 }
 
-/// The sort that a function with a meaning gives. Constant.
-pub fn op_sort(op: Op) -> Sort
-    ensures { result ≡ b.op_sort op }
-{
-    match op {
-        Op::Add | Op::Subtract | Op::Multiply | Op::Length => Sort::Int,
-        Op::Concat | Op::Replace | Op::ReplaceAll => Sort::String,
-        _ => Sort::Bool,
-    }
-}
-
 /// Unknown where it holds one.
 pub fn holds(unknown: bool) -> Factor
     ensures { result ≡ b.holds unknown }
@@ -219,7 +208,7 @@ fn op_factor(op: Op, weights: &[Weight]) -> Factor
 pub fn op_weight(op: Op, weights: &[Weight]) -> Weight
     ensures { result ≡ w.op_weight op (map w.as_term weights.now) }
 {
-    weight_around(op_sort(op), op_factor(op, weights), false, weights, true)
+    weight_around(op.sort(), op_factor(op, weights), false, weights, true)
 }
 
 /// The membership of a word in a regular expression of these weights.

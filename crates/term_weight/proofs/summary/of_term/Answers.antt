@@ -13,8 +13,8 @@ pub returns-in_ok-function-in-Apply-clause-tells : goal.returns-in_ok-function-i
 returns-in_ok-function-in-Apply-clause-tells c =
     let places = c.args.places.now in
     let x = c.in_ok-function-in-Apply.field-0 in
-    subst (λ (t : Term). TellsWeight places c.args.parameters x (λ ws. of_total c.op_sort.result (share 0 (part places ws t))) → TellsWeight places c.args.parameters x (λ ws. weighed (weight_found places ws) t)) (sym c.in-Apply.is)
-    (λ h. tells-Apply places c.args.parameters x c.in-Apply.op c.in-Apply.field-1 (subst (λ (s : Sort). TellsWeight places c.args.parameters x (λ ws. of_total s (share 0 (part places ws (term.Apply c.in-Apply.op c.in-Apply.field-1))))) c.op_sort.ensures h))
+    subst (λ (t : Term). TellsWeight places c.args.parameters x (λ ws. of_total c.sort.result (share 0 (part places ws t))) → TellsWeight places c.args.parameters x (λ ws. weighed (weight_found places ws) t)) (sym c.in-Apply.is)
+    (λ h. tells-Apply places c.args.parameters x c.in-Apply.op c.in-Apply.field-1 (subst (λ (s : Sort). TellsWeight places c.args.parameters x (λ ws. of_total s (share 0 (part places ws (term.Apply c.in-Apply.op c.in-Apply.field-1))))) c.sort.ensures h))
     c.in_ok-function-in-Apply.ensures.tells
 
 pub returns-in_ok-function-in-Related-clause-tells : goal.returns-in_ok-function-in-Related-clause-tells
