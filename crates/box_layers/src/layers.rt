@@ -53,6 +53,15 @@ impl<'a> Layers<'a> {
         }
     }
 
+    /// Whether there are such numbers.
+    pub fn has_numbers(&self, alloc: Global, totals: &[u64]) -> Result<bool, AllocError>
+        requires { length totals.now ≡ length self.now.region.now.registers }
+        ensures { IfOk result (λ b. IsTrue b ↔ AreGoodTotals self.now.rows.now self.now.region.now totals.now) }
+    {
+        let numbers = self.numbers(alloc, totals)?;
+        Ok(numbers.is_some())
+    }
+
     /// Whether some numbers and totals of the region meet the rows, whatever the machines.
     pub fn has_point(&self, alloc: Global) -> Result<bool, AllocError>
         ensures { IfOk result (λ b. b ≡ false → (totals : List ℕ) → AreGoodTotals self.now.rows.now self.now.region.now totals → ⊥) }
@@ -187,9 +196,9 @@ impl<'a> Machine for Layers<'a> {
         if at.machine != self.machines.len() as u64 {
             return Ok(Items::new(alloc));
         }
-        let Some(_numbers) = self.numbers(alloc, at.spent.as_slice())? else {
+        if !self.has_numbers(alloc, at.spent.as_slice())? {
             return Ok(Items::new(alloc));
-        };
+        }
         let mut costs = Items::new(alloc);
         costs.push(Cost::zeros(alloc, self.region.registers.len())?)?;
         Ok(costs)

@@ -81,8 +81,7 @@ fn is_good(alloc: Global, layers: &Layers, words: &[u64], total: u64) -> Result<
     if !has_bit(words, total) {
         return Ok(false);
     }
-    let numbers = layers.numbers(alloc, &[total])?;
-    Ok(numbers.is_some())
+    layers.has_numbers(alloc, &[total])
 }
 
 // The first such total of the side; `None` where there is none.

@@ -1,5 +1,7 @@
 //! Layers with their numbers, in the order in which they were found.
-ghost use Rattle.std.specs.Prelude.{◌≡◌, []};
+ghost use Rattle.std.specs.Prelude.{◌≡◌, [], Some, OnOk, OnErr};
+ghost use Rattle.std.specs.BTreeMap.{Updates, IsUnchanged};
+ghost use Rattle.box_search.specs.Places.{layer_cmp};
 
 use crate::places::TotalPlaces;
 use box_layers::Layer;
@@ -76,17 +78,30 @@ impl StateNumbering<Layer> for LayerTable {
 
     fn add(&mut self, alloc: Global, layer: Layer) -> Result<u32, AllocError> {
         let number = self.names.len() as u32;
+        self.names.reserve(1)?;
         let Some(place) = self.places.place(&layer) else {
-            let key = layer.copy(alloc)?;
-            self.names.reserve(1)?;
-            self.others.insert(key, number)?;
+            insert_copy(alloc, &mut self.others, &layer, number)?;
             self.names.push_reserved(layer);
             return Ok(number);
         };
         widen(&mut self.table, place)?;
-        self.names.reserve(1)?;
-        self.names.push_reserved(layer);
         self.table.set(place, Some(number));
+        self.names.push_reserved(layer);
         Ok(number)
     }
+}
+
+// Gives the layer this number.
+fn insert_copy(
+    alloc: Global,
+    others: &mut BTreeMap<Layer, u32>,
+    layer: &Layer,
+    number: u32,
+) -> Result<(), AllocError>
+    ensures ok { OnOk result (Updates layer_cmp others.old others.new layer.now (Some number)) }
+    ensures err { OnErr result (IsUnchanged others.old others.new) }
+{
+    let key = layer.copy(alloc)?;
+    others.insert(key, number)?;
+    Ok(())
 }
