@@ -1,14 +1,10 @@
 -- What stands between the steps of an answer.
 use Rattle.std.specs.Prelude.{◌≡◌, ℕ, ℤ, ◌≤◌, List, length, All, true, false, Option, Some, slice_get}
 use Rattle.std.specs.List.{AllZip}
-use Rattle.sv_linear.specs.Rows.{IsRowWithin}
-use Rattle.sv_linear.specs.declared.row.Row.{Row}
 use Rattle.machine_core.specs.declared.graph.Graph.{Graph}
 use Rattle.machine_core.specs.declared.run.Run.{Run}
 use Rattle.trim_search.specs.Shortest.{IsShortestRun}
-use Rattle.farkas_check.specs.Cuts.{IsNetWithin}
 use Rattle.farkas_check.specs.declared.system.System.{System}
-use Rattle.lia_branch.specs.Outcomes.{CountsEdges}
 use Rattle.search_hits.specs.Hits.{characters}
 use Rattle.parikh_flow.specs.Rows.{IsSystemOf}
 use Rattle.parikh_flow.specs.Solutions.{HasFlowAt, HaveFlowsAt}
@@ -44,12 +40,6 @@ HoldsNothing q = (q.small ≡ false) × EachHit q.machines.now (length q.region.
 abbrev pub IsShortest : List Graph → Shortest → Type 0
 IsShortest machines (Empty i) = (m : Graph) × (slice_get machines i ≡ Some m) × (HasRun m → ⊥)
 IsShortest machines (Runs runs) = AllZip IsShortestRun machines runs
-
--- a system that the solver takes
-pub record IsSolvable (s : System) : Type 0 where
-  pub rows : (i : ℕ) (r : Row) → slice_get s.rows i ≡ Some r → IsRowWithin s.unknowns r
-  pub nets : All (IsNetWithin s.unknowns) s.nets
-  pub counts : CountsEdges s
 
 -- the values of a machine's unknowns count a run that isn't too long
 pub record HasShortFlowAt (x : ℕ → ℤ) (base : ℕ) (m : Graph) : Type 0 where

@@ -1,9 +1,8 @@
 //! The system of a question, and what its solutions are.
 ghost use Rattle.std.specs.Prelude.{◌≡◌, length, IfOk};
-ghost use Rattle.lia_branch.specs.EvidenceHolds.{Holds};
-ghost use Rattle.lia_branch.specs.Outcomes.{IfSolution, IfClosed, IfGaveUp, IsSolution, IsAccepted};
+ghost use Rattle.lia_branch.specs.Outcomes.{IsSearchable, IsAnswer, IsSolution};
 ghost use Rattle.leaf_solve.specs.Answers.{IsSatAnswer, row_reach};
-ghost use Rattle.leaf_solve.specs.Steps.{IsAskedQuestion, IsSystemFor, IsSolvable};
+ghost use Rattle.leaf_solve.specs.Steps.{IsAskedQuestion, IsSystemFor};
 
 use crate::counts::runs_at;
 use crate::question::Question;
@@ -37,7 +36,7 @@ pub fn row_reach(question: &Question) -> Option<u64>
 pub fn system(alloc: Global, question: &Question, reach: Option<u64>) -> Result<System, AllocError>
     requires { IsAskedQuestion question.now }
     ensures system { IfOk result (IsSystemFor question.now reach) }
-    ensures solvable { IfOk result IsSolvable }
+    ensures searchable { IfOk result IsSearchable }
 {
     let system = system_of(
         alloc,
@@ -54,10 +53,8 @@ pub fn system(alloc: Global, question: &Question, reach: Option<u64>) -> Result<
 
 /// What the solver says of a system.
 pub fn solve_system(alloc: Global, system: &System) -> Result<Outcome, AllocError>
-    requires { IsSolvable system.now }
-    ensures solution { IfOk result (λ o. IfSolution o (IsSolution system.now)) }
-    ensures closed { IfOk result (λ o. IfClosed o (IsAccepted system.now)) }
-    ensures gave_up { IfOk result (λ o. IfGaveUp o (Holds system.now)) }
+    requires { IsSearchable system.now }
+    ensures { IfOk result (IsAnswer system.now) }
 {
     let outcome = solve(alloc, system, &NetCutter::of(system))?;
     Ok(outcome)

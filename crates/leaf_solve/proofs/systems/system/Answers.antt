@@ -14,8 +14,8 @@ pub returns-clause-system : goal.returns-clause-system
 returns-clause-system c =
     subst (λ n. IsSystemOf c.args.question.now.machines.now c.args.question.now.integers n c.args.question.now.rows.now c.args.reach c.in_ok-system.system) c.registers.ensures c.in_ok-system.ensures.system
 
-pub returns-clause-solvable : goal.returns-clause-solvable
-returns-clause-solvable c =
+pub returns-clause-searchable : goal.returns-clause-searchable
+returns-clause-searchable c =
     let is = c.in_ok-system.ensures.system in
     record {
       rows = c.in_ok-system.ensures.within (λ i r e. subst (λ n. IsRowWithin (c.args.question.now.integers + n) r) (sym c.registers.ensures) (c.requires.rows_within i r e));
