@@ -1,6 +1,10 @@
 -- What leaves a layer, made from what leaves the state of the machine at work.
-use Rattle.std.specs.Prelude.{ℕ, suc, Bool, true, false, nat_lt, List, [], ◌∷◌, if◌then◌else◌}
+use Rattle.std.specs.Prelude.{◌≡◌, ◌↔◌, ℕ, suc, Bool, true, false, nat_lt, nat_le, ◌&&◌, All, Any, List, [], ◌∷◌, if◌then◌else◌}
+use Rattle.sv_word.specs.Ranges.{in_ranges, IsInhabited}
 use Rattle.machine_core.specs.Costs.{add_costs}
+use Rattle.machine_core.specs.Edges.{EndsAt, StepsBy}
+use Rattle.machine_core.specs.Moves.{Moves}
+use Rattle.machine_core.specs.declared.graph.Graph.{Graph}
 use Rattle.machine_core.specs.declared.machine.Move.{Move}
 use Rattle.box_layers.specs.declared.layer.Layer.{Layer}
 use Rattle.box_layers.specs.Layers.{layer}
@@ -24,3 +28,20 @@ step_moves uppers at (m ∷ ms) = if is_below (add_costs at.spent m.cost) uppers
 abbrev pub end_moves : List ℕ → List (ℕ × ℕ) → Layer → List (List ℕ) → List (Move Layer)
 end_moves uppers on at [] = []
 end_moves uppers on at (k ∷ ks) = if is_below (add_costs at.spent k) uppers then end_move on at k ∷ end_moves uppers on at ks else end_moves uppers on at ks
+
+module _ (m : Graph) (uppers : List ℕ) (at : Layer) (all : List (Move Layer)) where
+  -- made from what leaves the machine's state
+  pub record AreSteps : Type 0 where
+    pub inner : List (Move ℕ)
+    pub exact : (c : ℕ) (k : List ℕ) (t : ℕ) → StepsBy m.edges at.state c k t ↔ Any (Moves c k t) inner
+    pub inhabited : All (λ e. IsInhabited e.on) inner
+    pub made : all ≡ step_moves uppers at inner
+
+  -- made from the costs at which the machine may end there, on the character 0
+  pub record AreEnds : Type 0 where
+    pub on : List (ℕ × ℕ)
+    pub costs : List (List ℕ)
+    pub single : (c : ℕ) → in_ranges on c ≡ (nat_le 0 c && nat_le c 0)
+    pub inhabited : IsInhabited on
+    pub exact : (k : List ℕ) → EndsAt m.ends at.state k ↔ Any (λ e. e ≡ k) costs
+    pub made : all ≡ end_moves uppers on at costs

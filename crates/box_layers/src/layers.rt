@@ -9,13 +9,12 @@ ghost use Rattle.box_layers.specs.LayerLaws.{first-layer, next-layer, layer-char
 
 use crate::finding::find;
 use crate::layer::Layer;
-use crate::moving::{ends, steps};
+use crate::moving::{moves_onward, moves_within};
 use machine_core::{Cost, Explicit, Machine, Move};
 use search_hits::Region;
 use std::alloc::{AllocError, Global};
 use sv_linear::Row;
 use sv_list::Items;
-use sv_word::Ranges;
 
 /// Machines in turn, whose words are those of a run of each, one character longer for each machine, with
 /// totals in the region that meet the rows together with some whole numbers of it.
@@ -210,15 +209,8 @@ impl<'a> Machine for Layers<'a> {
         }
         let machine = machine_at(self.machines, at.machine as usize);
         let sides = self.region.registers.as_slice();
-        let mut all = {
-            let inner = machine.moves(alloc, &at.state)?;
-            steps(alloc, inner.as_slice(), at, sides)?
-        };
-        let next = {
-            let last = machine.ends(alloc, &at.state)?;
-            let on = Ranges::of(alloc, 0, 0)?;
-            ends(alloc, &on, last.as_slice(), at, sides)?
-        };
+        let mut all = moves_within(alloc, machine, at, sides)?;
+        let next = moves_onward(alloc, machine, at, sides)?;
         all.append(next)?;
         Ok(all)
     }

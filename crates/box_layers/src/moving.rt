@@ -1,11 +1,11 @@
 //! What leaves a layer.
 ghost use Rattle.std.specs.Prelude.{◌≡◌, ℕ, List, [], ◌∷◌, ◌++◌, ◌<◌, ◌+◌, ◌^◌, length, map, IfOk, OnOk, Contains};
 ghost use Rattle.machine_core.specs.declared.machine.Move.{Move};
-ghost use Rattle.box_layers.specs.Moving.{step_moves, end_moves};
+ghost use Rattle.box_layers.specs.Moving.{step_moves, end_moves, AreSteps, AreEnds};
 
 use crate::layer::Layer;
 use crate::paying::pay;
-use machine_core::{Cost, Move};
+use machine_core::{Cost, Explicit, Machine, Move};
 use std::alloc::{AllocError, Global};
 use sv_list::{Copied, Items};
 use sv_word::Ranges;
@@ -72,7 +72,7 @@ fn push_end(
 }
 
 // The moves of the machine at work, as long as what is spent stays within the sides.
-pub fn steps(
+fn steps(
     alloc: Global,
     moves: &[Move<u32>],
     at: &Layer,
@@ -91,7 +91,7 @@ pub fn steps(
 
 // The moves on these characters from ends at these costs to the start of the next machine, as long as what
 // is spent stays within the sides.
-pub fn ends(
+fn ends(
     alloc: Global,
     on: &Ranges,
     costs: &[Cost],
@@ -108,4 +108,39 @@ pub fn ends(
         push_end(alloc, &mut all, on, cost, at, sides)?;
     }
     Ok(all)
+}
+
+/// The moves to layers of the machine at work, as long as what is spent stays within the sides.
+pub fn moves_within(
+    alloc: Global,
+    machine: &Explicit,
+    at: &Layer,
+    sides: &[(u64, u64)],
+) -> Result<Items<Move<Layer>>, AllocError>
+    requires state { at.now.state < machine.now.states }
+    requires spent { length at.now.spent ≡ machine.now.registers }
+    requires sides { length sides.now ≡ length at.now.spent }
+    ensures { IfOk result (AreSteps machine.now (map (λ s. s.1) sides.now) at.now) }
+{
+    let inner = machine.moves(alloc, &at.state)?;
+    steps(alloc, inner.as_slice(), at, sides)
+}
+
+/// The moves from ends of the machine at work to the start of the next one, as long as what is spent stays
+/// within the sides.
+pub fn moves_onward(
+    alloc: Global,
+    machine: &Explicit,
+    at: &Layer,
+    sides: &[(u64, u64)],
+) -> Result<Items<Move<Layer>>, AllocError>
+    requires state { at.now.state < machine.now.states }
+    requires spent { length at.now.spent ≡ machine.now.registers }
+    requires sides { length sides.now ≡ length at.now.spent }
+    requires next { at.now.machine + 1 < 2 ^ 64 }
+    ensures { IfOk result (AreEnds machine.now (map (λ s. s.1) sides.now) at.now) }
+{
+    let last = machine.ends(alloc, &at.state)?;
+    let on = Ranges::of(alloc, 0, 0)?;
+    ends(alloc, &on, last.as_slice(), at, sides)
 }
