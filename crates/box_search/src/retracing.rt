@@ -1,5 +1,6 @@
 //! A run of all machines in turn, through given layers.
-ghost use Rattle.std.specs.Prelude.{◌≡◌, true, IfOk, IfSome};
+ghost use Rattle.std.specs.Prelude.{◌≡◌, ◌≤◌, ◌++◌, ◌∷◌, [], true, IfOk, OnOk, IfSome};
+ghost use Rattle.sv_word.specs.Words.{greatest_character};
 ghost use Rattle.machine_core.specs.Moves.{Moves};
 ghost use Rattle.box_layers.specs.Cuts.{IsRunOfAll};
 ghost use Rattle.box_search.specs.Ways.{IsWay};
@@ -87,10 +88,20 @@ fn go_on(
     let Some(step) = step_to(alloc, layers, at, pair, states)? else {
         return Ok(false);
     };
+    add_step(run, step)?;
+    Ok(true)
+}
+
+// One step more.
+fn add_step(run: &mut Run<Layer>, step: Step) -> Result<(), AllocError>
+    requires { step.character ≤ greatest_character }
+    ensures word { OnOk result (run.new.word ≡ run.old.word ++ step.character ∷ []) }
+    ensures costs { OnOk result (run.new.costs ≡ run.old.costs ++ step.cost ∷ []) }
+    ensures states { OnOk result (run.new.states ≡ run.old.states ++ step.to ∷ []) }
+{
     run.word.push(step.character)?;
     run.costs.push(step.cost)?;
-    run.states.push(step.to)?;
-    Ok(true)
+    run.states.push(step.to)
 }
 
 // Ends the run where it has come to. Whether it may end there.

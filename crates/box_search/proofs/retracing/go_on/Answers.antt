@@ -22,6 +22,6 @@ returns c = λ _.
     let at = subst (λ n. slice_get c.args.run.now.states n ≡ Some c.layer_at-at.result.now) c.len.ensures (subst (λ (l : List Layer). slice_get l c.len.result ≡ Some c.layer_at-at.result.now) c.as_slice.ensures c.layer_at-at.ensures) in
     let layers = c.args.layers.now in
     let step = c.in-Some.step in
-    way-grown c.args.layers.now.machines.now c.args.layers.now.rows.now c.args.layers.now.region.now c.args.run.now c.requires (record { word = c.push.new.self; states = c.push-3.new.self; costs = c.push-2.new.self; last = c.args.run.now.last }) c.layer_at-at.result.now step.to step.character step.cost at
+    way-grown c.args.layers.now.machines.now c.args.layers.now.rows.now c.args.layers.now.region.now c.args.run.now c.requires c.add_step.new.run c.layer_at-at.result.now step.to step.character step.cost at
     (subst (λ o. IfSome o (λ s. LayerStep layers.machines.now (uppers_of layers.region.now) (AreGoodTotals layers.rows.now layers.region.now) c.layer_at-at.result.now s.character s.cost s.to)) c.in-Some.is c.in_ok-step.ensures)
-    c.in_ok-push-3.ensures.ok c.in_ok-push.ensures.ok c.in_ok-push-2.ensures.ok
+    c.in_ok-add_step.ensures.states c.in_ok-add_step.ensures.word c.in_ok-add_step.ensures.costs
