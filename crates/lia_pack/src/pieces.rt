@@ -90,64 +90,106 @@ pub(crate) fn find_layer(
     below: &[u8],
     bytes: &[u8],
 ) -> Result<Option<Layer>, AllocError> {
-    let mut pieces = Items::new(alloc);
-    let mut fresh = Items::new(alloc);
-    let mut rest = below;
-    let mut left = bytes;
-    let mut skip: usize = 0;
-    for _ in 0..bytes.len() {
-        if left.is_empty() {
-            break;
+    let mut layer = Layer {
+        pieces: Items::new(alloc),
+        fresh: Items::new(alloc),
+    };
+    if layer.find(below, bytes)? {
+        Ok(Some(layer.copy(alloc)?))
+    } else {
+        Ok(None)
+    }
+}
+
+impl Layer {
+    /// Adds the pieces that make the bytes of those below; false where they take too much memory.
+    fn find(&mut self, below: &[u8], bytes: &[u8]) -> Result<bool, AllocError> {
+        let mut rest = Rest {
+            below,
+            bytes,
+            skip: 0,
+        };
+        for _ in 0..bytes.len() {
+            if rest.bytes.is_empty() {
+                break;
+            }
+            let (length, fresh, behind) = rest.next();
+            self.add(rest.skip, length, fresh)?;
+            rest = behind;
+            if self.is_large(bytes.len(), rest.bytes.len()) {
+                return Ok(false);
+            }
         }
-        let length = count_same(rest, left);
-        let (_, shared) = cut(rest, length);
-        let (_, own) = cut(left, length);
+        self.leave_out(rest.skip.saturating_add(rest.below.len()))?;
+        Ok(true)
+    }
+
+    /// Adds a piece that skips so many bytes, takes so many, and has these fresh ones.
+    fn add(&mut self, skip: usize, length: usize, fresh: &[u8]) -> Result<(), AllocError> {
+        for byte in fresh {
+            self.fresh.push(*byte)?;
+        }
+        self.pieces.push(piece_of(skip, length, fresh.len()))
+    }
+
+    /// Adds pieces that leave out so many bytes of those below.
+    fn leave_out(&mut self, count: usize) -> Result<(), AllocError> {
+        let mut count = count;
+        for _ in 0..count {
+            if count == 0 {
+                return Ok(());
+            }
+            let skip = if count < MOST { count } else { MOST };
+            self.pieces.push(piece_of(skip, 0, 0))?;
+            count = count.saturating_sub(skip);
+        }
+        Ok(())
+    }
+
+    /// Whether the layer takes too much memory for bytes of which so many are left.
+    fn is_large(&self, bytes: usize, left: usize) -> bool {
+        let memory = self
+            .pieces
+            .len()
+            .saturating_mul(PIECE)
+            .saturating_add(self.fresh.len());
+        let done = bytes.saturating_sub(left);
+        memory > bytes / 8 || memory > SLACK.saturating_add(done / 4)
+    }
+
+    /// The same layer, with no room behind its lists.
+    fn copy(&self, alloc: Global) -> Result<Layer, AllocError> {
+        Ok(Layer {
+            pieces: Items::from_slice(alloc, self.pieces.as_slice())?,
+            fresh: Items::from_slice(alloc, self.fresh.as_slice())?,
+        })
+    }
+}
+
+/// What is left of both, and how many bytes before it are left out below.
+#[derive(Clone, Copy)]
+struct Rest<'a> {
+    below: &'a [u8],
+    bytes: &'a [u8],
+    skip: usize,
+}
+
+impl<'a> Rest<'a> {
+    /// How many bytes are alike, the fresh bytes behind them, and the rest behind these.
+    fn next(self) -> (usize, &'a [u8], Rest<'a>) {
+        let length = count_same(self.below, self.bytes);
+        let (_, shared) = cut(self.below, length);
+        let (_, own) = cut(self.bytes, length);
         let gap = if length == MOST {
             Gap { shared: 0, own: 0 }
         } else {
             next_gap(shared, own)
         };
-        let (own, later) = cut(own, gap.own);
-        add_bytes(&mut fresh, own)?;
-        pieces.push(piece_of(skip, length, own.len()))?;
-        let (_, behind) = cut(shared, gap.shared);
-        skip = shared.len().saturating_sub(behind.len());
-        rest = behind;
-        left = later;
-        let memory = pieces
-            .len()
-            .saturating_mul(PIECE)
-            .saturating_add(fresh.len());
-        let done = bytes.len().saturating_sub(left.len());
-        if memory > bytes.len() / 8 || memory > SLACK.saturating_add(done / 4) {
-            return Ok(None);
-        }
+        let (fresh, bytes) = cut(own, gap.own);
+        let (_, below) = cut(shared, gap.shared);
+        let skip = shared.len().saturating_sub(below.len());
+        (length, fresh, Rest { below, bytes, skip })
     }
-    leave_out(&mut pieces, skip.saturating_add(rest.len()))?;
-    let pieces = Items::from_slice(alloc, pieces.as_slice())?;
-    let fresh = Items::from_slice(alloc, fresh.as_slice())?;
-    Ok(Some(Layer { pieces, fresh }))
-}
-
-fn add_bytes(list: &mut Items<u8>, bytes: &[u8]) -> Result<(), AllocError> {
-    for byte in bytes {
-        list.push(*byte)?;
-    }
-    Ok(())
-}
-
-/// Pieces that leave out so many bytes of those below.
-fn leave_out(pieces: &mut Items<Piece>, count: usize) -> Result<(), AllocError> {
-    let mut count = count;
-    for _ in 0..count {
-        if count == 0 {
-            return Ok(());
-        }
-        let skip = if count < MOST { count } else { MOST };
-        pieces.push(piece_of(skip, 0, 0))?;
-        count = count.saturating_sub(skip);
-    }
-    Ok(())
 }
 
 fn piece_of(skip: usize, length: usize, fresh: usize) -> Piece {
