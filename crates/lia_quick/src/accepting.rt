@@ -25,8 +25,7 @@ pub(crate) fn accepts(alloc: Global, system: &System, tree: &Tree) -> Result<boo
     ensures { IfOk result (λ b. IsTrue b → Closes system.now tree.now × SumsFit system.now tree.now) }
 {
     let mut rows = system.rows.copy(alloc)?;
-    let accepted = accepts_over(alloc, system.unknowns, &mut rows, tree, MOST_DEPTH)?;
-    Ok(accepted)
+    accepts_over(alloc, system.unknowns, &mut rows, tree, MOST_DEPTH)
 }
 
 /// Whether the tree closes these rows, which are left as they were.
@@ -43,28 +42,22 @@ fn accepts_over(
     ensures told { IfOk result (λ b. IsTrue b → (nets : List Net) → Told nets (map constraint_of rows.old) tree.now) }
 {
     match tree {
-        Tree::Farkas { multipliers } => {
-            let accepted = accepts_farkas(
-                alloc,
-                unknowns,
-                rows.as_slice(),
-                multipliers.as_slice(),
-            )?;
-            Ok(accepted)
-        }
+        Tree::Farkas { multipliers } => accepts_farkas(
+            alloc,
+            unknowns,
+            rows.as_slice(),
+            multipliers.as_slice(),
+        ),
         Tree::Divisor {
             multipliers,
             divisor,
-        } => {
-            let accepted = accepts_divisor(
-                alloc,
-                unknowns,
-                rows.as_slice(),
-                multipliers.as_slice(),
-                *divisor,
-            )?;
-            Ok(accepted)
-        }
+        } => accepts_divisor(
+            alloc,
+            unknowns,
+            rows.as_slice(),
+            multipliers.as_slice(),
+            *divisor,
+        ),
         Tree::Split {
             unknown,
             at,
@@ -79,8 +72,7 @@ fn accepts_over(
                 return Ok(false);
             }
             let row = at_least_row(alloc, *unknown, *at + 1)?;
-            let accepted = accepts_side(alloc, unknowns, rows, row, high.get(), depth - 1)?;
-            Ok(accepted)
+            accepts_side(alloc, unknowns, rows, row, high.get(), depth - 1)
         }
         Tree::SetSplit { .. } => Ok(false),
         Tree::Open => Ok(false),
