@@ -1,4 +1,5 @@
 use Rattle.std.proofs.Common.{suc, slice_get, ap, sym, ◌∙◌, subst}
+use Rattle.std.proofs.lemmas.Result.{IfOk-weaker}
 use Rattle.farkas_check.specs.Systems.{Constraint}
 use Rattle.farkas_check.specs.Closings.{none_out}
 use Rattle.farkas_check.specs.declared.net.Net.{Net}
@@ -6,18 +7,18 @@ use Rattle.lia_branch.specs.Nodes.{IsRowOf}
 use Rattle.lia_branch.specs.Forks.{AreForkSides, IsForkWithin}
 use Rattle.lia_branch.specs.declared.fork.Fork.{Fork}
 use Rattle.lia_branch.proofs.Branching.{row_within}
-use Rattle.lia_branch.proofs.ForkRows.{if_ok, indexed}
+use Rattle.lia_branch.proofs.ForkRows.{indexed}
 use Rattle.lia_branch.proofs.fork.Fork.first_row.Goals as goal
 use Rattle.sv_linear.specs.Rows.{IsRowWithin}
 
 pub returns-in-Unknown-clause-within : goal.returns-in-Unknown-clause-within
 returns-in-Unknown-clause-within c =
     let w = subst (IsForkWithin c.args.system.now) c.in-Unknown.is c.requires in
-    if_ok c.at_most_row.result (IsRowWithin (suc c.in-Unknown.unknown)) (IsRowWithin c.args.system.now.unknowns) (λ r h. row_within c.in-Unknown.unknown c.args.system.now.unknowns r w.0 h) c.at_most_row.ensures.within
+    IfOk-weaker c.at_most_row.result (IsRowWithin (suc c.in-Unknown.unknown)) (IsRowWithin c.args.system.now.unknowns) (λ r h. row_within c.in-Unknown.unknown c.args.system.now.unknowns r w.0 h) c.at_most_row.ensures.within
 
 pub returns-in-Set-clause-row : goal.returns-in-Set-clause-row
 returns-in-Set-clause-row c = λ first second a.
     let b = subst (λ (f : Fork). AreForkSides c.args.system.now.nets f first second) c.in-Set.is a in
     let net = c.index-as_slice-net.is ∙ indexed c.as_slice.result.now c.in-Set.net c.index-as_slice-net.result b.0 (ap (λ ns. slice_get ns c.in-Set.net) c.as_slice.ensures ∙ b.1.0) in
-    if_ok c.none_out_row.result (IsRowOf (none_out c.index-as_slice-net.result c.as_slice-in-Set.result.now)) (IsRowOf first)
+    IfOk-weaker c.none_out_row.result (IsRowOf (none_out c.index-as_slice-net.result c.as_slice-in-Set.result.now)) (IsRowOf first)
     (λ r h. subst (λ (w : Constraint). IsRowOf w r) (ap (λ (m : Net). none_out m c.as_slice-in-Set.result.now) net ∙ ap (none_out b.0) c.as_slice-in-Set.ensures ∙ sym b.1.1.0) h) c.none_out_row.ensures.row
