@@ -1,11 +1,14 @@
-ghost use Rattle.std.specs.Prelude.{◌≡◌, ℕ, suc, ◌<◌, ◌-◌, IfOk};
+ghost use Rattle.std.specs.Prelude.{◌≡◌, ℕ, ℤ, suc, ◌<◌, ◌-◌, IfOk};
 ghost use Rattle.std.specs.List.{count_by};
 ghost use Rattle.sv_linear.specs.Rows.{IsRowWithin};
+ghost use Rattle.lia_tableau.specs.BasicPoints.{IsPoint};
 ghost use Rattle.lia_tableau.specs.Crossing.{IsPastFault};
+ghost use Rattle.lia_tableau.specs.Quantities.{SolvesWithSlacks};
+ghost use Rattle.lia_tableau.specs.Shown.{IsStatus};
 ghost use Rattle.lia_branch.specs.Forks.{IsForkWithin};
 ghost use Rattle.lia_branch.specs.Forks.{Path};
 ghost use Rattle.farkas_check.specs.declared.tree.Tree.TheVariants.{Open};
-ghost use Rattle.lia_branch.specs.Nodes.{Node, BeginsAt, IsFirstBasis};
+ghost use Rattle.lia_branch.specs.Nodes.{Node, BeginsAt, ComesTo, IsFirstBasis};
 ghost use Rattle.lia_branch.specs.EvidenceHolds.{IsPastAt};
 ghost use Rattle.lia_branch.specs.Founds.{IsReadyTableau, IsSystemNode, IsNodeStop};
 ghost use Rattle.lia_branch.specs.Forks.{VisitHolds, IsForkAt, IsClosing, IsResumed, EnteredHolds, NextHolds, IsNextSmaller, EnteredBy, is_first};
@@ -48,6 +51,31 @@ fn stop_of(fault: TableauFault) -> Result<StopReason, AllocError>
     }
 }
 
+/// What stands at a basis whose point meets the rows: a solution, or a split that is due.
+fn visit_point<C: Cutter>(
+    alloc: Global,
+    system: &System,
+    cutter: &C,
+    tableau: &Tableau,
+) -> Result<Visit, AllocError>
+    requires ready { IsReadyTableau system.now tableau.now.rows tableau.now }
+    requires status { IsStatus tableau.now TableauStatus.Point }
+    requires meets { (x : ℕ → ℤ) (d : ℤ) → IsPoint tableau.now.lines x d → SolvesWithSlacks tableau.now.unknowns tableau.now.rows x d }
+    requires cutter { C.nets cutter.now ≡ system.now.nets }
+    ensures { (node : Node) → IsSystemNode system.now tableau.now.rows node → ComesTo node tableau.now → IfOk result (VisitHolds system.now tableau.now node) }
+{
+    match first_fraction(tableau, system.unknowns) {
+        Some(Fraction { unknown, at }) => Ok(Visit::Split(Fork::Unknown { unknown, at })),
+        None => {
+            let point = whole_point(alloc, tableau, system.unknowns)?;
+            match cutter.cut(alloc, point.as_slice())? {
+                None => Ok(Visit::Solution(point)),
+                Some((net, states)) => Ok(Visit::Split(Fork::Set { net, states })),
+            }
+        }
+    }
+}
+
 /// Makes the due pivots of a node, and finds what stands there.
 fn visit<C: Cutter>(
     alloc: Global,
@@ -66,16 +94,7 @@ fn visit<C: Cutter>(
     match tableau.status() {
         TableauStatus::Divisor(at) => divisor_leaf(alloc, system, tableau.rows(), tableau, at),
         TableauStatus::Conflict(at) => conflict_leaf(alloc, system, tableau.rows(), tableau, at),
-        TableauStatus::Point => match first_fraction(tableau, system.unknowns) {
-            Some(Fraction { unknown, at }) => Ok(Visit::Split(Fork::Unknown { unknown, at })),
-            None => {
-                let point = whole_point(alloc, tableau, system.unknowns)?;
-                match cutter.cut(alloc, point.as_slice())? {
-                    None => Ok(Visit::Solution(point)),
-                    Some((net, states)) => Ok(Visit::Split(Fork::Set { net, states })),
-                }
-            }
-        },
+        TableauStatus::Point => visit_point(alloc, system, cutter, tableau),
         TableauStatus::Due => unreachable!(),
     }
 }
