@@ -1,10 +1,9 @@
-ghost use Rattle.std.specs.Prelude.{◌≡◌, pos, ◌<ℤ◌, ◌≤ℤ◌, false, IsTrue, IfOk};
+ghost use Rattle.std.specs.Prelude.{◌≡◌, pos, ◌<ℤ◌, ◌≤ℤ◌, false, IsTrue};
 ghost use Rattle.lia_tableau.specs.Crossing.{column_number};
 ghost use Rattle.lia_tableau.specs.Shown.{IsStatus};
 ghost use Rattle.lia_tableau.specs.declared.status.TableauStatus.TheVariants.{Divisor, Conflict};
-ghost use Rattle.lia_branch.specs.Nodes.{Node, ComesTo};
-ghost use Rattle.lia_branch.specs.Founds.{IsReadyTableau, IsSystemNode};
-ghost use Rattle.lia_branch.specs.Forks.{VisitHolds};
+ghost use Rattle.lia_branch.specs.Founds.{IsReadyTableau};
+ghost use Rattle.lia_branch.specs.Forks.{IsVisitAt};
 
 use crate::leaf_sums::{multipliers_of, remainders_of};
 use crate::stop::StopReason;
@@ -24,7 +23,7 @@ pub(crate) fn conflict_leaf(
 ) -> Result<Visit, AllocError>
     requires ready { IsReadyTableau system.now rows.now tableau.now }
     requires status { IsStatus tableau.now (Conflict at) }
-    ensures { (node : Node) → IsSystemNode system.now rows.now node → ComesTo node tableau.now → IfOk result (VisitHolds system.now tableau.now node) }
+    ensures { IsVisitAt system.now rows.now tableau.now result }
 {
     let line = tableau.identity(at);
     let negated = is_negative(line.form.constant);
@@ -46,7 +45,7 @@ pub(crate) fn divisor_leaf(
 ) -> Result<Visit, AllocError>
     requires ready { IsReadyTableau system.now rows.now tableau.now }
     requires status { IsStatus tableau.now (Divisor at) }
-    ensures { (node : Node) → IsSystemNode system.now rows.now node → ComesTo node tableau.now → IfOk result (VisitHolds system.now tableau.now node) }
+    ensures { IsVisitAt system.now rows.now tableau.now result }
 {
     let line = tableau.identity(at);
     let divisor = unknowns_divisor(system.unknowns, &line.form);

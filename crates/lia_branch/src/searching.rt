@@ -8,10 +8,10 @@ ghost use Rattle.lia_tableau.specs.Shown.{IsStatus};
 ghost use Rattle.lia_branch.specs.Forks.{IsForkWithin};
 ghost use Rattle.lia_branch.specs.Forks.{Path};
 ghost use Rattle.farkas_check.specs.declared.tree.Tree.TheVariants.{Open};
-ghost use Rattle.lia_branch.specs.Nodes.{Node, BeginsAt, ComesTo, IsFirstBasis};
+ghost use Rattle.lia_branch.specs.Nodes.{Node, BeginsAt, IsFirstBasis};
 ghost use Rattle.lia_branch.specs.EvidenceHolds.{IsPastAt};
 ghost use Rattle.lia_branch.specs.Founds.{IsReadyTableau, IsSystemNode, IsNodeStop};
-ghost use Rattle.lia_branch.specs.Forks.{VisitHolds, IsForkAt, IsClosing, IsResumed, EnteredHolds, NextHolds, IsNextSmaller, EnteredBy, is_first};
+ghost use Rattle.lia_branch.specs.Forks.{VisitHolds, IsVisitAt, IsForkAt, IsClosing, IsResumed, EnteredHolds, NextHolds, IsNextSmaller, EnteredBy, is_first};
 ghost use Rattle.lia_branch.specs.Outcomes.{IsSearchable, IsAnswer};
 
 use crate::fork::Fork;
@@ -62,7 +62,7 @@ fn visit_point<C: Cutter>(
     requires status { IsStatus tableau.now TableauStatus.Point }
     requires meets { (x : ℕ → ℤ) (d : ℤ) → IsPoint tableau.now.lines x d → SolvesWithSlacks tableau.now.unknowns tableau.now.rows x d }
     requires cutter { C.nets cutter.now ≡ system.now.nets }
-    ensures { (node : Node) → IsSystemNode system.now tableau.now.rows node → ComesTo node tableau.now → IfOk result (VisitHolds system.now tableau.now node) }
+    ensures { IsVisitAt system.now tableau.now.rows tableau.now result }
 {
     match first_fraction(tableau, system.unknowns) {
         Some(Fraction { unknown, at }) => Ok(Visit::Split(Fork::Unknown { unknown, at })),
