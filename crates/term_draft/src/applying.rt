@@ -9,31 +9,13 @@ use std::alloc::{AllocError, Global};
 use sv_list::{Boxed, Copied, Items};
 use sv_terms::{Body, Op, Regex, Sort, Term, Transducer};
 use sv_word::{GREATEST_CHARACTER, Word};
-use term_weight::{op_sort, room};
-
-/// The sort of a sorted term, from its outermost function. Constant.
-#[tactic(auto, using(term_weight::specs::LayerLaws::sorts))]
-fn term_sort(term: &Term) -> Sort
-    ensures { result ≡ b.body_sort (Body.Term term.now) }
-{
-    match term {
-        Term::Truth(_) => Sort::Bool,
-        Term::Number(_) => Sort::Int,
-        Term::Text(_) => Sort::String,
-        Term::Constant(_, sort) => *sort,
-        Term::Apply(op, _) => op_sort(*op),
-        Term::InRe(_, _) => Sort::Bool,
-        Term::Related(_, _, _) => Sort::Bool,
-        Term::Opaque(sort) => *sort,
-    }
-}
 
 /// The sort of a sorted term, or RegLan. Constant.
 pub fn body_sort(body: &Body) -> Sort
     ensures { result ≡ b.body_sort body.now }
 {
     match body {
-        Body::Term(term) => term_sort(term),
+        Body::Term(term) => term.sort(),
         Body::Language(_) => Sort::RegLan,
     }
 }
@@ -48,15 +30,11 @@ pub fn into_term(body: Body) -> Term
     }
 }
 
-#[tactic(auto, using(term_weight::specs::LayerLaws::collecting))]
 fn into_terms(alloc: Global, bodies: Items<Body>) -> Result<Items<Term>, AllocError>
     ensures { IfOk result (λ ts. ts ≡ map b.term_of bodies) }
 {
-    let mut all = room(alloc, bodies.len())?;
-    for body in bodies.into_vec() {
-        all.push(into_term(body))?;
-    }
-    Ok(all)
+    let terms = bodies.into_vec().into_iter().map(into_term);
+    Ok(Items::from_vec(terms.collect(alloc)?))
 }
 
 fn into_regex(body: Body) -> Regex
@@ -68,15 +46,11 @@ fn into_regex(body: Body) -> Regex
     }
 }
 
-#[tactic(auto, using(term_weight::specs::LayerLaws::collecting))]
 fn into_regexes(alloc: Global, bodies: Items<Body>) -> Result<Items<Regex>, AllocError>
     ensures { IfOk result (λ rs. rs ≡ map b.regex_of bodies) }
 {
-    let mut all = room(alloc, bodies.len())?;
-    for body in bodies.into_vec() {
-        all.push(into_regex(body))?;
-    }
-    Ok(all)
+    let regexes = bodies.into_vec().into_iter().map(into_regex);
+    Ok(Items::from_vec(regexes.collect(alloc)?))
 }
 
 pub fn opaque(sort: Sort) -> Body
