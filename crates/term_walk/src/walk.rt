@@ -1,5 +1,5 @@
 // The one walk over a term: it sorts and weighs each part, and puts nothing in.
-ghost use Rattle.std.specs.Prelude.{◌≡◌, ◌∷◌, ◌++◌, ◌||◌, not, [], Ok, Some, length, map, OnOk, IfOk};
+ghost use Rattle.std.specs.Prelude.{◌≡◌, ◌∷◌, ◌++◌, ◌||◌, not, [], false, Ok, Some, length, map, OnOk, IfOk};
 ghost use Rattle.std.specs.List.{list_all};
 ghost use Rattle.sv_terms.specs.Names.{symbol_name};
 ghost use Rattle.sv_terms.specs.declared.entry.Body.{Body as Meant};
@@ -43,6 +43,21 @@ impl Drop for Walk<'_> {
             draft: _,
             is_past: _,
         } = self;
+    }
+}
+
+impl<'a> Walk<'a> {
+    /// Nothing is bound and nothing was read.
+    fn new(alloc: Global) -> Walk<'a>
+        ensures scope { result.scope ≡ [] }
+        ensures draft { result.draft ≡ [] }
+        ensures past { result.is_past ≡ false }
+    {
+        Walk {
+            scope: Scope::new(alloc),
+            draft: TermDraft::new(alloc),
+            is_past: false,
+        }
     }
 }
 
@@ -527,11 +542,7 @@ pub fn settle_sorts(
 ) -> Result<Items<Sort>, CheckFault>
     ensures { Answers (meaning.settled_sorts symbols.now [] (forms (map seen terms.now))) result }
 {
-    let mut walk = Walk {
-        scope: Scope::new(alloc),
-        draft: TermDraft::new(alloc),
-        is_past: false,
-    };
+    let mut walk = Walk::new(alloc);
     match read_all(alloc, &mut walk, symbols, terms) {
         Ok(places) => {
             if walk.is_past {
@@ -553,11 +564,7 @@ pub fn settle_one(
 ) -> Result<Body, CheckFault>
     ensures { Answers (meaning.settled symbols.now (meaning.as_constants bodies.parameter_name parameters.now) (forms (seen term.now ∷ []))) (made_of (λ x. x ∷ []) result) }
 {
-    let mut walk = Walk {
-        scope: Scope::new(alloc),
-        draft: TermDraft::new(alloc),
-        is_past: false,
-    };
+    let mut walk = Walk::new(alloc);
     let bound = constants(alloc, &mut walk, parameters, true)?;
     bind(alloc, &mut walk.scope, bound.as_slice())?;
     match read(alloc, &mut walk, symbols, term) {

@@ -1,5 +1,4 @@
-use Rattle.std.proofs.Common.{refl, sym, subst, [], map, false, List, ℕ}
-use Rattle.term_walk.specs.declared.walk.Walk.{Walk}
+use Rattle.std.proofs.Common.{sym, subst, [], map, List, ℕ}
 use Rattle.term_weight.specs.Bodies.{body_sort}
 use Rattle.term_draft.specs.Drafts.{at_places}
 use Rattle.smt_names.specs.Faults.{Answers, made_of}
@@ -11,19 +10,16 @@ use Rattle.term_walk.proofs.walk.settle_sorts.Goals as goal
 
 pub returns-in-Ok : goal.returns-in-Ok
 returns-in-Ok c =
-    let w0 : Walk = record { scope = c.new.result; draft = c.new-2.result; is_past = false } in
-    let b = subst (λ (z : List (Name × ℕ)). Bound w0.draft z []) (sym c.new.ensures) tt in
-    sorts-places c.args.symbols.now [] (forms (map seen c.args.terms.now)) w0 c.read_all.new.walk c.in-Ok.places c.fitting_sorts.result (c.in-Ok.ensures [] b) refl c.if-walk.false
+    let b = subst (λ (z : List (Name × ℕ)). Bound c.new-walk.result.draft z []) (sym c.new-walk.ensures.scope) tt in
+    sorts-places c.args.symbols.now [] (forms (map seen c.args.terms.now)) c.new-walk.result c.read_all.new.walk c.in-Ok.places c.fitting_sorts.result (c.in-Ok.ensures [] b) c.new-walk.ensures.past c.if-walk.false
     (subst (λ (z : List ℕ). Answers (made_of (map body_sort) (fitting (at_places c.read_all.new.walk.draft z))) c.fitting_sorts.result) c.as_slice.ensures c.fitting_sorts.ensures)
 
 pub returns-then-walk : goal.returns-then-walk
 returns-then-walk c =
-    let w0 : Walk = record { scope = c.new.result; draft = c.new-2.result; is_past = false } in
-    let b = subst (λ (z : List (Name × ℕ)). Bound w0.draft z []) (sym c.new.ensures) tt in
-    sorts-size c.args.symbols.now [] (forms (map seen c.args.terms.now)) w0 c.read_all.new.walk c.in-Ok.places (c.in-Ok.ensures [] b) refl c.if-walk.true
+    let b = subst (λ (z : List (Name × ℕ)). Bound c.new-walk.result.draft z []) (sym c.new-walk.ensures.scope) tt in
+    sorts-size c.args.symbols.now [] (forms (map seen c.args.terms.now)) c.new-walk.result c.read_all.new.walk c.in-Ok.places (c.in-Ok.ensures [] b) c.new-walk.ensures.past c.if-walk.true
 
 pub returns : goal.returns
 returns c =
-    let w0 : Walk = record { scope = c.new.result; draft = c.new-2.result; is_past = false } in
-    let b = subst (λ (z : List (Name × ℕ)). Bound w0.draft z []) (sym c.new.ensures) tt in
-    sorts-err c.args.symbols.now [] (forms (map seen c.args.terms.now)) w0 c.read_all.new.walk c.in-Err.fault (c.in-Err.ensures [] b)
+    let b = subst (λ (z : List (Name × ℕ)). Bound c.new-walk.result.draft z []) (sym c.new-walk.ensures.scope) tt in
+    sorts-err c.args.symbols.now [] (forms (map seen c.args.terms.now)) c.new-walk.result c.read_all.new.walk c.in-Err.fault (c.in-Err.ensures [] b)
