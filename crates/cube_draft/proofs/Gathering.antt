@@ -17,7 +17,7 @@ use Rattle.literal_forms.specs.Shapes.{Shape, truth, number, text, constant, app
 use Rattle.flat_cubes.specs.Drafted.{HoldsDraft, integers_among, registers_among, term_at, unknown_at}
 use Rattle.flat_cubes.specs.Flattening.{Bounded, IsRowFor, bounded_of, coefficient_at, name_of}
 use Rattle.cube_draft.specs.Gathered.{Gathers, IsInside, IsRowAmong, coefficient_where, index_of, number_at, unknowns_at}
-use Rattle.cube_draft.specs.Kinds.{is_text}
+use Rattle.written_terms.specs.Strings.{is_text}
 use Rattle.flat_cubes.specs.Met.{Comparison, DraftView, place_of, with_comparison, with_definition, with_equality, with_part, with_term}
 use Rattle.flat_cubes.specs.declared.definition.By.{By}
 use Rattle.flat_cubes.specs.declared.variable.Own.{Own}

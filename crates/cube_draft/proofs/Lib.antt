@@ -3,7 +3,6 @@ pub mod Entries
 mod Declaring
 pub mod Sames
 pub mod Gathering
-pub mod Forms
 pub mod Placing
 pub mod Strings
 pub mod Fine

@@ -13,17 +13,18 @@ use Rattle.literal_forms.specs.Mirrors.{raw-seen, seen-Constant, seen-Text}
 use Rattle.literal_forms.specs.Shapes.{Shape, Shapes, truth, number, text, constant, apply, member, related, opaque, end, ◌⨾◌, raw, seen}
 use Rattle.flat_cubes.specs.Flattening.{name_of}
 use Rattle.cube_draft.specs.Gathered.{ArePieced, Gathers, IsTermMet, IsSought, number_at}
-use Rattle.cube_draft.specs.Kinds.{build_of, is_text, literals_of}
+use Rattle.written_terms.specs.Strings.{build_of, is_text}
+use Rattle.cube_draft.specs.Kinds.{literals_of}
 use Rattle.flat_cubes.specs.Met.{DraftView, Found, known_or, meet, meet_all, place_of, with_definition, with_part, with_term}
 use Rattle.flat_cubes.specs.declared.definition.By.{By}
 use Rattle.flat_cubes.specs.declared.definition.By.TheVariants as by
-use Rattle.cube_draft.specs.declared.kind.PlaceBuild.{PlaceBuild}
-use Rattle.cube_draft.specs.declared.kind.PlaceBuild.TheVariants as build
+use Rattle.written_terms.specs.declared.strings.PlaceBuild.{PlaceBuild}
+use Rattle.written_terms.specs.declared.strings.PlaceBuild.TheVariants as build
 use Rattle.cube_draft.specs.declared.meeting.DraftBuilder.{DraftBuilder}
 use Rattle.cube_draft.specs.declared.meeting.TermPlace.{TermPlace}
 use Rattle.cube_draft.specs.declared.meeting.TermPlace.TheVariants.{Known, New}
 use Rattle.flat_cubes.specs.declared.variable.Own.TheVariants as own
-use Rattle.cube_draft.proofs.Forms.{concat_op, seen_all, seen_apply}
+use Rattle.written_terms.proofs.Forms.{concat_op, seen_all, seen_apply}
 use Rattle.cube_draft.proofs.Gathering.{finds_new, finds_text, gathers_definition, gathers_part, gathers_term, map_length}
 
 names_long : (m : DraftBuilder) (d : DraftView) → Gathers m d → length m.names ≡ length d.terms

@@ -16,7 +16,6 @@
 
 mod code;
 mod comparison;
-mod kind;
 mod literals;
 mod meeting;
 mod places;

@@ -9,7 +9,6 @@ ghost use Rattle.cube_draft.specs.Kinds.{head_of};
 ghost use Rattle.flat_cubes.specs.Said.{atom_said, constant_said, one_said, pair_said, part_said, row_said, said, string_said};
 ghost use Rattle.flat_cubes.specs.declared.variable.Own.TheVariants as any_own;
 
-use crate::kind::{is_linear, is_string};
 use crate::meeting::DraftBuilder;
 use flat_cubes::{By, Own};
 use literal_forms::{Literal, Role, Test, head_sort, role_of};
@@ -17,6 +16,7 @@ use std::alloc::{AllocError, Global};
 use sv_list::Copied;
 use sv_terms::{Name, Op, Regex, Sort, Term, Transducer};
 use sv_word::Word;
+use written_terms::{is_linear, is_string};
 
 /// Whether a literal is of a written kind.
 #[derive(Clone, Copy, Debug, PartialEq, Eq)]

@@ -9,13 +9,13 @@ ghost use Rattle.literal_forms.specs.Shapes.{end, seen, shapes};
 ghost use Rattle.cube_draft.specs.Gathered.{ArePieced, IsTermMet};
 ghost use Rattle.cube_draft.specs.Kinds.{literals_of};
 
-use crate::kind::{PlaceBuild, build_of};
 use crate::meeting::{DraftBuilder, TermPlace};
 use flat_cubes::By;
 use std::alloc::{AllocError, Global};
 use sv_list::Items;
 use sv_terms::{Name, Term};
 use sv_word::Word;
+use written_terms::{PlaceBuild, build_of};
 
 impl DraftBuilder {
     /// The place of a string term; nested concatenations are read as one. A term that came before, literals aside,

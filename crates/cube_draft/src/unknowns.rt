@@ -7,13 +7,13 @@ ghost use Rattle.sv_terms.specs.declared.op.Op.TheVariants as any_op;
 ghost use Rattle.cube_draft.specs.Gathered.{AreCounted, IsCounted, IsIntegerCounted};
 
 use crate::code::Code;
-use crate::kind::{Joining, is_text, joining_of};
 use crate::meeting::DraftBuilder;
 use flat_cubes::Quantity;
 use literal_forms::Written;
 use std::alloc::{AllocError, Global};
 use sv_list::Items;
 use sv_terms::{Name, Op, Term};
+use written_terms::{Joining, is_text, joining_of};
 
 impl DraftBuilder {
     /// Counts the integer constants and the lengths that stand in a term of sort Int. Time is linear in the

@@ -1,7 +1,7 @@
 use Rattle.std.proofs.Common.{ap, ◌∙◌, subst}
 use Rattle.literal_forms.specs.Linear.{pieces}
 use Rattle.cube_draft.specs.Gathered.{ArePieced}
-use Rattle.cube_draft.proofs.Forms.{seen_all}
+use Rattle.written_terms.proofs.Forms.{seen_all}
 use Rattle.cube_draft.proofs.Placing.{all_is_known, all_is_new, first_is_known, first_is_new, piece_concat, piece_other}
 use Rattle.cube_draft.proofs.meeting.DraftBuilder.+terms.Goals as goal
 

@@ -8,12 +8,13 @@ use Rattle.sv_terms.specs.declared.term.Term.TheVariants as term
 use Rattle.literal_forms.specs.Linear.{Linear, Unknown, added, are_linear, are_strings, difference_of, from_left, is_constant, is_empty, is_linear, is_product_from, is_string, less, length_form, linear, linears, minus_one, multiplied, scaled}
 use Rattle.literal_forms.specs.Mirrors.{seen-Apply}
 use Rattle.literal_forms.specs.Shapes.{Shape, Shapes, text, apply, end, ◌⨾◌, seen, shapes}
-use Rattle.cube_draft.specs.Kinds.{build_of, is_replaced, is_text, joined_from, joined_of, joined_on, joint_of, kind_of, linearity_of, one_of, product_of, read_of, sum_of}
-use Rattle.cube_draft.specs.declared.kind.PlaceBuild.TheVariants as build
-use Rattle.cube_draft.specs.declared.kind.Joining.{Joining}
-use Rattle.cube_draft.specs.declared.kind.Joining.TheVariants as joining
-use Rattle.cube_draft.specs.declared.kind.Linearity.{Linearity}
-use Rattle.cube_draft.specs.declared.kind.Linearity.TheVariants as linearity
+use Rattle.written_terms.specs.Strings.{build_of, is_replaced, is_text}
+use Rattle.written_terms.specs.Numbers.{joined_from, joined_of, joined_on, joint_of, kind_of, linearity_of, one_of, product_of, read_of, sum_of}
+use Rattle.written_terms.specs.declared.strings.PlaceBuild.TheVariants as build
+use Rattle.written_terms.specs.declared.numbers.Joining.{Joining}
+use Rattle.written_terms.specs.declared.numbers.Joining.TheVariants as joining
+use Rattle.written_terms.specs.declared.numbers.Linearity.{Linearity}
+use Rattle.written_terms.specs.declared.numbers.Linearity.TheVariants as linearity
 
 next : (k : ℕ) → suc k ≡ k + 1
 next k = omega arith

@@ -1,7 +1,7 @@
 use Rattle.std.proofs.Common.{ap, ◌∙◌}
-use Rattle.cube_draft.specs.Kinds.{read_of}
-use Rattle.cube_draft.proofs.Forms.{applied_kind, seen_all}
-use Rattle.cube_draft.proofs.kind.+linearity.Goals as goal
+use Rattle.written_terms.specs.Numbers.{read_of}
+use Rattle.written_terms.proofs.Forms.{applied_kind, seen_all}
+use Rattle.written_terms.proofs.numbers.+linearity.Goals as goal
 
 pub linear_kind-returns-in-Apply : goal.linear_kind-returns-in-Apply
 linear_kind-returns-in-Apply t c =

@@ -1,8 +1,8 @@
 use Rattle.std.proofs.Common.{sym, ap, ◌∙◌, drop}
 use Rattle.literal_forms.specs.Linear.{are_strings}
-use Rattle.cube_draft.specs.Kinds.{is_replaced}
-use Rattle.cube_draft.proofs.Forms.{all_string, concat_string, first_string, seen_all}
-use Rattle.cube_draft.proofs.kind.+strings.Goals as goal
+use Rattle.written_terms.specs.Strings.{is_replaced}
+use Rattle.written_terms.proofs.Forms.{all_string, concat_string, first_string, seen_all}
+use Rattle.written_terms.proofs.strings.+strings.Goals as goal
 
 pub is_string-returns-then-not-is_empty : goal.is_string-returns-then-not-is_empty
 is_string-returns-then-not-is_empty t c =
