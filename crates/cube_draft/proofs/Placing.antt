@@ -13,8 +13,10 @@ use Rattle.literal_forms.specs.Mirrors.{raw-seen, seen-Constant, seen-Text}
 use Rattle.literal_forms.specs.Shapes.{Shape, Shapes, truth, number, text, constant, apply, member, related, opaque, end, ◌⨾◌, raw, seen}
 use Rattle.flat_cubes.specs.Flattening.{name_of}
 use Rattle.cube_draft.specs.Gathered.{ArePieced, Gathers, IsTermMet, IsSought, number_at}
-use Rattle.written_terms.specs.Strings.{build_of, is_text}
-use Rattle.cube_draft.specs.Kinds.{literals_of}
+use Rattle.written_terms.specs.Strings.{build_of, is_text, replacer}
+use Rattle.written_terms.specs.declared.strings.Occurrences.{Occurrences}
+use Rattle.written_terms.specs.declared.strings.Occurrences.TheVariants as occurrences
+use Rattle.cube_draft.specs.Kinds.{literals_of, replaced_by}
 use Rattle.flat_cubes.specs.Met.{DraftView, Found, known_or, meet, meet_all, place_of, with_definition, with_part, with_term}
 use Rattle.flat_cubes.specs.declared.definition.By.{By}
 use Rattle.flat_cubes.specs.declared.definition.By.TheVariants as by
@@ -100,33 +102,24 @@ module _ (m : DraftBuilder) (ps : Shapes) where
       (λ d l g. defined b n (meet_all ps (with_term whole d)).1 i (length d.terms) (by.Concat ws) (by.Concat (meet_all ps (with_term whole d)).0) e l (ap (λ x. by.Concat x) (q.places (with_term whole d) g ∙ ap (λ x. x ++ (meet_all ps (with_term whole d)).0) z)) (q.gathers (with_term whole d) g))
       (λ d l. l)
 
-module _ (m : DraftBuilder) (x : Shape) (p u : List ℕ) where
-  abbrev first_whole : Shape
-  first_whole = apply op.Replace (x ⨾ text p ⨾ text u ⨾ end)
+module _ (r : Occurrences) (x : Shape) (p u : List ℕ) where
+  abbrev replaced : Shape
+  replaced = apply (replacer r) (x ⨾ text p ⨾ text u ⨾ end)
 
-  abbrev first_new : DraftView → Found
-  first_new d = (length d.terms, with_definition (length d.terms) (by.First p u (meet x (with_term first_whole d)).0) (meet x (with_term first_whole d)).1)
+  abbrev replaced_new : DraftView → Found
+  replaced_new d = (length d.terms, with_definition (length d.terms) (replaced_by r p u (meet x (with_term replaced d)).0) (meet x (with_term replaced d)).1)
 
-  pub first_known : (n : DraftBuilder) (i : ℕ) → IsSought m n first_whole (Known i) → IsTermMet m n first_whole i
-  first_known n i h = known_met m n first_whole i first_new (λ d. refl) h
+looks_for : (r : Occurrences) (x : Shape) (p u : List ℕ) → LooksFor (replaced r x p u) (replaced_new r x p u)
+looks_for occurrences.First x p u d = refl
+looks_for occurrences.All x p u d = refl
 
-  pub first_put : (a b n : DraftBuilder) (i v : ℕ) → IsSought m a first_whole (New i) → IsTermMet a b x v → n ≡ record b { definitions = b.definitions ++ (i, by.First p u v) ∷ [] } → IsTermMet m n first_whole i
-  first_put a b n i v h q e = new_met m a n first_whole i first_new (λ d. refl) h
-      (λ d l g. defined b n (meet x (with_term first_whole d)).1 i (length d.terms) (by.First p u v) (by.First p u (meet x (with_term first_whole d)).0) e l (ap (by.First p u) (q.place (with_term first_whole d) g)) (q.gathers (with_term first_whole d) g))
-      (λ d l. l)
+module _ (m : DraftBuilder) (r : Occurrences) (x : Shape) (p u : List ℕ) where
+  pub replaced_known : (n : DraftBuilder) (i : ℕ) → IsSought m n (replaced r x p u) (Known i) → IsTermMet m n (replaced r x p u) i
+  replaced_known n i h = known_met m n (replaced r x p u) i (replaced_new r x p u) (looks_for r x p u) h
 
-  abbrev all_whole : Shape
-  all_whole = apply op.ReplaceAll (x ⨾ text p ⨾ text u ⨾ end)
-
-  abbrev all_new : DraftView → Found
-  all_new d = (length d.terms, with_definition (length d.terms) (by.All p u (meet x (with_term all_whole d)).0) (meet x (with_term all_whole d)).1)
-
-  pub all_known : (n : DraftBuilder) (i : ℕ) → IsSought m n all_whole (Known i) → IsTermMet m n all_whole i
-  all_known n i h = known_met m n all_whole i all_new (λ d. refl) h
-
-  pub all_put : (a b n : DraftBuilder) (i v : ℕ) → IsSought m a all_whole (New i) → IsTermMet a b x v → n ≡ record b { definitions = b.definitions ++ (i, by.All p u v) ∷ [] } → IsTermMet m n all_whole i
-  all_put a b n i v h q e = new_met m a n all_whole i all_new (λ d. refl) h
-      (λ d l g. defined b n (meet x (with_term all_whole d)).1 i (length d.terms) (by.All p u v) (by.All p u (meet x (with_term all_whole d)).0) e l (ap (by.All p u) (q.place (with_term all_whole d) g)) (q.gathers (with_term all_whole d) g))
+  pub replaced_put : (a b n : DraftBuilder) (i v : ℕ) → IsSought m a (replaced r x p u) (New i) → IsTermMet a b x v → n ≡ record b { definitions = b.definitions ++ (i, replaced_by r p u v) ∷ [] } → IsTermMet m n (replaced r x p u) i
+  replaced_put a b n i v h q e = new_met m a n (replaced r x p u) i (replaced_new r x p u) (looks_for r x p u) h
+      (λ d l g. defined b n (meet x (with_term (replaced r x p u) d)).1 i (length d.terms) (replaced_by r p u v) (replaced_by r p u (meet x (with_term (replaced r x p u) d)).0) e l (ap (replaced_by r p u) (q.place (with_term (replaced r x p u) d) g)) (q.gathers (with_term (replaced r x p u) d) g))
       (λ d l. l)
 
 -- terms of no written form
@@ -174,11 +167,12 @@ all_none (s ⨾ text p ⨾ text u ⨾ v ⨾ ss) d e = refl
 all_none (s ⨾ text p ⨾ _ ⨾ ss) d e = refl
 all_none (s ⨾ _ ⨾ ss) d e = refl
 
-pub first_nothing : (m : DraftBuilder) (t : Term) (ts : List Term) → t ≡ term.Apply op.Replace ts → literals_of (seen_all ts) ≡ None → IsTermMet m m (written (seen t)) 0
-first_nothing m t ts i n = nothing_met_of m (written (seen t)) (λ d. ap (λ s. meet (written s) d) (seen_apply t op.Replace op.Replace ts i refl) ∙ first_none (seen_all ts) d n)
+replaced_none : (r : Occurrences) (ss : Shapes) (d : DraftView) → literals_of ss ≡ None → meet (written (apply (replacer r) ss)) d ≡ (0, d)
+replaced_none occurrences.First ss d e = first_none ss d e
+replaced_none occurrences.All ss d e = all_none ss d e
 
-pub all_nothing : (m : DraftBuilder) (t : Term) (ts : List Term) → t ≡ term.Apply op.ReplaceAll ts → literals_of (seen_all ts) ≡ None → IsTermMet m m (written (seen t)) 0
-all_nothing m t ts i n = nothing_met_of m (written (seen t)) (λ d. ap (λ s. meet (written s) d) (seen_apply t op.ReplaceAll op.ReplaceAll ts i refl) ∙ all_none (seen_all ts) d n)
+pub replaced_nothing : (m : DraftBuilder) (t : Term) (r : Occurrences) (ts : List Term) → t ≡ term.Apply (replacer r) ts → literals_of (seen_all ts) ≡ None → IsTermMet m m (written (seen t)) 0
+replaced_nothing m t r ts i n = nothing_met_of m (written (seen t)) (λ d. ap (λ s. meet (written s) d) (seen_apply t (replacer r) (replacer r) ts i refl) ∙ replaced_none r (seen_all ts) d n)
 
 -- pieces one after another
 all_joined : (ss us : Shapes) (d : DraftView) → meet_all (set_before ss us) d ≡ ((meet_all ss d).0 ++ (meet_all us (meet_all ss d).1).0, (meet_all us (meet_all ss d).1).1)
@@ -393,15 +387,14 @@ replaces_in (s ⨾ text p ⨾ text u ⨾ v ⨾ ss) x e = absurd (cc)
 replaces_in (s ⨾ text p ⨾ _ ⨾ ss) x e = absurd (cc)
 replaces_in (s ⨾ _ ⨾ ss) x e = absurd (cc)
 
-first_written : (t : Term) (ts : List Term) (a : Term) (p u : List ℕ) → t ≡ term.Apply op.Replace ts → Some (p, u) ≡ literals_of (seen_all ts) → a ≡ get_or ts 0 a → written (seen t) ≡ apply op.Replace (written (seen a) ⨾ text p ⨾ text u ⨾ end)
-first_written t [] a p u e l f = absurd (cc)
-first_written t (b ∷ ts) a p u e l f =
-    ap written (seen_apply t op.Replace op.Replace (b ∷ ts) e refl) ∙ ap (λ ss. apply op.Replace (written (seen b) ⨾ ss)) (replaces_in (seen_all (b ∷ ts)) (p, u) l) ∙ ap (λ x. apply op.Replace (written (seen x) ⨾ text p ⨾ text u ⨾ end)) (sym f)
+written_replaced : (r : Occurrences) (s : Shape) (ss : Shapes) → written (apply (replacer r) (s ⨾ ss)) ≡ apply (replacer r) (written s ⨾ ss)
+written_replaced occurrences.First s ss = refl
+written_replaced occurrences.All s ss = refl
 
-all_written : (t : Term) (ts : List Term) (a : Term) (p u : List ℕ) → t ≡ term.Apply op.ReplaceAll ts → Some (p, u) ≡ literals_of (seen_all ts) → a ≡ get_or ts 0 a → written (seen t) ≡ apply op.ReplaceAll (written (seen a) ⨾ text p ⨾ text u ⨾ end)
-all_written t [] a p u e l f = absurd (cc)
-all_written t (b ∷ ts) a p u e l f =
-    ap written (seen_apply t op.ReplaceAll op.ReplaceAll (b ∷ ts) e refl) ∙ ap (λ ss. apply op.ReplaceAll (written (seen b) ⨾ ss)) (replaces_in (seen_all (b ∷ ts)) (p, u) l) ∙ ap (λ x. apply op.ReplaceAll (written (seen x) ⨾ text p ⨾ text u ⨾ end)) (sym f)
+replaced_written : (t : Term) (r : Occurrences) (ts : List Term) (a : Term) (p u : List ℕ) → t ≡ term.Apply (replacer r) ts → Some (p, u) ≡ literals_of (seen_all ts) → a ≡ get_or ts 0 a → written (seen t) ≡ replaced r (written (seen a)) p u
+replaced_written t r [] a p u e l f = absurd (cc)
+replaced_written t r (b ∷ ts) a p u e l f =
+    ap written (seen_apply t (replacer r) (replacer r) (b ∷ ts) e refl) ∙ written_replaced r (seen b) (seen_all ts) ∙ ap (λ ss. apply (replacer r) (written (seen b) ⨾ ss)) (replaces_in (seen_all (b ∷ ts)) (p, u) l) ∙ ap (λ x. replaced r (written (seen x)) p u) (sym f)
 
 abbrev head_term : List Term → Term
 head_term [] = term.Truth true
@@ -411,27 +404,16 @@ head_got : (ts : List Term) (x : List ℕ × List ℕ) → Some x ≡ literals_o
 head_got [] x e = absurd (cc)
 head_got (t ∷ ts) x e = refl
 
-pub first_is_known : (m n : DraftBuilder) (t : Term) (ts : List Term) (x : List ℕ × List ℕ) (p : TermPlace) (i : ℕ) → t ≡ term.Apply op.Replace ts → Some x ≡ literals_of (seen_all ts) → IsSought m n (written (seen t)) p → p ≡ Known i → IsTermMet m n (written (seen t)) i
-first_is_known m n t ts x p i e l h q =
-    let s = first_written t ts (head_term ts) x.0 x.1 e l (head_got ts x l) in
-    subst (λ y. IsTermMet m n y i) (sym s) (first_known m (written (seen (head_term ts))) x.0 x.1 n i (subst (λ y. IsSought m n y (Known i)) s (subst (IsSought m n (written (seen t))) q h)))
+pub replaced_is_known : (m n : DraftBuilder) (t : Term) (r : Occurrences) (ts : List Term) (x : List ℕ × List ℕ) (p : TermPlace) (i : ℕ) → t ≡ term.Apply (replacer r) ts → Some x ≡ literals_of (seen_all ts) → IsSought m n (written (seen t)) p → p ≡ Known i → IsTermMet m n (written (seen t)) i
+replaced_is_known m n t r ts x p i e l h q =
+    let s = replaced_written t r ts (head_term ts) x.0 x.1 e l (head_got ts x l) in
+    subst (λ y. IsTermMet m n y i) (sym s) (replaced_known m r (written (seen (head_term ts))) x.0 x.1 n i (subst (λ y. IsSought m n y (Known i)) s (subst (IsSought m n (written (seen t))) q h)))
 
-pub all_is_known : (m n : DraftBuilder) (t : Term) (ts : List Term) (x : List ℕ × List ℕ) (p : TermPlace) (i : ℕ) → t ≡ term.Apply op.ReplaceAll ts → Some x ≡ literals_of (seen_all ts) → IsSought m n (written (seen t)) p → p ≡ Known i → IsTermMet m n (written (seen t)) i
-all_is_known m n t ts x p i e l h q =
-    let s = all_written t ts (head_term ts) x.0 x.1 e l (head_got ts x l) in
-    subst (λ y. IsTermMet m n y i) (sym s) (all_known m (written (seen (head_term ts))) x.0 x.1 n i (subst (λ y. IsSought m n y (Known i)) s (subst (IsSought m n (written (seen t))) q h)))
-
-pub first_is_new : (m a b n : DraftBuilder) (t : Term) (ts : List Term) (c : Term) (x : List ℕ × List ℕ) (pattern replacement : List ℕ) (p : TermPlace) (i v : ℕ) → t ≡ term.Apply op.Replace ts → Some x ≡ literals_of (seen_all ts) → pattern ≡ x.0 → replacement ≡ x.1 → c ≡ get_or ts 0 c
-    → IsSought m a (written (seen t)) p → p ≡ New i → IsTermMet a b (written (seen c)) v → n ≡ record b { definitions = b.definitions ++ (i, by.First pattern replacement v) ∷ [] } → IsTermMet m n (written (seen t)) i
-first_is_new m a b n t ts c x pattern replacement p i v e l f g k h q r z =
-    let s = first_written t ts c x.0 x.1 e l k in
-    subst (λ y. IsTermMet m n y i) (sym s) (first_put m (written (seen c)) x.0 x.1 a b n i v (subst (λ y. IsSought m a y (New i)) s (subst (IsSought m a (written (seen t))) q h)) r (z ∙ (λ j. record b { definitions = b.definitions ++ (i, by.First (f j) (g j) v) ∷ [] })))
-
-pub all_is_new : (m a b n : DraftBuilder) (t : Term) (ts : List Term) (c : Term) (x : List ℕ × List ℕ) (pattern replacement : List ℕ) (p : TermPlace) (i v : ℕ) → t ≡ term.Apply op.ReplaceAll ts → Some x ≡ literals_of (seen_all ts) → pattern ≡ x.0 → replacement ≡ x.1 → c ≡ get_or ts 0 c
-    → IsSought m a (written (seen t)) p → p ≡ New i → IsTermMet a b (written (seen c)) v → n ≡ record b { definitions = b.definitions ++ (i, by.All pattern replacement v) ∷ [] } → IsTermMet m n (written (seen t)) i
-all_is_new m a b n t ts c x pattern replacement p i v e l f g k h q r z =
-    let s = all_written t ts c x.0 x.1 e l k in
-    subst (λ y. IsTermMet m n y i) (sym s) (all_put m (written (seen c)) x.0 x.1 a b n i v (subst (λ y. IsSought m a y (New i)) s (subst (IsSought m a (written (seen t))) q h)) r (z ∙ (λ j. record b { definitions = b.definitions ++ (i, by.All (f j) (g j) v) ∷ [] })))
+pub replaced_is_new : (m a b n : DraftBuilder) (t : Term) (r : Occurrences) (ts : List Term) (c : Term) (x : List ℕ × List ℕ) (f : By) (p : TermPlace) (i v : ℕ) → t ≡ term.Apply (replacer r) ts → Some x ≡ literals_of (seen_all ts) → f ≡ replaced_by r x.0 x.1 v → c ≡ get_or ts 0 c
+    → IsSought m a (written (seen t)) p → p ≡ New i → IsTermMet a b (written (seen c)) v → n ≡ record b { definitions = b.definitions ++ (i, f) ∷ [] } → IsTermMet m n (written (seen t)) i
+replaced_is_new m a b n t r ts c x f p i v e l g k h q w z =
+    let s = replaced_written t r ts c x.0 x.1 e l k in
+    subst (λ y. IsTermMet m n y i) (sym s) (replaced_put m r (written (seen c)) x.0 x.1 a b n i v (subst (λ y. IsSought m a y (New i)) s (subst (IsSought m a (written (seen t))) q h)) w (z ∙ ap (λ y. record b { definitions = b.definitions ++ (i, y) ∷ [] }) g))
 
 pub pieced_all : (m n : DraftBuilder) (ts : List Term) (k : ℕ) (vs ws : List ℕ) → length ts ≤ k → ArePieced m n (pieces (seen_all (take k ts))) vs ws → ArePieced m n (pieces (seen_all ts)) vs ws
 pieced_all m n ts k vs ws l p = subst (λ us. ArePieced m n (pieces (seen_all us)) vs ws) (take_whole ts k l) p

@@ -6,6 +6,10 @@ use Rattle.literal_forms.specs.declared.roles.Role.{Role}
 use Rattle.literal_forms.specs.declared.roles.Role.TheVariants as role
 use Rattle.literal_forms.specs.declared.roles.Test.TheVariants as test
 use Rattle.literal_forms.specs.Shapes.{Shapes, text, end, ◌⨾◌}
+use Rattle.flat_cubes.specs.declared.definition.By.{By}
+use Rattle.flat_cubes.specs.declared.definition.By.TheVariants as by
+use Rattle.written_terms.specs.declared.strings.Occurrences.{Occurrences}
+use Rattle.written_terms.specs.declared.strings.Occurrences.TheVariants as occurrences
 use Rattle.cube_draft.specs.declared.literals.AtomHead.{AtomHead}
 use Rattle.cube_draft.specs.declared.literals.AtomHead.TheVariants as head
 
@@ -13,6 +17,11 @@ use Rattle.cube_draft.specs.declared.literals.AtomHead.TheVariants as head
 abbrev pub literals_of : Shapes → Option (List ℕ × List ℕ)
 literals_of (s ⨾ text p ⨾ text u ⨾ end) = Some (p, u)
 literals_of _ = None
+
+-- how the word of a replacement comes from that of a variable
+abbrev pub replaced_by : Occurrences → List ℕ → List ℕ → ℕ → By
+replaced_by occurrences.First p u i = by.First p u i
+replaced_by occurrences.All p u i = by.All p u i
 
 -- how a function stands at the head of an atom of a written kind
 abbrev pub head_by : Role → AtomHead

@@ -7,7 +7,8 @@ ghost use Rattle.sv_terms.specs.declared.term.Term.TheVariants as any_term;
 ghost use Rattle.literal_forms.specs.Linear.{before, pieces, written};
 ghost use Rattle.literal_forms.specs.Shapes.{end, seen, shapes};
 ghost use Rattle.cube_draft.specs.Gathered.{ArePieced, IsTermMet};
-ghost use Rattle.cube_draft.specs.Kinds.{literals_of};
+ghost use Rattle.cube_draft.specs.Kinds.{literals_of, replaced_by};
+ghost use Rattle.written_terms.specs.Strings.{replacer};
 
 use crate::meeting::{DraftBuilder, TermPlace};
 use flat_cubes::By;
@@ -15,13 +16,13 @@ use std::alloc::{AllocError, Global};
 use sv_list::Items;
 use sv_terms::{Name, Term};
 use sv_word::Word;
-use written_terms::{PlaceBuild, build_of};
+use written_terms::{Occurrences, PlaceBuild, build_of};
 
 impl DraftBuilder {
     /// The place of a string term; nested concatenations are read as one. A term that came before, literals aside,
     /// keeps its place; a new one is put before its arguments.
     #[cycle(terms)]
-    #[tactic(auto, using(crate::proofs::Placing::text_is_met, crate::proofs::Placing::built_nothing, crate::proofs::Placing::leaf_nothing))]
+    #[tactic(auto, using(crate::proofs::Placing::text_is_met, crate::proofs::Placing::built_nothing, crate::proofs::Placing::leaf_nothing, written_terms::proofs::Forms::replaces_as))]
     pub fn place(&mut self, alloc: Global, term: &Term) -> Result<u32, AllocError>
         ensures met { IfOk result (λ i. IsTermMet self.old self.new (written (seen term.now)) i) }
         ensures numbers { OnOk result (self.new.numbers ≡ self.old.numbers) }
@@ -31,8 +32,9 @@ impl DraftBuilder {
             Term::Constant(name, _) => Ok(self.constant(alloc, term, name)?),
             Term::Apply(op, terms) => match build_of(*op) {
                 PlaceBuild::Concat => Ok(self.concat(alloc, term, terms.as_slice())?),
-                PlaceBuild::First => Ok(self.first(alloc, term, terms.as_slice())?),
-                PlaceBuild::All => Ok(self.all(alloc, term, terms.as_slice())?),
+                PlaceBuild::Replace(occurrences) => {
+                    Ok(self.replace(alloc, occurrences, term, terms.as_slice())?)
+                }
                 PlaceBuild::Nothing => Ok(0),
             },
             _ => Ok(0),
@@ -120,11 +122,17 @@ impl DraftBuilder {
         }
     }
 
-    // A replacement of the first occurrence.
+    // A replacement of a literal by a literal.
     #[cycle(terms)]
-    #[tactic(auto, using(crate::proofs::Placing::apply_no_text, crate::proofs::Placing::apply_no_name, crate::proofs::Placing::literals_three, crate::proofs::Placing::first_nothing, crate::proofs::Placing::first_is_known, crate::proofs::Placing::first_is_new))]
-    fn first(&mut self, alloc: Global, term: &Term, terms: &[Term]) -> Result<u32, AllocError>
-        requires { term.now ≡ any_term.Apply any_op.Replace terms.now }
+    #[tactic(auto, using(crate::proofs::Placing::apply_no_text, crate::proofs::Placing::apply_no_name, crate::proofs::Placing::literals_three, crate::proofs::Placing::replaced_nothing, crate::proofs::Placing::replaced_is_known, crate::proofs::Placing::replaced_is_new))]
+    fn replace(
+        &mut self,
+        alloc: Global,
+        occurrences: Occurrences,
+        term: &Term,
+        terms: &[Term],
+    ) -> Result<u32, AllocError>
+        requires { term.now ≡ any_term.Apply (replacer occurrences) terms.now }
         ensures met { IfOk result (λ i. IsTermMet self.old self.new (written (seen term.now)) i) }
         ensures numbers { OnOk result (self.new.numbers ≡ self.old.numbers) }
     {
@@ -135,33 +143,29 @@ impl DraftBuilder {
             TermPlace::Known(place) => Ok(place),
             TermPlace::New(place) => {
                 let inner = self.place(alloc, &terms[0])?;
-                let by = By::First(pattern.copy(alloc)?, replacement.copy(alloc)?, inner);
+                let by = replace_by(alloc, occurrences, pattern, replacement, inner)?;
                 self.define(place, by)?;
                 Ok(place)
             }
         }
     }
+}
 
-    // A replacement of each occurrence.
-    #[cycle(terms)]
-    #[tactic(auto, using(crate::proofs::Placing::apply_no_text, crate::proofs::Placing::apply_no_name, crate::proofs::Placing::literals_three, crate::proofs::Placing::all_nothing, crate::proofs::Placing::all_is_known, crate::proofs::Placing::all_is_new))]
-    fn all(&mut self, alloc: Global, term: &Term, terms: &[Term]) -> Result<u32, AllocError>
-        requires { term.now ≡ any_term.Apply any_op.ReplaceAll terms.now }
-        ensures met { IfOk result (λ i. IsTermMet self.old self.new (written (seen term.now)) i) }
-        ensures numbers { OnOk result (self.new.numbers ≡ self.old.numbers) }
-    {
-        let Some((pattern, replacement)) = literals(terms) else {
-            return Ok(0);
-        };
-        match self.seek(alloc, term, None)? {
-            TermPlace::Known(place) => Ok(place),
-            TermPlace::New(place) => {
-                let inner = self.place(alloc, &terms[0])?;
-                let by = By::All(pattern.copy(alloc)?, replacement.copy(alloc)?, inner);
-                self.define(place, by)?;
-                Ok(place)
-            }
-        }
+/// How the word of a replacement comes from that of the variable in which it replaces.
+fn replace_by(
+    alloc: Global,
+    occurrences: Occurrences,
+    pattern: &Word,
+    replacement: &Word,
+    read: u32,
+) -> Result<By, AllocError>
+    ensures { IfOk result (λ by. by ≡ replaced_by occurrences pattern.now replacement.now read) }
+{
+    let pattern = pattern.copy(alloc)?;
+    let replacement = replacement.copy(alloc)?;
+    match occurrences {
+        Occurrences::First => Ok(By::First(pattern, replacement, read)),
+        Occurrences::All => Ok(By::All(pattern, replacement, read)),
     }
 }
 

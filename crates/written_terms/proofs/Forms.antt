@@ -8,8 +8,11 @@ use Rattle.sv_terms.specs.declared.term.Term.TheVariants as term
 use Rattle.literal_forms.specs.Linear.{Linear, Unknown, added, are_linear, are_strings, difference_of, from_left, is_constant, is_empty, is_linear, is_product_from, is_string, less, length_form, linear, linears, minus_one, multiplied, scaled}
 use Rattle.literal_forms.specs.Mirrors.{seen-Apply}
 use Rattle.literal_forms.specs.Shapes.{Shape, Shapes, text, apply, end, ◌⨾◌, seen, shapes}
-use Rattle.written_terms.specs.Strings.{build_of, is_replaced, is_text}
+use Rattle.written_terms.specs.Strings.{build_of, is_replaced, is_text, replacer}
 use Rattle.written_terms.specs.Numbers.{joined_from, joined_of, joined_on, joint_of, kind_of, linearity_of, one_of, product_of, read_of, sum_of}
+use Rattle.written_terms.specs.declared.strings.Occurrences.{Occurrences}
+use Rattle.written_terms.specs.declared.strings.Occurrences.TheVariants as occurrences
+use Rattle.written_terms.specs.declared.strings.PlaceBuild.{PlaceBuild}
 use Rattle.written_terms.specs.declared.strings.PlaceBuild.TheVariants as build
 use Rattle.written_terms.specs.declared.numbers.Joining.{Joining}
 use Rattle.written_terms.specs.declared.numbers.Joining.TheVariants as joining
@@ -40,13 +43,16 @@ pub concat_op : (o : Op) → build_of o ≡ build.Concat → o ≡ op.Concat
 concat_op op.Concat e = refl
 concat_op _ e = absurd (cc)
 
-pub first_op : (o : Op) → build_of o ≡ build.First → o ≡ op.Replace
-first_op op.Replace e = refl
-first_op _ e = absurd (cc)
+pub replacer_op : (o : Op) (r : Occurrences) → build_of o ≡ build.Replace r → o ≡ replacer r
+replacer_op op.Replace occurrences.First e = refl
+replacer_op op.Replace occurrences.All e = absurd (cc)
+replacer_op op.ReplaceAll occurrences.First e = absurd (cc)
+replacer_op op.ReplaceAll occurrences.All e = refl
+replacer_op _ r e = absurd (cc)
 
-pub all_op : (o : Op) → build_of o ≡ build.All → o ≡ op.ReplaceAll
-all_op op.ReplaceAll e = refl
-all_op _ e = absurd (cc)
+-- the term as one that replaces
+pub replaces_as : (t : Term) (o : Op) (r : Occurrences) (b : PlaceBuild) (ts us : List Term) → t ≡ term.Apply o ts → us ≡ ts → b ≡ build_of o → b ≡ build.Replace r → t ≡ term.Apply (replacer r) us
+replaces_as t o r b ts us i f k e = i ∙ (λ j. term.Apply (replacer_op o r (sym k ∙ e) j) (sym f j))
 
 pub seen_apply : (t : Term) (o p : Op) (ts : List Term) → t ≡ term.Apply o ts → o ≡ p → seen t ≡ apply p (seen_all ts)
 seen_apply t o p ts i e = ap seen (i ∙ ap (λ x. term.Apply x ts) e) ∙ seen-Apply p ts
@@ -104,11 +110,12 @@ replaced_all (s ⨾ t ⨾ end) = two_all s t
 replaced_all (s ⨾ t ⨾ u ⨾ end) = three_all s t u
 replaced_all (s ⨾ t ⨾ u ⨾ v ⨾ ss) = four_all s t u v ss
 
-pub first_string : (t : Term) (o : Op) (ts : List Term) (r : Bool) → t ≡ term.Apply o ts → build_of o ≡ build.First → r ≡ is_replaced (seen_all ts) → r ≡ is_string (seen t)
-first_string t o ts r i b e = e ∙ replaced_first (seen_all ts) ∙ sym (ap is_string (seen_apply t o op.Replace ts i (first_op o b)))
+replaced_of : (r : Occurrences) (ss : Shapes) → is_replaced ss ≡ is_string (apply (replacer r) ss)
+replaced_of occurrences.First ss = replaced_first ss
+replaced_of occurrences.All ss = replaced_all ss
 
-pub all_string : (t : Term) (o : Op) (ts : List Term) (r : Bool) → t ≡ term.Apply o ts → build_of o ≡ build.All → r ≡ is_replaced (seen_all ts) → r ≡ is_string (seen t)
-all_string t o ts r i b e = e ∙ replaced_all (seen_all ts) ∙ sym (ap is_string (seen_apply t o op.ReplaceAll ts i (all_op o b)))
+pub replaced_string : (t : Term) (o : Op) (ts : List Term) (r : Occurrences) (b : Bool) → t ≡ term.Apply o ts → build_of o ≡ build.Replace r → b ≡ is_replaced (seen_all ts) → b ≡ is_string (seen t)
+replaced_string t o ts r b i k e = e ∙ replaced_of r (seen_all ts) ∙ sym (ap is_string (seen_apply t o (replacer r) ts i (replacer_op o r k)))
 
 nothing_built : (o : Op) (ss : Shapes) → build_of o ≡ build.Nothing → false ≡ is_string (apply o ss)
 nothing_built op.Concat ss e = absurd (cc)
@@ -258,7 +265,7 @@ joined_step j ts i t all k all_next l e h f = ap (λ x. joined_on j x (seen_all 
 pub joined_end : (j : Joining) (ts : List Term) (i : ℕ) (all : Linearity) → length ts ≤ i → joined_on j all (seen_all (drop i ts)) ≡ all
 joined_end j ts i all l = ap (λ us. joined_on j all (seen_all us)) (drop_all i ts l)
 
-pub ruleset string_arms = (concat_string, no_string, first_string, all_string, nothing_string)
+pub ruleset string_arms = (concat_string, no_string, replaced_string, nothing_string)
 
 kind_other : (v c : Bool) → kind_of v c ≡ linearity.Other → v ≡ false
 kind_other false c e = refl

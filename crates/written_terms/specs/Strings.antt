@@ -1,12 +1,15 @@
 -- What string terms of a written form are made of.
 use Rattle.std.specs.Prelude.{Bool, true, false, ◌&&◌}
 use Rattle.sv_terms.specs.declared.op.Op.{Op}
+use Rattle.sv_terms.specs.declared.op.Op.TheVariants as op
 use Rattle.literal_forms.specs.Roles.{role_of}
 use Rattle.literal_forms.specs.declared.roles.Build.TheVariants as made
 use Rattle.literal_forms.specs.declared.roles.Role.{Role}
 use Rattle.literal_forms.specs.declared.roles.Role.TheVariants as role
 use Rattle.literal_forms.specs.Linear.{is_string}
 use Rattle.literal_forms.specs.Shapes.{Shape, Shapes, truth, number, text, constant, apply, member, related, opaque, end, ◌⨾◌}
+use Rattle.written_terms.specs.declared.strings.Occurrences.{Occurrences}
+use Rattle.written_terms.specs.declared.strings.Occurrences.TheVariants as occurrences
 use Rattle.written_terms.specs.declared.strings.PlaceBuild.{PlaceBuild}
 use Rattle.written_terms.specs.declared.strings.PlaceBuild.TheVariants as build
 
@@ -23,12 +26,17 @@ is_text (opaque s) = false
 -- what a function builds a string term of
 abbrev pub build_by : Role → PlaceBuild
 build_by (role.Built made.Concat) = build.Concat
-build_by (role.Built made.First) = build.First
-build_by (role.Built made.All) = build.All
+build_by (role.Built made.First) = build.Replace occurrences.First
+build_by (role.Built made.All) = build.Replace occurrences.All
 build_by _ = build.Nothing
 
 abbrev pub build_of : Op → PlaceBuild
 build_of o = build_by (role_of o)
+
+-- the function that replaces these occurrences
+abbrev pub replacer : Occurrences → Op
+replacer occurrences.First = op.Replace
+replacer occurrences.All = op.ReplaceAll
 
 -- a term of a written form, a literal and a literal
 abbrev pub is_replaced : Shapes → Bool

@@ -16,4 +16,4 @@ mod numbers;
 mod strings;
 
 pub use numbers::{Joining, is_linear, joining_of};
-pub use strings::{PlaceBuild, build_of, is_string, is_text};
+pub use strings::{Occurrences, PlaceBuild, build_of, is_string, is_text};

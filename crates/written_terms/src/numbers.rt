@@ -28,6 +28,7 @@ pub enum Joining {
     Nothing,
 }
 
+/// How a function of sort Int joins what its arguments are. Constant time.
 pub fn joining_of(op: Op) -> Joining
     ensures { result ≡ joint_of op }
 {

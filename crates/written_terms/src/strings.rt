@@ -7,25 +7,31 @@ ghost use Rattle.written_terms.specs.Strings.{build_of, is_replaced, is_text};
 use literal_forms::{Build as Built, Role, role_of};
 use sv_terms::{Op, Sort, Term};
 
+/// Which occurrences of a word are replaced.
+#[derive(Clone, Copy, Debug, PartialEq, Eq)]
+pub enum Occurrences {
+    First,
+    All,
+}
+
 /// What a function builds a string term of.
 #[derive(Clone, Copy, Debug, PartialEq, Eq)]
 pub enum PlaceBuild {
     /// Pieces.
     Concat,
-    /// A word with a literal for the first occurrence of another.
-    First,
-    /// The same for each occurrence.
-    All,
+    /// A word with a literal for these occurrences of another.
+    Replace(Occurrences),
     Nothing,
 }
 
+/// What a function builds a string term of. Constant time.
 pub fn build_of(op: Op) -> PlaceBuild
     ensures { result ≡ build_of op }
 {
     match role_of(op) {
         Role::Built(Built::Concat) => PlaceBuild::Concat,
-        Role::Built(Built::First) => PlaceBuild::First,
-        Role::Built(Built::All) => PlaceBuild::All,
+        Role::Built(Built::First) => PlaceBuild::Replace(Occurrences::First),
+        Role::Built(Built::All) => PlaceBuild::Replace(Occurrences::All),
         Role::Connective
         | Role::Equality
         | Role::Distinct
@@ -59,8 +65,7 @@ pub fn is_string(term: &Term) -> bool
         Term::Constant(_, sort) => *sort == Sort::String,
         Term::Apply(op, terms) => match build_of(*op) {
             PlaceBuild::Concat => !terms.is_empty() && are_strings(terms.as_slice(), 0),
-            PlaceBuild::First => is_replacement(terms.as_slice()),
-            PlaceBuild::All => is_replacement(terms.as_slice()),
+            PlaceBuild::Replace(_) => is_replacement(terms.as_slice()),
             PlaceBuild::Nothing => false,
         },
         _ => false,

@@ -1,25 +1,18 @@
 use Rattle.std.proofs.Common.{ap, ◌∙◌, subst}
 use Rattle.literal_forms.specs.Linear.{pieces}
 use Rattle.cube_draft.specs.Gathered.{ArePieced}
+use Rattle.cube_draft.specs.Kinds.{replaced_by}
 use Rattle.written_terms.proofs.Forms.{seen_all}
-use Rattle.cube_draft.proofs.Placing.{all_is_known, all_is_new, first_is_known, first_is_new, piece_concat, piece_other}
+use Rattle.cube_draft.proofs.Placing.{piece_concat, piece_other, replaced_is_known, replaced_is_new}
 use Rattle.cube_draft.proofs.meeting.DraftBuilder.+terms.Goals as goal
 
-pub first-returns-in-Known-clause-met : goal.first-returns-in-Known-clause-met
-first-returns-in-Known-clause-met t c = first_is_known c.args.self.now c.seek.new.self c.args.term.now c.args.terms.now _ c.in_ok-place.field-0 c.in-Known.place c.requires c.in-Some.ensures c.in_ok-place.ensures.sought c.in-Known.is
+pub replace-returns-in-Known-clause-met : goal.replace-returns-in-Known-clause-met
+replace-returns-in-Known-clause-met t c = replaced_is_known c.args.self.now c.seek.new.self c.args.term.now c.args.occurrences c.args.terms.now _ c.in_ok-place.field-0 c.in-Known.place c.requires c.in-Some.ensures c.in_ok-place.ensures.sought c.in-Known.is
 
-pub first-returns-in_ok-define-in-New-clause-met : goal.first-returns-in_ok-define-in-New-clause-met
-first-returns-in_ok-define-in-New-clause-met t c =
-    first_is_new c.args.self.now c.seek.new.self c.place.new.self c.define.new.self c.args.term.now c.args.terms.now c.index-terms-0.result _ c.in_ok-copy-in-New.field-0 c.in_ok-copy-in-New-2.field-0 c.in_ok-place.field-0 c.in-New.place c.in_ok-inner-in-New.inner c.requires c.in-Some.ensures
-    (c.in_ok-copy-in-New.ensures ∙ ap (λ b. b.now) c.in-Some.pattern-is) (c.in_ok-copy-in-New-2.ensures ∙ ap (λ b. b.now) c.in-Some.replacement-is) c.index-terms-0.is c.in_ok-place.ensures.sought c.in-New.is c.in_ok-inner-in-New.ensures.met c.in_ok-define-in-New.ensures
-
-pub all-returns-in-Known-clause-met : goal.all-returns-in-Known-clause-met
-all-returns-in-Known-clause-met t c = all_is_known c.args.self.now c.seek.new.self c.args.term.now c.args.terms.now _ c.in_ok-place.field-0 c.in-Known.place c.requires c.in-Some.ensures c.in_ok-place.ensures.sought c.in-Known.is
-
-pub all-returns-in_ok-define-in-New-clause-met : goal.all-returns-in_ok-define-in-New-clause-met
-all-returns-in_ok-define-in-New-clause-met t c =
-    all_is_new c.args.self.now c.seek.new.self c.place.new.self c.define.new.self c.args.term.now c.args.terms.now c.index-terms-0.result _ c.in_ok-copy-in-New.field-0 c.in_ok-copy-in-New-2.field-0 c.in_ok-place.field-0 c.in-New.place c.in_ok-inner-in-New.inner c.requires c.in-Some.ensures
-    (c.in_ok-copy-in-New.ensures ∙ ap (λ b. b.now) c.in-Some.pattern-is) (c.in_ok-copy-in-New-2.ensures ∙ ap (λ b. b.now) c.in-Some.replacement-is) c.index-terms-0.is c.in_ok-place.ensures.sought c.in-New.is c.in_ok-inner-in-New.ensures.met c.in_ok-define-in-New.ensures
+pub replace-returns-in_ok-define-in-New-clause-met : goal.replace-returns-in_ok-define-in-New-clause-met
+replace-returns-in_ok-define-in-New-clause-met t c =
+    replaced_is_new c.args.self.now c.seek.new.self c.place.new.self c.define.new.self c.args.term.now c.args.occurrences c.args.terms.now c.index-terms-0.result _ c.in_ok-by-in-New.by c.in_ok-place.field-0 c.in-New.place c.in_ok-inner-in-New.inner c.requires c.in-Some.ensures
+    (c.in_ok-by-in-New.ensures ∙ (λ i. replaced_by c.args.occurrences (c.in-Some.pattern-is i).now (c.in-Some.replacement-is i).now c.in_ok-inner-in-New.inner)) c.index-terms-0.is c.in_ok-place.ensures.sought c.in-New.is c.in_ok-inner-in-New.ensures.met c.in_ok-define-in-New.ensures
 
 pub piece-returns-in_ok-pieces-in-Concat-clause-met : goal.piece-returns-in_ok-pieces-in-Concat-clause-met
 piece-returns-in_ok-pieces-in-Concat-clause-met t c =
