@@ -26,7 +26,7 @@ use Rattle.cube_draft.specs.declared.meeting.DraftBuilder.{DraftBuilder}
 use Rattle.cube_draft.specs.declared.meeting.TermPlace.{TermPlace}
 use Rattle.cube_draft.specs.declared.meeting.TermPlace.TheVariants.{Known, New}
 use Rattle.flat_cubes.specs.declared.variable.Own.TheVariants as own
-use Rattle.written_terms.proofs.Forms.{concat_op, seen_all, seen_apply}
+use Rattle.written_terms.proofs.Forms.{concat_op, no_text, seen_all, seen_apply}
 use Rattle.cube_draft.proofs.Gathering.{finds_new, finds_text, gathers_definition, gathers_part, gathers_term, map_length}
 
 names_long : (m : DraftBuilder) (d : DraftView) → Gathers m d → length m.names ≡ length d.terms
@@ -325,19 +325,6 @@ literals_not (a ∷ []) n = refl
 literals_not (a ∷ b ∷ []) n = two_none (seen a) (seen b)
 literals_not (a ∷ b ∷ c ∷ []) n = absurd (n refl)
 literals_not (a ∷ b ∷ c ∷ d ∷ ts) n = four_none (seen a) (seen b) (seen c) (seen d) (seen_all ts)
-
-no_text : (t : Term) → ((w : List ℕ) → t ≡ term.Text w → ⊥) → is_text (seen t) ≡ false
-no_text t h = by_shape (seen t) (raw-seen t)
-  where
-    by_shape : (s : Shape) → raw s ≡ t → is_text s ≡ false
-    by_shape (text w) e = absurd (h w (sym e))
-    by_shape (apply o ss) e = refl
-    by_shape (truth b) e = refl
-    by_shape (number n) e = refl
-    by_shape (constant n s) e = refl
-    by_shape (member s r) e = refl
-    by_shape (related m s u) e = refl
-    by_shape (opaque s) e = refl
 
 first_not : (s t u : Shape) → is_text t ≡ false → None ≡ literals_of (s ⨾ t ⨾ u ⨾ end)
 first_not s (text p) u e = absurd (cc)

@@ -18,10 +18,12 @@ use Rattle.literal_forms.specs.declared.literal.Literal.{Literal}
 use Rattle.cube_draft.specs.Comparing.{AtomFits, IsComparable, IsGathered, ComparisonFits}
 use Rattle.cube_draft.specs.Gathered.{Becomes, Gathers, IsLiteralAdded, IsCounted, IsTermMet}
 use Rattle.written_terms.specs.Strings.{is_text}
-use Rattle.cube_draft.specs.Kinds.{head_of}
+use Rattle.cube_draft.specs.Kinds.{affix_said, head_of, own_by}
 use Rattle.flat_cubes.specs.Met.{add, with_comparison}
 use Rattle.flat_cubes.specs.Said.{Said, are_one, atom_said, compares, constant_said, equality_said, has_part, holds, is_outside, one_said, pair_said, part_said, row_said, said, string_said, written_by}
 use Rattle.flat_cubes.specs.declared.definition.By.TheVariants as by
+use Rattle.cube_draft.specs.declared.literals.Affix.{Affix}
+use Rattle.cube_draft.specs.declared.literals.Affix.TheVariants as affix
 use Rattle.cube_draft.specs.declared.literals.AtomHead.{AtomHead}
 use Rattle.cube_draft.specs.declared.literals.AtomHead.TheVariants as head
 use Rattle.cube_draft.specs.declared.literals.LiteralReading.{LiteralReading}
@@ -29,7 +31,7 @@ use Rattle.cube_draft.specs.declared.literals.LiteralReading.TheVariants as kind
 use Rattle.cube_draft.specs.declared.meeting.DraftBuilder.{DraftBuilder}
 use Rattle.flat_cubes.specs.declared.variable.Own.{Own}
 use Rattle.flat_cubes.specs.declared.variable.Own.TheVariants as own
-use Rattle.written_terms.proofs.Forms.{seen_all, seen_apply}
+use Rattle.written_terms.proofs.Forms.{no_text, seen_all, seen_apply}
 use Rattle.cube_draft.proofs.Quantities.{known_later}
 use Rattle.cube_draft.proofs.Gathering.{gathers_broken, gathers_definition, gathers_equality, gathers_part}
 
@@ -59,52 +61,31 @@ part_added m a n t o b r i e f p h = added_as m n (part_said (seen t) o b) (has_
   );
 })
 
--- patterns
-prefix_outside : (s t : Shape) (b : Bool) → is_text s ≡ false → is_outside (atom_said (apply op.PrefixOf (s ⨾ t ⨾ end)) b) ≡ true
-prefix_outside (text w) t b e = absurd (cc)
-prefix_outside _ t b e = refl
-
-suffix_outside : (s t : Shape) (b : Bool) → is_text s ≡ false → is_outside (atom_said (apply op.SuffixOf (s ⨾ t ⨾ end)) b) ≡ true
-suffix_outside (text w) t b e = absurd (cc)
-suffix_outside _ t b e = refl
-
-infix_outside : (s t : Shape) (b : Bool) → is_text t ≡ false → is_outside (atom_said (apply op.Contains (s ⨾ t ⨾ end)) b) ≡ true
-infix_outside s (text w) b e = absurd (cc)
-infix_outside s _ b e = refl
-
-pub no_text : (t : Term) → ((w : List ℕ) → t ≡ term.Text w → ⊥) → is_text (seen t) ≡ false
-no_text t h = by_shape (seen t) (raw-seen t)
-  where
-    by_shape : (s : Shape) → raw s ≡ t → is_text s ≡ false
-    by_shape (text w) e = absurd (h w (sym e))
-    by_shape (apply o ss) e = refl
-    by_shape (truth b) e = refl
-    by_shape (number n) e = refl
-    by_shape (constant n s) e = refl
-    by_shape (member s r) e = refl
-    by_shape (related m s u) e = refl
-    by_shape (opaque s) e = refl
+-- how a literal stands in a term
+affix_outside : (a : Affix) (s t : Shape) (b : Bool) → is_text s ≡ false → is_outside (affix_said a s t b) ≡ true
+affix_outside a (text w) t b e = absurd (cc)
+affix_outside a _ t b e = refl
 
 seen_text : (t : Term) (w : List ℕ) → t ≡ term.Text w → seen t ≡ text w
 seen_text t w e = ap seen e ∙ seen-Text w
 
-pub prefix_not : (m : DraftBuilder) (p t : Term) (b : Bool) → ((w : List ℕ) → p ≡ term.Text w → ⊥) → IsLiteralAdded m m (atom_said (apply op.PrefixOf (seen p ⨾ seen t ⨾ end)) b) kind.Outside
-prefix_not m p t b h = left_out m _ (prefix_outside (seen p) (seen t) b (no_text p h))
+pub affix_not : (m : DraftBuilder) (a : Affix) (p t : Term) (b : Bool) → ((w : List ℕ) → p ≡ term.Text w → ⊥) → IsLiteralAdded m m (affix_said a (seen p) (seen t) b) kind.Outside
+affix_not m a p t b h = left_out m _ (affix_outside a (seen p) (seen t) b (no_text p h))
 
-pub suffix_not : (m : DraftBuilder) (p t : Term) (b : Bool) → ((w : List ℕ) → p ≡ term.Text w → ⊥) → IsLiteralAdded m m (atom_said (apply op.SuffixOf (seen p ⨾ seen t ⨾ end)) b) kind.Outside
-suffix_not m p t b h = left_out m _ (suffix_outside (seen p) (seen t) b (no_text p h))
+pub affix_added : (m n : DraftBuilder) (a : Affix) (p t : Term) (b : Bool) (w v : List ℕ) (o : Own) (k : LiteralReading) → p ≡ term.Text w → v ≡ w → o ≡ own_by a v → IsLiteralAdded m n (part_said (seen t) o b) k → IsLiteralAdded m n (affix_said a (seen p) (seen t) b) k
+affix_added m n a p t b w v o k e f g h = added_as m n _ _ k (ap (λ s. affix_said a s (seen t) b) (seen_text p w e) ∙ ap (λ x. part_said (seen t) x b) (sym (g ∙ ap (own_by a) f))) h
 
-pub infix_not : (m : DraftBuilder) (p t : Term) (b : Bool) → ((w : List ℕ) → p ≡ term.Text w → ⊥) → IsLiteralAdded m m (atom_said (apply op.Contains (seen t ⨾ seen p ⨾ end)) b) kind.Outside
-infix_not m p t b h = left_out m _ (infix_outside (seen t) (seen p) b (no_text p h))
+prefix_said : (s t : Shape) (b : Bool) → atom_said (apply op.PrefixOf (s ⨾ t ⨾ end)) b ≡ affix_said affix.Prefix s t b
+prefix_said (text w) t b = refl
+prefix_said _ t b = refl
 
-pub prefix_added : (m n : DraftBuilder) (p t : Term) (b : Bool) (w v : List ℕ) (k : LiteralReading) → p ≡ term.Text w → v ≡ w → IsLiteralAdded m n (part_said (seen t) (own.Prefix v) b) k → IsLiteralAdded m n (atom_said (apply op.PrefixOf (seen p ⨾ seen t ⨾ end)) b) k
-prefix_added m n p t b w v k e f h = added_as m n _ _ k (ap (λ s. atom_said (apply op.PrefixOf (s ⨾ seen t ⨾ end)) b) (seen_text p w e) ∙ ap (λ x. part_said (seen t) (own.Prefix x) b) (sym f)) h
+suffix_said : (s t : Shape) (b : Bool) → atom_said (apply op.SuffixOf (s ⨾ t ⨾ end)) b ≡ affix_said affix.Suffix s t b
+suffix_said (text w) t b = refl
+suffix_said _ t b = refl
 
-pub suffix_added : (m n : DraftBuilder) (p t : Term) (b : Bool) (w v : List ℕ) (k : LiteralReading) → p ≡ term.Text w → v ≡ w → IsLiteralAdded m n (part_said (seen t) (own.Suffix v) b) k → IsLiteralAdded m n (atom_said (apply op.SuffixOf (seen p ⨾ seen t ⨾ end)) b) k
-suffix_added m n p t b w v k e f h = added_as m n _ _ k (ap (λ s. atom_said (apply op.SuffixOf (s ⨾ seen t ⨾ end)) b) (seen_text p w e) ∙ ap (λ x. part_said (seen t) (own.Suffix x) b) (sym f)) h
-
-pub infix_added : (m n : DraftBuilder) (p t : Term) (b : Bool) (w v : List ℕ) (k : LiteralReading) → p ≡ term.Text w → v ≡ w → IsLiteralAdded m n (part_said (seen t) (own.Contains v) b) k → IsLiteralAdded m n (atom_said (apply op.Contains (seen t ⨾ seen p ⨾ end)) b) k
-infix_added m n p t b w v k e f h = added_as m n _ _ k (ap (λ s. atom_said (apply op.Contains (seen t ⨾ s ⨾ end)) b) (seen_text p w e) ∙ ap (λ x. part_said (seen t) (own.Contains x) b) (sym f)) h
+infix_said : (s t : Shape) (b : Bool) → atom_said (apply op.Contains (s ⨾ t ⨾ end)) b ≡ affix_said affix.Infix t s b
+infix_said s (text w) b = refl
+infix_said s _ b = refl
 
 pub member_added : (m n : DraftBuilder) (t : Term) (b : Bool) (r q : Regex) (k : LiteralReading) → q ≡ r → IsLiteralAdded m n (part_said (seen t) (own.InRe q) b) k → IsLiteralAdded m n (part_said (seen t) (own.InRe r) b) k
 member_added m n t b r q k e h = subst (λ x. IsLiteralAdded m n (part_said (seen t) (own.InRe x) b) k) e h
@@ -282,14 +263,14 @@ double o s t b = atom_said (apply o (s ⨾ t ⨾ end)) b
 pub double_equality : (m n : DraftBuilder) (o : Op) (h : AtomHead) (s t : Shape) (b : Bool) (k : LiteralReading) → h ≡ head_of o → h ≡ head.Equality → IsLiteralAdded m n (atom_said (apply op.Equal (s ⨾ t ⨾ end)) b) k → IsLiteralAdded m n (atom_said (apply o (s ⨾ t ⨾ end)) b) k
 double_equality m n o h s t b k e f p = added_as m n _ _ k (ap (λ x. double x s t b) (equality_op o (sym e ∙ f))) p
 
-pub double_prefix : (m n : DraftBuilder) (o : Op) (h : AtomHead) (s t : Shape) (b : Bool) (k : LiteralReading) → h ≡ head_of o → h ≡ head.Prefix → IsLiteralAdded m n (atom_said (apply op.PrefixOf (s ⨾ t ⨾ end)) b) k → IsLiteralAdded m n (atom_said (apply o (s ⨾ t ⨾ end)) b) k
-double_prefix m n o h s t b k e f p = added_as m n _ _ k (ap (λ x. double x s t b) (prefix_op o (sym e ∙ f))) p
+pub double_prefix : (m n : DraftBuilder) (o : Op) (h : AtomHead) (s t : Shape) (b : Bool) (k : LiteralReading) → h ≡ head_of o → h ≡ head.Prefix → IsLiteralAdded m n (affix_said affix.Prefix s t b) k → IsLiteralAdded m n (atom_said (apply o (s ⨾ t ⨾ end)) b) k
+double_prefix m n o h s t b k e f p = added_as m n _ _ k (ap (λ x. double x s t b) (prefix_op o (sym e ∙ f)) ∙ prefix_said s t b) p
 
-pub double_suffix : (m n : DraftBuilder) (o : Op) (h : AtomHead) (s t : Shape) (b : Bool) (k : LiteralReading) → h ≡ head_of o → h ≡ head.Suffix → IsLiteralAdded m n (atom_said (apply op.SuffixOf (s ⨾ t ⨾ end)) b) k → IsLiteralAdded m n (atom_said (apply o (s ⨾ t ⨾ end)) b) k
-double_suffix m n o h s t b k e f p = added_as m n _ _ k (ap (λ x. double x s t b) (suffix_op o (sym e ∙ f))) p
+pub double_suffix : (m n : DraftBuilder) (o : Op) (h : AtomHead) (s t : Shape) (b : Bool) (k : LiteralReading) → h ≡ head_of o → h ≡ head.Suffix → IsLiteralAdded m n (affix_said affix.Suffix s t b) k → IsLiteralAdded m n (atom_said (apply o (s ⨾ t ⨾ end)) b) k
+double_suffix m n o h s t b k e f p = added_as m n _ _ k (ap (λ x. double x s t b) (suffix_op o (sym e ∙ f)) ∙ suffix_said s t b) p
 
-pub double_infix : (m n : DraftBuilder) (o : Op) (h : AtomHead) (s t : Shape) (b : Bool) (k : LiteralReading) → h ≡ head_of o → h ≡ head.Contains → IsLiteralAdded m n (atom_said (apply op.Contains (s ⨾ t ⨾ end)) b) k → IsLiteralAdded m n (atom_said (apply o (s ⨾ t ⨾ end)) b) k
-double_infix m n o h s t b k e f p = added_as m n _ _ k (ap (λ x. double x s t b) (contains_op o (sym e ∙ f))) p
+pub double_infix : (m n : DraftBuilder) (o : Op) (h : AtomHead) (s t : Shape) (b : Bool) (k : LiteralReading) → h ≡ head_of o → h ≡ head.Contains → IsLiteralAdded m n (affix_said affix.Infix t s b) k → IsLiteralAdded m n (atom_said (apply o (s ⨾ t ⨾ end)) b) k
+double_infix m n o h s t b k e f p = added_as m n _ _ k (ap (λ x. double x s t b) (contains_op o (sym e ∙ f)) ∙ infix_said s t b) p
 
 order_said : (o : Op) (s t : Shape) (b : Bool) → head_of o ≡ head.Order → double o s t b ≡ row_said o s t b
 order_said op.LessEqual s t b e = refl

@@ -1,15 +1,20 @@
 -- How functions stand in atoms of a written kind.
-use Rattle.std.specs.Prelude.{ℕ, List, Option, Some, None}
+use Rattle.std.specs.Prelude.{ℕ, Bool, List, Option, Some, None}
 use Rattle.sv_terms.specs.declared.op.Op.{Op}
 use Rattle.literal_forms.specs.Roles.{role_of}
 use Rattle.literal_forms.specs.declared.roles.Role.{Role}
 use Rattle.literal_forms.specs.declared.roles.Role.TheVariants as role
 use Rattle.literal_forms.specs.declared.roles.Test.TheVariants as test
-use Rattle.literal_forms.specs.Shapes.{Shapes, text, end, ◌⨾◌}
+use Rattle.literal_forms.specs.Shapes.{Shape, Shapes, text, end, ◌⨾◌}
 use Rattle.flat_cubes.specs.declared.definition.By.{By}
 use Rattle.flat_cubes.specs.declared.definition.By.TheVariants as by
+use Rattle.flat_cubes.specs.Said.{Said, outside, part_said}
+use Rattle.flat_cubes.specs.declared.variable.Own.{Own}
+use Rattle.flat_cubes.specs.declared.variable.Own.TheVariants as own
 use Rattle.written_terms.specs.declared.strings.Occurrences.{Occurrences}
 use Rattle.written_terms.specs.declared.strings.Occurrences.TheVariants as occurrences
+use Rattle.cube_draft.specs.declared.literals.Affix.{Affix}
+use Rattle.cube_draft.specs.declared.literals.Affix.TheVariants as affix
 use Rattle.cube_draft.specs.declared.literals.AtomHead.{AtomHead}
 use Rattle.cube_draft.specs.declared.literals.AtomHead.TheVariants as head
 
@@ -35,3 +40,14 @@ head_by _ = head.Other
 
 abbrev pub head_of : Op → AtomHead
 head_of o = head_by (role_of o)
+
+-- that the word stands so in a term
+abbrev pub own_by : Affix → List ℕ → Own
+own_by affix.Prefix w = own.Prefix w
+own_by affix.Suffix w = own.Suffix w
+own_by affix.Infix w = own.Contains w
+
+-- what an atom says in which a term stands so in another
+abbrev pub affix_said : Affix → Shape → Shape → Bool → Said
+affix_said a (text p) s b = part_said s (own_by a p) b
+affix_said a _ s b = outside

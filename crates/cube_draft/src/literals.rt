@@ -5,7 +5,7 @@ ghost use Rattle.literal_forms.specs.Past.{IsFitting};
 ghost use Rattle.literal_forms.specs.Shapes.{apply, end, seen, shapes, text, ◌⨾◌};
 ghost use Rattle.cube_draft.specs.Comparing.{AtomFits, IsGathered, ComparisonFits};
 ghost use Rattle.cube_draft.specs.Gathered.{IsLiteralAdded};
-ghost use Rattle.cube_draft.specs.Kinds.{head_of};
+ghost use Rattle.cube_draft.specs.Kinds.{affix_said, head_of, own_by};
 ghost use Rattle.flat_cubes.specs.Said.{atom_said, constant_said, one_said, pair_said, part_said, row_said, said, string_said};
 ghost use Rattle.flat_cubes.specs.declared.variable.Own.TheVariants as any_own;
 
@@ -51,6 +51,24 @@ fn head_of(op: Op) -> AtomHead
         Role::Test(Test::Digit) => AtomHead::Digit,
         Role::Connective | Role::Distinct | Role::Joined(_) | Role::Length | Role::Built(_) =>
             AtomHead::Other,
+    }
+}
+
+/// How a word stands in another.
+#[derive(Clone, Copy, Debug, PartialEq, Eq)]
+enum Affix {
+    Prefix,
+    Suffix,
+    Infix,
+}
+
+fn own_by(affix: Affix, word: Word) -> Own
+    ensures { result ≡ own_by affix word }
+{
+    match affix {
+        Affix::Prefix => Own::Prefix(word),
+        Affix::Suffix => Own::Suffix(word),
+        Affix::Infix => Own::Contains(word),
     }
 }
 
@@ -183,60 +201,31 @@ impl DraftBuilder {
         match head_of(op) {
             AtomHead::Equality => Ok(self.add_equality(alloc, left, right, positive)?),
             AtomHead::Order => Ok(self.add_comparison(alloc, op, left, right, positive)?),
-            AtomHead::Prefix => Ok(self.add_prefix(alloc, left, right, positive)?),
-            AtomHead::Suffix => Ok(self.add_suffix(alloc, left, right, positive)?),
-            AtomHead::Contains => Ok(self.add_infix(alloc, left, right, positive)?),
+            AtomHead::Prefix => Ok(self.add_affix(alloc, Affix::Prefix, left, right, positive)?),
+            AtomHead::Suffix => Ok(self.add_affix(alloc, Affix::Suffix, left, right, positive)?),
+            AtomHead::Contains => Ok(self.add_affix(alloc, Affix::Infix, right, left, positive)?),
             AtomHead::Digit => Ok(LiteralReading::Outside),
             AtomHead::Other => Ok(LiteralReading::Outside),
         }
     }
 
-    #[tactic(auto, using(crate::proofs::Stated::prefix_not, crate::proofs::Stated::prefix_added))]
-    fn add_prefix(
+    // Where a literal stands in a string term; there is no written kind for another term's place.
+    #[tactic(auto, using(crate::proofs::Stated::affix_not, crate::proofs::Stated::affix_added))]
+    fn add_affix(
         &mut self,
         alloc: Global,
+        affix: Affix,
         pattern: &Term,
         term: &Term,
         positive: bool,
     ) -> Result<LiteralReading, AllocError>
-        ensures { IfOk result (λ k. IsLiteralAdded self.old self.new (atom_said (apply any_op.PrefixOf (seen pattern.now ⨾ seen term.now ⨾ end)) positive) k) }
+        ensures { IfOk result (λ k. IsLiteralAdded self.old self.new (affix_said affix (seen pattern.now) (seen term.now) positive) k) }
     {
         let Term::Text(word) = pattern else {
             return Ok(LiteralReading::Outside);
         };
-        Ok(self.add_part(alloc, term, Own::Prefix(word.copy(alloc)?), positive)?)
-    }
-
-    #[tactic(auto, using(crate::proofs::Stated::suffix_not, crate::proofs::Stated::suffix_added))]
-    fn add_suffix(
-        &mut self,
-        alloc: Global,
-        pattern: &Term,
-        term: &Term,
-        positive: bool,
-    ) -> Result<LiteralReading, AllocError>
-        ensures { IfOk result (λ k. IsLiteralAdded self.old self.new (atom_said (apply any_op.SuffixOf (seen pattern.now ⨾ seen term.now ⨾ end)) positive) k) }
-    {
-        let Term::Text(word) = pattern else {
-            return Ok(LiteralReading::Outside);
-        };
-        Ok(self.add_part(alloc, term, Own::Suffix(word.copy(alloc)?), positive)?)
-    }
-
-    #[tactic(auto, using(crate::proofs::Stated::infix_not, crate::proofs::Stated::infix_added))]
-    fn add_infix(
-        &mut self,
-        alloc: Global,
-        term: &Term,
-        pattern: &Term,
-        positive: bool,
-    ) -> Result<LiteralReading, AllocError>
-        ensures { IfOk result (λ k. IsLiteralAdded self.old self.new (atom_said (apply any_op.Contains (seen term.now ⨾ seen pattern.now ⨾ end)) positive) k) }
-    {
-        let Term::Text(word) = pattern else {
-            return Ok(LiteralReading::Outside);
-        };
-        Ok(self.add_part(alloc, term, Own::Contains(word.copy(alloc)?), positive)?)
+        let own = own_by(affix, word.copy(alloc)?);
+        Ok(self.add_part(alloc, term, own, positive)?)
     }
 
     // What is said of a string term.

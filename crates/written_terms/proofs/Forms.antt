@@ -6,8 +6,8 @@ use Rattle.sv_terms.specs.declared.op.Op.TheVariants as op
 use Rattle.sv_terms.specs.declared.term.Term.{Term}
 use Rattle.sv_terms.specs.declared.term.Term.TheVariants as term
 use Rattle.literal_forms.specs.Linear.{Linear, Unknown, added, are_linear, are_strings, difference_of, from_left, is_constant, is_empty, is_linear, is_product_from, is_string, less, length_form, linear, linears, minus_one, multiplied, scaled}
-use Rattle.literal_forms.specs.Mirrors.{seen-Apply}
-use Rattle.literal_forms.specs.Shapes.{Shape, Shapes, text, apply, end, ◌⨾◌, seen, shapes}
+use Rattle.literal_forms.specs.Mirrors.{raw-seen, seen-Apply}
+use Rattle.literal_forms.specs.Shapes.{Shape, Shapes, truth, number, text, constant, apply, member, related, opaque, end, ◌⨾◌, raw, seen, shapes}
 use Rattle.written_terms.specs.Strings.{build_of, is_replaced, is_text, replacer}
 use Rattle.written_terms.specs.Numbers.{joined_from, joined_of, joined_on, joint_of, kind_of, linearity_of, one_of, product_of, read_of, sum_of}
 use Rattle.written_terms.specs.declared.strings.Occurrences.{Occurrences}
@@ -27,6 +27,20 @@ seen_all ts = shapes (map seen ts)
 
 front : (ts : List Term) (k : ℕ) (t : Term) → k < length ts → t ≡ get_or ts k t → drop k ts ≡ t ∷ drop (k + 1) ts
 front ts k t l e = drop-cons ts k t l ∙ (λ i. sym e i ∷ drop (suc k) ts) ∙ ap (λ n. t ∷ drop n ts) (next k)
+
+-- a term that is no literal
+pub no_text : (t : Term) → ((w : List ℕ) → t ≡ term.Text w → ⊥) → is_text (seen t) ≡ false
+no_text t h = by_shape (seen t) (raw-seen t)
+  where
+    by_shape : (s : Shape) → raw s ≡ t → is_text s ≡ false
+    by_shape (text w) e = absurd (h w (sym e))
+    by_shape (apply o ss) e = refl
+    by_shape (truth b) e = refl
+    by_shape (number n) e = refl
+    by_shape (constant n s) e = refl
+    by_shape (member s r) e = refl
+    by_shape (related m s u) e = refl
+    by_shape (opaque s) e = refl
 
 -- string terms, from a place on
 pub strings_here : (ts : List Term) (k : ℕ) (t : Term) (b : Bool) → k < length ts → t ≡ get_or ts k t → b ≡ is_string (seen t) → b ≡ true → are_strings (seen_all (drop k ts)) ≡ are_strings (seen_all (drop (k + 1) ts))
