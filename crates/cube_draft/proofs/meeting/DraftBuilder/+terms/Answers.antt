@@ -1,10 +1,13 @@
-use Rattle.std.proofs.Common.{ap, ◌∙◌, subst}
+use Rattle.std.proofs.Common.{◌∙◌, subst, sym}
 use Rattle.literal_forms.specs.Linear.{pieces}
 use Rattle.cube_draft.specs.Gathered.{ArePieced}
 use Rattle.cube_draft.specs.Kinds.{replaced_by}
 use Rattle.written_terms.proofs.Forms.{seen_all}
-use Rattle.cube_draft.proofs.Placing.{piece_concat, piece_other, replaced_is_known, replaced_is_new}
+use Rattle.cube_draft.proofs.Placing.{piece_concat, piece_other, replaced_is_known, replaced_is_new, replaced_nothing}
 use Rattle.cube_draft.proofs.meeting.DraftBuilder.+terms.Goals as goal
+
+pub replace-returns-in_default-clause-met : goal.replace-returns-in_default-clause-met
+replace-returns-in_default-clause-met t c = replaced_nothing c.args.self.now c.args.term.now c.args.occurrences c.args.terms.now c.requires (sym c.in_default.ensures)
 
 pub replace-returns-in-Known-clause-met : goal.replace-returns-in-Known-clause-met
 replace-returns-in-Known-clause-met t c = replaced_is_known c.args.self.now c.seek.new.self c.args.term.now c.args.occurrences c.args.terms.now _ c.in_ok-place.field-0 c.in-Known.place c.requires c.in-Some.ensures c.in_ok-place.ensures.sought c.in-Known.is
