@@ -15,13 +15,13 @@ use Rattle.sv_terms.specs.declared.sort.Sort.TheVariants as sort
 use Rattle.sv_terms.specs.declared.term.Term.{Term}
 use Rattle.sv_terms.specs.declared.term.Term.TheVariants as v
 use Rattle.sv_terms.specs.Language.{Word}
-use Rattle.sv_terms.specs.Sorting.{same_sort, sort_if, some_of, more_of, alike, applied_sort}
+use Rattle.sv_terms.specs.Sorting.{same_sort, sort_if, some_of, more_of, alike, applied_sort, op_sort}
 use Rattle.smt_names.specs.declared.function.Function.{Function}
 use Rattle.smt_names.specs.declared.function.ArgumentSorts.{ArgumentSorts}
 use Rattle.smt_names.specs.declared.function.ArgumentSorts.TheVariants.{Nothing, One, Two, Three, Each as Each_of, Many, Alike, Choice}
 use Rattle.smt_names.specs.declared.function.Interpretation.{Interpretation}
 use Rattle.smt_names.specs.declared.function.Interpretation.TheVariants as is
-use Rattle.term_weight.specs.Bodies.{op_sort, body_sort, literal, term_of, is_language, regex_of, opaque}
+use Rattle.term_weight.specs.Bodies.{body_sort, literal, term_of, is_language, regex_of, opaque}
 use Rattle.term_weight.specs.Ranks.{takes_count, takes_sorts, apply, equality, choice, unknowns, product, replacement, membership, text_of, characters, range_of, combined, of_one, applied_as, applied}
 use Rattle.smt_names.specs.Signature.{Name, Rows, signature, is_some}
 use Rattle.sort_check.proofs.WellTerms.{both, both-make, Each, Fit, Fits, fit-truth, fit-text, fit-opaque, fit-member, fit-apply}

@@ -15,8 +15,8 @@ use Rattle.sv_terms.specs.declared.term.Term.TheFolds.{map-Term, ind-Term, fold-
 use Rattle.sv_terms.specs.declared.transducer.Transducer.{Transducer}
 use Rattle.sv_terms.specs.Language.{Word}
 use Rattle.sv_terms.specs.Meaning.{Named, all_of}
-use Rattle.sv_terms.specs.Sorting.{applied_sort, applied_sort_if, tested_sort, related_sort, sort_step, sort_of, is_of, valued_step, is_valued}
-use Rattle.term_weight.specs.Bodies.{op_sort, layer_sort, or_constant, put_in_layer, put_in}
+use Rattle.sv_terms.specs.Sorting.{applied_sort, applied_sort_if, tested_sort, related_sort, sort_step, sort_of, is_of, valued_step, is_valued, op_sort, layer_sort}
+use Rattle.term_weight.specs.Bodies.{or_constant, put_in_layer, put_in}
 use Rattle.smt_names.specs.Signature.{Name}
 use Rattle.sv_terms.specs.TransducerSizes.{is_formed}
 use Rattle.sort_check.specs.WellFormed.{constants_step, constants_are, formed_step, has_formed}

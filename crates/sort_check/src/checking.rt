@@ -14,14 +14,14 @@ ghost use Rattle.transducer_form.specs.Written as written;
 
 use crate::commands::{Command, Product};
 use item_passes::{Pass, are_parameters, at_variables, look, pass_over, repeats, variables};
-use sexpr_reader::Sexpr;
+use sexpr_reader::{Sexpr, copy_sexprs};
 use smt_names::signature::{is_reserved, sort_of, truth, verb};
 use smt_names::token::{
     bare_name, digits, is_sort_form, keyword, level, list_items, literal_text, symbol, word,
 };
 use smt_names::{CheckFault, CommandName};
 use std::alloc::{AllocError, Global};
-use sv_list::{Copied, Items};
+use sv_list::Items;
 use sv_terms::{Body, Entry, Name, Sort, Term};
 use term_draft::{body_sort, into_term};
 use term_walk::{parameter_name, settle_one, settle_sorts};
@@ -454,17 +454,6 @@ fn all_have_values(sorts: &[Sort]) -> bool
     true
 }
 
-/// The s-expressions as they were read.
-fn copies(alloc: Global, items: &[Sexpr]) -> Result<Items<Sexpr>, AllocError>
-    ensures { IfOk result (λ all. all ≡ items.now) }
-{
-    let mut all = Items::new(alloc);
-    for item in items {
-        all.push(item.copy(alloc)?)?;
-    }
-    Ok(all)
-}
-
 #[tactic(auto, using(crate::proofs::Answering::reading))]
 fn value_command(alloc: Global, items: &[Sexpr], sorts: &[Sort]) -> Result<Command, CheckFault>
     ensures { Answers (commands.valued (forms (map seen items.now)) sorts.now) result }
@@ -472,7 +461,7 @@ fn value_command(alloc: Global, items: &[Sexpr], sorts: &[Sort]) -> Result<Comma
     if !all_have_values(sorts) {
         return Err(CheckFault::Sort);
     }
-    Ok(Command::GetValue(copies(alloc, items)?))
+    Ok(Command::GetValue(copy_sexprs(alloc, items)?))
 }
 
 #[tactic(auto, using(crate::proofs::Answering::valuing))]
