@@ -57,8 +57,6 @@ pub map-snoc : {A B : Type 0} (f : A → B) (as_ : List A) (a : A) → map f (as
 map-snoc f [] a = refl
 map-snoc f (b ∷ as_) a = ap (λ z. f b ∷ z) (map-snoc f as_ a)
 
-pub ruleset collecting = (map-snoc)
-
 -- sums of what ends at 2^32 - 1
 cap-total : (n : ℕ) (ns : List ℕ) → capped (n + total (map capped ns)) ≡ capped (n + total ns)
 cap-total n [] = refl
