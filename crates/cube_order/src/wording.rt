@@ -1,11 +1,13 @@
 //! What was met of words: variables and definitions.
-ghost use Rattle.std.specs.Prelude.{◌≡◌, ◌<◌, ◌^◌, length, IfOk};
-ghost use Rattle.cube_order.specs.Wording.{ArePlacesBelow, AreWords};
+ghost use Rattle.std.specs.Prelude.{◌≡◌, ◌<◌, ◌^◌, map, length, IfOk};
+ghost use Rattle.std.specs.List.{range_with_len};
+ghost use Rattle.cube_order.specs.Leading.{ArePairsBelow, ordinal, roots_in};
+ghost use Rattle.cube_order.specs.Wording.{ArePlacesBelow, AreWords, least_of};
 
 use crate::filling::variables;
 use crate::identifying::firsts;
 use crate::naming::definitions as renamed;
-use crate::numbering::number;
+use crate::numbering::{VariableNumbers, number};
 use crate::straightening::straighten;
 use flat_cubes::{By, Definition, FlatFault, Own, Variable};
 use std::alloc::{AllocError, Global};
@@ -34,9 +36,7 @@ pub fn settle_words(
     requires { ArePlacesBelow (length names) parts definitions equalities.now }
     ensures { AreWords names parts definitions equalities.now result }
 {
-    let places = count(names.len())?;
-    let firsts = firsts(alloc, places, equalities)?;
-    let numbering = number(alloc, firsts.as_slice())?;
+    let numbering = number_places(alloc, names.len(), equalities)?;
     let renamed = renamed(alloc, numbering.of.as_slice(), definitions)?;
     match straighten(alloc, numbering.count, renamed) {
         Ok(straight) => {
@@ -55,6 +55,23 @@ pub fn settle_words(
         }
         Err(fault) => Err(fault),
     }
+}
+
+/// The variables of so many places, where these pairs of places are one.
+fn number_places(
+    alloc: Global,
+    places: usize,
+    equalities: &[(u32, u32)],
+) -> Result<VariableNumbers, AllocError>
+    requires { ArePairsBelow places equalities.now }
+    ensures few { IfOk result (λ _. places < 2 ^ 32) }
+    ensures count { IfOk result (λ n. n.count ≡ length (roots_in places (least_of places equalities.now))) }
+    ensures of { IfOk result (λ n. n.of.items ≡ map (ordinal places (least_of places equalities.now)) (range_with_len 0 places)) }
+{
+    let places = count(places)?;
+    let firsts = firsts(alloc, places, equalities)?;
+    let numbering = number(alloc, firsts.as_slice())?;
+    Ok(numbering)
 }
 
 /// The number of places. More would take more than 64 GB.
