@@ -1,4 +1,4 @@
-use Rattle.std.proofs.Common.{◌∙◌, ap, sym, subst, ◌<◌, ◌^◌, arith}
+use Rattle.std.proofs.Common.{◌∙◌, ap, subst, ◌<◌, ◌^◌, arith}
 use Rattle.cube_order.specs.Wording.{least_of}
 use Rattle.cube_order.proofs.Worded.{count_is, firsts_count, firsts_lower, firsts_rooted, numbers_are}
 use Rattle.cube_order.proofs.wording.number_places.Goals as goal
