@@ -13,11 +13,11 @@ use Rattle.sv_terms.specs.declared.op.Op.{Op}
 use Rattle.sv_terms.specs.declared.op.Op.TheVariants as op
 use Rattle.sv_terms.specs.declared.sort.Sort.{Sort}
 use Rattle.sv_terms.specs.declared.sort.Sort.TheVariants as sort
-use Rattle.sv_terms.specs.declared.term.Term.{Term, roll-Term}
+use Rattle.sv_terms.specs.declared.term.Term.{Term}
 use Rattle.sv_terms.specs.declared.term.Term.TheVariants as term
 use Rattle.sv_terms.specs.declared.term.Term.TheOpen.{Term-F}
-use Rattle.sv_terms.specs.declared.term.Term.TheFolds.{fold-Term, map-Term, fold-roll-Term}
 use Rattle.sv_terms.specs.Meaning.{Named, all_of, each_of, truth_of, number_of, same_truth, same_value, chained, pairwise, exclusive, implied, applied, applied_if, of_truths, of_numbers, val, val_step}
+use Rattle.sv_terms.specs.SortingLaws.{fold-at}
 use Rattle.sv_terms.specs.Sorting.{kind, same_sort, applied_sort, applied_sort_if, tested_sort, related_sort, sort_step, sort_of, valued_step, is_valued, op_sort}
 use Rattle.sv_terms.specs.Parts.{opaque_step, is_opaque}
 use Rattle.literal_forms.specs.Shapes.{Shape, Shapes, truth, number, text, constant, apply, member, related as pair, opaque, end, ◌⨾◌, raw, raws}
@@ -26,10 +26,6 @@ use Rattle.bool_cubes.specs.Trees.{Formula, Part, negated, conjunction, disjunct
 use Rattle.bool_cubes.specs.Trees as tree
 use Rattle.bool_cubes.proofs.Deciding.{Decides, dec_truth, dec_not, dec_atom, dec_all, dec_any, dec_same, dec_choice, dec_exclusive, dec_implied}
 use Rattle.bool_cubes.proofs.Ranked.{some_of_is, more_of_is, alike_is, result_sort}
-
--- a fold at a layer
-fold-at : (X : Type 0) (step : Term-F X → X) (t : Term) (x : Term-F Term) → roll-Term x ≡ t → fold-Term X step t ≡ step (map-Term Term X (fold-Term X step) x)
-fold-at X step t x e = ap (fold-Term X step) (sym e) ∙ fold-roll-Term X step x
 
 and_true : (a : Bool) → (a && true) ≡ a
 and_true true = refl

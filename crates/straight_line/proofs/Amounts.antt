@@ -18,7 +18,8 @@ use Rattle.sv_terms.specs.Meaning.{Named, all_of, each_of, number_of, applied, a
 use Rattle.sv_terms.specs.Sorting.{same_sort, is_of, is_valued}
 use Rattle.literal_forms.specs.Shapes.{Shape, Shapes, number, text, constant, apply, end, ◌⨾◌, raw, raws}
 use Rattle.literal_forms.specs.Linear.{Unknown, integer, length_of, other, Linear, added, scaled, less, minus_one, is_constant, multiplied, from_left, difference_of, length_form, linear, linears, is_string, is_linear, are_linear, is_product_from, is_product, written}
-use Rattle.straight_line.proofs.Texts.{fold-at, and_parts, word, word_written, val_word, val_apply, valued_apply, valued_constant, val_constant}
+use Rattle.sv_terms.specs.SortingLaws.{fold-at}
+use Rattle.straight_line.proofs.Texts.{and_parts, word, word_written, val_word, val_apply, valued_apply, valued_constant, val_constant}
 
 -- the sum of the terms, and with the constant, at the unknowns' values
 abbrev pub terms_sum : (Unknown → ℤ) → List (Unknown × ℤ) → ℤ

@@ -23,7 +23,8 @@ use Rattle.flat_cubes.proofs.Members.{never}
 use Rattle.straight_line.proofs.Compared.{HasRow}
 use Rattle.straight_line.proofs.Parted.{IsSound}
 use Rattle.straight_line.proofs.Settled.{IsSettled, Ready, is_settled, nothing_settled}
-use Rattle.straight_line.proofs.Texts.{fold-at, and_parts, valued_apply}
+use Rattle.sv_terms.specs.SortingLaws.{fold-at}
+use Rattle.straight_line.proofs.Texts.{and_parts, valued_apply}
 use Rattle.straight_line.proofs.Told.{inside}
 
 module _ (values : Named) where

@@ -26,7 +26,8 @@ use Rattle.flat_cubes.specs.Said.{Said, compares, holds, has_part, are_one, writ
 use Rattle.flat_cubes.specs.Satisfying.{Says}
 use Rattle.flat_cubes.specs.declared.variable.Own.{Own}
 use Rattle.flat_cubes.specs.declared.variable.Own.TheVariants as own
-use Rattle.straight_line.proofs.Texts.{fold-at, and_parts, word, val_word, val_apply, valued_apply, val_constant, val_text}
+use Rattle.sv_terms.specs.SortingLaws.{fold-at}
+use Rattle.straight_line.proofs.Texts.{and_parts, word, val_word, val_apply, valued_apply, val_constant, val_text}
 use Rattle.straight_line.proofs.Adding.{Truth, Formed}
 
 pub text_self : (w : Word) → pointwise nat_eq w w ≡ true

@@ -10,19 +10,16 @@ use Rattle.sv_terms.specs.declared.op.Op.{Op}
 use Rattle.sv_terms.specs.declared.op.Op.TheVariants as op
 use Rattle.sv_terms.specs.declared.sort.Sort.{Sort}
 use Rattle.sv_terms.specs.declared.sort.Sort.TheVariants as sort
-use Rattle.sv_terms.specs.declared.term.Term.{Term, roll-Term}
+use Rattle.sv_terms.specs.declared.term.Term.{Term}
 use Rattle.sv_terms.specs.declared.term.Term.TheVariants as term
 use Rattle.sv_terms.specs.declared.term.Term.TheOpen.{Term-F}
-use Rattle.sv_terms.specs.declared.term.Term.TheFolds.{fold-Term, map-Term, fold-roll-Term}
 use Rattle.sv_terms.specs.Language.{Word}
 use Rattle.sv_terms.specs.Replacement.{replace_first, replace_all}
 use Rattle.sv_terms.specs.Meaning.{Named, all_of, each_of, word_of, joined, applied_if, val, val_step}
+use Rattle.sv_terms.specs.SortingLaws.{fold-at}
 use Rattle.sv_terms.specs.Sorting.{same_sort, is_of, valued_step, is_valued}
 use Rattle.literal_forms.specs.Shapes.{Shape, Shapes, truth, number, text, constant, apply, member, related, opaque, end, ◌⨾◌, raw, raws}
 use Rattle.literal_forms.specs.Linear.{is_string, are_strings, written, pieces, before, set_before as spliced}
-
-pub fold-at : (X : Type 0) (step : Term-F X → X) (t : Term) (x : Term-F Term) → roll-Term x ≡ t → fold-Term X step t ≡ step (map-Term Term X (fold-Term X step) x)
-fold-at X step t x e = ap (fold-Term X step) (sym e) ∙ fold-roll-Term X step x
 
 pub and_parts : (a b : Bool) → IsTrue (a && b) → IsTrue a × IsTrue b
 and_parts true b h = (refl, h)
