@@ -1,6 +1,7 @@
 //! Systems of rows for tests.
-ghost use Rattle.std.specs.Prelude.{IfOk};
-ghost use Rattle.lia_branch.specs.Outcomes.{IsSearchable};
+ghost use Rattle.std.specs.Prelude.{◌≡◌, ℕ, [], Some, slice_get, IfOk};
+ghost use Rattle.sv_linear.specs.Rows.{IsRowWithin};
+ghost use Rattle.sv_linear.specs.declared.row.Row.{Row as AnyRow};
 
 use farkas_check::System;
 use lia_reduce::is_within;
@@ -43,7 +44,8 @@ pub(crate) fn rows_of(alloc: Global, table: &[Entries]) -> Result<Items<Row>, Fa
 
 /// The system of these rows, where they name unknowns of it alone.
 pub(crate) fn system_over(alloc: Global, unknowns: u32, rows: Items<Row>) -> Result<System, Fail>
-    ensures { IfOk result IsSearchable }
+    ensures nets { IfOk result (λ s. s.nets ≡ []) }
+    ensures rows { IfOk result (λ s. (i : ℕ) (r : AnyRow) → slice_get s.rows i ≡ Some r → IsRowWithin s.unknowns r) }
 {
     for row in rows.as_slice() {
         if !is_within(row, unknowns) {
