@@ -88,6 +88,23 @@ is_ready() {
     done
 }
 
+# Whether the library of the crate $1 is newer than its sources and than the libraries below it. Where crates.txt says
+# more than that, the toolchain sees it at a crate above.
+is_current() {
+    local name library=$root/crates/$1/out/rlib/stamp
+    [ -e "$library" ] || return 1
+    for name in ${below[$1]:-}; do
+        [ "$library" -nt "$root/crates/$name/out/rlib/stamp" ] || return 1
+    done
+    [ -z "$(cd "$root/crates/$1" && find . -name out -prune -o -newer "$library" -path './[sp]*' -print -quit)" ]
+}
+
+# The crate $1 is done; $2 says how.
+finish() {
+    is_done[$1]=yes
+    echo "strsolve:   $1 $2, ${#is_done[@]} of ${#order[@]}" >&2
+}
+
 # Builds the crates of `order`, each as soon as those below it are done, as many at once as there are processors; begins
 # none after the first that fails. A crate gets the processors that no other one waits for.
 build_all() {
@@ -95,13 +112,15 @@ build_all() {
     local -a waiting=("${order[@]}") left
     local name job idle ready
     while [ ${#waiting[@]} -gt 0 ] || [ ${#name_of[@]} -gt 0 ]; do
-        left=()
         ready=0
         for name in "${waiting[@]}"; do
-            if is_ready "$name"; then ready=$((ready + 1)); fi
+            if ! is_ready "$name"; then continue; fi
+            if is_current "$name"; then finish "$name" "was proved before"; else ready=$((ready + 1)); fi
         done
         idle=$(($(nproc) - ${#name_of[@]}))
+        left=()
         for name in "${waiting[@]}"; do
+            if [ -n "${is_done[$name]:-}" ]; then continue; fi
             if [ "$idle" -gt 0 ] && is_ready "$name"; then
                 build_crate "$name" $((idle > ready ? idle / ready : 1)) &
                 name_of[$!]=$name
@@ -113,8 +132,7 @@ build_all() {
         done
         waiting=("${left[@]}")
         wait -n -p job "${!name_of[@]}" || return 1
-        is_done[${name_of[$job]}]=yes
-        echo "strsolve:   ${name_of[$job]} is proved, ${#is_done[@]} of ${#order[@]}" >&2
+        finish "${name_of[$job]}" "is proved"
         unset "name_of[$job]"
     done
 }
