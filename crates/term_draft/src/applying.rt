@@ -9,6 +9,7 @@ use std::alloc::{AllocError, Global};
 use sv_list::{Boxed, Copied, Items};
 use sv_terms::{Body, Op, Regex, Sort, Term, Transducer};
 use sv_word::{GREATEST_CHARACTER, Word};
+use term_weight::room;
 
 /// The sort of a sorted term, or RegLan. Constant.
 pub fn body_sort(body: &Body) -> Sort
@@ -33,8 +34,11 @@ pub fn into_term(body: Body) -> Term
 fn into_terms(alloc: Global, bodies: Items<Body>) -> Result<Items<Term>, AllocError>
     ensures { IfOk result (λ ts. ts ≡ map b.term_of bodies) }
 {
-    let terms = bodies.into_vec().into_iter().map(into_term);
-    Ok(Items::from_vec(terms.collect(alloc)?))
+    let mut all = room(alloc, bodies.len())?;
+    for body in bodies.into_vec() {
+        all.push(into_term(body))?;
+    }
+    Ok(all)
 }
 
 fn into_regex(body: Body) -> Regex
@@ -49,8 +53,11 @@ fn into_regex(body: Body) -> Regex
 fn into_regexes(alloc: Global, bodies: Items<Body>) -> Result<Items<Regex>, AllocError>
     ensures { IfOk result (λ rs. rs ≡ map b.regex_of bodies) }
 {
-    let regexes = bodies.into_vec().into_iter().map(into_regex);
-    Ok(Items::from_vec(regexes.collect(alloc)?))
+    let mut all = room(alloc, bodies.len())?;
+    for body in bodies.into_vec() {
+        all.push(into_regex(body))?;
+    }
+    Ok(all)
 }
 
 pub fn opaque(sort: Sort) -> Body
