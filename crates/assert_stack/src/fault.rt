@@ -5,7 +5,7 @@ use thiserror::Error;
 #[derive(Debug, Drop, Error)]
 pub enum StackFault {
     /// There would be this number of levels, which is above 65,535.
-    #[error("{0} levels are more than 65535")]
+    #[error("{0} levels are more than 65,535")]
     Full(u64),
     #[error("out of memory")]
     Memory(AllocError),
@@ -13,7 +13,7 @@ pub enum StackFault {
 
 /// There are no more than this number of levels, fewer than were to be popped.
 #[derive(Debug, Drop, Error)]
-#[error("there are {0} levels")]
+#[error("there are only {0} levels to pop")]
 pub struct Below(pub u32);
 
 impl From<AllocError> for StackFault {

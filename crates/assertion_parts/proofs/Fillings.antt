@@ -18,7 +18,7 @@ use Rattle.sv_terms.specs.declared.term.Term.TheVariants as v
 use Rattle.sv_terms.specs.declared.transducer.Transducer.{Transducer}
 use Rattle.sv_terms.specs.declared.value.Value.{Value}
 use Rattle.sv_terms.specs.declared.value.Value.TheVariants.{Truth, Number, Text}
-use Rattle.assertion_parts.specs.Constants.{mentions, is_mentioned, HaveOneSort}
+use Rattle.assertion_parts.specs.Constants.{mentions, is_mentioned, ConstantsHaveOneSort}
 use Rattle.assertion_parts.specs.Filling.{default, or_default, value_of, AreChosen, IsFilling, Grows, Fills, FillsAll, FillsOne, IsFilledFrom}
 use Rattle.assertion_parts.proofs.Listed.{take-more}
 use Rattle.assertion_parts.proofs.Sorts.{both, both-make, same-is, same-self, valued-kept, all-kept}
@@ -352,7 +352,7 @@ nothing sample given = record {
   worded = λ w k d l. absurd (omega (arith, l));
 }
 
-pub filled : (given : Named) (ts : List Term) (full : Named) → FillsAll given ts [] full → HaveOneSort ts → IsFilledFrom given ts full
+pub filled : (given : Named) (ts : List Term) (full : Named) → FillsAll given ts [] full → ConstantsHaveOneSort ts → IsFilledFrom given ts full
 filled given ts full f one =
     let r = f one.0 (all-true (is_valued one.0) ts one.1) (nothing one.0 given) in record {
       chosen = r.0.filling.chosen;

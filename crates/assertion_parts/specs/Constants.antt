@@ -5,8 +5,7 @@ use Rattle.std.specs.Map.{lookup}
 use Rattle.std.specs.Cmp.Lexicographic.{pointwise}
 use Rattle.sv_word.specs.Words.{greatest_character}
 use Rattle.sv_terms.specs.Meaning.{Named}
-use Rattle.sv_terms.specs.Parts.{every_part, some_part}
-use Rattle.sv_terms.specs.TransducerSizes.{is_formed}
+use Rattle.sv_terms.specs.Parts.{some_part}
 use Rattle.sv_terms.specs.Truth.{AreValued}
 use Rattle.sv_terms.specs.declared.term.Term.{Term}
 use Rattle.sv_terms.specs.declared.term.Term.TheFolds.{fold-Term}
@@ -30,12 +29,8 @@ pub record AreValuesOf (values : Named) (terms : List Term) : Type 0 where
   pub only : AreOnly values terms
 
 -- each name has one sort: some values give each constant of the terms one of its sort
-abbrev pub HaveOneSort : List Term → Type 0
-HaveOneSort terms = (values : Named) × AreValued values terms
-
--- whether each transducer of the term is formed
-abbrev pub has_formed : Term → Bool
-has_formed = every_part (λ name s. true) is_formed
+abbrev pub ConstantsHaveOneSort : List Term → Type 0
+ConstantsHaveOneSort terms = (values : Named) × AreValued values terms
 
 -- whether each literal of the term is a word
 abbrev pub words_step : Term-F Bool → Bool

@@ -4,7 +4,7 @@ ghost use Rattle.std.specs.Map.{lookup};
 ghost use Rattle.std.specs.Cmp.Lexicographic.{pointwise};
 ghost use Rattle.sv_terms.specs.Sorting.{kind, same_sort};
 ghost use Rattle.sv_terms.specs.Truth.{clear_of};
-ghost use Rattle.assertion_parts.specs.Constants.{HaveOneSort};
+ghost use Rattle.assertion_parts.specs.Constants.{ConstantsHaveOneSort};
 ghost use Rattle.assertion_parts.specs.Filling.{Fills, FillsAll, FillsOne, IsFilledFrom, default, or_default};
 
 use std::alloc::{AllocError, Global};
@@ -117,7 +117,7 @@ fn fill_clear(alloc: Global, full: &mut Model, given: &Model, term: &Term) -> Re
 /// given one, where it is of the constant's sort, else the default of the sort. Linear in the terms and the
 /// values, but for the moves of a growing map.
 pub fn complete(alloc: Global, given: &Model, terms: &[Term]) -> Result<Model, AllocError>
-    ensures { IfOk result (λ full. HaveOneSort (clear_of terms.now) → IsFilledFrom given.now (clear_of terms.now) full) }
+    ensures { IfOk result (λ full. ConstantsHaveOneSort (clear_of terms.now) → IsFilledFrom given.now (clear_of terms.now) full) }
 {
     let mut full = Model::new(alloc);
     for term in terms {

@@ -89,6 +89,5 @@ pub fn first_state(alloc: Global, flat: &Flat, kept: &Machines) -> Result<LeafSt
         let machine = own_machine(alloc, variables[v].parts.as_slice(), &each, kept)?;
         machines.push(machine)?;
     }
-    let state = LeafState::of(alloc, registers.len(), machines)?;
-    Ok(state)
+    Ok(LeafState::of(alloc, registers.len(), machines)?)
 }

@@ -47,15 +47,14 @@ pub fn step_concat(
     let By::Concat(pieces) = &definition.by else {
         unreachable!();
     };
-    let next = carry_concat(
+    Ok(carry_concat(
         alloc,
         state,
         definition.variable,
         pieces.as_slice(),
         cuts,
         limit,
-    )?;
-    Ok(next)
+    )?)
 }
 
 /// The family in which the definition at the place `at`, no concatenation, is carried: the pre-image
@@ -80,8 +79,7 @@ pub fn step_through(
     let definition = definition_at(flat, at);
     let read = read_by(&definition.by);
     let through = transducer_for(alloc, &definition.by)?;
-    let next = carry_through(alloc, state, definition.variable, read, through, limit)?;
-    Ok(next)
+    Ok(carry_through(alloc, state, definition.variable, read, through, limit)?)
 }
 
 /// Runs of the family before a step, of runs of the family after it: they cost the same together, and
@@ -102,7 +100,7 @@ pub fn lift_step(
     ensures { IfOk result (AreBackAt flat.now at before.now.machines runs) }
 {
     let definition = definition_at(flat, at);
-    let lifted = lift_by(
+    Ok(lift_by(
         alloc,
         before,
         definition.variable,
@@ -110,8 +108,7 @@ pub fn lift_step(
         cuts,
         after,
         runs,
-    )?;
-    Ok(lifted)
+    )?)
 }
 
 // Runs of the family before a step, by the definition of `x`.
@@ -130,12 +127,10 @@ fn lift_by(
     ensures defined { IfOk result (λ rs. ComesBy (run_words rs) (run_words rs x) by.now) }
 {
     if let By::Concat(pieces) = by {
-        let lifted = lift_cut(alloc, before, x, pieces.as_slice(), cuts, after, runs)?;
-        return Ok(lifted);
+        return Ok(lift_cut(alloc, before, x, pieces.as_slice(), cuts, after, runs)?);
     }
     let read = read_by(by);
-    let lifted = lift_through(alloc, before, x, read, after, runs)?;
-    Ok(lifted)
+    Ok(lift_through(alloc, before, x, read, after, runs)?)
 }
 
 // The definition at this place, which there is.

@@ -4,12 +4,12 @@ ghost use Rattle.std.specs.List.{AllByRecursion};
 ghost use Rattle.sv_terms.specs.declared.op.Op.{Op as AnyOp};
 ghost use Rattle.sv_terms.specs.declared.op.Op.TheVariants as op;
 ghost use Rattle.sv_terms.specs.declared.term.Term.{Term as AnyTerm};
-ghost use Rattle.bool_cubes.specs.Counting.{and_counts, atom_counts, choice_counts, counts_of, equal_counts, first_pairs, formulas_of, not_counts, or_counts, ordered_pairs, parts_of, same_counts};
+ghost use Rattle.bool_cubes.specs.Counting.{atom_counts, counts_of, first_pairs, formulas_of, ordered_pairs, parts_of};
 ghost use Rattle.bool_cubes.specs.Laws.{IsClearBool};
 ghost use Rattle.bool_cubes.specs.Refusing.{count_of};
 ghost use Rattle.sv_terms.specs.CutOff.{cut_off};
 ghost use Rattle.literal_forms.specs.Shapes.{seen};
-ghost use Rattle.bool_cubes.specs.Trees.{applied, conjunction, disjunction, equal, exclusive, formula, implied, negated, neighbours, pairs, fixed};
+ghost use Rattle.bool_cubes.specs.Trees.{Formula, Part, agreement, applied, choice, conjoined, conjunction, disjoined, disjunction, equal, exclusive, formula, implied, negated, neighbours, pairs, fixed};
 
 use literal_forms::head_sort;
 use sv_terms::{Op, Sort, Term};
@@ -48,8 +48,9 @@ impl Counts {
         }
     }
 
+    #[tactic(auto, using(crate::proofs::Tallies::negated_counted))]
     fn not(self) -> Counts
-        ensures { result ≡ not_counts self }
+        ensures { (f : Formula) → self ≡ counts_of f → result ≡ counts_of (negated f) }
     {
         Counts {
             holding: self.failing,
@@ -57,8 +58,9 @@ impl Counts {
         }
     }
 
+    #[tactic(auto, using(crate::proofs::Tallies::conjoined_counted))]
     fn and(self, other: Counts) -> Counts
-        ensures { result ≡ and_counts self other }
+        ensures { (f g : Formula) → self ≡ counts_of f → other ≡ counts_of g → result ≡ counts_of (conjoined f g) }
     {
         Counts {
             holding: self.holding.saturating_mul(other.holding),
@@ -66,8 +68,9 @@ impl Counts {
         }
     }
 
+    #[tactic(auto, using(crate::proofs::Tallies::disjoined_counted))]
     fn or(self, other: Counts) -> Counts
-        ensures { result ≡ or_counts self other }
+        ensures { (f g : Formula) → self ≡ counts_of f → other ≡ counts_of g → result ≡ counts_of (disjoined f g) }
     {
         Counts {
             holding: self.holding.saturating_add(other.holding),
@@ -75,8 +78,9 @@ impl Counts {
         }
     }
 
-    fn same(self, other: Counts) -> Counts
-        ensures { result ≡ same_counts self other }
+    #[tactic(auto, using(crate::proofs::Tallies::agreement_counted))]
+    fn agree(self, other: Counts) -> Counts
+        ensures { (f g : Formula) → self ≡ counts_of f → other ≡ counts_of g → result ≡ counts_of (agreement f g) }
     {
         let both = self.holding.saturating_mul(other.holding);
         let neither = self.failing.saturating_mul(other.failing);
@@ -88,8 +92,9 @@ impl Counts {
         }
     }
 
+    #[tactic(auto, using(crate::proofs::Tallies::choice_counted))]
     fn choose(self, first: Counts, second: Counts) -> Counts
-        ensures { result ≡ choice_counts self first second }
+        ensures { (c f g : Formula) → self ≡ counts_of c → first ≡ counts_of f → second ≡ counts_of g → result ≡ counts_of (choice c f g) }
     {
         let both = self.holding.saturating_mul(first.holding);
         let other = self.failing.saturating_mul(second.holding);
@@ -103,11 +108,12 @@ impl Counts {
 }
 
 // Of the equality of two terms of this sort, by the numbers of the terms.
+#[tactic(auto, using(crate::proofs::Tallies::equal_counted))]
 fn equal_counts(sort: Sort, left: Counts, right: Counts) -> Counts
-    ensures { result ≡ equal_counts sort left right }
+    ensures { (p q : Part) → sort ≡ p.of → left ≡ counts_of p.formula → right ≡ counts_of q.formula → result ≡ counts_of (equal p q) }
 {
     match sort {
-        Sort::Bool => left.same(right),
+        Sort::Bool => left.agree(right),
         Sort::Int => Counts {
             holding: 1,
             failing: 2,
@@ -186,7 +192,6 @@ fn choice_counts(terms: &[Term]) -> Counts
 }
 
 #[cycle(counts)]
-#[tactic(auto, using(crate::proofs::Tallies::all_more))]
 fn all_counts(terms: &[Term]) -> Counts
     ensures { result ≡ counts_of (conjunction (formulas_of terms.now)) }
 {
@@ -198,7 +203,6 @@ fn all_counts(terms: &[Term]) -> Counts
 }
 
 #[cycle(counts)]
-#[tactic(auto, using(crate::proofs::Tallies::any_more))]
 fn any_counts(terms: &[Term]) -> Counts
     ensures { result ≡ counts_of (disjunction (formulas_of terms.now)) }
 {
@@ -211,7 +215,6 @@ fn any_counts(terms: &[Term]) -> Counts
 
 // From the left: `xor` is the negation of an agreement.
 #[cycle(counts)]
-#[tactic(auto, using(crate::proofs::Tallies::exclusive_more))]
 fn exclusive_counts(terms: &[Term]) -> Counts
     ensures { result ≡ counts_of (exclusive (formulas_of terms.now)) }
 {
@@ -220,14 +223,13 @@ fn exclusive_counts(terms: &[Term]) -> Counts
     }
     let mut odd = count_both(&terms[0]);
     for i in 1..terms.len() {
-        odd = odd.same(count_both(&terms[i])).not();
+        odd = odd.agree(count_both(&terms[i])).not();
     }
     odd
 }
 
 // One of all but the last fails, or the last holds.
 #[cycle(counts)]
-#[tactic(auto, using(crate::proofs::Tallies::implying))]
 fn implied_counts(terms: &[Term]) -> Counts
     ensures { result ≡ counts_of (implied (formulas_of terms.now)) }
 {
@@ -243,7 +245,6 @@ fn implied_counts(terms: &[Term]) -> Counts
 }
 
 #[cycle(counts)]
-#[tactic(auto, using(crate::proofs::Tallies::neighbour_more))]
 fn neighbour_counts(terms: &[Term]) -> Counts
     ensures { result ≡ counts_of (conjunction (neighbours equal (parts_of terms.now))) }
 {
@@ -262,7 +263,6 @@ fn neighbour_counts(terms: &[Term]) -> Counts
 
 // The term at this place differs from each of those behind it.
 #[cycle(counts)]
-#[tactic(auto, using(crate::proofs::Tallies::first_before))]
 fn first_counts(terms: &[Term], at: usize) -> Counts
     ensures { (t : AnyTerm) → slice_get terms.now at ≡ Some t → result ≡ counts_of (conjunction (first_pairs t (drop (at + 1) terms.now))) }
 {
@@ -281,7 +281,6 @@ fn first_counts(terms: &[Term], at: usize) -> Counts
 }
 
 #[cycle(counts)]
-#[tactic(auto, using(crate::proofs::Tallies::pairs_more))]
 fn distinct_counts(terms: &[Term]) -> Counts
     ensures { result ≡ counts_of (conjunction (pairs (λ p q. negated (equal p q)) (parts_of terms.now))) }
 {

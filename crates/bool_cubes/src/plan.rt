@@ -31,14 +31,14 @@ impl Plan {
         Ok(at)
     }
 
-    fn always(&mut self) -> Result<usize, AllocError>
+    fn push_always(&mut self) -> Result<usize, AllocError>
         requires { IsPlan self.old.nodes }
         ensures { IfOk result (λ k. IsAddedNode self.old.nodes self.new.nodes k always) }
     {
         Ok(self.push(NodeKind::Always, 1)?)
     }
 
-    fn never(&mut self) -> Result<usize, AllocError>
+    fn push_never(&mut self) -> Result<usize, AllocError>
         requires { IsPlan self.old.nodes }
         ensures { IfOk result (λ k. IsAddedNode self.old.nodes self.new.nodes k never) }
     {
@@ -101,8 +101,8 @@ impl Plan {
         requires { IsPlan self.old.nodes }
         ensures { IfOk result (λ s. IsPlanned self.old.nodes self.new.nodes s (fixed value)) }
     {
-        let holding = self.always()?;
-        let failing = self.never()?;
+        let holding = self.push_always()?;
+        let failing = self.push_never()?;
         let sides = NodePair { holding, failing };
         Ok(if value { sides } else { sides.negation() })
     }

@@ -1,7 +1,8 @@
 -- A run of all machines in turn, cut into a run of each.
-use Rattle.std.proofs.Common.{◌≡◌, ℕ, zero, suc, ◌+◌, ◌<◌, inl, inr, List, [], ◌∷◌, ◌++◌, length, slice_get, Some, All, refl, ap, sym, ◌∙◌, subst, arith}
+use Rattle.std.proofs.Common.{◌≡◌, ℕ, zero, suc, ◌+◌, inl, inr, List, [], ◌∷◌, ◌++◌, length, slice_get, Some, All, refl, ap, sym, ◌∙◌, subst, arith}
 use Rattle.std.proofs.lemmas.List.{length-append}
 use Rattle.std.proofs.lemmas.List.Elements.{All-nil, All-push}
+use Rattle.std.proofs.lemmas.Option.{slice_get_within}
 use Rattle.machine_core.specs.declared.graph.Graph.{Graph}
 use Rattle.machine_core.specs.declared.run.Run.{Run}
 use Rattle.machine_core.specs.Costs.{add_costs, zeros, total_of}
@@ -16,7 +17,7 @@ use Rattle.search_hits.specs.declared.region.Region.{Region}
 use Rattle.search_hits.specs.Hits.{HaveRegisters, AreRunsOf, runs_total, characters}
 use Rattle.box_layers.specs.declared.layer.Layer.{Layer}
 use Rattle.box_layers.specs.Layers.{layer, uppers_of, AreGoodTotals, LayerStep, Turns}
-use Rattle.box_layers.specs.LayerLaws.{layer-step_cost}
+use Rattle.box_layers.specs.LayerLaws.{layer-step_cost, get-some}
 use Rattle.box_layers.specs.Cuts.{IsRunOfAll, IsCutInto, IsOpened, AddsStep, BeginsNext, CutsBy}
 use Rattle.box_layers.specs.PathLaws.{path-last}
 
@@ -54,11 +55,6 @@ each-run [] [] e h = tt
 each-run [] (r ∷ rs) e h = absurd (omega arith)
 each-run (m ∷ ms) [] e h = absurd (omega arith)
 each-run (m ∷ ms) (r ∷ rs) e h = (h zero m r refl refl, each-run ms rs (omega arith) (λ i. h (suc i)))
-
-get-inside : (ms : List Graph) (i : ℕ) (m : Graph) → slice_get ms i ≡ Some m → i < length ms
-get-inside [] i m e = cc
-get-inside (x ∷ xs) zero m e = omega arith
-get-inside (x ∷ xs) (suc i) m e = let h = get-inside xs i m e in omega arith
 
 path-empty : (m : Graph) (word : List ℕ) (costs : List (List ℕ)) → word ≡ [] → costs ≡ [] → IsPath (StepsBy m.edges) 0 [] word costs 0
 path-empty m [] [] e f = refl
@@ -108,7 +104,7 @@ module _ (machines : List Graph) (uppers : List ℕ) (good : List ℕ → Type 0
           ∙ ap (add_costs (runs_total registers runs)) (total-last before.costs k registers wide ∙ sym (ap (λ l. total_of l (zeros registers)) g.costs ∙ total-push before.costs k registers wide));
       widths = subst (All (λ (k : List ℕ). length k ≡ registers)) (sym g.costs) (All-push (λ (k : List ℕ). length k ≡ registers) before.costs k cut.widths wide);
       totals = cut.totals;
-      behind = λ over. absurd (let lt = get-inside machines p.machine step.graph step.at_work in omega arith);
+      behind = λ over. absurd (let lt = slice_get_within machines p.machine step.graph step.at_work in omega arith);
       size = (let a = cut.size in let w = ap length g.word ∙ length-append before.word (c ∷ []) in omega arith);
     }
 
@@ -243,11 +239,6 @@ module _ (machines : List Graph) (rows : List Row) (region : Region) (same : Hav
           let g = get-some run.states (length run.word) (let s = states-size in omega arith) in
           let h = stop-is g.0 g.1 in
           subst (λ n. slice_get run.states n ≡ Some is.stop) (sym e) (g.1 ∙ ap Some (sym h))
-        where
-          get-some : (xs : List Layer) (n : ℕ) → n < length xs → (x : Layer) × (slice_get xs n ≡ Some x)
-          get-some [] n h = absurd (omega arith)
-          get-some (x ∷ xs) zero h = (x, refl)
-          get-some (x ∷ xs) (suc n) h = get-some xs n (omega arith)
 
       done : AreRunsOf machines runs × (runs_total (length region.registers) runs ≡ is.stop.spent) × (characters runs + length machines ≡ place)
       done = cut-end machines (uppers_of region) (AreGoodTotals rows region) (length region.registers) same is.stop place runs current is.last.1 (cut is.stop stop-at)

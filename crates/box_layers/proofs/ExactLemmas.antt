@@ -12,7 +12,7 @@ use Rattle.machine_core.specs.Lists.{Any-none, Any-here, Any-there, Any-cases, A
 use Rattle.machine_core.specs.Moves.{Moves}
 use Rattle.box_layers.specs.declared.layer.Layer.{Layer}
 use Rattle.box_layers.specs.Layers.{layer, AreWithinGreatest, LayerStep, Turns}
-use Rattle.box_layers.specs.Moving.{is_below, step_move, end_move, step_moves, end_moves, AreSteps, AreEnds}
+use Rattle.box_layers.specs.Moving.{is_below, step_move, end_move, step_moves, end_moves, AreLayerSteps, AreLayerEnds}
 use Rattle.box_layers.proofs.MoveLemmas.{below-true}
 
 below-back : (vs us : List ℕ) → is_below vs us ≡ true → AreWithinGreatest vs us
@@ -169,7 +169,7 @@ moves-some us on at inner last h g =
     All-append (λ (e : Move Layer). IsInhabited e.on) (step_moves us at inner) (end_moves us on at last) (steps-some us at inner h) (ends-some us on at last g)
 
 -- both together
-pub moves-made : (m : Graph) (us : List ℕ) (at : Layer) (all next : List (Move Layer)) → (steps : AreSteps m us at all) → (ends : AreEnds m us at next)
+pub moves-made : (m : Graph) (us : List ℕ) (at : Layer) (all next : List (Move Layer)) → (steps : AreLayerSteps m us at all) → (ends : AreLayerEnds m us at next)
     → all ++ next ≡ step_moves us at steps.inner ++ end_moves us ends.on at ends.costs
 moves-made m us at all next steps ends = ap (λ l. l ++ next) steps.made ∙ ap (λ l. step_moves us at steps.inner ++ l) ends.made
 

@@ -2,6 +2,7 @@
 use Rattle.std.specs.Prelude.{◌≡◌, ℕ, pos, zero, suc, ◌+◌, ◌*◌, ◌<◌, ◌≤◌, ◌⊎◌, List, [], ◌∷◌, length, map, slice_get, Some, Contains}
 use Rattle.std.proofs.Common.{refl, sym, ap, ◌∙◌, subst, arith, inl, inr}
 use Rattle.std.proofs.lemmas.List.Elements.{All-contains}
+use Rattle.std.proofs.lemmas.Option.{slice_get_within}
 use Rattle.machine_core.specs.declared.graph.Graph.{Graph}
 use Rattle.machine_core.specs.Costs.{zeros, IsCost}
 use Rattle.machine_core.specs.CostLaws.{top_by-at, IsCost-zeros, IsCost-weaker}
@@ -21,11 +22,6 @@ zeros-below : (sides : List (ℕ × ℕ)) → AreWithinGreatest (zeros (length s
 zeros-below [] = tt
 zeros-below (s ∷ ss) = (omega arith, zeros-below ss)
 
-get-inside : (ms : List Graph) (i : ℕ) (m : Graph) → slice_get ms i ≡ Some m → i < length ms
-get-inside [] i m e = cc
-get-inside (x ∷ xs) zero m e = omega arith
-get-inside (x ∷ xs) (suc i) m e = let h = get-inside xs i m e in omega arith
-
 pub length-uppers : (sides : List (ℕ × ℕ)) → length (map (λ (s : ℕ × ℕ). s.1) sides) ≡ length sides
 length-uppers [] = refl
 length-uppers (s ∷ ss) = ap suc (length-uppers ss)
@@ -41,7 +37,7 @@ pub good-length : (rows : List Row) (region : Region) (totals : List ℕ) → Ar
 good-length rows region totals good = totals-length region.registers totals good.0
 
 not-first : (ms : List Graph) → (m : Graph) → slice_get ms 0 ≡ Some m → 0 ≡ length ms → ⊥
-not-first ms m e z = let lt = get-inside ms 0 m e in omega arith
+not-first ms m e z = let lt = slice_get_within ms 0 m e in omega arith
 
 pub first-layer : (machines : List Graph) (region : Region) (good : List ℕ → Type 0) → IsLayerOf machines (uppers_of region) good (layer 0 0 (zeros (length region.registers)))
 first-layer machines region good = record {
@@ -56,7 +52,7 @@ module _ (machines : List Graph) (uppers : List ℕ) (good : List ℕ → Type 0
   next-layer s t c cost h step = by_turn step.turn
     where
       inside : s.machine < length machines
-      inside = get-inside machines s.machine step.graph step.at_work
+      inside = slice_get_within machines s.machine step.graph step.at_work
 
       by_turn : Turns machines uppers good step.graph s c cost t → IsLayerOf machines uppers good t
       by_turn (inl same) = record {
@@ -120,10 +116,10 @@ few-spent (s ∷ ss) =
     parts [] h = absurd h
     parts (x ∷ v) h = let le = h.0 in ((x, v), (omega arith, h.1), refl)
 
-get-some : (ms : List Graph) (i : ℕ) → i < length ms → (m : Graph) × (slice_get ms i ≡ Some m)
+pub get-some : {X : Type 0} (xs : List X) (i : ℕ) → i < length xs → (x : X) × (slice_get xs i ≡ Some x)
 get-some [] i lt = absurd (omega arith)
-get-some (m ∷ ms) zero lt = (m, refl)
-get-some (m ∷ ms) (suc i) lt = get-some ms i (omega arith)
+get-some (x ∷ xs) zero lt = (x, refl)
+get-some (x ∷ xs) (suc i) lt = get-some xs i (omega arith)
 
 below-or-at : (i n : ℕ) → i ≤ n → (i < n) ⊎ (i ≡ n)
 below-or-at zero zero h = inr refl

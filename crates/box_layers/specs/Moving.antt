@@ -31,14 +31,14 @@ end_moves uppers on at (k ∷ ks) = if is_below (add_costs at.spent k) uppers th
 
 module _ (m : Graph) (uppers : List ℕ) (at : Layer) (all : List (Move Layer)) where
   -- made from what leaves the machine's state
-  pub record AreSteps : Type 0 where
+  pub record AreLayerSteps : Type 0 where
     pub inner : List (Move ℕ)
     pub exact : (c : ℕ) (k : List ℕ) (t : ℕ) → StepsBy m.edges at.state c k t ↔ Any (Moves c k t) inner
     pub inhabited : All (λ e. IsInhabited e.on) inner
     pub made : all ≡ step_moves uppers at inner
 
   -- made from the costs at which the machine may end there, on the character 0
-  pub record AreEnds : Type 0 where
+  pub record AreLayerEnds : Type 0 where
     pub on : List (ℕ × ℕ)
     pub costs : List (List ℕ)
     pub single : (c : ℕ) → in_ranges on c ≡ (nat_le 0 c && nat_le c 0)

@@ -1,7 +1,7 @@
 //! What leaves a layer.
 ghost use Rattle.std.specs.Prelude.{◌≡◌, ℕ, List, [], ◌∷◌, ◌++◌, ◌<◌, ◌+◌, ◌^◌, length, map, IfOk, OnOk, Contains};
 ghost use Rattle.machine_core.specs.declared.machine.Move.{Move};
-ghost use Rattle.box_layers.specs.Moving.{step_moves, end_moves, AreSteps, AreEnds};
+ghost use Rattle.box_layers.specs.Moving.{step_moves, end_moves, AreLayerSteps, AreLayerEnds};
 
 use crate::layer::Layer;
 use crate::paying::pay;
@@ -120,7 +120,7 @@ pub fn moves_within(
     requires state { at.now.state < machine.now.states }
     requires spent { length at.now.spent ≡ machine.now.registers }
     requires sides { length sides.now ≡ length at.now.spent }
-    ensures { IfOk result (AreSteps machine.now (map (λ s. s.1) sides.now) at.now) }
+    ensures { IfOk result (AreLayerSteps machine.now (map (λ s. s.1) sides.now) at.now) }
 {
     let inner = machine.moves(alloc, &at.state)?;
     steps(alloc, inner.as_slice(), at, sides)
@@ -138,7 +138,7 @@ pub fn moves_onward(
     requires spent { length at.now.spent ≡ machine.now.registers }
     requires sides { length sides.now ≡ length at.now.spent }
     requires next { at.now.machine + 1 < 2 ^ 64 }
-    ensures { IfOk result (AreEnds machine.now (map (λ s. s.1) sides.now) at.now) }
+    ensures { IfOk result (AreLayerEnds machine.now (map (λ s. s.1) sides.now) at.now) }
 {
     let last = machine.ends(alloc, &at.state)?;
     let on = Ranges::of(alloc, 0, 0)?;

@@ -14,7 +14,7 @@ use Rattle.search_hits.specs.Hits.{HaveRegisters, AreRunsOf, runs_total, charact
 use Rattle.box_layers.specs.declared.layer.Layer.{Layer}
 use Rattle.box_layers.specs.Layers as Layers
 use Rattle.box_layers.specs.Layers.{layer, AreWithinGreatest}
-use Rattle.box_search.proofs.ShortLemmas.{below-parts}
+use Rattle.box_search.proofs.ShortLemmas.{below-parts, runs-wide}
 
 module _ (machines : List Graph) (uppers : List ℕ) (good : List ℕ → Type 0) where
   abbrev LayerStep : Layer → ℕ → List ℕ → Layer → Type 0
@@ -69,21 +69,12 @@ module _ (machines : List Graph) (uppers : List ℕ) (good : List ℕ → Type 0
       let wide' = add_costs-length v (run_total p) registers wide own in
       let join = sym (add_costs-assoc v (run_total p) (runs_total registers ps)) in
       let low' = subst (λ l. AreWithinGreatest l uppers) join low in
-      let others = runs-width registers ms ps rest zips.1 in
+      let others = runs-wide registers ms ps rest zips.1 in
       let here = below-parts (add_costs v (run_total p)) (runs_total registers ps) uppers (wide' ∙ sym others) low' in
       let later = layer-word registers ms ps (suc i) (add_costs v (run_total p)) rest at.1 (omega arith) zips.1 wide' low' (subst good join ok) in
       let found = layer-path p.word m i 0 v (run_total p) (characters ps + length ms) at.0 m.started (wide ∙ sym reg) read here.0 later in
       let size = found.3 in
       (found.0, found.1, found.2, omega arith)
-    where
-      runs-width : (registers : ℕ) (ms : List Graph) (rs : List (Run ℕ)) → HaveRegisters registers ms → AreRunsOf ms rs → length (runs_total registers rs) ≡ registers
-      runs-width registers [] [] same runs = zeros-length registers
-      runs-width registers [] (r ∷ rs) same runs = absurd runs
-      runs-width registers (m ∷ ms) [] same runs = absurd runs
-      runs-width registers (m ∷ ms) (r ∷ rs) same runs =
-          add_costs-length (run_total r) (runs_total registers rs) registers
-          (run_width m.states m.registers m.edges m.ends m.formed r.word 0 (run_total r) (run_accepted (StepsBy m.edges) (EndsAt m.ends) 0 r runs.0) ∙ All-head (λ (g : Graph). g.registers ≡ registers) m ms same)
-          (runs-width registers ms rs (All-tail (λ (g : Graph). g.registers ≡ registers) m ms same) runs.1)
 
   -- runs of all machines are a word from the first layer
   pub runs-word : (registers : ℕ) (rs : List (Run ℕ)) → HaveRegisters registers machines → AreRunsOf machines rs

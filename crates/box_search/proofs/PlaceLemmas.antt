@@ -1,7 +1,11 @@
 -- Places of layers in a table.
-use Rattle.std.proofs.Common.{◌≡◌, ℕ, zero, suc, ◌+◌, ◌-◌, ◌*◌, ◌<◌, ◌≤◌, List, [], ◌∷◌, length, drop, Some, slice_get, slice_index_or, refl, ap, sym, ◌∙◌, subst, arith}
+use Rattle.std.proofs.Common.{◌≡◌, ℕ, zero, suc, ◌+◌, ◌-◌, ◌*◌, ◌<◌, ◌≤◌, max, List, [], ◌∷◌, ◌++◌, length, map, take, drop, Some, slice_get, slice_index_or, get_or, refl, ap, sym, ◌∙◌, subst, arith}
+use Rattle.std.proofs.lemmas.List.{take_more, map-append}
 use Rattle.std.proofs.lemmas.Option.{slice_get-get_or}
 use Rattle.std.proofs.lemmas.Nat.{mul-le}
+use Rattle.machine_core.specs.declared.graph.Graph.{Graph}
+use Rattle.machine_core.specs.CostLaws.{top_by-push}
+use Rattle.search_hits.specs.Regions.{greatest_states}
 use Rattle.box_layers.specs.declared.layer.Layer.{Layer}
 use Rattle.box_layers.specs.Layers.{AreWithinGreatest}
 use Rattle.box_search.specs.Places.{number_of, numbers_below, HasPlace, place_of}
@@ -12,7 +16,7 @@ numbers-some [] = omega arith
 numbers-some (u ∷ us) = let m = mul-le 1 1 (u + 1) (numbers_below us) (omega arith) (numbers-some us) in omega arith
 
 -- there are at least as many as where the first digits are left out
-numbers-drop : (us : List ℕ) (i : ℕ) → numbers_below (drop i us) ≤ numbers_below us
+pub numbers-drop : (us : List ℕ) (i : ℕ) → numbers_below (drop i us) ≤ numbers_below us
 numbers-drop [] zero = omega arith
 numbers-drop [] (suc i) = omega arith
 numbers-drop (u ∷ us) zero = omega arith
@@ -134,3 +138,32 @@ module _ (uppers : List ℕ) (states machines : ℕ) where
       let small = subst (λ n. n * (states * machines) ≤ 4194304) counted few in
       let more = mul-le 1 (states * machines) (numbers_below uppers) (states * machines) (numbers-some uppers) (omega arith) in
       (omega arith, omega arith)
+
+-- the greatest number of states of one machine more
+pub greatest-more : (ms : List Graph) (i : ℕ) (m : Graph) → i < length ms → m ≡ get_or ms i m → greatest_states (take (i + 1) ms) ≡ max (greatest_states (take i ms)) m.states
+greatest-more ms i m lt is =
+    ap greatest_states (take_more ms i m lt)
+    ∙ top_by-push (λ (g : Graph). g.states) (take i ms) (get_or ms i m)
+    ∙ ap (λ (g : Graph). max (greatest_states (take i ms)) g.states) (sym is)
+
+-- the upper end of one side more
+pub uppers-more : (sides : List (ℕ × ℕ)) (i : ℕ) (s : ℕ × ℕ) → i < length sides → s ≡ get_or sides i s → map (λ (s : ℕ × ℕ). s.1) (take (i + 1) sides) ≡ map (λ (s : ℕ × ℕ). s.1) (take i sides) ++ s.1 ∷ []
+uppers-more sides i s lt is =
+    ap (map (λ (s : ℕ × ℕ). s.1)) (take_more sides i s lt)
+    ∙ map-append (λ (s : ℕ × ℕ). s.1) (take i sides) (get_or sides i s ∷ [])
+    ∙ ap (λ (t : ℕ × ℕ). map (λ (s : ℕ × ℕ). s.1) (take i sides) ++ t.1 ∷ []) (sym is)
+
+-- numbers that have too many from some digit on have too many
+module _ (us : List ℕ) (at : ℕ) (some : 0 < at) (within : at ≤ length us) where
+  pub past-digit : (most : ℕ) → most ≤ slice_index_or us (at - 1) 0 + 1 → most ≤ numbers_below us
+  past-digit most past =
+      let all = numbers-before us at some within in
+      let less = numbers-drop us (at - 1) in
+      let rest = mul-le (slice_index_or us (at - 1) 0 + 1) 1 (slice_index_or us (at - 1) 0 + 1) (numbers_below (drop at us)) (omega arith) (numbers-some (drop at us)) in
+      omega arith
+
+  pub past-points : (most : ℕ) → most ≤ (slice_index_or us (at - 1) 0 + 1) * numbers_below (drop at us) → most ≤ numbers_below us
+  past-points most past =
+      let all = numbers-before us at some within in
+      let less = numbers-drop us (at - 1) in
+      omega arith

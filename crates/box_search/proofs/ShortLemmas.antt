@@ -10,7 +10,7 @@ use Rattle.machine_core.specs.declared.run.Run.{Run}
 use Rattle.machine_core.specs.Costs.{add_costs}
 use Rattle.machine_core.specs.CostLaws.{add_costs-length, zeros-length, top_by-at}
 use Rattle.machine_core.specs.Edges.{EndsAt, StepsBy}
-use Rattle.machine_core.specs.EdgeLaws.{step_target, step_cost, end_cost}
+use Rattle.machine_core.specs.EdgeLaws.{step_target, step_cost, end_cost, run_width}
 use Rattle.machine_core.specs.Graphs.{IsRunOf}
 use Rattle.machine_core.specs.Language.{RunsFrom}
 use Rattle.machine_core.specs.LanguageLaws.{runs_width}
@@ -129,6 +129,18 @@ module _ (m : Graph) (us : List ℕ) where
       let r = accepted_run (StepsBy m.edges) (EndsAt m.ends) 0 h.0 (run_total run) c.0 in
       (r.0, r.1, r.3, (let w = ap length r.2 in omega arith))
 
+-- what runs cost has an entry for each register
+run-wide : (m : Graph) (r : Run ℕ) → IsRunOf m r → length (run_total r) ≡ m.registers
+run-wide m r is = run_width m.states m.registers m.edges m.ends m.formed r.word 0 (run_total r) (run_accepted (StepsBy m.edges) (EndsAt m.ends) 0 r is)
+
+pub runs-wide : (registers : ℕ) (ms : List Graph) (rs : List (Run ℕ)) → HaveRegisters registers ms → AreRunsOf ms rs → length (runs_total registers rs) ≡ registers
+runs-wide registers [] [] same runs = zeros-length registers
+runs-wide registers [] (r ∷ rs) same runs = absurd runs
+runs-wide registers (m ∷ ms) [] same runs = absurd runs
+runs-wide registers (m ∷ ms) (r ∷ rs) same runs =
+    add_costs-length (run_total r) (runs_total registers rs) registers (run-wide m r runs.0 ∙ All-head (λ g. g.registers ≡ registers) m ms same)
+    (runs-wide registers ms rs (All-tail (λ g. g.registers ≡ registers) m ms same) runs.1)
+
 -- all machines
 pub family-short : (top registers : ℕ) (us : List ℕ) (ms : List Graph) (rs : List (Run ℕ)) → length us ≡ registers → HaveRegisters registers ms → ((m : Graph) → Contains ms m → m.states ≤ top)
     → AreRunsOf ms rs → AreWithinGreatest (runs_total registers rs) us
@@ -137,8 +149,8 @@ family-short top registers us [] [] wide same tops runs low = ([], tt, refl, ome
 family-short top registers us [] (r ∷ rs) wide same tops runs low = absurd runs
 family-short top registers us (m ∷ ms) [] wide same tops runs low = absurd runs
 family-short top registers us (m ∷ ms) (r ∷ rs) wide same tops runs low =
-    let own = run-width m r runs.0 ∙ All-head (λ g. g.registers ≡ registers) m ms same in
-    let others = runs-width registers ms rs (All-tail (λ g. g.registers ≡ registers) m ms same) runs.1 in
+    let own = run-wide m r runs.0 ∙ All-head (λ g. g.registers ≡ registers) m ms same in
+    let others = runs-wide registers ms rs (All-tail (λ g. g.registers ≡ registers) m ms same) runs.1 in
     let parts = below-parts (run_total r) (runs_total registers rs) us (own ∙ sym others) low in
     let here = run-short m us r runs.0 parts.0 in
     let rest = family-short top registers us ms rs wide (All-tail (λ g. g.registers ≡ registers) m ms same) (λ g k. tops g (suc k.0, (let b = k.1 in omega arith), k.2)) runs.1 parts.1 in
@@ -147,20 +159,6 @@ family-short top registers us (m ∷ ms) (r ∷ rs) wide same tops runs low =
     let a = here.3 in
     let b = rest.3 in
     (here.0 ∷ rest.0, (here.1, rest.1), ap (λ k. add_costs k (runs_total registers rest.0)) here.2 ∙ ap (add_costs (run_total r)) rest.2, omega arith)
-  where
-    run-width : (m : Graph) (r : Run ℕ) → IsRunOf m r → length (run_total r) ≡ m.registers
-    run-width m r is = runs_width (λ s. s < m.states) (StepsBy m.edges) (λ s t c k h st. step_target m.states m.registers m.edges m.ends m.formed s t c k st) (EndsAt m.ends) m.registers
-        (λ s t c k h st. (step_cost m.states m.registers m.edges m.ends m.formed s t c k st).entries)
-        (λ s k h st. (end_cost m.states m.registers m.edges m.ends m.formed s k st).entries) r.word 0 (run_total r) m.started
-        (run_accepted (StepsBy m.edges) (EndsAt m.ends) 0 r is)
-
-    runs-width : (registers : ℕ) (ms : List Graph) (rs : List (Run ℕ)) → HaveRegisters registers ms → AreRunsOf ms rs → length (runs_total registers rs) ≡ registers
-    runs-width registers [] [] same runs = zeros-length registers
-    runs-width registers [] (r ∷ rs) same runs = absurd runs
-    runs-width registers (m ∷ ms) [] same runs = absurd runs
-    runs-width registers (m ∷ ms) (r ∷ rs) same runs =
-        add_costs-length (run_total r) (runs_total registers rs) registers (run-width m r runs.0 ∙ All-head (λ g. g.registers ≡ registers) m ms same)
-        (runs-width registers ms rs (All-tail (λ g. g.registers ≡ registers) m ms same) runs.1)
 
 -- the totals of a region, below the upper ends of its sides
 pub totals-below : (sides : List (ℕ × ℕ)) (totals : List ℕ) → AllZip IsWithin (map whole_side sides) (map pos totals) → AreWithinGreatest totals (map (λ s. s.1) sides)

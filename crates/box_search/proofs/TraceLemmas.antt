@@ -13,7 +13,7 @@ use Rattle.search_hits.specs.Hits.{characters}
 use Rattle.search_hits.specs.Regions.{IsHitWithin, IsShortHit, greatest_states}
 use Rattle.box_layers.specs.declared.layer.Layer.{Layer}
 use Rattle.box_layers.specs.Cuts.{IsRunOfAll}
-use Rattle.box_search.specs.Ways.{IsWay}
+use Rattle.box_search.specs.Ways.{IsLayerWay}
 use Rattle.box_layers.specs.LayerLaws.{first-layer, next-layer}
 use Rattle.box_layers.specs.Layers.{layer, uppers_of, AreGoodTotals, IsLayerOf, LayerStep, LayerEnd}
 use Rattle.box_layers.specs.PathLaws.{path-last}
@@ -26,7 +26,7 @@ module _ (machines : List Graph) (rows : List Row) (region : Region) where
   abbrev first : Layer
   first = layer 0 0 (zeros (length region.registers))
 
-  pub way-begun : (run : Run Layer) (start : Layer) → start ≡ first → run.states ≡ [] ++ start ∷ [] → run.word ≡ [] → run.costs ≡ [] → IsWay machines rows region run
+  pub way-begun : (run : Run Layer) (start : Layer) → start ≡ first → run.states ≡ [] ++ start ∷ [] → run.word ≡ [] → run.costs ≡ [] → IsLayerWay machines rows region run
   way-begun run start same begins none free = record {
     after = [];
     stop = start;
@@ -35,7 +35,7 @@ module _ (machines : List Graph) (rows : List Row) (region : Region) where
     is = subst (IsLayerOf machines (uppers_of region) (AreGoodTotals rows region)) (sym same) (first-layer machines region (AreGoodTotals rows region));
   }
 
-  module _ (run : Run Layer) (way : IsWay machines rows region run) where
+  module _ (run : Run Layer) (way : IsLayerWay machines rows region run) where
     sizes : (length way.after ≡ length run.word) × (length run.costs ≡ length run.word)
     sizes = path_lengths Steps first way.after run.word run.costs way.stop way.path
 
@@ -51,7 +51,7 @@ module _ (machines : List Graph) (rows : List Row) (region : Region) where
     way-layer at e = subst (IsLayerOf machines (uppers_of region) (AreGoodTotals rows region)) (way-stop at e) way.is
 
     pub way-grown : (more : Run Layer) (at to : Layer) (c : ℕ) (k : List ℕ) → slice_get run.states (length run.word) ≡ Some at → Steps at c k to
-        → more.states ≡ run.states ++ to ∷ [] → more.word ≡ run.word ++ c ∷ [] → more.costs ≡ run.costs ++ k ∷ [] → IsWay machines rows region more
+        → more.states ≡ run.states ++ to ∷ [] → more.word ≡ run.word ++ c ∷ [] → more.costs ≡ run.costs ++ k ∷ [] → IsLayerWay machines rows region more
     way-grown more at to c k e step states word costs =
         let step' = subst (λ (l : Layer). Steps l c k to) (sym (way-stop at e)) step in
         record {

@@ -10,7 +10,7 @@ use Rattle.box_layers.specs.declared.layer.Layer.{Layer}
 use Rattle.box_layers.specs.Layers.{layer, uppers_of, AreGoodTotals, LayerStep, IsLayerOf}
 
 -- the run leads from the first layer to the one where it stops, whatever its last cost
-pub record IsWay (machines : List Graph) (rows : List Row) (region : Region) (run : Run Layer) : Type 0 where
+pub record IsLayerWay (machines : List Graph) (rows : List Row) (region : Region) (run : Run Layer) : Type 0 where
   pub after : List Layer
   pub stop : Layer
   pub states : run.states ≡ layer 0 0 (zeros (length region.registers)) ∷ after

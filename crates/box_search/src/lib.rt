@@ -24,9 +24,12 @@
 mod by_marks;
 mod laws;
 mod layer_table;
+mod marked_hit;
 mod places;
+mod reached;
 mod retracing;
 mod searching;
+mod totals;
 
 pub use laws::{hits_are_short, words_are_short};
 pub use searching::search;

@@ -1,5 +1,5 @@
 //! Places of layers in a table.
-ghost use Rattle.std.specs.Prelude.{◌≡◌, ◌+◌, ◌*◌, ◌<◌, ◌≤◌, ◌^◌, true, IfSome, MatchOption};
+ghost use Rattle.std.specs.Prelude.{◌≡◌, ◌+◌, ◌*◌, ◌<◌, ◌≤◌, ◌^◌, true, false, length, map, IfOk, MatchOption};
 ghost use Rattle.search_hits.specs.Regions.{greatest_states};
 ghost use Rattle.box_layers.specs.Layers.{AreWithinGreatest};
 ghost use Rattle.box_search.specs.Places.{number_of, numbers_below, HasPlace, place_of};
@@ -32,13 +32,14 @@ impl TotalPlaces {
         alloc: Global,
         machines: &[Explicit],
         sides: &[(u64, u64)],
-    ) -> Result<TotalPlaces, AllocError> {
-        let mut uppers = Items::new(alloc);
-        for (_low, high) in sides {
-            uppers.push(*high)?;
-        }
+    ) -> Result<TotalPlaces, AllocError>
+        ensures all { IfOk result (λ places. 0 < greatest_states machines.now → numbers_below (map (λ s. s.1) sides.now) * (greatest_states machines.now * (length machines.now + 1)) ≤ 4194304
+            → (places.uppers ≡ map (λ s. s.1) sides.now) × (places.states ≡ greatest_states machines.now) × (places.machines ≡ length machines.now + 1)) }
+        ensures none { IfOk result (λ places. 4194304 < numbers_below (map (λ s. s.1) sides.now) * (greatest_states machines.now * (length machines.now + 1)) → places.states ≡ 0) }
+    {
+        let uppers = greatest_totals(alloc, sides)?;
         let states = greatest_states(machines);
-        Ok(places_of(alloc, uppers, states, machines.len() as u64))
+        Ok(places_of(alloc, uppers, states, machines.len() as u64 + 1))
     }
 
     /// The place of a layer; `None` exactly where it has none. Linear in the registers.
@@ -62,20 +63,40 @@ impl TotalPlaces {
     }
 }
 
-// The places of so many machines, and of their last layer.
-fn places_of(alloc: Global, uppers: Items<u64>, states: u64, machines: u64) -> TotalPlaces {
-    if let Some(points) = points_of(uppers.as_slice()) {
-        if let Some(machines) = machines.checked_add(1) {
-            if are_few(points, states, machines) {
-                return TotalPlaces {
-                    uppers,
-                    points,
-                    states,
-                    machines,
-                };
-            }
-        }
+// The upper ends of the sides.
+fn greatest_totals(alloc: Global, sides: &[(u64, u64)]) -> Result<Items<u64>, AllocError>
+    ensures { IfOk result (λ uppers. uppers ≡ map (λ s. s.1) sides.now) }
+{
+    let mut uppers = Items::new(alloc);
+    for side in sides {
+        uppers.push(side.1)?;
     }
+    Ok(uppers)
+}
+
+// The places of all layers, of so many blocks; none where there are too many.
+fn places_of(alloc: Global, uppers: Items<u64>, states: u64, machines: u64) -> TotalPlaces
+    ensures all { 0 < states * machines → numbers_below uppers * (states * machines) ≤ 4194304 → (result.uppers ≡ uppers) × (result.states ≡ states) × (result.machines ≡ machines) }
+    ensures none { 4194304 < numbers_below uppers * (states * machines) → result.states ≡ 0 }
+{
+    let Some(points) = points_of(uppers.as_slice()) else {
+        return no_places(alloc);
+    };
+    if !are_few(points, states, machines) {
+        return no_places(alloc);
+    }
+    TotalPlaces {
+        uppers,
+        points,
+        states,
+        machines,
+    }
+}
+
+// No place at all.
+fn no_places(alloc: Global) -> TotalPlaces
+    ensures { result.states ≡ 0 }
+{
     TotalPlaces {
         uppers: Items::new(alloc),
         points: 1,
@@ -86,7 +107,8 @@ fn places_of(alloc: Global, uppers: Items<u64>, states: u64, machines: u64) -> T
 
 // Whether a table may have so many places.
 fn are_few(points: u64, states: u64, machines: u64) -> bool
-    ensures { result ≡ true → points * (states * machines) ≤ 4194304 }
+    ensures few { result ≡ true → points * (states * machines) ≤ 4194304 }
+    ensures many { result ≡ false → 0 < points → 4194304 < points * (states * machines) }
 {
     let Some(rows) = states.checked_mul(machines) else {
         return false;
@@ -99,7 +121,7 @@ fn are_few(points: u64, states: u64, machines: u64) -> bool
 
 /// The greatest number of states.
 pub fn greatest_states(machines: &[Explicit]) -> u64
-    ensures { result ≤ greatest_states machines.now }
+    ensures { result ≡ greatest_states machines.now }
 {
     let mut greatest = 0;
     for machine in machines {
@@ -110,13 +132,19 @@ pub fn greatest_states(machines: &[Explicit]) -> u64
 
 // How many totals there are, where a `u64` counts them.
 fn points_of(uppers: &[u64]) -> Option<u64>
-    ensures { IfSome result (λ n. n ≡ numbers_below uppers.now) }
+    ensures { MatchOption result (2 ^ 64 ≤ numbers_below uppers.now) (λ n. n ≡ numbers_below uppers.now) }
 {
     let mut points = 1u64;
     let mut at = uppers.len();
     while at > 0 {
         at -= 1;
-        points = uppers[at].checked_add(1)?.checked_mul(points)?;
+        let Some(base) = uppers[at].checked_add(1) else {
+            return None;
+        };
+        let Some(more) = base.checked_mul(points) else {
+            return None;
+        };
+        points = more;
     }
     Some(points)
 }

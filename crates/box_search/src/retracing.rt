@@ -3,7 +3,7 @@ ghost use Rattle.std.specs.Prelude.{◌≡◌, ◌≤◌, ◌++◌, ◌∷◌, [
 ghost use Rattle.sv_word.specs.Words.{greatest_character};
 ghost use Rattle.machine_core.specs.Moves.{Moves};
 ghost use Rattle.box_layers.specs.Cuts.{IsRunOfAll};
-ghost use Rattle.box_search.specs.Ways.{IsWay};
+ghost use Rattle.box_search.specs.Ways.{IsLayerWay};
 ghost use Rattle.box_layers.specs.Layers.{uppers_of, AreGoodTotals, LayerStep, IsLayerOf};
 
 use box_layers::{Layer, Layers, layer_at};
@@ -61,7 +61,7 @@ fn step_of(next: Move<Layer>) -> Option<Step>
 
 // The run of no characters, in the first layer.
 fn begin(alloc: Global, layers: &Layers) -> Result<Run<Layer>, AllocError>
-    ensures { IfOk result (IsWay layers.now.machines.now layers.now.rows.now layers.now.region.now) }
+    ensures { IfOk result (IsLayerWay layers.now.machines.now layers.now.rows.now layers.now.region.now) }
 {
     let mut states = Items::new(alloc);
     states.push(layers.start(alloc)?)?;
@@ -81,8 +81,8 @@ fn go_on(
     pair: Pair,
     states: usize,
 ) -> Result<bool, AllocError>
-    requires { IsWay layers.now.machines.now layers.now.rows.now layers.now.region.now run.old }
-    ensures { IfOk result (λ found. found ≡ true → IsWay layers.now.machines.now layers.now.rows.now layers.now.region.now run.new) }
+    requires { IsLayerWay layers.now.machines.now layers.now.rows.now layers.now.region.now run.old }
+    ensures { IfOk result (λ found. found ≡ true → IsLayerWay layers.now.machines.now layers.now.rows.now layers.now.region.now run.new) }
 {
     let at = layer_at(run.states.as_slice(), run.word.len());
     let Some(step) = step_to(alloc, layers, at, pair, states)? else {
@@ -106,7 +106,7 @@ fn add_step(run: &mut Run<Layer>, step: Step) -> Result<(), AllocError>
 
 // Ends the run where it has come to. Whether it may end there.
 fn end(alloc: Global, layers: &Layers, run: &mut Run<Layer>) -> Result<bool, AllocError>
-    requires { IsWay layers.now.machines.now layers.now.rows.now layers.now.region.now run.old }
+    requires { IsLayerWay layers.now.machines.now layers.now.rows.now layers.now.region.now run.old }
     ensures { IfOk result (λ ends. ends ≡ true → IsRunOfAll layers.now.machines.now layers.now.rows.now layers.now.region.now run.new) }
 {
     let at = layer_at(run.states.as_slice(), run.word.len());
@@ -126,7 +126,7 @@ fn follow(
     pairs: &[Pair],
     states: usize,
 ) -> Result<bool, AllocError>
-    requires { IsWay layers.now.machines.now layers.now.rows.now layers.now.region.now run.old }
+    requires { IsLayerWay layers.now.machines.now layers.now.rows.now layers.now.region.now run.old }
     ensures { IfOk result (λ ends. ends ≡ true → IsRunOfAll layers.now.machines.now layers.now.rows.now layers.now.region.now run.new) }
 {
     for place in 1..pairs.len() {

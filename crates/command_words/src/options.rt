@@ -26,7 +26,7 @@ fn option<'a>(alloc: Global, name: &'a str) -> Arg<'a>
 }
 
 // A command with no words of its own.
-fn plain<'a>(alloc: Global) -> Command<'a>
+fn command_without_words<'a>(alloc: Global) -> Command<'a>
     ensures { app_of result ≡ plain_app }
 {
     Command::new(alloc, "strsolve")
@@ -39,7 +39,7 @@ fn plain<'a>(alloc: Global) -> Command<'a>
 fn command<'a>(alloc: Global) -> Result<Command<'a>, AllocError>
     ensures { IfOk result (λ command. app_of command ≡ form_app) }
 {
-    let first = plain(alloc).arg(option(alloc, "workers"))?;
+    let first = command_without_words(alloc).arg(option(alloc, "workers"))?;
     let second = first.arg(option(alloc, "generate"))?;
     let third = second.arg(option(alloc, "size"))?;
     third.arg(Arg::new(alloc, "file"))
@@ -101,7 +101,10 @@ fn text_of<'a>(found: &ArgMatches<'a>, name: &str) -> Option<&'a str>
 /// # Errors
 ///
 /// `Outside` where `clap` refuses the words or a number isn't one within its bounds.
-pub fn read_options<'a>(alloc: Global, words: &'a [String]) -> Result<Options<'a>, WordsFault>
+pub(crate) fn read_options<'a>(
+    alloc: Global,
+    words: &'a [String],
+) -> Result<Options<'a>, WordsFault>
     ensures form { IfOk result (λ options. are_options (map string_bytes words.entry.now) ≡ true) }
     ensures workers { IfOk result (λ options. options.workers ≡ number_given (codes "workers") 1 64 (map string_bytes words.entry.now)) }
     ensures few { IfOk result (λ options. IfSome options.workers (λ n. (1 ≤ n) × (n ≤ 64))) }

@@ -117,6 +117,3 @@ reason-sync = variants_sync reason.enum ((outside-sync, tt), ((search parts dept
 
 pub answer-sync : IsSync answer.the_row
 answer-sync = variants_sync answer.enum ((search parts depth 20, tt), ((search parts depth 20, tt), ((reason-sync, tt), tt)))
-
--- for `search`
-pub ruleset crossing = (sendable, reason-send, reason-sync, answer-send, answer-sync)

@@ -27,6 +27,6 @@ pub use answer::{CubeAnswer, Refutation, answer_crosses};
 pub use asking::answer_machines;
 pub use found::FoundRuns;
 pub use modelling::model_of;
-pub use reason::{OpenReason, Shown, reason_crosses};
+pub use reason::{OpenReason, Shown};
 pub use settling::{open_answer, settle};
 pub use tally::{GivenUpLeaf, LeafTally, LongLeaf};

@@ -51,10 +51,3 @@ impl Drop for OpenReason {
         }
     }
 }
-
-fn crosses<T: Send + Sync>() {}
-
-/// A reason may go to another thread, and threads may share it.
-pub fn reason_crosses() {
-    crosses::<OpenReason>()
-}

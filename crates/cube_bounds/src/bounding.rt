@@ -19,7 +19,7 @@ pub struct ValueRange {
 }
 
 // A number over one above 0, rounded down.
-fn down(z: i128, d: i128) -> i128
+fn round_down(z: i128, d: i128) -> i128
     requires above { int_lt (pos 0) d ≡ true }
     ensures { result ≡ rounded_down z d }
 {
@@ -28,12 +28,12 @@ fn down(z: i128, d: i128) -> i128
 
 // The same, rounded up.
 #[tactic(auto, using(crate::proofs::Rounded::negated_fits))]
-fn up(z: i128, d: i128) -> i128
+fn round_up(z: i128, d: i128) -> i128
     requires above { int_lt (pos 0) d ≡ true }
     requires symmetric { unsigned_abs z < 2 ^ 127 }
     ensures { result ≡ rounded_up z d }
 {
-    -down(-z, d)
+    -round_down(-z, d)
 }
 
 // The greatest value of an unknown whose number is a, and c the constant of its row.
@@ -44,12 +44,12 @@ fn upper_by(kind: RowKind, a: i128, c: i128) -> Option<i128>
     ensures { result ≡ upper_by kind a c }
 {
     match kind {
-        RowKind::Le => { if 0 < a { Some(down(-c, a)) } else { None } }
+        RowKind::Le => { if 0 < a { Some(round_down(-c, a)) } else { None } }
         RowKind::Eq => {
             if 0 < a {
-                Some(down(-c, a))
+                Some(round_down(-c, a))
             } else {
-                Some(down(c, -a))
+                Some(round_down(c, -a))
             }
         }
     }
@@ -63,19 +63,19 @@ fn lower_by(kind: RowKind, a: i128, c: i128) -> Option<i128>
     ensures { result ≡ lower_by kind a c }
 {
     match kind {
-        RowKind::Le => { if 0 < a { None } else { Some(up(c, -a)) } }
+        RowKind::Le => { if 0 < a { None } else { Some(round_up(c, -a)) } }
         RowKind::Eq => {
             if 0 < a {
-                Some(up(-c, a))
+                Some(round_up(-c, a))
             } else {
-                Some(up(c, -a))
+                Some(round_up(c, -a))
             }
         }
     }
 }
 
 // Of two bounds, each of which may be absent.
-fn lesser(a: Option<i128>, b: Option<i128>) -> Option<i128>
+fn lesser_bound(a: Option<i128>, b: Option<i128>) -> Option<i128>
     ensures { result ≡ of_both int_min a b }
 {
     match a {
@@ -87,7 +87,7 @@ fn lesser(a: Option<i128>, b: Option<i128>) -> Option<i128>
     }
 }
 
-fn greater(a: Option<i128>, b: Option<i128>) -> Option<i128>
+fn greater_bound(a: Option<i128>, b: Option<i128>) -> Option<i128>
     ensures { result ≡ of_both int_max a b }
 {
     match a {
@@ -107,8 +107,8 @@ fn narrow_span(span: &ValueRange, kind: RowKind, a: i128, c: i128) -> ValueRange
     ensures { result ≡ span_by kind a c span.now }
 {
     ValueRange {
-        least: greater(lower_by(kind, a, c), span.least),
-        most: lesser(upper_by(kind, a, c), span.most),
+        least: greater_bound(lower_by(kind, a, c), span.least),
+        most: lesser_bound(upper_by(kind, a, c), span.most),
     }
 }
 

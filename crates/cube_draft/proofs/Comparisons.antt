@@ -74,6 +74,7 @@ module _ (s t : Shape) where
   equality_plain bound.Below p = plain_left (equality_steps s t) _ p
   equality_plain bound.AtLeast p = plain_left (equality_steps s t) _ p
   equality_plain bound.Above p = plain_left (equality_steps s t) _ p
+  equality_plain bound.Never p = p
 
   below_plain : (b : RowReading) → ArePlain (steps_by b s t) → b ≡ bound.Below → ArePlain (addition difference one ∷ [])
   below_plain bound.Below p e = plain_left (addition difference one ∷ []) (addition (scaled difference minus_one) one ∷ []) (plain_right (equality_steps s t) _ p)
@@ -81,6 +82,7 @@ module _ (s t : Shape) where
   below_plain bound.AtMost p e = absurd (cc)
   below_plain bound.AtLeast p e = absurd (cc)
   below_plain bound.Above p e = absurd (cc)
+  below_plain bound.Never p e = absurd (cc)
 
   above_plain : (b : RowReading) → ArePlain (steps_by b s t) → b ≡ bound.Above → ArePlain (addition (scaled difference minus_one) one ∷ [])
   above_plain bound.Above p e = plain_right (addition difference one ∷ []) (addition (scaled difference minus_one) one ∷ []) (plain_right (equality_steps s t) _ p)
@@ -88,6 +90,7 @@ module _ (s t : Shape) where
   above_plain bound.AtMost p e = absurd (cc)
   above_plain bound.Below p e = absurd (cc)
   above_plain bound.AtLeast p e = absurd (cc)
+  above_plain bound.Never p e = absurd (cc)
 
   pub can_bound : (us : List (List ℤ)) (d : Differences) (o : Op) (p : Bool) (b : RowReading) → AreDifferences us (linear s) (linear t) d → ComparisonFits o s t p → b ≡ bound_by o p → CanBound d b
   can_bound us d o p b h f e = record {
@@ -150,6 +153,10 @@ one_entry : (c : Place) → (b : Bool) × (entry_at c one ≡ (if b then pos 1 e
 one_entry (at_unknown u) = (false, refl)
 one_entry at_constant = (true, refl)
 
+symmetric_one : (b : Bool) → IsSymmetric (if b then pos 1 else pos 0)
+symmetric_one true = omega (arith, ints)
+symmetric_one false = omega (arith, ints)
+
 one_more : (a : Linear) (c : Place) → IsSymmetric (entry_at c a) → ArePlain (addition a one ∷ []) → IsSymmetric (entry_at c (added a one))
 one_more a c f p =
     let o = one_entry c in
@@ -174,6 +181,7 @@ module _ (s t : Shape) where
   form_symmetric bound.Below p c = one_more less_of c (less_symmetric (equality_plain s t bound.Below p) c) (below_plain s t bound.Below p refl)
   form_symmetric bound.AtLeast p c = subst IsSymmetric (sym (entry_scaled c less_of)) (symmetric_negative (entry_at c less_of) (less_symmetric (equality_plain s t bound.AtLeast p) c))
   form_symmetric bound.Above p c = one_more (scaled less_of minus_one) c (subst IsSymmetric (sym (entry_scaled c less_of)) (symmetric_negative (entry_at c less_of) (less_symmetric (equality_plain s t bound.Above p) c))) (above_plain s t bound.Above p refl)
+  form_symmetric bound.Never p c = let o = one_entry c in subst IsSymmetric (sym o.1) (symmetric_one o.0)
 
 -- the bound is that of the definition
 compared_by : (o : Op) (b : Bool) (a : Linear) → compared (if b then o else opposite o) a ≡ (kind_by (bound_by o b), form_by (bound_by o b) a)
@@ -185,6 +193,8 @@ compared_by op.GreaterEqual true a = refl
 compared_by op.GreaterEqual false a = refl
 compared_by op.Greater true a = refl
 compared_by op.Greater false a = refl
+compared_by op.Equal true a = refl
+compared_by op.Equal false a = refl
 compared_by _ true a = refl
 compared_by _ false a = refl
 
@@ -367,6 +377,7 @@ module _ (m : DraftBuilder) (s t : Shape) (o : Op) (p : Bool) where
   known_form bound.Below h k = fine_added Known (less (linear s) (linear t)) one (fine_less Known (linear s) (linear t) h k) tt
   known_form bound.AtLeast h k = fine_scaled Known (less (linear s) (linear t)) minus_one (fine_less Known (linear s) (linear t) h k)
   known_form bound.Above h k = fine_added Known (scaled (less (linear s) (linear t)) minus_one) one (fine_scaled Known (less (linear s) (linear t)) minus_one (fine_less Known (linear s) (linear t) h k)) tt
+  known_form bound.Never h k = tt
 
   module _ (c : IsComparable m o s t p) (us : List (List ℤ)) (ds : Differences) (b : RowReading) (f : TermForm) (forms : AreDifferences us (linear s) (linear t) ds) (bound_is : b ≡ bound_by o p) (of : IsBoundBy ds b f) where
     abbrev form_of : Linear

@@ -26,7 +26,7 @@ use Rattle.cube_draft.specs.declared.meeting.DraftBuilder.{DraftBuilder}
 use Rattle.cube_draft.specs.declared.meeting.TermPlace.{TermPlace}
 use Rattle.cube_draft.specs.declared.meeting.TermPlace.TheVariants.{Known, New}
 use Rattle.flat_cubes.specs.declared.variable.Own.TheVariants as own
-use Rattle.written_terms.proofs.Forms.{concat_op, no_text, seen_all, seen_apply}
+use Rattle.written_terms.proofs.Forms.{concat_op, no_text, replacer_op, seen_all, seen_apply}
 use Rattle.cube_draft.proofs.Gathering.{finds_new, finds_text, gathers_definition, gathers_part, gathers_term, map_length}
 
 names_long : (m : DraftBuilder) (d : DraftView) → Gathers m d → length m.names ≡ length d.terms
@@ -122,23 +122,27 @@ module _ (m : DraftBuilder) (r : Occurrences) (x : Shape) (p u : List ℕ) where
       (λ d l g. defined b n (meet x (with_term (replaced r x p u) d)).1 i (length d.terms) (replaced_by r p u v) (replaced_by r p u (meet x (with_term (replaced r x p u) d)).0) e l (ap (replaced_by r p u) (q.place (with_term (replaced r x p u) d) g)) (q.gathers (with_term (replaced r x p u) d) g))
       (λ d l. l)
 
--- terms of no written form
-pub nothing_met_of : (m : DraftBuilder) (s : Shape) → ((d : DraftView) → meet s d ≡ (0, d)) → IsTermMet m m s 0
-nothing_met_of m s e = record { gathers = λ d g. subst (Gathers m) (sym (ap (λ r. r.1) (e d))) g; place = λ d g. sym (ap (λ r. r.0) (e d)) }
+-- the term as one that replaces
+pub replaces_as : (t : Term) (o : Op) (r : Occurrences) (b : PlaceBuild) (ts us : List Term) → t ≡ term.Apply o ts → us ≡ ts → b ≡ build_of o → b ≡ build.Replace r → t ≡ term.Apply (replacer r) us
+replaces_as t o r b ts us i f k e = i ∙ (λ j. term.Apply (replacer_op o r (sym k ∙ e) j) (sym f j))
 
-none_built : (o : Op) (ss : Shapes) (d : DraftView) → build_of o ≡ build.Nothing → meet (written (apply o ss)) d ≡ (0, d)
+-- terms of no written form have a place that isn't there
+pub nothing_met_of : (m : DraftBuilder) (s : Shape) (i : ℕ) → i ≡ length m.names → ((d : DraftView) → meet s d ≡ (length d.terms, d)) → IsTermMet m m s i
+nothing_met_of m s i l e = record { gathers = λ d g. subst (Gathers m) (sym (ap (λ r. r.1) (e d))) g; place = λ d g. l ∙ names_long m d g ∙ sym (ap (λ r. r.0) (e d)) }
+
+none_built : (o : Op) (ss : Shapes) (d : DraftView) → build_of o ≡ build.Nothing → meet (written (apply o ss)) d ≡ (length d.terms, d)
 none_built op.Concat ss d e = absurd (cc)
 none_built op.Replace ss d e = absurd (cc)
 none_built op.ReplaceAll ss d e = absurd (cc)
 none_built _ ss d e = refl
 
-pub built_nothing : (m : DraftBuilder) (t : Term) (o : Op) (ts : List Term) → t ≡ term.Apply o ts → build_of o ≡ build.Nothing → IsTermMet m m (written (seen t)) 0
-built_nothing m t o ts i b = nothing_met_of m (written (seen t)) (λ d. ap (λ s. meet (written s) d) (seen_apply t o o ts i refl) ∙ none_built o (seen_all ts) d b)
+pub built_nothing : (m : DraftBuilder) (t : Term) (o : Op) (ts : List Term) (k : ℕ) → t ≡ term.Apply o ts → build_of o ≡ build.Nothing → k ≡ length m.names → IsTermMet m m (written (seen t)) k
+built_nothing m t o ts k i b l = nothing_met_of m (written (seen t)) k l (λ d. ap (λ s. meet (written s) d) (seen_apply t o o ts i refl) ∙ none_built o (seen_all ts) d b)
 
-pub leaf_nothing : (m : DraftBuilder) (t : Term) → ((w : List ℕ) → t ≡ term.Text w → ⊥) → ((n : List ℕ) (k : Sort) → t ≡ term.Constant n k → ⊥) → ((o : Op) (ts : List Term) → t ≡ term.Apply o ts → ⊥) → IsTermMet m m (written (seen t)) 0
-leaf_nothing m t f g h = nothing_met_of m (written (seen t)) (λ d. by_shape d (seen t) (raw-seen t))
+pub leaf_nothing : (m : DraftBuilder) (t : Term) (k : ℕ) → ((w : List ℕ) → t ≡ term.Text w → ⊥) → ((n : List ℕ) (k : Sort) → t ≡ term.Constant n k → ⊥) → ((o : Op) (ts : List Term) → t ≡ term.Apply o ts → ⊥) → k ≡ length m.names → IsTermMet m m (written (seen t)) k
+leaf_nothing m t k f g h l = nothing_met_of m (written (seen t)) k l (λ d. by_shape d (seen t) (raw-seen t))
   where
-    by_shape : (d : DraftView) (s : Shape) → raw s ≡ t → meet (written s) d ≡ (0, d)
+    by_shape : (d : DraftView) (s : Shape) → raw s ≡ t → meet (written s) d ≡ (length d.terms, d)
     by_shape d (text w) e = absurd (f w (sym e))
     by_shape d (constant n k) e = absurd (g n k (sym e))
     by_shape d (apply o ss) e = absurd (h o _ (sym e))
@@ -149,7 +153,7 @@ leaf_nothing m t f g h = nothing_met_of m (written (seen t)) (λ d. by_shape d (
     by_shape d (opaque s) e = refl
 
 -- a replacement whose pattern and replacement aren't literals
-first_none : (ss : Shapes) (d : DraftView) → literals_of ss ≡ None → meet (written (apply op.Replace ss)) d ≡ (0, d)
+first_none : (ss : Shapes) (d : DraftView) → literals_of ss ≡ None → meet (written (apply op.Replace ss)) d ≡ (length d.terms, d)
 first_none end d e = refl
 first_none (s ⨾ end) d e = refl
 first_none (s ⨾ text p ⨾ end) d e = refl
@@ -158,7 +162,7 @@ first_none (s ⨾ text p ⨾ text u ⨾ v ⨾ ss) d e = refl
 first_none (s ⨾ text p ⨾ _ ⨾ ss) d e = refl
 first_none (s ⨾ _ ⨾ ss) d e = refl
 
-all_none : (ss : Shapes) (d : DraftView) → literals_of ss ≡ None → meet (written (apply op.ReplaceAll ss)) d ≡ (0, d)
+all_none : (ss : Shapes) (d : DraftView) → literals_of ss ≡ None → meet (written (apply op.ReplaceAll ss)) d ≡ (length d.terms, d)
 all_none end d e = refl
 all_none (s ⨾ end) d e = refl
 all_none (s ⨾ text p ⨾ end) d e = refl
@@ -167,12 +171,12 @@ all_none (s ⨾ text p ⨾ text u ⨾ v ⨾ ss) d e = refl
 all_none (s ⨾ text p ⨾ _ ⨾ ss) d e = refl
 all_none (s ⨾ _ ⨾ ss) d e = refl
 
-replaced_none : (r : Occurrences) (ss : Shapes) (d : DraftView) → literals_of ss ≡ None → meet (written (apply (replacer r) ss)) d ≡ (0, d)
+replaced_none : (r : Occurrences) (ss : Shapes) (d : DraftView) → literals_of ss ≡ None → meet (written (apply (replacer r) ss)) d ≡ (length d.terms, d)
 replaced_none occurrences.First ss d e = first_none ss d e
 replaced_none occurrences.All ss d e = all_none ss d e
 
-pub replaced_nothing : (m : DraftBuilder) (t : Term) (r : Occurrences) (ts : List Term) → t ≡ term.Apply (replacer r) ts → literals_of (seen_all ts) ≡ None → IsTermMet m m (written (seen t)) 0
-replaced_nothing m t r ts i n = nothing_met_of m (written (seen t)) (λ d. ap (λ s. meet (written s) d) (seen_apply t (replacer r) (replacer r) ts i refl) ∙ replaced_none r (seen_all ts) d n)
+pub replaced_nothing : (m : DraftBuilder) (t : Term) (r : Occurrences) (ts : List Term) (k : ℕ) → t ≡ term.Apply (replacer r) ts → literals_of (seen_all ts) ≡ None → k ≡ length m.names → IsTermMet m m (written (seen t)) k
+replaced_nothing m t r ts k i n l = nothing_met_of m (written (seen t)) k l (λ d. ap (λ s. meet (written s) d) (seen_apply t (replacer r) (replacer r) ts i refl) ∙ replaced_none r (seen_all ts) d n)
 
 -- pieces one after another
 all_joined : (ss us : Shapes) (d : DraftView) → meet_all (set_before ss us) d ≡ ((meet_all ss d).0 ++ (meet_all us (meet_all ss d).1).0, (meet_all us (meet_all ss d).1).1)

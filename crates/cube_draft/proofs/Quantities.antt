@@ -19,7 +19,7 @@ use Rattle.literal_forms.specs.Shapes.{Shape, Shapes, truth, number, text, const
 use Rattle.flat_cubes.specs.Drafted.{term_at}
 use Rattle.cube_draft.specs.Gathered.{AreCounted, Gathers, IsCounted, IsIntegerCounted, IsTermMet, KeepsNumbers, Knows, number_at}
 use Rattle.written_terms.specs.Strings.{is_text}
-use Rattle.written_terms.specs.Numbers.{joint_of}
+use Rattle.written_terms.specs.Numbers.{joining_of}
 use Rattle.flat_cubes.specs.Met.{DraftView, meet, meet_all_unknowns, meet_unknowns, registered, with_integer, with_register}
 use Rattle.flat_cubes.specs.declared.draft.Quantity.TheVariants.{Integer, Length}
 use Rattle.written_terms.specs.declared.numbers.Joining.{Joining}
@@ -240,21 +240,21 @@ module _ (m n : DraftBuilder) where
   not_length (s ⨾ end) (t ∷ u ∷ ts) e n = absurd (cc)
   not_length (s ⨾ t ⨾ ss) ts e n = refl
 
-  pub several_counted : (o : Op) (j : Joining) (ts : List Term) → j ≡ joint_of o → j ≡ joining.Length → (length ts ≡ 1 → ⊥) → AreCounted m n (seen_all ts) → IsCounted m n (apply o (seen_all ts))
+  pub several_counted : (o : Op) (j : Joining) (ts : List Term) → j ≡ joining_of o → j ≡ joining.Length → (length ts ≡ 1 → ⊥) → AreCounted m n (seen_all ts) → IsCounted m n (apply o (seen_all ts))
   several_counted op.Length j ts e f l p = none_counted (apply op.Length (seen_all ts)) (not_length (seen_all ts) ts refl l) p.kept
   several_counted op.Add j ts e f l p = absurd (let h : joining.Sum ≡ joining.Length = sym e ∙ f in cc)
   several_counted op.Subtract j ts e f l p = absurd (let h : joining.Sum ≡ joining.Length = sym e ∙ f in cc)
   several_counted op.Multiply j ts e f l p = absurd (let h : joining.Product ≡ joining.Length = sym e ∙ f in cc)
   several_counted _ j ts e f l p = absurd (let h : joining.Nothing ≡ joining.Length = sym e ∙ f in cc)
 
-  pub others_counted : (o : Op) (j : Joining) (ts : List Term) → j ≡ joint_of o → (j ≡ joining.Length → ⊥) → AreCounted m n (seen_all ts) → IsCounted m n (apply o (seen_all ts))
+  pub others_counted : (o : Op) (j : Joining) (ts : List Term) → j ≡ joining_of o → (j ≡ joining.Length → ⊥) → AreCounted m n (seen_all ts) → IsCounted m n (apply o (seen_all ts))
   others_counted op.Length j ts e f p = absurd (f e)
   others_counted op.Add j ts e f p = sum_counted (seen_all ts) p
   others_counted op.Subtract j ts e f p = difference_counted (seen_all ts) p
   others_counted op.Multiply j ts e f p = product_counted (seen_all ts) p
   others_counted o j ts e f p = none_counted (apply o (seen_all ts)) refl p.kept
 
-  pub single_counted : (o : Op) (j : Joining) (ts : List Term) (t : Term) → j ≡ joint_of o → j ≡ joining.Length → length ts ≡ 1 → t ≡ get_or ts 0 t → IsCounted m n (apply op.Length (seen t ⨾ end)) → IsCounted m n (apply o (seen_all ts))
+  pub single_counted : (o : Op) (j : Joining) (ts : List Term) (t : Term) → j ≡ joining_of o → j ≡ joining.Length → length ts ≡ 1 → t ≡ get_or ts 0 t → IsCounted m n (apply op.Length (seen t ⨾ end)) → IsCounted m n (apply o (seen_all ts))
   single_counted op.Length j [] t e f l g p = absurd (omega arith)
   single_counted op.Length j (u ∷ []) t e f l g p = subst (λ x. IsCounted m n (apply op.Length (seen x ⨾ end))) g p
   single_counted op.Length j (u ∷ v ∷ ts) t e f l g p = absurd (omega arith)

@@ -41,13 +41,14 @@ bound_at (role.Order order.AtLeast) true = bound.AtLeast
 bound_at (role.Order order.AtLeast) false = bound.Below
 bound_at (role.Order order.Above) true = bound.Above
 bound_at (role.Order order.Above) false = bound.AtMost
-bound_at role.Connective b = bound.Zero
-bound_at role.Equality b = bound.Zero
-bound_at role.Distinct b = bound.Zero
-bound_at (role.Joined j) b = bound.Zero
-bound_at role.Length b = bound.Zero
-bound_at (role.Built k) b = bound.Zero
-bound_at (role.Test t) b = bound.Zero
+bound_at role.Equality true = bound.Zero
+bound_at role.Equality false = bound.Never
+bound_at role.Connective b = bound.Never
+bound_at role.Distinct b = bound.Never
+bound_at (role.Joined j) b = bound.Never
+bound_at role.Length b = bound.Never
+bound_at (role.Built k) b = bound.Never
+bound_at (role.Test t) b = bound.Never
 
 abbrev pub bound_by : Op → Bool → RowReading
 bound_by o b = bound_at (role_of o) b
@@ -58,6 +59,7 @@ kind_by bound.AtMost = Le
 kind_by bound.Below = Le
 kind_by bound.AtLeast = Le
 kind_by bound.Above = Le
+kind_by bound.Never = Le
 
 abbrev pub one : Linear
 one = of_number (pos 1)
@@ -69,6 +71,7 @@ form_by bound.AtMost a = a
 form_by bound.Below a = added a one
 form_by bound.AtLeast a = scaled a minus_one
 form_by bound.Above a = added (scaled a minus_one) one
+form_by bound.Never a = one
 
 abbrev pub steps_by : RowReading → Shape → Shape → List Step
 steps_by bound.Zero s t = equality_steps s t
@@ -76,6 +79,7 @@ steps_by bound.AtMost s t = comparison_steps s t
 steps_by bound.Below s t = comparison_steps s t
 steps_by bound.AtLeast s t = comparison_steps s t
 steps_by bound.Above s t = comparison_steps s t
+steps_by bound.Never s t = equality_steps s t
 
 -- no step of a comparison is past 128 bits
 pub record ComparisonFits (o : Op) (s t : Shape) (b : Bool) : Type 0 where

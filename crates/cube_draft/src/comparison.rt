@@ -30,6 +30,8 @@ enum RowReading {
     AtLeast,
     /// It is above 0.
     Above,
+    /// No difference is so: the function compares no numbers, or an equality is not to hold.
+    Never,
 }
 
 /// The bound of a comparison, or with `false` of the one that holds where that one doesn't.
@@ -38,13 +40,17 @@ fn bound_of(op: Op, positive: bool) -> RowReading
 {
     match role_of(op) {
         Role::Order(order) => bound_of_order(order, positive),
+        Role::Equality => if positive {
+            RowReading::Zero
+        } else {
+            RowReading::Never
+        },
         Role::Connective
-        | Role::Equality
         | Role::Distinct
         | Role::Joined(_)
         | Role::Length
         | Role::Built(_)
-        | Role::Test(_) => RowReading::Zero,
+        | Role::Test(_) => RowReading::Never,
     }
 }
 
@@ -80,8 +86,11 @@ fn row_kind(bound: RowReading) -> RowKind
 {
     match bound {
         RowReading::Zero => RowKind::Eq,
-        RowReading::AtMost | RowReading::Below | RowReading::AtLeast | RowReading::Above =>
-            RowKind::Le,
+        RowReading::AtMost
+        | RowReading::Below
+        | RowReading::AtLeast
+        | RowReading::Above
+        | RowReading::Never => RowKind::Le,
     }
 }
 
@@ -100,6 +109,7 @@ fn bound_form(
         RowReading::Below => Ok(plus_one(alloc, &less)?),
         RowReading::AtLeast => Ok(more),
         RowReading::Above => Ok(plus_one(alloc, &more)?),
+        RowReading::Never => Ok(TermForm::number(alloc, 1)),
     }
 }
 

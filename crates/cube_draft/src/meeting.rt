@@ -108,14 +108,22 @@ impl DraftBuilder {
         })
     }
 
+    /// The place at which the next new term will stand.
+    pub fn next_place(&self) -> Result<u32, AllocError>
+        ensures { IfOk result (λ i. i ≡ length self.now.names) }
+    {
+        match u32::try_from(self.names.len()) {
+            Ok(place) => Ok(place),
+            Err(_) => Err(AllocError),
+        }
+    }
+
     /// Puts a literal at a new place.
     fn put(&mut self) -> Result<u32, AllocError>
         ensures place { IfOk result (λ i. i ≡ length self.old.names) }
         ensures put { OnOk result (self.new ≡ record self.old { names = self.old.names ++ None ∷ [] }) }
     {
-        let Ok(place) = u32::try_from(self.names.len()) else {
-            return Err(AllocError);
-        };
+        let place = self.next_place()?;
         self.names.push(None)?;
         Ok(place)
     }
@@ -126,9 +134,7 @@ impl DraftBuilder {
         ensures place { IfOk result (λ i. i ≡ length self.old.names) }
         ensures filed { OnOk result (self.new ≡ record self.old { names = self.old.names ++ name ∷ []; places = self.old.places ++ (code, length self.old.names) ∷ [] }) }
     {
-        let Ok(place) = u32::try_from(self.names.len()) else {
-            return Err(AllocError);
-        };
+        let place = self.next_place()?;
         self.names.push(name)?;
         self.places.declare(code, place)?;
         Ok(place)

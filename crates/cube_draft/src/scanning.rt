@@ -25,6 +25,5 @@ pub fn scan(alloc: Global, cube: &Cube) -> Result<FlatDraft, FlatFault>
             LiteralReading::Outside => return Err(FlatFault::Outside(literals[i].copy(alloc)?)),
         }
     }
-    let draft = meeting.into_draft(alloc)?;
-    Ok(draft)
+    Ok(meeting.into_draft(alloc)?)
 }

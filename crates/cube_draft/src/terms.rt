@@ -20,9 +20,9 @@ use written_terms::{Occurrences, PlaceBuild, build_of};
 
 impl DraftBuilder {
     /// The place of a string term; nested concatenations are read as one. A term that came before, literals aside,
-    /// keeps its place; a new one is put before its arguments.
+    /// keeps its place; a new one is put before its arguments. A term of no written form has a place that isn't there.
     #[cycle(terms)]
-    #[tactic(auto, using(crate::proofs::Placing::text_is_met, crate::proofs::Placing::built_nothing, crate::proofs::Placing::leaf_nothing, written_terms::proofs::Forms::replaces_as))]
+    #[tactic(auto, using(crate::proofs::Placing::text_is_met, crate::proofs::Placing::built_nothing, crate::proofs::Placing::leaf_nothing, crate::proofs::Placing::replaces_as))]
     pub fn place(&mut self, alloc: Global, term: &Term) -> Result<u32, AllocError>
         ensures met { IfOk result (λ i. IsTermMet self.old self.new (written (seen term.now)) i) }
         ensures numbers { OnOk result (self.new.numbers ≡ self.old.numbers) }
@@ -35,9 +35,9 @@ impl DraftBuilder {
                 PlaceBuild::Replace(occurrences) => {
                     Ok(self.replace(alloc, occurrences, term, terms.as_slice())?)
                 }
-                PlaceBuild::Nothing => Ok(0),
+                PlaceBuild::Nothing => Ok(self.next_place()?),
             },
-            _ => Ok(0),
+            _ => Ok(self.next_place()?),
         }
     }
 
@@ -137,7 +137,7 @@ impl DraftBuilder {
         ensures numbers { OnOk result (self.new.numbers ≡ self.old.numbers) }
     {
         let Some((pattern, replacement)) = literals(terms) else {
-            return Ok(0);
+            return Ok(self.next_place()?);
         };
         match self.seek(alloc, term, None)? {
             TermPlace::Known(place) => Ok(place),

@@ -7,7 +7,7 @@ use Rattle.std.specs.Prelude.{slice_get}
 use Rattle.std.specs.List.{AllZip}
 use Rattle.sv_linear.specs.TermLaws.{passed}
 use Rattle.sv_linear.specs.declared.row.Row.{Row}
-use Rattle.cube_order.specs.Columns.{AreNumbersWithin, IsRenumbered, Rises, chosen, with_term}
+use Rattle.cube_order.specs.Columns.{AreNumbersWithin, IsRenumberedRow, Rises, chosen, with_term}
 use Rattle.cube_order.proofs.Marks.{take_whole}
 use Rattle.cube_order.proofs.Sorted.{get_item}
 
@@ -81,14 +81,14 @@ zip_push R [] (z ∷ ys) x y a r = absurd a
 zip_push R (z ∷ xs) [] x y a r = absurd a
 zip_push R (z ∷ xs) (v ∷ ys) x y a r = (a.0, zip_push R xs ys x y a.1 r)
 
-pub renumbered_more : (base : ℕ) (integers registers : List (Option ℕ)) (rows renumbered renumbered' : List Row) (k : ℕ) (row next : Row) → k < length rows → slice_get rows k ≡ Some row → IsRenumbered base integers registers row next → renumbered' ≡ renumbered ++ next ∷ [] → AllZip (IsRenumbered base integers registers) (take k rows) renumbered → AllZip (IsRenumbered base integers registers) (take (k + 1) rows) renumbered'
+pub renumbered_more : (base : ℕ) (integers registers : List (Option ℕ)) (rows renumbered renumbered' : List Row) (k : ℕ) (row next : Row) → k < length rows → slice_get rows k ≡ Some row → IsRenumberedRow base integers registers row next → renumbered' ≡ renumbered ++ next ∷ [] → AllZip (IsRenumberedRow base integers registers) (take k rows) renumbered → AllZip (IsRenumberedRow base integers registers) (take (k + 1) rows) renumbered'
 renumbered_more base integers registers rows renumbered renumbered' k row next l at r e a =
     let q : k + 1 ≡ suc k = omega arith in
     let parts : take (k + 1) rows ≡ take k rows ++ row ∷ [] = ap (λ m. take m rows) q ∙ take-suc rows k row l ∙ ap (λ z. take k rows ++ z ∷ []) (get_item rows k row row at) in
-    subst (λ z. AllZip (IsRenumbered base integers registers) z renumbered') (sym parts) (subst (λ z. AllZip (IsRenumbered base integers registers) (take k rows ++ row ∷ []) z) (sym e) (zip_push (IsRenumbered base integers registers) (take k rows) renumbered row next a r))
+    subst (λ z. AllZip (IsRenumberedRow base integers registers) z renumbered') (sym parts) (subst (λ z. AllZip (IsRenumberedRow base integers registers) (take k rows ++ row ∷ []) z) (sym e) (zip_push (IsRenumberedRow base integers registers) (take k rows) renumbered row next a r))
 
-pub renumbered_all : (base : ℕ) (integers registers : List (Option ℕ)) (rows renumbered : List Row) (k : ℕ) → length rows ≤ k → AllZip (IsRenumbered base integers registers) (take k rows) renumbered → AllZip (IsRenumbered base integers registers) rows renumbered
-renumbered_all base integers registers rows renumbered k l a = subst (λ z. AllZip (IsRenumbered base integers registers) z renumbered) (take_whole k rows l) a
+pub renumbered_all : (base : ℕ) (integers registers : List (Option ℕ)) (rows renumbered : List Row) (k : ℕ) → length rows ≤ k → AllZip (IsRenumberedRow base integers registers) (take k rows) renumbered → AllZip (IsRenumberedRow base integers registers) rows renumbered
+renumbered_all base integers registers rows renumbered k l a = subst (λ z. AllZip (IsRenumberedRow base integers registers) z renumbered) (take_whole k rows l) a
 
 -- the coefficient at a number is that of its unknown
 module _ (base : ℕ) (numbers : List (Option ℕ)) (rising : Rises numbers) (u k : ℕ) (at : get_or numbers u None ≡ Some k) where

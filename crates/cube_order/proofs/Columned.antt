@@ -8,7 +8,7 @@ use Rattle.sv_linear.specs.TermLaws.{above_high, below_low}
 use Rattle.sv_linear.specs.Terms.{AscendsWithin, coefficient}
 use Rattle.sv_linear.specs.declared.row.Row.{Row}
 use Rattle.literal_forms.specs.Linear.{Unknown}
-use Rattle.cube_order.specs.Columns.{AreNumbersWithin, IsRenumbered, Rises, chosen}
+use Rattle.cube_order.specs.Columns.{AreNumbersWithin, IsRenumberedRow, Rises, chosen}
 use Rattle.flat_cubes.specs.Flattening.{Bounded, IsRowFor, coefficient_at}
 use Rattle.cube_order.proofs.Chosen.{chosen_coefficient, chosen_within}
 
@@ -58,7 +58,7 @@ module _ (us xs ys : List Unknown) (integers registers : List (Option ℕ)) (ris
   past (z ∷ zs) zero l = absurd (omega arith)
   past (z ∷ zs) (suc v) l = past zs v (omega arith)
 
-  pub row_renumbered : (b : Bounded) (r r' : Row) → AscendsWithin 0 (2 ^ 32) r.form.coefficients → IsRowFor us b r → IsRenumbered (length xs) integers registers r r' → IsRowFor (xs ++ ys) b r'
+  pub row_renumbered : (b : Bounded) (r r' : Row) → AscendsWithin 0 (2 ^ 32) r.form.coefficients → IsRowFor us b r → IsRenumberedRow (length xs) integers registers r r' → IsRowFor (xs ++ ys) b r'
   row_renumbered b r r' a f g = record {
     kind = g.kind ∙ f.kind;
     constant = g.constant ∙ f.constant;
@@ -88,7 +88,7 @@ module _ (us xs ys : List Unknown) (integers registers : List (Option ℕ)) (ris
     ];
   }
 
-  pub rows_renumbered : (bs : List Bounded) (rows rows' : List Row) → AllZip (IsRowFor us) bs rows → AllZip (IsRenumbered (length xs) integers registers) rows rows' → AllZip (IsRowFor (xs ++ ys)) bs rows'
+  pub rows_renumbered : (bs : List Bounded) (rows rows' : List Row) → AllZip (IsRowFor us) bs rows → AllZip (IsRenumberedRow (length xs) integers registers) rows rows' → AllZip (IsRowFor (xs ++ ys)) bs rows'
   rows_renumbered [] [] [] f g = tt
   rows_renumbered [] [] (r' ∷ rows') f g = absurd g
   rows_renumbered [] (r ∷ rows) rows' f g = absurd f

@@ -7,7 +7,7 @@ use Rattle.sv_linear.specs.TermLaws.{term_here}
 use Rattle.sv_linear.specs.Terms.{AscendsWithin, coefficient}
 use Rattle.sv_linear.specs.declared.column.Column.TheVariants.{Constant, Unknown}
 use Rattle.sv_linear.specs.declared.row.Row.{Row}
-use Rattle.cube_order.specs.Columns.{AreNumbersWithin, IsRenumbered, Rises, chosen, with_term}
+use Rattle.cube_order.specs.Columns.{AreNumbersWithin, IsRenumberedRow, Rises, chosen, with_term}
 use Rattle.flat_cubes.specs.Straight.{IsRowBelow}
 use Rattle.cube_order.proofs.Chosen.{chosen_within, joined_within}
 use Rattle.flat_cubes.proofs.Members.{all_joined}
@@ -40,7 +40,7 @@ unknowns_below low high (t ∷ ts) a =
     (omega arith, (omega arith, r.1))
 
 module _ (base n : ℕ) (integers registers : List (Option ℕ)) (rise : Rises integers) (rise' : Rises registers) (within : AreNumbersWithin base integers) (within' : AreNumbersWithin n registers) where
-  row_numbered : (r r' : Row) → AscendsWithin 0 (2 ^ 32) r.form.coefficients → HasSymmetricEntries r.form → IsRenumbered base integers registers r r' → IsRowBelow (base + n) r'
+  row_numbered : (r r' : Row) → AscendsWithin 0 (2 ^ 32) r.form.coefficients → HasSymmetricEntries r.form → IsRenumberedRow base integers registers r r' → IsRowBelow (base + n) r'
   row_numbered r r' a s g =
       let ts = r.form.coefficients in
       let front = chosen_within 0 integers rise 0 (2 ^ 32) 0 base ts a (omega arith) (λ u k m h q. let l = within u k q in (omega arith, omega arith)) in
@@ -52,7 +52,7 @@ module _ (base n : ℕ) (integers registers : List (Option ℕ)) (rise : Rises i
         coefficients = subst (AllByRecursion IsSmall) (sym g.coefficients) (all_joined IsSmall (chosen 0 integers ts) (chosen base registers ts) (chosen_small 0 integers ts small) (chosen_small base registers ts small));
       }
 
-  pub rows_numbered : (rows rows' : List Row) → AllByRecursion (λ (r : Row). HasSymmetricEntries r.form) rows → AllZip (IsRenumbered base integers registers) rows rows' → AllByRecursion (IsRowBelow (base + n)) rows'
+  pub rows_numbered : (rows rows' : List Row) → AllByRecursion (λ (r : Row). HasSymmetricEntries r.form) rows → AllZip (IsRenumberedRow base integers registers) rows rows' → AllByRecursion (IsRowBelow (base + n)) rows'
   rows_numbered [] [] s g = tt
   rows_numbered [] (r' ∷ rows') s g = absurd g
   rows_numbered (r ∷ rows) [] s g = absurd g

@@ -6,7 +6,7 @@ use Rattle.std.proofs.lemmas.List.{length-map}
 use Rattle.sv_linear.specs.declared.row.Row.{Row}
 use Rattle.literal_forms.specs.Linear.{integer, length_of}
 use Rattle.literal_forms.specs.Shapes.{Shape}
-use Rattle.cube_order.specs.Columns.{AreNumbersWithin, IsRenumbered, has_entry}
+use Rattle.cube_order.specs.Columns.{AreNumbersWithin, IsRenumberedRow, has_entry}
 use Rattle.flat_cubes.specs.Drafted.{unknown_at}
 use Rattle.flat_cubes.specs.Flattening.{Bounded, IsRowFor, most_registers}
 use Rattle.cube_order.specs.Keeping.{kept_all, nothing_kept}
@@ -51,15 +51,15 @@ module _ (f : ℕ → ℕ) (qs : List Quantity) (used : List Bool) (k : KeptUnkn
     pub register_count : length k.registers ≡ length (registers_for ts bs qs)
     register_count = ap length registers_are ∙ length-map (registers_for ts bs qs) (λ (r : Shape × ℕ). f r.1)
 
-    pub rows_are : (rows' : List Row) → AllZip (IsRenumbered (length k.integers) k.integer_numbers k.register_numbers) rows rows' → AllZip (IsRowFor (map integer (integers_for bs qs) ++ map (λ (r : Shape × ℕ). length_of r.0) (registers_for ts bs qs))) bs rows'
+    pub rows_are : (rows' : List Row) → AllZip (IsRenumberedRow (length k.integers) k.integer_numbers k.register_numbers) rows rows' → AllZip (IsRowFor (map integer (integers_for bs qs) ++ map (λ (r : Shape × ℕ). length_of r.0) (registers_for ts bs qs))) bs rows'
     rows_are rows' g =
         let all = kept_all f qs (map (is_kept f ts bs) qs) nothing_kept in
         let r = kept_reached f ts bs qs in
         let c = subst IsCounted kept_is counted in
-        let h = subst (λ z. AllZip (IsRenumbered (length z.integers) z.integer_numbers z.register_numbers) rows rows') kept_is g in
+        let h = subst (λ z. AllZip (IsRenumberedRow (length z.integers) z.integer_numbers z.register_numbers) rows rows') kept_is g in
         rows_renumbered (map (unknown_at ts) qs) (map integer (integers_for bs qs)) (map (λ (r : Shape × ℕ). length_of r.0) (registers_for ts bs qs)) (kept_all f qs (map (is_kept f ts bs) qs) nothing_kept).integer_numbers (kept_all f qs (map (is_kept f ts bs) qs) nothing_kept).register_numbers c.0.rising c.1.rising
         (subst (λ n. AreNumbersWithin n (kept_all f qs (map (is_kept f ts bs) qs) nothing_kept).integer_numbers) (sym r.integer_count) c.0.within) (subst (λ n. AreNumbersWithin n (kept_all f qs (map (is_kept f ts bs) qs) nothing_kept).register_numbers) (sym r.register_count) c.1.within)
-        r.integers r.registers bs rows rows' zip (subst (λ n. AllZip (IsRenumbered n (kept_all f qs (map (is_kept f ts bs) qs) nothing_kept).integer_numbers (kept_all f qs (map (is_kept f ts bs) qs) nothing_kept).register_numbers) rows rows') (sym r.integer_count) h)
+        r.integers r.registers bs rows rows' zip (subst (λ n. AllZip (IsRenumberedRow n (kept_all f qs (map (is_kept f ts bs) qs) nothing_kept).integer_numbers (kept_all f qs (map (is_kept f ts bs) qs) nothing_kept).register_numbers) rows rows') (sym r.integer_count) h)
 
 pub excess_is : (of : List ℕ) (ts : List Shape) (bs : List Bounded) (qs : List Quantity) (n : ℕ) (e : FlatFault) → (n ≡ length (registers_for ts bs qs)) ⊎ (n ≡ length (integers_for bs qs)) → most_registers < n → IsNumber n e → AreRowsExactly of ts bs qs (Err e)
 excess_is of ts bs qs n (Outside l) w m h = h

@@ -36,7 +36,7 @@ abbrev pub AreNumbersWithin : ℕ → List (Option ℕ) → Type 0
 AreNumbersWithin n numbers = (u k : ℕ) → get_or numbers u None ≡ Some k → k < n
 
 -- the row over the unknowns that have numbers: those of the integers, and behind them, from base on, those of the registers
-pub record IsRenumbered (base : ℕ) (integers registers : List (Option ℕ)) (row renumbered : Row) : Type 0 where
+pub record IsRenumberedRow (base : ℕ) (integers registers : List (Option ℕ)) (row renumbered : Row) : Type 0 where
   pub kind : renumbered.kind ≡ row.kind
   pub constant : renumbered.form.constant ≡ row.form.constant
   pub coefficients : renumbered.form.coefficients ≡ chosen 0 integers row.form.coefficients ++ chosen base registers row.form.coefficients

@@ -21,7 +21,7 @@ pub fn places(
     requires { HaveVariablesBelow variables definitions.now }
     ensures { IsPlacedExactly variables definitions.now result }
 {
-    let mut places = nowhere(alloc, variables as usize)?;
+    let mut places = no_places(alloc, variables as usize)?;
     for i in 0..definitions.len() {
         let variable = definitions[i].variable;
         if let Some(_first) = places.as_slice()[variable as usize] {
@@ -32,7 +32,7 @@ pub fn places(
     Ok(places)
 }
 
-fn nowhere(alloc: Global, count: usize) -> Result<Items<Option<usize>>, AllocError>
+fn no_places(alloc: Global, count: usize) -> Result<Items<Option<usize>>, AllocError>
     ensures { IfOk result (λ places. places ≡ replicate count None) }
 {
     let mut places = Items::new(alloc);
@@ -59,11 +59,11 @@ pub fn cycle(
     ensures { IfOk result (IsCycle definitions.now) }
 {
     let mut path = Items::new(alloc);
-    let mut seen = nowhere(alloc, ahead.len())?;
+    let mut seen = no_places(alloc, ahead.len())?;
     let mut at = start;
     loop {
         if let Some(place) = seen.as_slice()[at as usize] {
-            return behind(alloc, path.as_slice(), place);
+            return copy_from(alloc, path.as_slice(), place);
         }
         seen.set(at as usize, Some(path.len()));
         path.push(at)?;
@@ -97,7 +97,7 @@ fn uses_at(definitions: &[Definition], place: usize) -> &[u32]
 }
 
 /// What stands from a place on.
-fn behind(alloc: Global, path: &[u32], place: usize) -> Result<Items<u32>, AllocError>
+fn copy_from(alloc: Global, path: &[u32], place: usize) -> Result<Items<u32>, AllocError>
     requires { place ≤ length path.now }
     ensures { IfOk result (λ vs. vs ≡ drop place path.now) }
 {

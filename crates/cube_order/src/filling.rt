@@ -21,14 +21,14 @@ pub fn variables(
     requires parts { ArePartsBelow (length of.now) parts }
     ensures { IfOk result (λ vs. vs ≡ parted_all of.now parts (named_all of.now names (replicate count free_variable))) }
 {
-    let mut variables = free(alloc, count)?;
+    let mut variables = free_variables(alloc, count)?;
     add_names(&mut variables, of, names)?;
     add_parts(&mut variables, of, parts)?;
     Ok(Items::from_vec(variables))
 }
 
 /// So many variables of which nothing is said.
-fn free(alloc: Global, count: u32) -> Result<Vec<Variable>, AllocError>
+fn free_variables(alloc: Global, count: u32) -> Result<Vec<Variable>, AllocError>
     ensures { IfOk result (λ vs. vs.items ≡ replicate count free_variable) }
 {
     let mut variables = Vec::new(alloc);

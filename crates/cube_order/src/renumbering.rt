@@ -2,7 +2,7 @@
 ghost use Rattle.std.specs.Prelude.{◌≡◌, ◌≢◌, ℕ, ◌+◌, ◌<◌, ◌^◌, pos, [], ◌++◌, get_or, Some, None, IfOk, OnOk};
 ghost use Rattle.std.specs.List.{AllZip};
 ghost use Rattle.sv_linear.specs.Terms.{AscendsWithin};
-ghost use Rattle.cube_order.specs.Columns.{AreNumbersWithin, IsRenumbered, Rises, chosen, with_term};
+ghost use Rattle.cube_order.specs.Columns.{AreNumbersWithin, IsRenumberedRow, Rises, chosen, with_term};
 
 use std::alloc::{AllocError, Global};
 use sv_linear::{Form, Row};
@@ -22,7 +22,7 @@ pub fn renumber_all(
     requires integers_within { AreNumbersWithin base integers.now }
     requires registers_within { AreNumbersWithin (2 ^ 31) registers.now }
     requires few { base < 2 ^ 31 }
-    ensures { IfOk result (AllZip (IsRenumbered base integers.now registers.now) rows.now) }
+    ensures { IfOk result (AllZip (IsRenumberedRow base integers.now registers.now) rows.now) }
 {
     let mut renumbered = Items::new(alloc);
     for row in rows {
@@ -46,7 +46,7 @@ fn renumber(
     requires integers_within { AreNumbersWithin base integers.now }
     requires registers_within { AreNumbersWithin (2 ^ 31) registers.now }
     requires few { base < 2 ^ 31 }
-    ensures { IfOk result (IsRenumbered base integers.now registers.now row.now) }
+    ensures { IfOk result (IsRenumberedRow base integers.now registers.now row.now) }
 {
     let terms = row.form.coefficients.as_slice();
     let mut form = Form::of_constant(alloc, row.form.constant);

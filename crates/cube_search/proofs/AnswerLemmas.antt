@@ -27,10 +27,10 @@ use Rattle.cube_answers.specs.declared.answer.Refutation.{Refutation}
 use Rattle.cube_answers.specs.declared.tally.GivenUpLeaf.{GivenUpLeaf}
 use Rattle.cube_answers.specs.declared.tally.LongLeaf.{LongLeaf}
 use Rattle.cube_answers.specs.declared.tally.LeafTally.{LeafTally}
-use Rattle.cube_search.specs.Answers.{IsCubeAnswer, IsDecided, IsModelOf}
+use Rattle.cube_search.specs.Answers.{IsCubeAnswer, IsDecidedCube, IsModelOf}
 use Rattle.cube_search.specs.Causes.{EachSolution}
 use Rattle.cube_answers.specs.Models.{all_words}
-use Rattle.cube_search.specs.Searches.{IsFound}
+use Rattle.cube_search.specs.Searches.{AreFoundRuns}
 use Rattle.cube_search.specs.Tallies.{IsTally, IsCovered, IsAccounted}
 use Rattle.cube_answers.specs.declared.found.FoundRuns.{FoundRuns}
 use Rattle.cube_search.proofs.FirstLemmas.{range-at, satisfies-conf, satisfies-obey, words-same}
@@ -101,7 +101,7 @@ module _ (flat : Flat) (region : Region) (for : IsRegionFor flat region) where
     ];
   }
 
-  left-decided : (g : Option GivenUpLeaf) (l : Option LongLeaf) (r : Refutation) → IsTally flat (record { given = g; long = l; closed = r }) → MustDecideFlat flat → IsDecided (left_given g (left_long l r))
+  left-decided : (g : Option GivenUpLeaf) (l : Option LongLeaf) (r : Refutation) → IsTally flat (record { given = g; long = l; closed = r }) → MustDecideFlat flat → IsDecidedCube (left_given g (left_long l r))
   left-decided None None r is must = tt
   left-decided None (Some l) r is must = is.undecided refl must
   left-decided (Some g) l r is must = elim must.search [
@@ -112,10 +112,10 @@ module _ (flat : Flat) (region : Region) (for : IsRegionFor flat region) where
   pub left-answers : (ms : Family) (tally : LeafTally) → IsStraight flat → IsLedFrom flat (length flat.definitions) ms → IsTally flat tally → IsCovered flat region (length flat.definitions) ms tally → IsCubeAnswer flat (left_of tally)
   left-answers ms tally straight led is covered = left-right tally.given tally.long tally.closed is (accounted flat region ms tally straight led covered)
 
-  pub left-decides : (tally : LeafTally) → IsTally flat tally → MustDecideFlat flat → IsDecided (left_of tally)
+  pub left-decides : (tally : LeafTally) → IsTally flat tally → MustDecideFlat flat → IsDecidedCube (left_of tally)
   left-decides tally is must = left-decided tally.given tally.long tally.closed is must
 
-pub model-of : (flat : Flat) (ms : Family) (found : FoundRuns) (values : Named) → IsFound flat (length flat.definitions) ms found → Satisfies flat (all_words (length flat.variables) found.runs) found.integers
+pub model-of : (flat : Flat) (ms : Family) (found : FoundRuns) (values : Named) → AreFoundRuns flat (length flat.definitions) ms found → Satisfies flat (all_words (length flat.variables) found.runs) found.integers
     → AreModelValues flat (all_words (length flat.variables) found.runs) found.integers values → AreWorded values → IsModelOf flat values
 model-of flat ms found values is s of worded =
     let n = length flat.variables in

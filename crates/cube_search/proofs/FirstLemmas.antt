@@ -22,7 +22,7 @@ use Rattle.backward.specs.Chains.{width, own_cost, ReadsOwn, IsOwnFamily, IsLed,
 use Rattle.backward.specs.Runs.{Runs, AreRuns, run_words, run_totals}
 use Rattle.cube_answers.specs.Entries.{word_by}
 use Rattle.cube_answers.specs.Models.{all_words}
-use Rattle.cube_search.specs.Searches.{IsFound, Obey}
+use Rattle.cube_search.specs.Searches.{AreFoundRuns, Obey}
 use Rattle.cube_answers.specs.declared.found.FoundRuns.{FoundRuns}
 use Rattle.cube_search.proofs.FoundLemmas.{comes-agree}
 use Rattle.cube_search.proofs.OrderLemmas.{get-below, get-there}
@@ -224,7 +224,7 @@ pub words-same : (n : ℕ) (rs : Runs) → all_words n rs ≡ map (run_words rs)
 words-same n rs = λ i. map (λ v. run-word rs v i) (range_with_len 0 n)
 
 -- what was found satisfies the cube
-pub found-satisfies : (flat : Flat) (ms : Family) (found : FoundRuns) → IsStraight flat → IsLedFrom flat (length flat.definitions) ms → flat.broken ≡ false → IsFound flat (length flat.definitions) ms found
+pub found-satisfies : (flat : Flat) (ms : Family) (found : FoundRuns) → IsStraight flat → IsLedFrom flat (length flat.definitions) ms → flat.broken ≡ false → AreFoundRuns flat (length flat.definitions) ms found
     → Satisfies flat (all_words (length flat.variables) found.runs) found.integers
 found-satisfies flat ms found straight led whole is =
     let n = length flat.variables in

@@ -34,7 +34,7 @@ use Rattle.backward.specs.declared.leaf_state.LeafState.{LeafState}
 use Rattle.cube_answers.specs.Leaves.{IsHitOf, words_of}
 use Rattle.cube_search.specs.Leaves.{AreLifted, IsTrim, machine_of}
 use Rattle.cube_search.specs.Spreads.{IsSpread}
-use Rattle.cube_search.specs.Searches.{IsFound, Obey}
+use Rattle.cube_search.specs.Searches.{AreFoundRuns, Obey}
 use Rattle.cube_answers.specs.declared.found.FoundRuns.{FoundRuns}
 use Rattle.cube_search.proofs.OrderLemmas.{obey-join}
 use Rattle.cube_search.proofs.Places.{places_from, sources-places}
@@ -114,8 +114,8 @@ sources-all flat f g at = sources-agreeing (λ v. not (is_defined flat.definitio
 
 -- runs taken back over a step
 pub lift-found : (flat : Flat) (at : ℕ) (ms ns : Family) (found : FoundRuns) (runs : Runs) → IsStraight flat → (d : Definition) → slice_get flat.definitions at ≡ Some d
-    → IsFound flat at ns found → AreBack ms d.variable found.runs runs → ComesBy (run_words runs) (run_words runs d.variable) d.by
-    → IsFound flat (suc at) ms (record { runs = runs; integers = found.integers })
+    → AreFoundRuns flat at ns found → AreBack ms d.variable found.runs runs → ComesBy (run_words runs) (run_words runs d.variable) d.by
+    → AreFoundRuns flat (suc at) ms (record { runs = runs; integers = found.integers })
 lift-found flat at ms ns found runs straight d e is back defined = record {
   runs = back.runs;
   obey = obey-join flat.definitions at d (run_words runs) e
@@ -174,7 +174,7 @@ letters-characters (r ∷ rs) = ap (λ n. length r.word + n) (letters-characters
 -- a hit of the machines that were cut down, taken back and put at the places of the variables
 pub hit-found : (flat : Flat) (region : Region) (s : LeafState) (ts : List (Built ℕ)) (hit : Hit) (others : List (Run ℕ)) (found : FoundRuns) → IsState flat 0 s
     → AllZip IsTrim (machines_of s.machines) ts → IsHitOf flat region (map machine_of ts) hit → AreLifted ts hit.runs others
-    → found.integers ≡ hit.integers → IsSpread s.machines others found.runs → IsFound flat 0 s.machines found
+    → found.integers ≡ hit.integers → IsSpread s.machines others found.runs → AreFoundRuns flat 0 s.machines found
 hit-found flat region s ts hit others found state z is lift ints_same spread =
     let same-totals : run_totals (width flat) found.runs ≡ runs_total (width flat) hit.runs =
     spread-totals (width flat) s.machines others found.runs spread ∙ lifted-totals (width flat) ts hit.runs others lift in

@@ -26,7 +26,7 @@ IsCubeAnswer flat (answer.Sat model) = IsModelOf flat model
 IsCubeAnswer flat (answer.Unsat refutation) = EachSolution flat (λ ws ints. ⊥)
 IsCubeAnswer flat (answer.Open reason) = IsCauseOf flat reason
 
-abbrev pub IsDecided : CubeAnswer → Type 0
-IsDecided (answer.Sat model) = ⊤
-IsDecided (answer.Unsat refutation) = ⊤
-IsDecided (answer.Open reason) = ⊥
+abbrev pub IsDecidedCube : CubeAnswer → Type 0
+IsDecidedCube (answer.Sat model) = ⊤
+IsDecidedCube (answer.Unsat refutation) = ⊤
+IsDecidedCube (answer.Open reason) = ⊥

@@ -35,7 +35,7 @@ abbrev pub Obey : List Definition → Words → Type 0
 Obey ds words = AllByRecursion (λ (d : Definition). ComesBy words (words d.variable) d.by) ds
 
 -- runs of the machines of a family, of which so many definitions are still to be carried: they obey these definitions, and with the numbers meet the rows of the cube; the source words are within reach
-pub record IsFound (flat : Flat) (left : ℕ) (ms : Family) (found : FoundRuns) : Type 0 where
+pub record AreFoundRuns (flat : Flat) (left : ℕ) (ms : Family) (found : FoundRuns) : Type 0 where
   pub runs : AreRuns ms found.runs
   pub obey : Obey (take left flat.definitions) (run_words found.runs)
   pub rows : MeetsRows (length flat.integers) flat.rows found.integers (run_totals (width flat) found.runs)

@@ -4,7 +4,7 @@ ghost use Rattle.cube_bounds.specs.Bounds.{states};
 ghost use Rattle.cube_bounds.specs.Measuring.{AreNumbersOf};
 ghost use Rattle.flat_cubes.specs.Straight.{AreNamesApart, HasFormed, IsStraight};
 ghost use Rattle.cube_answers.specs.Limits.{GrowsLittle, IsWithinLimits, MustDecideFlat};
-ghost use Rattle.cube_search.specs.Answers.{IsCubeAnswer, IsDecided};
+ghost use Rattle.cube_search.specs.Answers.{IsCubeAnswer, IsDecidedCube};
 ghost use Rattle.cube_search.specs.Causes.{IsCauseOf, past_reason};
 ghost use Rattle.cube_search.specs.declared.allowance.Allowance.TheVariants.{Part};
 
@@ -40,7 +40,7 @@ pub fn cube_answer(
     requires bare { flat.now.rows ≡ [] → flat.now.registers ≡ [] }
     requires numbers { AreNumbersOf flat.now numbers.now }
     ensures right { IfOk result (IsCubeAnswer flat.now) }
-    ensures decided { MustDecideFlat flat.now → IfOk result IsDecided }
+    ensures decided { MustDecideFlat flat.now → IfOk result IsDecidedCube }
 {
     if flat.broken {
         return Ok(CubeAnswer::Unsat(empty_refutation()));
@@ -75,7 +75,7 @@ fn answer_within(
     requires whole { flat.now.broken ≡ false }
     requires limits { IsWithinLimits flat.now }
     ensures right { IfOk result (IsCubeAnswer flat.now) }
-    ensures decided { MustDecideFlat flat.now → IfOk result IsDecided }
+    ensures decided { MustDecideFlat flat.now → IfOk result IsDecidedCube }
 {
     match answer_by_search(alloc, flat, numbers, kept, Allowance::Whole) {
         Ok(answer) => Ok(answer),
@@ -131,7 +131,7 @@ fn answer_by_search(
     requires whole { flat.now.broken ≡ false }
     requires little { GrowsLittle flat.now }
     ensures right { IfOk result (IsCubeAnswer flat.now) }
-    ensures decided { MustDecideFlat flat.now → IfOk result IsDecided }
+    ensures decided { MustDecideFlat flat.now → IfOk result IsDecidedCube }
     ensures refused { (n : ℕ) → result ≡ Err (States n) → (allowance ≡ Part) ⊎ (MOST_STATES < states flat.now) }
 {
     let search = Search {

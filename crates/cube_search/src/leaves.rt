@@ -2,7 +2,7 @@
 ghost use Rattle.std.specs.Prelude.{◌≡◌, ℕ, Ok, Err, None, IfOk, IfSome, OnOk};
 ghost use Rattle.trim_search.specs.declared.build_fault.BuildFault.TheVariants.{States};
 ghost use Rattle.backward.specs.States.{IsState};
-ghost use Rattle.cube_search.specs.Searches.{IsFound, IsSearch};
+ghost use Rattle.cube_search.specs.Searches.{AreFoundRuns, IsSearch};
 ghost use Rattle.cube_search.specs.Tallies.{IsTally, Keeps, IsCovered};
 
 use crate::searching::Search;
@@ -28,7 +28,7 @@ pub fn answer_leaf(
     ensures tally { OnOk result (IsTally search.now.flat.now tally.new) }
     ensures kept { OnOk result (Keeps tally.old tally.new) }
     ensures covered { result ≡ Ok None → IsCovered search.now.flat.now search.now.region 0 state.now.machines tally.new }
-    ensures found { IfOk result (λ o. IfSome o (IsFound search.now.flat.now 0 state.now.machines)) }
+    ensures found { IfOk result (λ o. IfSome o (AreFoundRuns search.now.flat.now 0 state.now.machines)) }
     ensures allowed { (n : ℕ) → result ≡ Err (States n) → ⊥ }
 {
     families_become_leaves(state);

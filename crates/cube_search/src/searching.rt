@@ -1,7 +1,7 @@
 ghost use Rattle.std.specs.Prelude.{◌≡◌, ◌+◌, ◌++◌, ◌∷◌, ◌≤◌, ℕ, [], Ok, Err, None, IfOk, IfSome, OnOk, length};
 ghost use Rattle.trim_search.specs.declared.build_fault.BuildFault.TheVariants.{States};
 ghost use Rattle.backward.specs.States.{IsState};
-ghost use Rattle.cube_search.specs.Searches.{IsFound, IsSearch};
+ghost use Rattle.cube_search.specs.Searches.{AreFoundRuns, IsSearch};
 ghost use Rattle.cube_search.specs.declared.allowance.Allowance.TheVariants.{Part};
 ghost use Rattle.cube_search.specs.Steps.{CanStep, IsCutting, IsNextFamily};
 ghost use Rattle.flat_cubes.specs.Straight.{IsStraight};
@@ -49,7 +49,7 @@ pub fn descend(
     ensures tally { OnOk result (IsTally search.now.flat.now tally.new) }
     ensures kept { OnOk result (Keeps tally.old tally.new) }
     ensures covered { result ≡ Ok None → IsCovered search.now.flat.now search.now.region left state.now.machines tally.new }
-    ensures found { IfOk result (λ o. IfSome o (IsFound search.now.flat.now left state.now.machines)) }
+    ensures found { IfOk result (λ o. IfSome o (AreFoundRuns search.now.flat.now left state.now.machines)) }
     ensures refused { (n : ℕ) → result ≡ Err (States n) → search.now.allowance ≡ Part }
 {
     if reads_nothing(state) {
@@ -61,7 +61,7 @@ pub fn descend(
     let at = left - 1;
     match pieces_at(search, state, at) {
         Some(pieces) => try_cuts(search, alloc, state, at, pieces, &[], tally, spent),
-        None => below(search, alloc, state, at, &[], tally, spent),
+        None => carry_definition(search, alloc, state, at, &[], tally, spent),
     }
 }
 
@@ -85,11 +85,11 @@ fn try_cuts(
     ensures tally { OnOk result (IsTally search.now.flat.now tally.new) }
     ensures kept { OnOk result (Keeps tally.old tally.new) }
     ensures covered { result ≡ Ok None → AreCoveredFrom search.now.flat.now search.now.region at pieces.now state.now.machines cuts.now tally.new }
-    ensures found { IfOk result (λ o. IfSome o (IsFound search.now.flat.now (at + 1) state.now.machines)) }
+    ensures found { IfOk result (λ o. IfSome o (AreFoundRuns search.now.flat.now (at + 1) state.now.machines)) }
     ensures refused { (n : ℕ) → result ≡ Err (States n) → search.now.allowance ≡ Part }
 {
     if cuts.len() + 1 == pieces.len() {
-        return below(search, alloc, state, at, cuts, tally, spent);
+        return carry_definition(search, alloc, state, at, cuts, tally, spent);
     }
     for s in 0..states_at(search.flat, state, at) {
         let more = add_cut(alloc, cuts, s)?;
@@ -103,7 +103,7 @@ fn try_cuts(
 
 /// The same, where the definition at `at` is carried, at all these cuts where it is a concatenation.
 #[cycle(search)]
-fn below(
+fn carry_definition(
     search: &Search,
     alloc: Global,
     state: &LeafState,
@@ -119,7 +119,7 @@ fn below(
     ensures tally { OnOk result (IsTally search.now.flat.now tally.new) }
     ensures kept { OnOk result (Keeps tally.old tally.new) }
     ensures covered { result ≡ Ok None → IsCoveredBelow search.now.flat.now search.now.region at cuts.now state.now tally.new }
-    ensures found { IfOk result (λ o. IfSome o (IsFound search.now.flat.now (at + 1) state.now.machines)) }
+    ensures found { IfOk result (λ o. IfSome o (AreFoundRuns search.now.flat.now (at + 1) state.now.machines)) }
     ensures refused { (n : ℕ) → result ≡ Err (States n) → search.now.allowance ≡ Part }
 {
     let next = next_family(search, alloc, state, at, cuts, spent)?;

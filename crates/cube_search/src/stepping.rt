@@ -7,7 +7,7 @@ ghost use Rattle.flat_cubes.specs.declared.definition.Definition.{Definition as 
 ghost use Rattle.backward.specs.Families.{HasMachine};
 ghost use Rattle.backward.specs.States.{IsState};
 ghost use Rattle.backward.specs.Steps.{CanPassAt, IsMadeAt};
-ghost use Rattle.cube_search.specs.Searches.{IsFound, IsSearch};
+ghost use Rattle.cube_search.specs.Searches.{AreFoundRuns, IsSearch};
 ghost use Rattle.cube_answers.specs.declared.found.FoundRuns.{FoundRuns as AnyFound};
 ghost use Rattle.cube_search.specs.Steps.{AreExact, CanStep, IsCutting, IsNextFamily};
 
@@ -100,8 +100,8 @@ pub fn leave(
     requires straight { IsStraight flat.now }
     requires at { at < length flat.now.definitions }
     requires made { IsMadeAt flat.now at cuts.now before.now.machines after }
-    requires found { IfOk found (λ o. IfSome o (IsFound flat.now at after.machines)) }
-    ensures found { IfOk result (λ o. IfSome o (IsFound flat.now (at + 1) before.now.machines)) }
+    requires found { IfOk found (λ o. IfSome o (AreFoundRuns flat.now at after.machines)) }
+    ensures found { IfOk result (λ o. IfSome o (AreFoundRuns flat.now (at + 1) before.now.machines)) }
     ensures taken { IfOk result (λ o. (f : Option AnyFound) × (found ≡ Ok f)) }
     ensures none { result ≡ Ok None → found ≡ Ok None }
     ensures refused { (n : ℕ) → result ≡ Err (States n) → found ≡ Err (States n) }
@@ -122,8 +122,8 @@ fn take_back(
     requires straight { IsStraight flat.now }
     requires at { at < length flat.now.definitions }
     requires made { IsMadeAt flat.now at cuts.now before.now.machines after.now }
-    requires found { IfOk found (λ o. IfSome o (IsFound flat.now at after.now.machines)) }
-    ensures found { IfOk result (λ o. IfSome o (IsFound flat.now (at + 1) before.now.machines)) }
+    requires found { IfOk found (λ o. IfSome o (AreFoundRuns flat.now at after.now.machines)) }
+    ensures found { IfOk result (λ o. IfSome o (AreFoundRuns flat.now (at + 1) before.now.machines)) }
     ensures taken { IfOk result (λ o. (f : Option AnyFound) × (found ≡ Ok f)) }
     ensures none { result ≡ Ok None → found ≡ Ok None }
     ensures refused { (n : ℕ) → result ≡ Err (States n) → found ≡ Err (States n) }

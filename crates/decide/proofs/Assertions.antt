@@ -5,13 +5,13 @@ use Rattle.sv_terms.specs.CutOff.{cut_off}
 use Rattle.sv_terms.specs.Meaning.{Named}
 use Rattle.sv_terms.specs.Parts.{is_opaque}
 use Rattle.sv_terms.specs.Sorting.{is_valued, sort_of}
-use Rattle.sv_terms.specs.TransducerSizes.{is_formed}
+use Rattle.sv_terms.specs.TransducerSizes.{is_formed, has_formed}
 use Rattle.sv_terms.specs.Truth.{AreValued, clear_of}
 use Rattle.sv_terms.specs.declared.sort.Sort.{Sort}
 use Rattle.sv_terms.specs.declared.sort.Sort.TheVariants as sort
 use Rattle.sv_terms.specs.declared.term.Term.{Term}
 use Rattle.sv_terms.specs.declared.term.Term.TheVariants as v
-use Rattle.assertion_parts.specs.Constants.{HaveOneSort, has_formed, has_words}
+use Rattle.assertion_parts.specs.Constants.{ConstantsHaveOneSort, has_words}
 use Rattle.assertion_parts.proofs.Fillings.{by-places, at-places}
 use Rattle.assertion_parts.proofs.Sorts.{both, both-make}
 use Rattle.assertion_parts.proofs.Terms.{every-Apply, words-Apply}
@@ -53,7 +53,7 @@ clear-sorted ts h = mapped (λ t. IsBool t × (is_opaque t ≡ false)) IsClearBo
 clear-formed : (ts : List Term) → AllByRecursion (λ t. IsTrue (has_formed t)) ts → AllByRecursion (λ t. IsTrue (has_formed t)) (clear_of ts)
 clear-formed ts h = mapped (λ t. IsTrue (has_formed t) × (is_opaque t ≡ false)) (λ t. IsTrue (has_formed t)) (λ t p. p.0) (clear_of ts) (kept (λ t. IsTrue (has_formed t)) ts h)
 
-pub clear-one-sort : (ts : List Term) → HaveOneSort ts → HaveOneSort (clear_of ts)
+pub clear-one-sort : (ts : List Term) → ConstantsHaveOneSort ts → ConstantsHaveOneSort (clear_of ts)
 clear-one-sort ts one =
     let P = λ (t : Term). IsTrue (is_valued one.0 t) in
     (one.0, at-places P (clear_of ts) (mapped (λ t. P t × (is_opaque t ≡ false)) P (λ t p. p.0) (clear_of ts) (kept P ts (by-places P ts one.1))))
@@ -100,13 +100,13 @@ turned : (A : Named → Type 0) (P : Named → Cube → Type 0) (cs : List Cube)
 turned A P [] h = tt
 turned A P (c ∷ cs) h = (λ values a. (h values a).0, turned A P cs (λ values a. (h values a).1))
 
-asked-each : (terms : List Term) (cs : List Cube) → HaveOneSort (clear_of terms) → AllByRecursion IsFittingCube cs → AllByRecursion (λ (c : Cube). AllByRecursion (λ (l : Literal). IsSpelled (seen l.atom)) c.literals) cs
+asked-each : (terms : List Term) (cs : List Cube) → ConstantsHaveOneSort (clear_of terms) → AllByRecursion IsFittingCube cs → AllByRecursion (λ (c : Cube). AllByRecursion (λ (l : Literal). IsSpelled (seen l.atom)) c.literals) cs
     → AllByRecursion (λ c. (values : Named) → AreValued values (clear_of terms) → IsValuedCube values c) cs → AllByRecursion (IsAskedCube terms) cs
 asked-each terms [] one f s w = tt
 asked-each terms (c ∷ cs) one f s w = (record { fits = f.0; spelled = s.0; valued = w.0; one_sort = one }, asked-each terms cs one f.1 s.1 w.1)
 
 -- a cube of assertions may be asked
-pub all-asked : LiteralsFit → LiteralsPass → LiteralsAreValued → FormedIsTold → (terms : List Term) → AllByRecursion IsBool terms → AllByRecursion (λ t. IsTrue (has_formed t)) terms → HaveOneSort terms
+pub all-asked : LiteralsFit → LiteralsPass → LiteralsAreValued → FormedIsTold → (terms : List Term) → AllByRecursion IsBool terms → AllByRecursion (λ t. IsTrue (has_formed t)) terms → ConstantsHaveOneSort terms
     → IsTrue (list_all has_words (clear_of terms)) → HasNoPast (clear_of terms) → AllByRecursion (IsAskedCube terms) (cubes_of (clear_of terms))
 all-asked fit pass valued told terms sorted formed one words plain =
     let cs = cubes_of (clear_of terms) in

@@ -3,14 +3,14 @@ use Rattle.std.proofs.Common.{◌≡◌, sym, ◌∙◌, subst, ℕ, ◌↔◌, 
 use Rattle.std.specs.List.{list_all}
 use Rattle.sv_terms.specs.Meaning.{Named}
 use Rattle.sv_terms.specs.Sorting.{is_of, is_valued, kind}
-use Rattle.sv_terms.specs.TransducerSizes.{is_formed}
+use Rattle.sv_terms.specs.TransducerSizes.{is_formed, has_formed}
 use Rattle.sv_terms.specs.Transduction.{IsFormed}
 use Rattle.sv_terms.specs.declared.sort.Sort.{Sort}
 use Rattle.sv_terms.specs.declared.sort.Sort.TheVariants as sort
 use Rattle.sv_terms.specs.declared.term.Term.{Term}
 use Rattle.sv_terms.specs.declared.transducer.Transducer.{Transducer}
 use Rattle.sv_terms.specs.declared.value.Value.{Value}
-use Rattle.assertion_parts.specs.Constants.{has_formed, has_words}
+use Rattle.assertion_parts.specs.Constants.{has_words}
 use Rattle.assertion_parts.specs.Filling.{value_of}
 use Rattle.assertion_parts.proofs.Sorts.{both, same-is, word-is}
 use Rattle.assertion_parts.proofs.Terms.{Each, induct, every-Constant, every-Apply, every-InRe, every-Related, words-Text, words-Apply, words-InRe, words-Related}

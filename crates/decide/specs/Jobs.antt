@@ -4,7 +4,7 @@ use Rattle.std.specs.List.{AllByRecursion, AllZip}
 use Rattle.sv_terms.specs.Meaning.{Named}
 use Rattle.sv_terms.specs.Truth.{AreValued, clear_of, opaque_of}
 use Rattle.sv_terms.specs.declared.term.Term.{Term}
-use Rattle.assertion_parts.specs.Constants.{AreValuesOf, HaveOneSort}
+use Rattle.assertion_parts.specs.Constants.{AreValuesOf, ConstantsHaveOneSort}
 use Rattle.bool_cubes.specs.Cubes.{cubes_of}
 use Rattle.bool_cubes.specs.Laws.{IsFittingCube, IsValuedCube}
 use Rattle.literal_forms.specs.Shapes.{seen}
@@ -13,7 +13,7 @@ use Rattle.literal_forms.specs.declared.literal.Cube.{Cube}
 use Rattle.flat_cubes.specs.Flattening.{IsFlattening}
 use Rattle.straight_line.specs.Laws.{IsSpelled}
 use Rattle.flat_cubes.specs.declared.flat.Flat.{Flat}
-use Rattle.cube_search.specs.Answers.{IsDecided, IsModelOf}
+use Rattle.cube_search.specs.Answers.{IsDecidedCube, IsModelOf}
 use Rattle.cube_answers.specs.declared.answer.CubeAnswer.{CubeAnswer}
 use Rattle.cube_answers.specs.declared.answer.CubeAnswer.TheVariants as answer
 use Rattle.decide.specs.Causes.{IsCause}
@@ -31,7 +31,7 @@ pub record IsAskedCube (terms : List Term) (cube : Cube) : Type 0 where
   pub fits : IsFittingCube cube
   pub spelled : AllByRecursion (λ (l : Literal). IsSpelled (seen l.atom)) cube.literals
   pub valued : (values : Named) → AreValued values (clear_of terms) → IsValuedCube values cube
-  pub one_sort : HaveOneSort (clear_of terms)
+  pub one_sort : ConstantsHaveOneSort (clear_of terms)
 
 -- the values extend to words and numbers that satisfy the flat cube, within its reach
 abbrev pub IsModelOfFlat : Cube → Named → Type 0
@@ -52,7 +52,7 @@ IsRightAnswer terms cube (answer.Open reason) = IsCause terms cube reason
 -- and it decides, where that is owed
 pub record IsOutcome (terms : List Term) (cube : Cube) (answer : CubeAnswer) : Type 0 where
   pub right : IsRightAnswer terms cube answer
-  pub decided : MustDecideCube cube → IsDecided answer
+  pub decided : MustDecideCube cube → IsDecidedCube answer
 
 -- whole batches without a model that ends the search
 pub record AreWhole (opaque : List Term) (answers : List CubeAnswer) : Type 0 where

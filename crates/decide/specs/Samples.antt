@@ -5,7 +5,7 @@ use Rattle.sv_terms.specs.Sorting.{is_valued, sort_of}
 use Rattle.sv_terms.specs.declared.sort.Sort.{Sort}
 use Rattle.sv_terms.specs.declared.term.Term.{Term}
 use Rattle.sv_terms.specs.declared.value.Value.TheVariants.{Text}
-use Rattle.assertion_parts.specs.Constants.{has_formed}
+use Rattle.sv_terms.specs.TransducerSizes.{has_formed}
 
 -- a value of x
 abbrev pub sample : Named

@@ -48,6 +48,5 @@ pub fn answers<R: Threads + Sync, G: Gate + Sync>(
 {
     answer_crosses();
     machines_cross();
-    let outcomes = run_jobs(rt, alloc, jobs, workers, gate)?;
-    Ok(outcomes)
+    Ok(run_jobs(rt, alloc, jobs, workers, gate)?)
 }

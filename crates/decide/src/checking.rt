@@ -3,7 +3,8 @@ ghost use Rattle.std.specs.Prelude.{◌≡◌, ◌≤◌, ◌+◌, ◌<◌, ◌^
 ghost use Rattle.std.specs.List.{AllByRecursion};
 ghost use Rattle.sv_terms.specs.Sorting.{sort_of};
 ghost use Rattle.sv_terms.specs.declared.sort.Sort.TheVariants as sort;
-ghost use Rattle.assertion_parts.specs.Constants.{HaveOneSort, has_formed};
+ghost use Rattle.assertion_parts.specs.Constants.{ConstantsHaveOneSort};
+ghost use Rattle.sv_terms.specs.TransducerSizes.{has_formed};
 ghost use Rattle.bool_cubes.specs.Cubes.{cubes_of};
 ghost use Rattle.bool_cubes.specs.Laws.{IsClearBool};
 ghost use Rattle.bool_cubes.specs.Refusing.{most_cubes};
@@ -47,7 +48,7 @@ pub fn check<R: Threads + Sync, G: Gate + Sync>(
     requires workers { 1 ≤ workers }
     requires sorted { AllByRecursion (λ t. sort_of t ≡ Some sort.Bool) terms.now }
     requires formed { AllByRecursion (λ t. IsTrue (has_formed t)) terms.now }
-    requires sorts { HaveOneSort terms.now }
+    requires sorts { ConstantsHaveOneSort terms.now }
     ensures right { IfOk result (RightVerdict terms.now) }
     ensures complete { MustDecide terms.now → IfOk result (IsComplete terms.now) }
     ensures only { IfOk result (HasOnly terms.now) }

@@ -13,7 +13,7 @@ use cube_answers::CubeAnswer;
 use literal_forms::Cube;
 use std::alloc::AllocError;
 use sv_terms::Term;
-use verdict_tally::{block_of, count_ahead, longest, shared_literals};
+use verdict_tally::{block_of, count_ahead, longest_choice, shared_literals};
 
 /// Whether no values make the literals true, as far as is found.
 fn has_no_values(shared: &Shared<'_>, cube: &Cube) -> Result<bool, AllocError>
@@ -73,7 +73,7 @@ pub fn count_refuted_ahead(
     ensures { IfOk result (AreKnown terms.now given) }
 {
     let mut least = 0;
-    let mut most = longest(terms, given);
+    let mut most = longest_choice(terms, given);
     let mut cubes = count_refuted_by(shared, terms, given, most)?;
     if cubes == 0 {
         return Ok(0);

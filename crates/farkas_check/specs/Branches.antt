@@ -1,17 +1,18 @@
 -- The rows of a node: the system's, and those of the branches above it, as they stand on the borrowed stack.
-use Rattle.std.specs.Prelude.{pos, negsuc, List, [], ◌∷◌, ◌++◌, false}
+use Rattle.std.specs.Prelude.{pos, List, [], ◌∷◌, ◌++◌, false}
 use Rattle.farkas_check.specs.Systems.{Constraint, rows_of}
-use Rattle.farkas_check.specs.Closings.{edges_out, edges_in}
+use Rattle.farkas_check.specs.Closings.{at_least, none_out, some_in}
 use Rattle.farkas_check.specs.declared.system.System.{System}
 use Rattle.farkas_check.specs.declared.branch.Branch.{Branch}
 use Rattle.farkas_check.specs.declared.branch.Branch.TheVariants.{AtMost, AtLeast, NoneOut, SomeIn}
 use Rattle.farkas_check.specs.declared.above.Above.{Above, Top, More'}
 
+-- the constant of an upper bound is the negated bound
 abbrev pub constraint_of_branch : Branch → Constraint
 constraint_of_branch (AtMost u c) = record { terms = (u, pos 1) ∷ []; constant = c; equal = false }
-constraint_of_branch (AtLeast u c) = record { terms = (u, negsuc 0) ∷ []; constant = c; equal = false }
-constraint_of_branch (NoneOut net set) = record { terms = edges_out set.now net.now.edges (pos 1); constant = pos 0; equal = false }
-constraint_of_branch (SomeIn net set) = record { terms = edges_in set.now net.now.edges (negsuc 0); constant = pos 1; equal = false }
+constraint_of_branch (AtLeast u at) = at_least u at
+constraint_of_branch (NoneOut net set) = none_out net.now set.now
+constraint_of_branch (SomeIn net set) = some_in net.now set.now
 
 -- from the root to the nearest
 abbrev pub constraints_above : Above → List Constraint

@@ -98,9 +98,6 @@ said_by of_open = rec-Tree Closing (λ X back inner layer. NodeRule of_open inne
 abbrev pub never : Closing
 never nets rows = ⊥
 
-abbrev pub always : Closing
-always nets rows = Unit {0}
-
 -- the tree closes these rows
 abbrev pub ClosesRows : List Net → List Constraint → Tree → Type 0
 ClosesRows nets rows tree = said_by never tree nets rows
@@ -108,7 +105,3 @@ ClosesRows nets rows tree = said_by never tree nets rows
 -- no leaf is open, and every node meets its rule
 abbrev pub Closes : System → Tree → Type 0
 Closes s tree = ClosesRows s.nets (rows_of s) tree
-
--- every node that isn't an open leaf meets its rule
-abbrev pub MeetsRules : System → Tree → Type 0
-MeetsRules s tree = said_by always tree s.nets (rows_of s)

@@ -4,7 +4,7 @@ use Rattle.std.specs.Int.{w128}
 use Rattle.sv_linear.specs.Divisors.{Divides}
 use Rattle.sv_linear.specs.declared.column.Column.{Column}
 use Rattle.farkas_check.specs.Systems.{Constraint, no_constraint, rows_of}
-use Rattle.farkas_check.specs.Closings.{combined, at_most, at_least, none_out, some_in}
+use Rattle.farkas_check.specs.Closings.{Closes, combined, at_most, at_least, none_out, some_in}
 use Rattle.farkas_check.specs.Columns.{part_at}
 use Rattle.farkas_check.specs.declared.net.Net.{Net}
 use Rattle.farkas_check.specs.declared.system.System.{System}
@@ -46,6 +46,10 @@ RowsFit nets rows tree = fitting_of tree nets rows
 
 abbrev pub SumsFit : System → Tree → Type 0
 SumsFit s tree = RowsFit s.nets (rows_of s) tree
+
+-- the checker takes the tree: it closes the system, and no sum leaves 128 bits
+abbrev pub IsAccepted : System → Tree → Type 0
+IsAccepted s tree = Closes s tree × SumsFit s tree
 
 -- at the column no sum leaves 128 bits, and d divides the sum of all
 abbrev pub IsMultipleAt : List Constraint → List (ℕ × ℤ) → ℤ → Column → Type 0

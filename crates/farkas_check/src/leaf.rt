@@ -1,4 +1,4 @@
-ghost use Rattle.std.specs.Prelude.{◌≡◌, ℕ, pos, ◌≤ℤ◌, ◌<◌, length, get_or, IsTrue, ◌↔◌, SomeIff, All};
+ghost use Rattle.std.specs.Prelude.{◌≡◌, ℕ, pos, ◌≤ℤ◌, ◌<◌, length, get_or, false, IsTrue, ◌↔◌, SomeIff, All};
 ghost use Rattle.farkas_check.specs.Systems.{no_constraint, constraint_of};
 ghost use Rattle.farkas_check.specs.Branches.{constraint_of_branch};
 ghost use Rattle.farkas_check.specs.Leaves.{leaf_rows, IsAllowed, HasEquations, HasMultipleAt};
@@ -13,6 +13,9 @@ use crate::branch::Branch;
 use crate::net::NetEdge;
 use sv_linear::{Column, Row, RowKind};
 
+/// The divisor whose only multiple is 0.
+pub(crate) const OF_ZERO_ALONE: i128 = 0;
+
 /// A leaf's rows, which are some rows and then those of the branches above it, and their multipliers.
 #[derive(Clone, Copy)]
 pub struct Leaf<'a> {
@@ -26,29 +29,28 @@ impl Leaf<'_> {
     pub fn is_allowed(&self) -> bool
         ensures { IsTrue result ↔ IsAllowed self.now }
     {
-        let mut next: u64 = 0;
-        for (row, multiplier) in self.multipliers {
-            let Some(equal) = self.is_equation(*row) else {
-                return false;
-            };
-            if (*row as u64) < next || (!equal && *multiplier < 0) {
-                return false;
-            }
-            next = *row as u64 + 1;
-        }
-        true
+        self.ascends(false)
     }
 
     /// Whether row numbers ascend, and each row is an equation.
     pub fn has_equations(&self) -> bool
         ensures { IsTrue result ↔ HasEquations self.now }
     {
+        self.ascends(true)
+    }
+
+    /// Whether row numbers ascend, and each row is an equation or, where not these alone are asked for, has a multiplier
+    /// that isn't below 0.
+    fn ascends(&self, equations_alone: bool) -> bool
+        ensures equations { IsTrue equations_alone → IsTrue result ↔ HasEquations self.now }
+        ensures allowed { equations_alone ≡ false → IsTrue result ↔ IsAllowed self.now }
+    {
         let mut next: u64 = 0;
-        for (row, _) in self.multipliers {
+        for (row, multiplier) in self.multipliers {
             let Some(equal) = self.is_equation(*row) else {
                 return false;
             };
-            if (*row as u64) < next || !equal {
+            if (*row as u64) < next || (!equal && (equations_alone || *multiplier < 0)) {
                 return false;
             }
             next = *row as u64 + 1;
@@ -71,7 +73,7 @@ impl Leaf<'_> {
         Some(sum)
     }
 
-    /// Whether the sums at all unknowns are multiples of the divisor: 0, where it is 0.
+    /// Whether the sums at all unknowns are multiples of the divisor: 0, where that is `OF_ZERO_ALONE`.
     pub fn are_multiples(&self, divisor: i128) -> bool
         requires allowed { IsAllowed self.now }
         requires not_negative { pos 0 ≤ℤ divisor }

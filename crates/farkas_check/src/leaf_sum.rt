@@ -70,10 +70,7 @@ fn no_sum(alloc: Global, unknowns: u32) -> Result<LeafSum, AllocError>
     ensures numbers { IfOk result (λ s. s.numbers ≡ replicate unknowns (pos 0)) }
     ensures constant { IfOk result (λ s. s.constant ≡ pos 0) }
 {
-    let mut numbers = Items::new(alloc);
-    for _ in 0..unknowns {
-        numbers.push(0)?;
-    }
+    let numbers = Items::from_vec(vec![in alloc; 0; unknowns as usize]?);
     Ok(LeafSum {
         numbers,
         constant: 0,

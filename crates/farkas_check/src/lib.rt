@@ -8,9 +8,10 @@
 //!
 //! `closes` takes no memory and copies no row: the rows of the branches stand on a borrowed stack. A leaf
 //! costs the number of terms in the rows that it names, times the number of its multipliers, times a
-//! binary search in a row of the system, or a walk up the branches and over the net's edges for a row of
-//! a branch. `test_farkas` and `test_divisor` judge one leaf over given rows, with memory for a number
-//! for each column, and name the first column whose sum leaves 128 bits.
+//! binary search in a row of the system, or a walk up the branches for a row of a branch: of a set split
+//! also over the net's edges, with a look through the set for each of them. `test_farkas` and
+//! `test_divisor` judge one leaf over given rows, with memory for a number for each column, and name the
+//! first column whose sum leaves 128 bits.
 //!
 //! ```text
 //! // -2 x + 1 <= 0 and x <= 0: the first and twice the second add up to 1 <= 0.

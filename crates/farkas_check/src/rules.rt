@@ -3,7 +3,7 @@ ghost use Rattle.farkas_check.specs.Leaves.{leaf_rows};
 ghost use Rattle.farkas_check.specs.Closings.{FarkasRule, DivisorRule};
 ghost use Rattle.farkas_check.specs.Fitting.{LeafFits};
 
-use crate::leaf::{Leaf, is_multiple};
+use crate::leaf::{Leaf, OF_ZERO_ALONE, is_multiple};
 use sv_linear::Column;
 
 /// The least number that the coefficients of a sum may be divided by.
@@ -16,7 +16,7 @@ pub fn is_farkas(leaf: &Leaf) -> bool
     if !leaf.is_allowed() {
         return false;
     }
-    if !leaf.are_multiples(0) {
+    if !leaf.are_multiples(OF_ZERO_ALONE) {
         return false;
     }
     match leaf.sum(Column::Constant) {

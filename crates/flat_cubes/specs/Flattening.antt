@@ -112,16 +112,18 @@ Bounded = RowKind × Linear
 abbrev pub plus_one : Linear → Linear
 plus_one a = added a (of_number (pos 1))
 
--- the row of a comparison, by the difference of its sides
+-- the row of a comparison, by the difference of its sides; of any other function one that no numbers meet
 abbrev pub compared : Op → Linear → Bounded
+compared op.Equal d = (Eq, d)
 compared op.LessEqual d = (Le, d)
 compared op.Less d = (Le, plus_one d)
 compared op.GreaterEqual d = (Le, scaled d minus_one)
 compared op.Greater d = (Le, plus_one (scaled d minus_one))
-compared o d = (Eq, d)
+compared _ d = (Le, of_number (pos 1))
 
 -- the comparison that holds where this one doesn't
 abbrev pub opposite : Op → Op
+opposite op.Equal = op.Distinct
 opposite op.LessEqual = op.Greater
 opposite op.Less = op.GreaterEqual
 opposite op.GreaterEqual = op.Less

@@ -81,7 +81,7 @@ all_met i p u r = (i, with_definition i (by.All p u r.0) r.1)
 abbrev pub then_place : ℕ → List ℕ × DraftView → List ℕ × DraftView
 then_place i r = (i ∷ r.0, r.1)
 
--- a string term of a written form, without nested concatenations, is met
+-- a string term of a written form, without nested concatenations, is met; a term of no written form has a place that isn't there
 abbrev mutual
   pub meet : Shape → DraftView → Found
   meet (text w) d = literal_met (text w) (own.Word w) d
@@ -91,7 +91,7 @@ abbrev mutual
       known_or (place_of (apply op.Replace (s ⨾ text p ⨾ text u ⨾ end)) d.terms) d (first_met (length d.terms) p u (meet s (with_term (apply op.Replace (s ⨾ text p ⨾ text u ⨾ end)) d)))
   meet (apply op.ReplaceAll (s ⨾ text p ⨾ text u ⨾ end)) d =
       known_or (place_of (apply op.ReplaceAll (s ⨾ text p ⨾ text u ⨾ end)) d.terms) d (all_met (length d.terms) p u (meet s (with_term (apply op.ReplaceAll (s ⨾ text p ⨾ text u ⨾ end)) d)))
-  meet _ d = (0, d)
+  meet _ d = (length d.terms, d)
 
   pub meet_all : Shapes → DraftView → List ℕ × DraftView
   meet_all end d = ([], d)

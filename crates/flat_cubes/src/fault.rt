@@ -7,16 +7,16 @@ use thiserror::Error;
 #[derive(Debug, Drop, Error)]
 pub enum FlatFault {
     /// The first literal of no written kind.
-    #[error("a literal of no written kind")]
+    #[error("a literal is of no kind that straight-line constraints have")]
     Outside(Literal),
     /// A variable with two definitions.
     #[error("variable {0} has two definitions")]
     Twice(u32),
     /// Variables, at least one: the definition of each uses the next, and that of the last the first.
-    #[error("a cycle of definitions")]
+    #[error("definitions use one another in a cycle")]
     Cycle(Items<u32>),
     /// The number of registers, or of integer constants, above 64.
-    #[error("{0} registers or integer constants")]
+    #[error("{0} lengths or integer constants in rows are more than 64")]
     Wide(u32),
     #[error("out of memory")]
     Memory(AllocError),

@@ -45,11 +45,6 @@ abbrev pub blocks : ℕ → ℕ → List ℕ
 blocks s zero = []
 blocks s (suc n) = block s ++ blocks (behind s) n
 
--- the number behind so many blocks
-abbrev pub behind_all : ℕ → ℕ → ℕ
-behind_all s zero = s
-behind_all s (suc n) = behind_all (behind s) n
-
 -- the generated script of a seed, with so many blocks
 abbrev pub script : ℕ → ℕ → List ℕ
 script seed size = blocks (seeded seed) size

@@ -94,7 +94,7 @@ fn push_escaped(text: &mut Text) -> Result<(), AllocError>
 
 impl Shape {
     /// The shape that a drawn number below 4 stands for.
-    pub fn of(drawn: u32) -> Shape
+    pub(crate) fn of(drawn: u32) -> Shape
         ensures { result ≡ shape_of drawn }
     {
         match drawn {
@@ -120,7 +120,7 @@ impl Shape {
     }
 
     /// Adds the block with this number, at most 50.
-    pub fn push_block(self, text: &mut Text, number: u32) -> Result<(), AllocError>
+    pub(crate) fn push_block(self, text: &mut Text, number: u32) -> Result<(), AllocError>
         requires { number ≤ 50 }
         ensures { OnOk result (text.new.items ≡ text.old.items ++ block_text self number) }
     {

@@ -1,5 +1,5 @@
 -- What `let`, quantifiers and macros bind.
-use Rattle.std.specs.Prelude.{Bool, true, false, ◌&&◌, ◌||◌, List, [], ◌∷◌, ◌++◌, Option, Some, None, Result, Ok}
+use Rattle.std.specs.Prelude.{Bool, true, false, ◌&&◌, ◌||◌, List, [], ◌∷◌, ◌++◌, Option, Some, None, Result, Ok, is_some}
 use Rattle.std.specs.List.{list_any}
 use Rattle.std.specs.Option.{option_to_list}
 use Rattle.sv_terms.specs.declared.sort.Sort.{Sort}
@@ -8,7 +8,7 @@ use Rattle.smt_names.specs.declared.check_fault.CheckFault.{CheckFault}
 use Rattle.smt_names.specs.declared.check_fault.CheckFault.TheVariants as fault
 use Rattle.smt_names.specs.Faults.{◌>>◌, need, refuse}
 use Rattle.smt_names.specs.Form.{Form, Forms, end, ◌⨾◌, two, are_all}
-use Rattle.smt_names.specs.Signature.{Name, same_name, is_some}
+use Rattle.smt_names.specs.Signature.{Name, same_name}
 use Rattle.smt_names.specs.Tokens.{symbol, is_sort_form, sort_of}
 
 abbrev pub first_symbol : Option (Form × Form) → Option Name

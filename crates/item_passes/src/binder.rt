@@ -16,14 +16,14 @@ use sv_list::Items;
 use sv_terms::{Name, Sort};
 
 /// Whether it is a symbol and one item more: a binding of `let`.
-pub fn is_binding(item: &Sexpr) -> bool
+pub(crate) fn is_binding(item: &Sexpr) -> bool
     ensures { result ≡ binders.is_binding (seen item.now) }
 {
     bound_name(item).is_some()
 }
 
 /// Whether it is a symbol and its sort: a parameter, or a variable of a quantifier.
-pub fn is_variable(item: &Sexpr) -> bool
+pub(crate) fn is_variable(item: &Sexpr) -> bool
     ensures { result ≡ binders.is_variable (seen item.now) }
 {
     match pair(item) {
@@ -33,7 +33,7 @@ pub fn is_variable(item: &Sexpr) -> bool
 }
 
 /// The text of the symbol that is bound first in a list of two.
-pub fn bound_name(item: &Sexpr) -> Option<&[u8]>
+pub(crate) fn bound_name(item: &Sexpr) -> Option<&[u8]>
     ensures { option_map (λ text. symbol_name text.now) result ≡ binders.bound_name (seen item.now) }
 {
     match pair(item) {
@@ -84,7 +84,7 @@ pub fn are_variables(items: &[Sexpr]) -> bool
 }
 
 /// The sort of a variable, where it is known.
-pub fn variable_sort(item: &Sexpr) -> Option<Sort>
+pub(crate) fn variable_sort(item: &Sexpr) -> Option<Sort>
     ensures { result ≡ binders.variable_sort (seen item.now) }
 {
     match pair(item) {
@@ -125,7 +125,7 @@ pub fn repeats(alloc: Global, items: &[Sexpr]) -> Result<bool, AllocError>
 }
 
 /// Unknown, where a variable has a sort that isn't known.
-pub fn known_sort(item: &Sexpr) -> Result<(), CheckFault>
+pub(crate) fn known_sort(item: &Sexpr) -> Result<(), CheckFault>
     ensures { result ≡ binders.known_sort (seen item.now) }
 {
     match variable_sort(item) {
@@ -135,7 +135,7 @@ pub fn known_sort(item: &Sexpr) -> Result<(), CheckFault>
 }
 
 /// Sort, where a variable has the sort RegLan.
-pub fn no_language(item: &Sexpr) -> Result<(), CheckFault>
+pub(crate) fn no_language(item: &Sexpr) -> Result<(), CheckFault>
     ensures { result ≡ binders.no_language (seen item.now) }
 {
     match variable_sort(item) {

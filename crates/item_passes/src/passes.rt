@@ -124,7 +124,7 @@ pub fn look(alloc: Global, pass: Pass, item: &Sexpr) -> Result<(), CheckFault>
 /// The first fault of some terms, from the left.
 #[cycle(look)]
 #[tactic(auto, using(crate::proofs::Looking::looking))]
-pub fn look_all(alloc: Global, pass: Pass, items: &[Sexpr]) -> Result<(), CheckFault>
+pub(crate) fn look_all(alloc: Global, pass: Pass, items: &[Sexpr]) -> Result<(), CheckFault>
     ensures { Answers (passes.looked_all pass (forms (map seen items.now))) result }
 {
     for item in items {

@@ -7,7 +7,7 @@ use Rattle.search_hits.specs.Hits.{IsHit, characters}
 use Rattle.search_hits.specs.declared.hit.Hit.{Hit}
 use Rattle.search_hits.specs.declared.region.Region.{Region}
 use Rattle.lia_branch.specs.EvidenceHolds.{Holds}
-use Rattle.lia_branch.specs.Outcomes.{IsAccepted}
+use Rattle.farkas_check.specs.Fitting.{IsAccepted}
 use Rattle.lia_branch.specs.declared.evidence.Evidence.{Evidence}
 use Rattle.parikh_flow.specs.Rows.{IsSystemOf}
 use Rattle.leaf_solve.specs.Questions.{EachHit, LieIn, total_states}

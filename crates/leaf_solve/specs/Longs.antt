@@ -7,7 +7,8 @@ use Rattle.machine_core.specs.declared.graph.Graph.{Graph}
 use Rattle.machine_core.specs.declared.run.Run.{Run}
 use Rattle.farkas_check.specs.declared.system.System.{System}
 use Rattle.lia_branch.specs.EvidenceHolds.{Holds}
-use Rattle.lia_branch.specs.Outcomes.{IsSolution, IsAccepted}
+use Rattle.lia_branch.specs.Outcomes.{IsSolution}
+use Rattle.farkas_check.specs.Fitting.{IsAccepted}
 use Rattle.parikh_flow.specs.Rows.{IsSystemOf}
 use Rattle.leaf_solve.specs.declared.long_shown.Beyond.{Beyond}
 use Rattle.leaf_solve.specs.declared.long_shown.Beyond.TheVariants.{Values, GaveUp}

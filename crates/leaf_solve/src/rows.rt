@@ -1,7 +1,7 @@
 //! Answers where there are rows: the system is solved, and the region searched.
 ghost use Rattle.std.specs.Prelude.{◌≡◌, ◌≢◌, [], All, true, None, length, IfOk, IfSome, MatchOption};
 ghost use Rattle.lia_branch.specs.EvidenceHolds.{Holds};
-ghost use Rattle.lia_branch.specs.Outcomes.{IsAccepted};
+ghost use Rattle.farkas_check.specs.Fitting.{IsAccepted};
 ghost use Rattle.leaf_solve.specs.Longs.{HasRun};
 ghost use Rattle.leaf_solve.specs.Answers.{HasHitsPast, IsDecided, row_reach};
 ghost use Rattle.leaf_solve.specs.Steps.{IsAskedQuestion, AnswersQuestion, IsSystemFor, TellsPast, HoldsNothing};

@@ -1,5 +1,5 @@
 -- Sums of edges' unknowns, one edge after another, and the rows that they make.
-use Rattle.std.proofs.Common.{◌≡◌, ◌≢◌, ℕ, zero, suc, ◌+◌, ◌<◌, ◌≤◌, ◌^◌, ℤ, pos, neg_ℤ, ◌+ℤ◌, ◌*ℤ◌, List, [], ◌∷◌, ◌++◌, length, take, slice_get, slice_set, get_or, Some, Bool, true, false, cond, ◌||◌, ◌&&◌, not, unsigned_abs, nat_eq, ⊎_elim, refl, ap, sym, ◌∙◌, subst, arith}
+use Rattle.std.proofs.Common.{◌≡◌, ◌≢◌, ℕ, zero, suc, ◌+◌, ◌<◌, ◌≤◌, ◌^◌, ℤ, pos, neg_ℤ, ◌+ℤ◌, ◌*ℤ◌, List, [], ◌∷◌, ◌++◌, length, take, slice_get, slice_set, get_or, replicate, Some, Bool, true, false, cond, ◌||◌, ◌&&◌, not, unsigned_abs, nat_eq, ⊎_elim, refl, ap, sym, ◌∙◌, subst, arith}
 use Rattle.std.specs.Prelude.{All}
 use Rattle.std.proofs.lemmas.Int.{ints}
 use Rattle.std.proofs.lemmas.Bool.{cases_lt}
@@ -230,6 +230,14 @@ or_false false c e = e
 
 next_state : (states : ℕ) (set : List ℕ) (i : ℕ) → i < length set → (s : ℕ) → contains_number s (take (i + 1) set) ≡ (contains_number s (take i set) || nat_eq (get_or set i 0) s)
 next_state states set i h s = ap (contains_number s) (take_more set i 0 h) ∙ contains_more s (take i set) (get_or set i 0)
+
+pub marked_none : (states : ℕ) (marks : List Bool) → marks ≡ replicate states false → AreSetMarks states [] marks
+marked_none states marks e s p = ap (λ l. slice_get l s) e ∙ none states s p
+  where
+    none : (n k : ℕ) → k < n → slice_get (replicate n false) k ≡ Some false
+    none zero k h = absurd (omega arith)
+    none (suc n) zero h = refl
+    none (suc n) (suc k) h = none n k (omega arith)
 
 pub marked_more : (states : ℕ) (set : List ℕ) (i : ℕ) (marks : List Bool) → i < length set → length marks ≡ states → AreSetMarks states (take i set) marks → get_or set i 0 < length marks → AreSetMarks states (take (i + 1) set) (slice_set marks (get_or set i 0) true)
 marked_more states set i marks h l a w s p =

@@ -108,10 +108,7 @@ fn marks_of(alloc: Global, states: u32, set: &[u32]) -> Result<Vec<bool>, AllocE
     ensures size { IfOk result (λ marks. length marks.items ≡ states) }
     ensures marks { IfOk result (λ marks. AreSetMarks states set.now marks.items) }
 {
-    let mut marks = Vec::new(alloc);
-    for _ in 0..states {
-        marks.push(false)?;
-    }
+    let mut marks = vec![in alloc; false; states as usize]?;
     for state in set {
         mark(&mut marks, *state);
     }

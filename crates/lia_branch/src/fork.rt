@@ -1,5 +1,6 @@
-use crate::branch_rows::{at_least_row, at_most_row, none_out_row, some_in_row};
+use crate::branch_rows::{none_out_row, some_in_row};
 use farkas_check::{System, Tree};
+use lia_quick::{at_least_row, at_most_row};
 use std::alloc::{AllocError, Global};
 use sv_linear::Row;
 use sv_list::{Boxed, Items};

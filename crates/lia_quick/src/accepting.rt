@@ -1,15 +1,16 @@
-ghost use Rattle.std.specs.Prelude.{◌≡◌, ◌≢◌, map, List, [], ◌∷◌, ◌++◌, pos, neg_ℤ, ◌^◌, ◌<◌, IsTrue, IfOk, OnOk};
+ghost use Rattle.std.specs.Prelude.{◌≡◌, map, List, [], ◌∷◌, ◌++◌, IsTrue, IfOk, OnOk};
 ghost use Rattle.sv_linear.specs.Rows.{NameUnknowns};
 ghost use Rattle.sv_linear.specs.Terms.{AscendsWithin};
-ghost use Rattle.farkas_check.specs.Closings.{Closes, FarkasRule, DivisorRule, at_most, at_least};
-ghost use Rattle.farkas_check.specs.Fitting.{SumsFit, LeafFits};
+ghost use Rattle.farkas_check.specs.Closings.{FarkasRule, DivisorRule};
+ghost use Rattle.farkas_check.specs.Fitting.{IsAccepted, LeafFits};
 ghost use Rattle.farkas_check.specs.NodeLaws.{Told};
 ghost use Rattle.farkas_check.specs.Systems.{constraint_of};
 ghost use Rattle.farkas_check.specs.declared.net.Net.{Net};
 
+use crate::bound_rows::{at_least_row, at_most_row};
 use farkas_check::{LeafTest, System, Tree, test_divisor, test_farkas};
 use std::alloc::{AllocError, Global};
-use sv_linear::{Form, Row, RowKind};
+use sv_linear::Row;
 use sv_list::{Copied, Items};
 
 /// How many splits of a tree that is accepted may stand above one another.
@@ -18,11 +19,12 @@ const MOST_DEPTH: u32 = 1024;
 /// Whether the checker takes the tree; false too where it has set splits, or more than 1,024 splits above one
 /// another.
 ///
-/// As `closes`, with memory: the rows of the branches stand behind those of the system, and each leaf costs one
-/// merge for each multiplier. So a leaf of many multipliers isn't looked at once for each of its terms.
+/// As `closes`, with memory: the rows of the branches stand behind those of the system, and a leaf is linear in the
+/// unknowns and in the terms of the rows that it names. So a leaf of many multipliers isn't looked at once for each of
+/// its terms.
 pub(crate) fn accepts(alloc: Global, system: &System, tree: &Tree) -> Result<bool, AllocError>
     requires { NameUnknowns system.now.unknowns system.now.rows }
-    ensures { IfOk result (λ b. IsTrue b → Closes system.now tree.now × SumsFit system.now tree.now) }
+    ensures { IfOk result (λ b. IsTrue b → IsAccepted system.now tree.now) }
 {
     let mut rows = system.rows.copy(alloc)?;
     accepts_over(alloc, system.unknowns, &mut rows, tree, MOST_DEPTH)
@@ -125,27 +127,4 @@ fn accepts_divisor(
 {
     let test = test_divisor(alloc, unknowns, rows, multipliers, divisor)?;
     Ok(matches!(test, LeafTest::Closes))
-}
-
-fn at_most_row(alloc: Global, unknown: u32, at: i128) -> Result<Row, AllocError>
-    requires { at ≢ neg_ℤ (pos (2 ^ 127)) }
-    ensures { IfOk result (λ r. constraint_of r ≡ at_most unknown at) }
-{
-    let mut form = Form::of_constant(alloc, -at);
-    form.push(unknown, 1)?;
-    Ok(Row {
-        form,
-        kind: RowKind::Le,
-    })
-}
-
-fn at_least_row(alloc: Global, unknown: u32, least: i128) -> Result<Row, AllocError>
-    ensures { IfOk result (λ r. constraint_of r ≡ at_least unknown least) }
-{
-    let mut form = Form::of_constant(alloc, least);
-    form.push(unknown, -1)?;
-    Ok(Row {
-        form,
-        kind: RowKind::Le,
-    })
 }

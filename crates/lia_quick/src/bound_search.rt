@@ -139,7 +139,7 @@ impl BoundSearch {
         if !self.count_cut() {
             return Ok(NextStep::GivesUp);
         }
-        let Some(Choice { cut, low_first }) = rounded(rounding) else {
+        let Some(Choice { cut, low_first }) = rounded_choice(rounding) else {
             return Ok(NextStep::GivesUp);
         };
         let branch = self.levels.len();
@@ -171,8 +171,13 @@ impl BoundSearch {
 
     /// Counts a cut; false where it is one too many.
     fn count_cut(&mut self) -> bool {
-        self.left = self.left.saturating_sub(1);
-        self.left > 0
+        match self.left.checked_sub(1) {
+            Some(left) => {
+                self.left = left;
+                true
+            }
+            None => false,
+        }
     }
 
     /// The leaf of a reason, over the rows of the whole system, and then over those of so many branches.
@@ -271,7 +276,7 @@ struct Choice {
 }
 
 /// The split at a rounded bound, whose open side comes first; `None` where a number leaves 128 bits.
-fn rounded(rounding: &Rounding) -> Option<Choice> {
+fn rounded_choice(rounding: &Rounding) -> Option<Choice> {
     let unknown = rounding.unknown;
     match rounding.side {
         BoundSide::Upper => Some(Choice {

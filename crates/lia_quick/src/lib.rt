@@ -8,8 +8,8 @@
 //! and in the middle of the narrowest range of an equation, and answers a point or a tree of the whole. `restore_tree`
 //! takes a tree of what is left to the rows of the whole.
 //!
-//! Costs: at most 4,000 splits, and 2^21 terms that are looked at or written down. A tree is tested with one merge for
-//! each multiplier of its leaves.
+//! Costs: at most 4,000 splits, and 2^21 terms that are looked at or written down. A leaf of a tree is tested in time
+//! linear in the unknowns and in the terms of the rows that it names.
 //!
 //! ```text
 //! let Some(reduced) = reduce(alloc, &system, &elimination)? else { .. };
@@ -18,10 +18,12 @@
 #![tactic(auto)]
 
 mod accepting;
+mod bound_rows;
 mod bound_search;
 mod bounds;
 mod queue;
 mod reasons;
 mod restoring;
 
+pub use bound_rows::{at_least_row, at_most_row};
 pub use restoring::{QuickAnswer, restore_tree, solve_by_bounds};

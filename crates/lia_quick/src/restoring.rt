@@ -1,6 +1,7 @@
 ghost use Rattle.std.specs.Prelude.{IfOk, IfSome};
 ghost use Rattle.sv_linear.specs.Rows.{NameUnknowns};
-ghost use Rattle.lia_quick.specs.Finds.{IsTreeOf, IsQuickAnswer};
+ghost use Rattle.farkas_check.specs.Fitting.{IsAccepted};
+ghost use Rattle.lia_quick.specs.Finds.{IsQuickAnswer};
 
 use crate::accepting::accepts;
 use crate::bound_search::{BoundsEnding, search};
@@ -28,7 +29,7 @@ pub fn restore_tree(
     tree: &Tree,
 ) -> Result<Option<Tree>, AllocError>
     requires { NameUnknowns system.now.unknowns system.now.rows }
-    ensures { IfOk result (λ o. IfSome o (IsTreeOf system.now)) }
+    ensures { IfOk result (λ o. IfSome o (IsAccepted system.now)) }
 {
     let reduction = Reduction {
         system,
@@ -44,7 +45,7 @@ pub fn restore_tree(
 /// The tree, where it closes the system.
 fn accept(alloc: Global, system: &System, tree: Tree) -> Result<Option<Tree>, AllocError>
     requires { NameUnknowns system.now.unknowns system.now.rows }
-    ensures { IfOk result (λ o. IfSome o (IsTreeOf system.now)) }
+    ensures { IfOk result (λ o. IfSome o (IsAccepted system.now)) }
 {
     if accepts(alloc, system, &tree)? {
         Ok(Some(tree))

@@ -1,1 +1,2 @@
 pub mod FormValues
+pub mod Within

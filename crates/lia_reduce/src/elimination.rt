@@ -50,7 +50,7 @@ impl Elimination {
     /// number squared, times their terms.
     pub fn of(alloc: Global, system: &System) -> Result<Option<Elimination>, AllocError> {
         let mut elimination = Elimination {
-            owners: no_owners(alloc, system.unknowns)?,
+            owners: vec![in alloc; None; system.unknowns as usize]?,
             sums: Items::new(alloc),
             owned: Items::new(alloc),
             unknowns: system.unknowns,
@@ -238,14 +238,6 @@ fn is_long(form: &Form) -> bool {
     form.coefficients.len() > SHORT
 }
 
-fn no_owners(alloc: Global, count: u32) -> Result<Vec<Option<usize>>, AllocError> {
-    let mut owners = Vec::new(alloc);
-    for _ in 0..count {
-        owners.push(None)?;
-    }
-    Ok(owners)
-}
-
 fn earlier(first: Option<usize>, other: usize) -> Option<usize> {
     match first {
         Some(found) if found <= other => Some(found),
@@ -293,10 +285,7 @@ struct DenseForm {
 
 impl DenseForm {
     fn zero(alloc: Global, unknowns: usize) -> Result<DenseForm, AllocError> {
-        let mut numbers = Vec::new(alloc);
-        for _ in 0..unknowns {
-            numbers.push(0i128)?;
-        }
+        let numbers = vec![in alloc; 0; unknowns]?;
         Ok(DenseForm {
             numbers,
             constant: 0,

@@ -1,4 +1,4 @@
-ghost use Rattle.std.specs.Prelude.{◌≡◌, ℕ, [], Some, slice_get, IfOk, IfSome, IsTrue};
+ghost use Rattle.std.specs.Prelude.{◌≡◌, ℕ, [], Some, slice_get, IfOk, IfSome, IsTrue, ◌↔◌};
 ghost use Rattle.sv_linear.specs.Rows.{IsRowWithin};
 ghost use Rattle.sv_linear.specs.declared.row.Row.{Row};
 
@@ -72,7 +72,7 @@ fn kind_at(system: &System, row: usize) -> RowKind {
 
 /// Whether the row names unknowns below a number alone, and doesn't hold the least number.
 pub fn is_within(row: &Row, unknowns: u32) -> bool
-    ensures { IsTrue result → IsRowWithin unknowns row.now }
+    ensures { IsTrue result ↔ IsRowWithin unknowns row.now }
 {
     if row.form.constant < LEAST {
         return false;
@@ -120,11 +120,7 @@ struct Left {
 
 impl Left {
     fn new(alloc: Global, rows: usize) -> Result<Left, AllocError> {
-        let mut table = Vec::new(alloc);
-        for _ in 0..rows {
-            table.push(0usize)?;
-            table.push(0)?;
-        }
+        let table = vec![in alloc; 0; rows.saturating_mul(2)]?;
         Ok(Left {
             sums: Items::new(alloc),
             kinds: Items::new(alloc),

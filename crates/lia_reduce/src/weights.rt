@@ -13,10 +13,7 @@ pub struct Weights {
 impl Weights {
     /// Nothing is taken, of so many.
     pub fn new(alloc: Global, count: usize, divisor: Option<i128>) -> Result<Weights, AllocError> {
-        let mut numbers = Vec::new(alloc);
-        for _ in 0..count {
-            numbers.push(0)?;
-        }
+        let numbers = vec![in alloc; 0; count]?;
         Ok(Weights { numbers, divisor })
     }
 

@@ -144,8 +144,8 @@ impl Tableau {
         self.table.pivots
     }
 
-    /// What the rows show. Reads what is kept of each row, three flags a quantity, and the terms of one
-    /// row at the most; takes no memory.
+    /// What the lines show. Reads what is kept of each line, three flags a quantity, and the terms of one
+    /// line at the most; takes no memory.
     pub fn status(&self) -> TableauStatus
         ensures shows { IsStatus self.now result }
         ensures no_whole { (k : ℕ) → result ≡ Divisor k → (x : ℕ → ℤ) → SolvesWithSlacks self.now.unknowns self.now.rows x (pos 1) → ⊥ }
@@ -177,7 +177,7 @@ impl Tableau {
         }
     }
 
-    /// The row at a place, as an equation over the quantities in their order. The coefficients of the
+    /// The line at a place, as an equation over the quantities in their order. The coefficients of the
     /// slacks are the multipliers by which the rows give it. Linear in the quantities; takes no memory.
     pub fn identity(&self, at: u32) -> &Row
         requires { at < length self.now.rows }
@@ -189,7 +189,7 @@ impl Tableau {
         row_at(self.table.lines.as_slice(), at)
     }
 
-    /// Makes the due pivot. One merge, and one look at the merged terms, for each row that holds the
+    /// Makes the due pivot. One merge, and one look at the merged terms, for each line that holds the
     /// quantity that comes in.
     ///
     /// Want of memory is also answered where 2^64 - 1 pivots have been made.

@@ -36,7 +36,7 @@ impl Written {
     }
 
     #[tactic(auto, using(crate::proofs::Spelled::three))]
-    fn small(&mut self, number: u32) -> Result<(), AllocError>
+    fn put_small(&mut self, number: u32) -> Result<(), AllocError>
         ensures { OnOk result (self.new.numbers ≡ self.old.numbers ++ flat (word (number ∷ []))) }
     {
         self.numbers.push(1)?;
@@ -57,7 +57,7 @@ impl Written {
     {
         self.open(tag)?;
         self.pair()?;
-        self.small(number)?;
+        self.put_small(number)?;
         Ok(())
     }
 
@@ -102,7 +102,7 @@ impl Written {
         match term {
             Term::Truth(b) => {
                 self.open(0)?;
-                self.small(truth_number(*b))
+                self.put_small(truth_number(*b))
             }
             Term::Number(n) => {
                 self.open(1)?;
@@ -133,7 +133,7 @@ impl Written {
             }
             Term::Opaque(sort) => {
                 self.open(7)?;
-                self.small(sort_number(*sort))
+                self.put_small(sort_number(*sort))
             }
         }
     }

@@ -2,7 +2,7 @@
 use Rattle.std.specs.Prelude.{◌≡◌, ℕ, zero, suc, ◌+◌, ◌<◌, ◌≤◌, ◌^◌, max, List, [], ◌∷◌, ◌++◌, length, slice_index, Contains, All}
 use Rattle.std.proofs.Common.{arith, refl, sym, ap, ◌∙◌}
 use Rattle.std.proofs.lemmas.List.{length-replicate}
-use Rattle.machine_core.specs.Costs.{add_costs, zeros, total_of, entry_total, IsCost, top_by, cost_top}
+use Rattle.machine_core.specs.Costs.{add_costs, zeros, total_of, entry_total, IsCost, CanAdd, top_by, cost_top}
 
 pub zeros-length : (n : ℕ) → length (zeros n) ≡ n
 zeros-length n = length-replicate n 0
@@ -85,8 +85,11 @@ pub IsCost-weaker : (width s t : ℕ) (a : List ℕ) → s ≤ t → IsCost widt
 IsCost-weaker width s t a h p = record { entries = p.entries; below = λ k. let e = p.below k in omega arith }
 
 -- two costs whose greatest numbers add up below 2^64 can be added
-pub sums-fit : (width s t : ℕ) (a b : List ℕ) → s + t < 2 ^ 64 → IsCost width s a → IsCost width t b → (k : ℕ) → slice_index a k + slice_index b k < 2 ^ 64
-sums-fit width s t a b h p q k = let l = p.below k in let r = q.below k in omega arith
+pub CanAdd-within : (width s t : ℕ) (a b : List ℕ) → s + t < 2 ^ 64 → IsCost width s a → IsCost width t b → CanAdd a b
+CanAdd-within width s t a b h p q = record {
+  same = p.entries ∙ sym q.entries;
+  fits = λ k. let l = p.below k in let r = q.below k in omega arith;
+}
 
 pub total_of-length : (costs : List (List ℕ)) (last : List ℕ) (n : ℕ) → All (λ k. length k ≡ n) costs → length last ≡ n → length (total_of costs last) ≡ n
 total_of-length [] last n h e = e

@@ -30,6 +30,11 @@ pub record IsCost (width top : ℕ) (cost : List ℕ) : Type 0 where
   pub entries : length cost ≡ width
   pub below : (k : ℕ) → slice_index cost k ≤ top
 
+-- the two costs can be added: they have as many numbers, and no sum is past 64 bits
+pub record CanAdd (a b : List ℕ) : Type 0 where
+  pub same : length a ≡ length b
+  pub fits : (k : ℕ) → slice_index a k + slice_index b k < 2 ^ 64
+
 -- each number fits 64 bits
 abbrev pub Fits : List ℕ → Type 0
 Fits cost = (k : ℕ) → slice_index cost k < 2 ^ 64

@@ -1,5 +1,5 @@
 -- The meaning of listed edges and ends.
-use Rattle.std.specs.Prelude.{◌≡◌, ℕ, ◌<◌, ◌≤◌, max, Any, Contains, List, length, IsTrue}
+use Rattle.std.specs.Prelude.{◌≡◌, ℕ, ◌<◌, ◌≤◌, max, Any, Contains, List, [], ◌∷◌, length, slice_get, Some, IsTrue}
 use Rattle.sv_word.specs.Ranges.{in_ranges, IsInhabited}
 use Rattle.machine_core.specs.Costs.{zeros, top_by, cost_top}
 use Rattle.machine_core.specs.Moves.{Moves}
@@ -25,6 +25,11 @@ EndsAt ends at cost = Any (λ e. (e.at ≡ at) × (e.cost ≡ cost)) ends
 -- one of the edges leads from a state to a state on this character, at this cost
 abbrev pub StepsBy : List Edge → ℕ → ℕ → List ℕ → ℕ → Type 0
 StepsBy edges from c cost to = Any (λ e. (e.from ≡ from) × Moves c cost to (move_of e)) edges
+
+-- the edges at these places lead from `s` to `t`, one after another
+abbrev pub IsWalk : List Edge → ℕ → List ℕ → ℕ → Type 0
+IsWalk edges s [] t = s ≡ t
+IsWalk edges s (p ∷ ps) t = (e : Edge) × (slice_get edges p ≡ Some e) × (e.from ≡ s) × IsWalk edges e.to ps t
 
 -- the keys by which edges and ends are found
 abbrev pub from_of : Edge → ℕ

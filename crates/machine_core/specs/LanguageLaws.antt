@@ -4,7 +4,7 @@ use Rattle.std.proofs.Common.{refl, sym, ap, ◌∙◌, subst}
 use Rattle.sv_word.specs.Words.{IsWord, greatest_character}
 use Rattle.machine_core.specs.Costs.{add_costs, zeros}
 use Rattle.machine_core.specs.CostLaws.{add_costs-assoc, add_costs-length, zeros-add_costs}
-use Rattle.machine_core.specs.Language.{RunsFrom, SameRuns, IsReached, here, next, StopsAt}
+use Rattle.machine_core.specs.Language.{RunsFrom, IsReached, here, next, StopsAt}
 
 -- a machine with more ends and more steps has more pairs; so machines with the same ends and steps have the same
 pub runs_within : {S : Type 0} (ends ends' : S → List ℕ → Type 0) (steps steps' : S → ℕ → List ℕ → S → Type 0)
@@ -13,11 +13,6 @@ pub runs_within : {S : Type 0} (ends ends' : S → List ℕ → Type 0) (steps s
 runs_within ends ends' steps steps' f g [] s cost r = f s cost r
 runs_within ends ends' steps steps' f g (c ∷ word) s cost r =
     (r.0, r.1, r.2, g s c r.0 r.1 r.3, runs_within ends ends' steps steps' f g word r.1 r.2 r.4, r.5)
-
-pub SameRuns-trans : {S T U : Type 0} (e1 : S → List ℕ → Type 0) (m1 : S → ℕ → List ℕ → S → Type 0) (s : S)
-    (e2 : T → List ℕ → Type 0) (m2 : T → ℕ → List ℕ → T → Type 0) (t : T) (e3 : U → List ℕ → Type 0) (m3 : U → ℕ → List ℕ → U → Type 0) (u : U)
-    → SameRuns e1 m1 s e2 m2 t → SameRuns e2 m2 t e3 m3 u → SameRuns e1 m1 s e3 m3 u
-SameRuns-trans e1 m1 s e2 m2 t e3 m3 u f g word cost = (λ r. (g word cost).0 ((f word cost).0 r), λ r. (f word cost).1 ((g word cost).1 r))
 
 module _ {S : Type 0} (is_state : S → Type 0) (steps : S → ℕ → List ℕ → S → Type 0)
     (step_is_state : (s t : S) (c : ℕ) (cost : List ℕ) → is_state s → steps s c cost t → is_state t) where

@@ -1,7 +1,6 @@
 -- What runs cost at most at one register, in the number of their characters.
 use Rattle.std.specs.Prelude.{◌≡◌, ℕ, ◌≤◌, ◌+◌, ◌*◌, List, [], ◌∷◌, length, slice_index, refl}
 use Rattle.std.proofs.Common.{arith, sym, subst}
-use Rattle.std.proofs.Math.Nat.{mul-le-mul_right}
 use Rattle.machine_core.specs.Costs.{zeros}
 use Rattle.machine_core.specs.CostLaws.{add_costs-zeros, add_costs-most, zeros-entry}
 use Rattle.machine_core.specs.Language.{RunsFrom, StopsAt}
@@ -14,14 +13,6 @@ RunsWithin {S} is_state ends steps register slope base = (s : S) (word cost : Li
 -- so does each path between two states, whether the word may end there or not
 abbrev pub PathsWithin : {S : Type 0} → (S → Type 0) → ℕ → (S → ℕ → List ℕ → S → Type 0) → ℕ → ℕ → ℕ → Type 0
 PathsWithin {S} is_state width steps register slope base = (t : S) → RunsWithin is_state (StopsAt width t) steps register slope base
-
--- a greater bound is one too
-pub RunsWithin-weaker : {S : Type 0} (is_state : S → Type 0) (ends : S → List ℕ → Type 0) (steps : S → ℕ → List ℕ → S → Type 0) (register a b c d : ℕ)
-    → a ≤ c → b ≤ d → RunsWithin is_state ends steps register a b → RunsWithin is_state ends steps register c d
-RunsWithin-weaker is_state ends steps register a b c d p q h s word cost ok r =
-    let here = h s word cost ok r in
-    let grown : a * length word ≤ c * length word = mul-le-mul_right (length word) p in
-    omega arith
 
 -- a step costs at most slope and base together
 pub step_within : {S : Type 0} (is_state : S → Type 0) (width : ℕ) (steps : S → ℕ → List ℕ → S → Type 0) (register slope base : ℕ)

@@ -75,12 +75,6 @@ module _ {S : Type 0} (steps : S → ℕ → List ℕ → S → Type 0) where
       → IsPath steps s us word costs t → RunsFrom (StopsAt width t) steps s word (total_of costs (zeros width))
   path_stops width s us word costs t h = path_accepted (StopsAt width t) s us word costs t (zeros width) h (refl, refl)
 
-  pub stops_path : (width : ℕ) (t : S) (word : List ℕ) (s : S) (cost : List ℕ) → RunsFrom (StopsAt width t) steps s word cost
-      → (us : List S) × (costs : List (List ℕ)) × IsPath steps s us word costs t × (total_of costs (zeros width) ≡ cost)
-  stops_path width t word s cost r =
-      let p = accepted_path (StopsAt width t) word s cost r in
-      (p.0, p.1, subst (IsPath steps s p.0 word p.1) p.5.0 p.4, ap (total_of p.1) (sym p.5.1) ∙ p.6)
-
   module _ (is_state : S → Type 0) (width : ℕ) (step_is_state : (s t : S) (c : ℕ) (cost : List ℕ) → is_state s → steps s c cost t → is_state t)
       (step_width : (s t : S) (c : ℕ) (cost : List ℕ) → is_state s → steps s c cost t → length cost ≡ width) where
     abbrev HasWidth : List ℕ → Type 0

@@ -250,7 +250,8 @@ fn costs_of(alloc: Global, ends: &[End], places: &[usize]) -> Result<Items<Cost>
     requires { (i p : ℕ) → slice_get places.now i ≡ Some p → p < length ends.now }
     ensures { IfOk result (λ costs. costs ≡ map (λ e. e.cost) (pick ends.now places.now)) }
 {
-    let mut costs = Items::new(alloc);
+    let room = Vec::with_capacity(alloc, places.len())?;
+    let mut costs = Items::from_vec(room);
     for place in places {
         costs.push(ends[*place].cost.copy(alloc)?)?;
     }

@@ -52,7 +52,7 @@ impl Index {
 
 impl Copied for Index {
     fn copy(&self, alloc: Global) -> Result<Self, AllocError> {
-        let mut rows = Vec::new(alloc);
+        let mut rows = Vec::with_capacity(alloc, self.rows.len())?;
         for row in self.rows.as_slice() {
             rows.push(row.copy(alloc)?)?;
         }

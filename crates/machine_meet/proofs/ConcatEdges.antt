@@ -1,5 +1,5 @@
 -- The steps and ends of two machines one after the other.
-use Rattle.std.proofs.Common.{◌≡◌, ℕ, ◌+◌, ◌<◌, ◌≤◌, ◌^◌, ◌↔◌, ◌⊎◌, inl, inr, List, [], ◌∷◌, ◌++◌, length, map, take, get_or, Any, All, Contains, refl, ap, sym, ◌∙◌, subst, arith, add-one}
+use Rattle.std.proofs.Common.{◌≡◌, ℕ, ◌+◌, ◌<◌, ◌≤◌, ◌↔◌, ◌⊎◌, inl, inr, List, [], ◌∷◌, ◌++◌, length, map, take, get_or, Any, All, Contains, refl, ap, sym, ◌∙◌, subst, arith, add-one}
 use Rattle.sv_word.specs.Ranges.{IsInhabited, least_of}
 use Rattle.machine_core.specs.declared.edge.Edge.{Edge}
 use Rattle.machine_core.specs.declared.end.End.{End}
@@ -13,7 +13,6 @@ use Rattle.machine_core.specs.Edges.{move_of, EndsAt, StepsBy}
 use Rattle.machine_core.specs.EdgeLaws.{step_target, step_cost, end_cost}
 use Rattle.machine_core.specs.Graphs.{Accepts, graph_top}
 use Rattle.machine_meet.specs.Builds.{placed_edge, placed_end, after_edge, after_end, AfterSteps, AfterEnds, AddsPart, InTurn}
-use Rattle.machine_meet.specs.Joins.{CanAdd}
 use Rattle.machine_meet.proofs.JoinLemmas.{take-push}
 use Rattle.machine_meet.proofs.BuildEdges.{placed-steps, placed-ends, steps-append, ends-append, step-source, end-source, top-within}
 use Rattle.machine_meet.proofs.BuildRuns.{IsPlaced, concat-runs}
@@ -115,10 +114,6 @@ module _ (part : Graph) (offset : ℕ) where
           ],
         );
       })
-
--- what is no greater than a bound can be added where the bounds can
-pub can-add-within : (w s t : ℕ) (x y : List ℕ) → s + t < 2 ^ 64 → IsCost w s x → IsCost w t y → CanAdd x y
-can-add-within w s t x y lt p q = record { same = p.entries ∙ sym q.entries; fits = λ k. let l = p.below k in let r = q.below k in omega arith }
 
 module _ (w3 w4 a b : Graph) (edges : w3.edges ≡ map (placed_edge 0) a.edges ++ map (placed_edge a.states) b.edges) (ends : w3.ends ≡ map (placed_end a.states) b.ends)
     (on : AddsPart w3 w4 b a.ends a.states) where

@@ -1,12 +1,12 @@
 -- What the runs and paths of a product cost at most.
 use Rattle.std.proofs.Common.{◌≡◌, ℕ, ◌+◌, ◌*◌, ◌≤◌, List, [], ◌∷◌, length, slice_index, Contains, refl, sym, ◌∙◌, subst, arith}
 use Rattle.machine_core.specs.Costs.{add_costs, zeros}
-use Rattle.machine_core.specs.CostLaws.{add_costs-most, zeros-entry, zeros-add_costs-zeros}
+use Rattle.machine_core.specs.CostLaws.{add_costs-most, zeros-add_costs-zeros}
 use Rattle.machine_core.specs.Language.{StopsAt}
 use Rattle.machine_core.specs.Lists.{Contains-here, Contains-there}
-use Rattle.machine_core.specs.RunBounds.{RunsWithin, PathsWithin}
+use Rattle.machine_core.specs.RunBounds.{RunsWithin, PathsWithin, free_runs, free_paths}
 use Rattle.machine_meet.specs.Products.{AreStates, MeetEnds, MeetSteps, EachWithin, total}
-use Rattle.machine_meet.proofs.MeetRuns.{Parts, pair-out, none-out}
+use Rattle.machine_meet.proofs.MeetRuns.{Parts, pair-out}
 
 -- two bounds, added
 sums-within : (s t b d n : ℕ) (x y cost : List ℕ) (k : ℕ) → slice_index x k ≤ s * n + b → slice_index y k ≤ t * n + d → add_costs x y ≡ cost
@@ -16,22 +16,27 @@ sums-within s t b d n x y cost k p q e =
     let spread : (s + t) * n ≡ s * n + t * n = omega arith in
     omega arith
 
-free-within : (n w k : ℕ) (cost : List ℕ) → cost ≡ zeros w → slice_index cost k ≤ 0 * n + 0
-free-within n w k cost e = let z = zeros-entry w k in subst (λ l. slice_index l k ≤ 0 * n + 0) (sym e) (omega arith)
-
 module _ {P S : Type 0} (is_state : P → S → Type 0) (steps : P → S → ℕ → List ℕ → S → Type 0) (w register : ℕ) where
+  -- without parts no step leads away, and none costs anything
+  stays : (ss ts : List S) (c : ℕ) (cost : List ℕ) → AreStates is_state [] ss → MeetSteps steps w [] ss c cost ts → AreStates is_state [] ts
+  stays [] ts c cost ok m = subst (AreStates is_state []) (sym m.2) tt
+  stays (s ∷ ss) ts c cost ok m = absurd ok
+
+  free_step : (ss ts : List S) (c : ℕ) (cost : List ℕ) → AreStates is_state [] ss → MeetSteps steps w [] ss c cost ts → cost ≡ zeros w
+  free_step [] ts c cost ok m = m.1
+  free_step (s ∷ ss) ts c cost ok m = absurd ok
+
   abbrev RunsOf : (P → S → List ℕ → Type 0) → P → ℕ → ℕ → Type 0
   RunsOf ends p slope base = RunsWithin (is_state p) (ends p) (steps p) register slope base
 
   pub meet-runs : (ends : P → S → List ℕ → Type 0) (ps : List P) (slopes bases : List ℕ) → EachWithin (RunsOf ends) ps slopes bases
       → RunsWithin (AreStates is_state ps) (MeetEnds ends w ps) (MeetSteps steps w ps) register (total slopes) (total bases)
-  meet-runs ends [] [] [] h [] word cost ok run =
-      free-within (length word) w register cost (none-out steps w (MeetEnds ends w []) none word cost run).1
+  meet-runs ends [] [] [] h ss word cost ok run =
+      free_runs (AreStates is_state []) w (MeetSteps steps w []) register stays free_step (MeetEnds ends w []) free_end ss word cost ok run
     where
-      none : (ss : List S) (cost : List ℕ) → MeetEnds ends w [] ss cost → cost ≡ zeros w
-      none [] cost e = e
-      none (s ∷ ss) cost e = absurd e
-  meet-runs ends [] [] [] h (s ∷ ss) word cost ok run = absurd ok
+      free_end : (ss : List S) (cost : List ℕ) → AreStates is_state [] ss → MeetEnds ends w [] ss cost → cost ≡ zeros w
+      free_end [] cost ok e = e
+      free_end (s ∷ ss) cost ok e = absurd e
   meet-runs ends [] [] (b ∷ bases) h ss word cost ok run = absurd h
   meet-runs ends [] (a ∷ slopes) bases h ss word cost ok run = absurd h
   meet-runs ends (p ∷ ps) [] bases h ss word cost ok run = absurd h
@@ -49,9 +54,7 @@ module _ {P S : Type 0} (is_state : P → S → Type 0) (steps : P → S → ℕ
   pub meet-paths : (width : P → ℕ) (ps : List P) → ((p : P) → Contains ps p → width p ≡ w)
       → (slopes bases : List ℕ) → EachWithin (PathsOf width) ps slopes bases
       → PathsWithin (AreStates is_state ps) w (MeetSteps steps w ps) register (total slopes) (total bases)
-  meet-paths width [] agree [] [] h t [] word cost ok run =
-      free-within (length word) w register cost (none-out steps w (StopsAt w t) (λ ss cost e. e.1) word cost run).1
-  meet-paths width [] agree [] [] h t (s ∷ ss) word cost ok run = absurd ok
+  meet-paths width [] agree [] [] h t ss word cost ok run = free_paths (AreStates is_state []) w (MeetSteps steps w []) register stays free_step t ss word cost ok run
   meet-paths width [] agree [] (b ∷ bases) h t ss word cost ok run = absurd h
   meet-paths width [] agree (a ∷ slopes) bases h t ss word cost ok run = absurd h
   meet-paths width (p ∷ ps) agree [] bases h t ss word cost ok run = absurd h

@@ -1,12 +1,12 @@
 -- The product's moves, one machine after another, from the last.
 use Rattle.std.proofs.Common.{◌≡◌, ℕ, zero, suc, ◌+◌, ◌<◌, ◌≤◌, ◌^◌, ◌↔◌, List, [], ◌∷◌, length, drop, map, nat_eq, true, false, get_or, Any, Contains, refl, ap, sym, ◌∙◌, subst, arith}
 use Rattle.sv_word.specs.Ranges.{IsInhabited, least_of}
-use Rattle.machine_core.specs.Costs.{add_costs, zeros, IsCost}
+use Rattle.machine_core.specs.Costs.{add_costs, zeros, IsCost, CanAdd}
 use Rattle.machine_core.specs.Lists.{Any-none, Any-map, Any-from_map}
-use Rattle.machine_core.specs.CostLaws.{add_costs-zeros}
+use Rattle.machine_core.specs.CostLaws.{add_costs-zeros, CanAdd-within}
 use Rattle.machine_core.specs.Moves.{Moves}
 use Rattle.machine_core.specs.declared.machine.Move.{Move}
-use Rattle.machine_meet.specs.Joins.{AreJoins, AreInhabited, CanAdd, listed}
+use Rattle.machine_meet.specs.Joins.{AreJoins, AreInhabited, listed}
 use Rattle.machine_meet.specs.Products.{AreStates, MeetSteps, AreProduct, IsNothing, summed}
 use Rattle.sv_word.specs.Words.{greatest_character}
 use Rattle.std.proofs.lemmas.Bool.Decides.{nat_tests}
@@ -136,12 +136,6 @@ module _ {P S : Type 0} (steps : P → S → ℕ → List ℕ → S → Type 0) 
   steps-length (p ∷ ps) [] c cost ts m = absurd m
   steps-length (p ∷ ps) (s ∷ ss) c cost ts m = ap length (sym m.7) ∙ ap suc (steps-length ps ss c m.1 m.3 m.5)
 
-pub can-add : (w s t : ℕ) (a b : List ℕ) → s + t < 2 ^ 64 → IsCost w s a → IsCost w t b → CanAdd a b
-can-add w s t a b lt p q = record {
-  same = p.entries ∙ sym q.entries;
-  fits = λ k. let l = p.below k in let r = q.below k in omega arith;
-}
-
 -- a move that some character is on is a step
 pub move-step : {S : Type 0} (steps : ℕ → List ℕ → S → Type 0) (moves : List (Move S))
     → ((c : ℕ) (cost : List ℕ) (t : S) → steps c cost t ↔ Any (Moves c cost t) moves) → AreInhabited moves → (m : Move S) → Contains moves m → steps (least_of m.on) m.cost m.to
@@ -165,7 +159,7 @@ module _ {P S : Type 0} (is_state : P → S → Type 0) (steps : P → S → ℕ
       let b = meet_step-cost is_state width top steps step_cost w (drop (suc i) ps) (λ q k. agree q (Contains-drop ps (suc i) q k)) (drop (suc i) ss) t.to (least_of t.on) t.cost
       (states-drop is_state ps ss (suc i) states) (move-step (MeetSteps steps w (drop (suc i) ps) (drop (suc i) ss)) tails tail tail-in t in-t) in
       let low = top-drop top ps i p lt e in
-      can-add w (top p) (summed top (drop (suc i) ps)) h.cost t.cost (omega arith) a2 b
+      CanAdd-within w (top p) (summed top (drop (suc i) ps)) h.cost t.cost (omega arith) a2 b
 
 pub listed-inhabited : {S : Type 0} (moves : List (Move S)) → AreInhabited moves → AreInhabited (map listed moves)
 listed-inhabited [] h k d lt = absurd (omega arith)

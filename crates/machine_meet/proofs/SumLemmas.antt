@@ -1,12 +1,13 @@
 -- The end costs of a product, one machine after another, from the last.
 use Rattle.std.proofs.Common.{◌≡◌, ℕ, zero, suc, ◌+◌, ◌<◌, ◌^◌, ◌↔◌, inl, inr, List, [], ◌∷◌, ◌++◌, length, take, drop, get_or, Any, Contains, refl, ap, sym, ◌∙◌, subst, arith, add-one}
-use Rattle.machine_core.specs.Costs.{add_costs, zeros, IsCost}
-use Rattle.machine_meet.specs.Joins.{AddsSums, AreSums, CanAdd}
+use Rattle.machine_core.specs.Costs.{add_costs, zeros, IsCost, CanAdd}
+use Rattle.machine_core.specs.CostLaws.{CanAdd-within}
+use Rattle.machine_meet.specs.Joins.{AddsSums, AreSums}
 use Rattle.machine_meet.specs.Products.{AreStates, AreEndCosts, summed}
 use Rattle.machine_meet.specs.ProductLaws.{meet_end-cost}
 use Rattle.machine_core.specs.Lists.{Any-none, Any-push_cases}
 use Rattle.machine_meet.proofs.JoinLemmas.{take-push, take-all, Any-push, Any-old}
-use Rattle.machine_meet.proofs.ProductLemmas.{drop-here, drop-end, states-at, states-drop, top-drop, Contains-drop, can-add}
+use Rattle.machine_meet.proofs.ProductLemmas.{drop-here, drop-end, states-at, states-drop, top-drop, Contains-drop}
 
 module _ (head : List ℕ) where
   sums-start : (old : List (List ℕ)) → AddsSums head [] old old
@@ -115,4 +116,4 @@ module _ {P S : Type 0} (is_state : P → S → Type 0) (ends : P → S → List
       let b = meet_end-cost is_state width top ends end_cost w (drop (suc i) ps) (λ q k. agree q (Contains-drop ps (suc i) q k)) (drop (suc i) ss) t
       (states-drop is_state ps ss (suc i) states) ((tail t).1 (in-t.0, t, in-t.1, in-t.2, refl)) in
       let low = top-drop top ps i p lt e in
-      can-add w (top p) (summed top (drop (suc i) ps)) h t (omega arith) a2 b
+      CanAdd-within w (top p) (summed top (drop (suc i) ps)) h t (omega arith) a2 b

@@ -1,5 +1,5 @@
 -- Moves and end costs of a machine, joined with those of the machines after it.
-use Rattle.std.specs.Prelude.{◌≡◌, ℕ, ◌&&◌, [], ◌∷◌, List, IsTrue, All, Any, ◌↔◌, ◌⊎◌, length, slice_index, ◌+◌, ◌<◌, ◌^◌}
+use Rattle.std.specs.Prelude.{◌≡◌, ℕ, ◌&&◌, [], ◌∷◌, List, IsTrue, All, Any, ◌↔◌, ◌⊎◌}
 use Rattle.sv_word.specs.Ranges.{in_ranges, IsInhabited}
 use Rattle.machine_core.specs.Costs.{add_costs}
 use Rattle.machine_core.specs.declared.machine.Move.{Move}
@@ -15,11 +15,6 @@ pub record IsJoin {S : Type 0} (head : Move S) (tail : Move (List S)) (m : Move 
   pub cost : m.cost ≡ add_costs head.cost tail.cost
   pub to : m.to ≡ head.to ∷ tail.to
   pub inhabited : IsInhabited m.on
-
--- two costs can be added
-pub record CanAdd (a b : List ℕ) : Type 0 where
-  pub same : length a ≡ length b
-  pub fits : (k : ℕ) → slice_index a k + slice_index b k < 2 ^ 64
 
 -- each of the moves reads some character
 abbrev pub AreInhabited : {S : Type 0} → List (Move S) → Type 0

@@ -1,9 +1,9 @@
 ghost use Rattle.std.specs.Prelude.{◌≡◌, ℕ, ◌+◌, ◌<◌, ◌≤◌, ◌^◌, ◌++◌, ◌∷◌, [], ◌↔◌, List, length, slice_index, map, Contains, IfOk, OnOk};
 ghost use Rattle.machine_core.specs.declared.machine.Move.{Move};
+ghost use Rattle.machine_core.specs.Costs.{CanAdd};
 ghost use Rattle.machine_core.specs.Graphs.{Accepts, graph_top};
 ghost use Rattle.machine_core.specs.Moves.{IsMove};
 ghost use Rattle.machine_meet.specs.Builds.{after_edge, after_end, placed_edge, placed_end, AddsPart, InTurn};
-ghost use Rattle.machine_meet.specs.Joins.{CanAdd};
 
 use crate::place::{count, place_edges, place_ends};
 use machine_core::{Cost, End, Explicit, Machine, Move};

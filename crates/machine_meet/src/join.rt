@@ -2,7 +2,8 @@
 ghost use Rattle.std.specs.Prelude.{◌≡◌, ℕ, ◌<◌, ◌∷◌, List, IfOk, Contains, IsTrue};
 ghost use Rattle.sv_word.specs.Ranges.{in_ranges};
 ghost use Rattle.machine_core.specs.declared.machine.Move.{Move};
-ghost use Rattle.machine_meet.specs.Joins.{IsJoin, CanAdd, AreInhabited, AreJoins};
+ghost use Rattle.machine_core.specs.Costs.{CanAdd};
+ghost use Rattle.machine_meet.specs.Joins.{IsJoin, AreInhabited, AreJoins};
 
 use crate::overlaps::meeting_pairs;
 use machine_core::{Move, State};

@@ -1,6 +1,7 @@
 //! The end costs of machines, added up.
 ghost use Rattle.std.specs.Prelude.{◌≡◌, ℕ, ◌<◌, ◌^◌, List, IfOk, OnOk, Contains};
-ghost use Rattle.machine_meet.specs.Joins.{CanAdd, AddsSums, AreSums};
+ghost use Rattle.machine_core.specs.Costs.{CanAdd};
+ghost use Rattle.machine_meet.specs.Joins.{AddsSums, AreSums};
 ghost use Rattle.machine_meet.specs.Products.{AreStates, AreEndCosts, summed};
 
 use machine_core::{Cost, Machine};

@@ -6,7 +6,7 @@ use Rattle.machine_core.specs.declared.end.End.{End}
 use Rattle.machine_core.specs.declared.graph.Graph.{Graph}
 use Rattle.machine_core.specs.declared.run.Run.{Run}
 use Rattle.machine_core.specs.Moves.{Moves}
-use Rattle.machine_core.specs.Edges.{EndsAt, StepsBy, move_of}
+use Rattle.machine_core.specs.Edges.{EndsAt, StepsBy, move_of, IsWalk}
 use Rattle.machine_core.specs.EdgeLaws.{step_target, step_cost, end_cost}
 use Rattle.machine_core.specs.Graphs.{IsRunOf}
 use Rattle.machine_core.specs.Runs.{IsPath}
@@ -14,7 +14,6 @@ use Rattle.machine_core.specs.RunLaws.{path_lengths, run_formed}
 use Rattle.parikh_flow.specs.Counts.{occurrences, size_of}
 use Rattle.parikh_flow.specs.Balance.{one_at}
 use Rattle.parikh_flow.specs.Flows.{LeadsAlong, IsFlow}
-use Rattle.parikh_flow.specs.Tours.{IsWalk}
 use Rattle.std.proofs.lemmas.Bool.Decides.{nat_tests}
 use Rattle.parikh_flow.proofs.Gets.{slice_get-below, slice_get-in}
 use Rattle.parikh_flow.proofs.CountLemmas.{length-set, one_at-is, one_at-suc}

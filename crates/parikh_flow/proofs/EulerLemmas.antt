@@ -12,7 +12,8 @@ use Rattle.parikh_flow.specs.Balance.{one_at, AreBalanced}
 use Rattle.parikh_flow.specs.Flows.{LeadsAlong, GoesAlong, IsFlow}
 use Rattle.parikh_flow.specs.Nets.{AreJoined}
 use Rattle.parikh_flow.specs.Solutions.{HaveFlowsAt, HaveJoinedCounts}
-use Rattle.parikh_flow.specs.Tours.{IsWalk, IsDrained, IsTour, IsToured}
+use Rattle.parikh_flow.specs.Tours.{IsDrained, IsTour, IsToured}
+use Rattle.machine_core.specs.Edges.{IsWalk}
 use Rattle.parikh_flow.proofs.Gets.{slice_get-some, slice_get-in}
 use Rattle.parikh_flow.proofs.CountLemmas.{total-fall}
 use Rattle.parikh_flow.proofs.MarkLemmas.{used-found}

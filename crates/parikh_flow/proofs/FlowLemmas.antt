@@ -5,7 +5,7 @@ use Rattle.std.proofs.lemmas.Int.{ints}
 use Rattle.machine_core.specs.declared.edge.Edge.{Edge}
 use Rattle.machine_core.specs.declared.graph.Graph.{Graph}
 use Rattle.machine_core.specs.declared.run.Run.{Run}
-use Rattle.machine_core.specs.Edges.{StepsBy, from_of, at_of}
+use Rattle.machine_core.specs.Edges.{StepsBy, from_of, at_of, IsWalk}
 use Rattle.machine_core.specs.Graphs.{IsRunOf}
 use Rattle.machine_core.specs.Runs.{IsPath}
 use Rattle.machine_core.specs.Lists.{slice_get-contains}
@@ -16,7 +16,7 @@ use Rattle.parikh_flow.specs.Counts.{occurrences, total_count, to_of, edge_count
 use Rattle.parikh_flow.specs.Balance.{one_at, AreBalanced}
 use Rattle.parikh_flow.specs.Flows.{LeadsAlong, IsFlow}
 use Rattle.parikh_flow.specs.Nets.{net_edge, net_edges, net_of, counted, AreJoined, AreApart}
-use Rattle.parikh_flow.specs.Tours.{IsWalk, Balances}
+use Rattle.parikh_flow.specs.Tours.{Balances}
 use Rattle.parikh_flow.proofs.Gets.{slice_get-below, slice_get-in}
 use Rattle.parikh_flow.proofs.CountLemmas.{counts_at-fall, counts_at-none, total-fall, index-fall, occurs, occurs-at, one_at-same}
 use Rattle.parikh_flow.proofs.RunLemmas.{net-in, net-out, index-take, index-drop}

@@ -8,7 +8,7 @@ use Rattle.machine_core.specs.declared.edge.Edge.{Edge}
 use Rattle.machine_core.specs.declared.graph.Graph.{Graph}
 use Rattle.machine_core.specs.declared.run.Run.{Run}
 use Rattle.machine_core.specs.Moves.{Moves}
-use Rattle.machine_core.specs.Edges.{StepsBy, move_of}
+use Rattle.machine_core.specs.Edges.{StepsBy, move_of, IsWalk}
 use Rattle.machine_core.specs.Graphs.{IsRunOf}
 use Rattle.machine_core.specs.Runs.{IsPath}
 use Rattle.machine_core.specs.Lists.{slice_get-contains, Contains-here, Contains-there}
@@ -18,7 +18,7 @@ use Rattle.farkas_check.specs.Cuts.{IsUnreached}
 use Rattle.parikh_flow.specs.Balance.{one_at}
 use Rattle.parikh_flow.specs.Flows.{LeadsAlong, GoesAlong, CountsPlaces}
 use Rattle.parikh_flow.specs.Nets.{net_edge, net_edges, net_of, counted}
-use Rattle.parikh_flow.specs.Tours.{IsWalk, IsDrained, IsToured, IsMet}
+use Rattle.parikh_flow.specs.Tours.{IsDrained, IsToured, IsMet}
 use Rattle.parikh_flow.proofs.Gets.{slice_get-below, slice_get-some}
 use Rattle.parikh_flow.proofs.CountLemmas.{occurs, occurs-at, occurrences-reverse}
 

@@ -10,7 +10,8 @@ ghost use Rattle.parikh_flow.specs.Counts.{total_count};
 ghost use Rattle.parikh_flow.specs.Balance.{AreBalanced, one_at};
 ghost use Rattle.parikh_flow.specs.Flows.{IsFlow, LeadsAlong};
 ghost use Rattle.parikh_flow.specs.Nets.{AreApart};
-ghost use Rattle.parikh_flow.specs.Tours.{IsWalk, IsMet};
+ghost use Rattle.parikh_flow.specs.Tours.{IsMet};
+ghost use Rattle.machine_core.specs.Edges.{IsWalk};
 
 use crate::flow_fault::FlowFault;
 use crate::items::item_at;

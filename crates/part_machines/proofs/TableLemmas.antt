@@ -18,7 +18,7 @@ use Rattle.machine_core.specs.Lists.{Any-none, Any-here, Any-push_cases, Any-app
 use Rattle.part_machines.specs.declared.table.TableLeg.{TableLeg}
 use Rattle.part_machines.specs.declared.table.TableRow.{TableRow}
 use Rattle.part_machines.specs.Parts.{Decides}
-use Rattle.part_machines.specs.Tables.{IsLast, IsOfTable, IsRow, StepsAlong, StepsOfRow, after, lead, lead_by, next}
+use Rattle.part_machines.specs.Tables.{IsEndState, IsOfTable, IsRow, StepsAlong, StepsOfRow, after, lead, lead_by, next}
 
 pub less_or_not : (a b : ℕ) → ((a < b) × (nat_lt a b ≡ true)) ⊎ ((b ≤ a) × (nat_lt a b ≡ false))
 less_or_not a b = by (nat_lt a b) refl
@@ -149,11 +149,11 @@ led-end old m n at row start states i legs same past size h added =
     (λ s c cost t. subst (λ x. StepsBy n.edges s c cost t ↔ (StepsBy m.edges s c cost t ⊎ StepsAlong at start (greatest_character + 1) row.rest x s c cost t)) size (added s c cost t))
 
 -- the ends
-pub end-left-out : (E : List End) (at last : ℕ) (holds : Bool) → ((at ≡ last → holds ≡ false) × ((at ≡ last → ⊥) → holds ≡ true)) → (s : ℕ) (cost : List ℕ) → EndsAt E s cost ↔ (EndsAt E s cost ⊎ ((at ≡ s) × ([] ≡ cost) × IsLast holds last s))
+pub end-left-out : (E : List End) (at last : ℕ) (holds : Bool) → ((at ≡ last → holds ≡ false) × ((at ≡ last → ⊥) → holds ≡ true)) → (s : ℕ) (cost : List ℕ) → EndsAt E s cost ↔ (EndsAt E s cost ⊎ ((at ≡ s) × ([] ≡ cost) × IsEndState holds last s))
 end-left-out E at last true h s cost = or-none (λ b. let e = h.0 (b.0 ∙ b.2) in cc)
 end-left-out E at last false h s cost = or-none (λ b. let e = h.1 (λ f. b.2 (sym b.0 ∙ f)) in cc)
 
-is-last : (at last : ℕ) (holds : Bool) → ((at ≡ last → holds ≡ true) × ((at ≡ last → ⊥) → holds ≡ false)) → IsLast holds last at
+is-last : (at last : ℕ) (holds : Bool) → ((at ≡ last → holds ≡ true) × ((at ≡ last → ⊥) → holds ≡ false)) → IsEndState holds last at
 is-last at last true h = by (less_or_not at last) (less_or_not last at)
   where
     by : ((at < last) × (nat_lt at last ≡ true)) ⊎ ((last ≤ at) × (nat_lt at last ≡ false)) → ((last < at) × (nat_lt last at ≡ true)) ⊎ ((at ≤ last) × (nat_lt last at ≡ false)) → at ≡ last
@@ -163,13 +163,13 @@ is-last at last true h = by (less_or_not at last) (less_or_not last at)
 is-last at last false h = λ e. let f = h.0 e in cc
 
 pub end-added : (old new : List End) (at last : ℕ) (holds : Bool) (free : List ℕ) → ((at ≡ last → holds ≡ true) × ((at ≡ last → ⊥) → holds ≡ false)) → free ≡ [] → new ≡ old ++ ending at free ∷ []
-    → (s : ℕ) (cost : List ℕ) → EndsAt new s cost ↔ (EndsAt old s cost ⊎ ((at ≡ s) × ([] ≡ cost) × IsLast holds last s))
+    → (s : ℕ) (cost : List ℕ) → EndsAt new s cost ↔ (EndsAt old s cost ⊎ ((at ≡ s) × ([] ≡ cost) × IsEndState holds last s))
 end-added old new at last holds free h none is s cost =
     let P : End → Type 0 = λ e. (e.at ≡ s) × (e.cost ≡ cost) in
     let added = ending at free in (
       λ g. elim (Any-push_cases P old added (subst (Any P) is g)) [
         | inl a ↦ inl a
-        | inr p ↦ inr (p.0, sym none ∙ p.1, subst (IsLast holds last) p.0 (is-last at last holds h))
+        | inr p ↦ inr (p.0, sym none ∙ p.1, subst (IsEndState holds last) p.0 (is-last at last holds h))
       ],
       λ g. subst (Any P) (sym is) (elim g [
         | inl a ↦ Any-append_left P old (added ∷ []) a
@@ -180,7 +180,7 @@ end-added old new at last holds free h none is s cost =
 -- the steps and ends of the states below `count`
 pub record AreMade (rows : List TableRow) (last : ℕ) (holds : Bool) (count states : ℕ) (edges : List Edge) (ends : List End) : Type 0 where
   pub steps : (s c : ℕ) (cost : List ℕ) (t : ℕ) → StepsBy edges s c cost t ↔ ((s < count) × (c ≤ greatest_character) × ([] ≡ cost) × (next rows s c ≡ t) × (t < states))
-  pub stops : (s : ℕ) (cost : List ℕ) → EndsAt ends s cost ↔ ((s < count) × ([] ≡ cost) × IsLast holds last s)
+  pub stops : (s : ℕ) (cost : List ℕ) → EndsAt ends s cost ↔ ((s < count) × ([] ≡ cost) × IsEndState holds last s)
 
 pub made-none : (rows : List TableRow) (last : ℕ) (holds : Bool) (states : ℕ) (edges : List Edge) (ends : List End) → edges ≡ [] → ends ≡ [] → AreMade rows last holds 0 states edges ends
 made-none rows last holds states edges ends free none = record {
@@ -199,7 +199,7 @@ last-or-before s n h = ⊎_elim (λ a. inl a.0) (λ b. let x = b.0 in inr (omega
 
 pub made-more : (rows : List TableRow) (last : ℕ) (holds : Bool) (at states : ℕ) (row : TableRow) (edges more : List Edge) (ends others : List End) → slice_get rows at ≡ Some row → AreMade rows last holds at states edges ends
     → ((s c : ℕ) (cost : List ℕ) (t : ℕ) → StepsBy more s c cost t ↔ (StepsBy edges s c cost t ⊎ StepsOfRow at row (greatest_character + 1) states s c cost t))
-    → ((s : ℕ) (cost : List ℕ) → EndsAt others s cost ↔ (EndsAt ends s cost ⊎ ((at ≡ s) × ([] ≡ cost) × IsLast holds last s)))
+    → ((s : ℕ) (cost : List ℕ) → EndsAt others s cost ↔ (EndsAt ends s cost ⊎ ((at ≡ s) × ([] ≡ cost) × IsEndState holds last s)))
     → AreMade rows last holds (at + 1) states more others
 made-more rows last holds at states row edges more ends others is h added ended = record {
   steps = λ s c cost t. (
@@ -229,12 +229,12 @@ made-more rows last holds at states row edges more ends others is h added ended 
 
 pub made-turn : (rows : List TableRow) (last : ℕ) (holds : Bool) (at states : ℕ) (row : TableRow) (m n k : Graph) → at < length rows → row ≡ get_or rows at row → m.states ≡ states → AreMade rows last holds at states m.edges m.ends
     → ((s c : ℕ) (cost : List ℕ) (t : ℕ) → StepsBy n.edges s c cost t ↔ (StepsBy m.edges s c cost t ⊎ StepsOfRow at row (greatest_character + 1) m.states s c cost t)) → n.ends ≡ m.ends
-    → k.edges ≡ n.edges → ((s : ℕ) (cost : List ℕ) → EndsAt k.ends s cost ↔ (EndsAt n.ends s cost ⊎ ((at ≡ s) × ([] ≡ cost) × IsLast holds last s))) → AreMade rows last holds (at + 1) states k.edges k.ends
+    → k.edges ≡ n.edges → ((s : ℕ) (cost : List ℕ) → EndsAt k.ends s cost ↔ (EndsAt n.ends s cost ⊎ ((at ≡ s) × ([] ≡ cost) × IsEndState holds last s))) → AreMade rows last holds (at + 1) states k.edges k.ends
 made-turn rows last holds at states row m n k lt is size h added same_ends same_edges ended =
     made-more rows last holds at states row m.edges k.edges m.ends k.ends (get-at rows at row lt is) h
     (λ s c cost t. subst (λ es. StepsBy es s c cost t ↔ (StepsBy m.edges s c cost t ⊎ StepsOfRow at row (greatest_character + 1) states s c cost t)) (sym same_edges)
     (subst (λ x. StepsBy n.edges s c cost t ↔ (StepsBy m.edges s c cost t ⊎ StepsOfRow at row (greatest_character + 1) x s c cost t)) size (added s c cost t)))
-    (λ s cost. subst (λ es. EndsAt k.ends s cost ↔ (EndsAt es s cost ⊎ ((at ≡ s) × ([] ≡ cost) × IsLast holds last s))) same_ends (ended s cost))
+    (λ s cost. subst (λ es. EndsAt k.ends s cost ↔ (EndsAt es s cost ⊎ ((at ≡ s) × ([] ≡ cost) × IsEndState holds last s))) same_ends (ended s cost))
   where
     get-at : (xs : List TableRow) (i : ℕ) (x : TableRow) → i < length xs → x ≡ get_or xs i x → slice_get xs i ≡ Some x
     get-at [] i x lt is = absurd (omega (arith, lt))
@@ -245,7 +245,7 @@ pub made-all : (rows : List TableRow) (last : ℕ) (holds : Bool) (states : ℕ)
 made-all rows last holds states m plain size h = record {
   plain = plain;
   steps = λ s c cost t. subst (λ n. StepsBy m.edges s c cost t ↔ ((s < n) × (c ≤ greatest_character) × ([] ≡ cost) × (next rows s c ≡ t) × (t < n))) (sym size) (h.steps s c cost t);
-  ends = λ s cost. subst (λ n. EndsAt m.ends s cost ↔ ((s < n) × ([] ≡ cost) × IsLast holds last s)) (sym size) (h.stops s cost);
+  ends = λ s cost. subst (λ n. EndsAt m.ends s cost ↔ ((s < n) × ([] ≡ cost) × IsEndState holds last s)) (sym size) (h.stops s cost);
 }
 
 pub made-end : (rows : List TableRow) (last : ℕ) (holds : Bool) (at states : ℕ) (m : Graph) → m.registers ≡ 0 → m.states ≡ states → states ≤ at → at ≤ states → AreMade rows last holds at states m.edges m.ends → IsOfTable (next rows) last holds m
@@ -256,12 +256,12 @@ module _ (step : ℕ → ℕ → ℕ) (last : ℕ) (holds : Bool) (m : Graph) (t
   abbrev Reading : ℕ → Word → List ℕ → Type 0
   Reading s w cost = RunsFrom (EndsAt m.ends) (StepsBy m.edges) s w cost
 
-  read-out : (w : Word) (s : ℕ) (cost : List ℕ) → Reading s w cost → IsWord w × (after step s w < m.states) × IsLast holds last (after step s w)
+  read-out : (w : Word) (s : ℕ) (cost : List ℕ) → Reading s w cost → IsWord w × (after step s w < m.states) × IsEndState holds last (after step s w)
   read-out [] s cost r = let e = (table.ends s cost).0 r in (tt, e.0, e.2)
   read-out (c ∷ w) s cost r =
       let st = (table.steps s c r.0 r.1).0 r.3 in
       let rest = read-out w r.1 r.2 r.4 in
-      let P : ℕ → Type 0 = λ t. (after step t w < m.states) × IsLast holds last (after step t w) in
+      let P : ℕ → Type 0 = λ t. (after step t w < m.states) × IsEndState holds last (after step t w) in
       let here : P (step s c) = subst P (sym st.3) (rest.1, rest.2) in
       ((st.1, rest.0), here.0, here.1)
 
@@ -270,7 +270,7 @@ module _ (step : ℕ → ℕ → ℕ) (last : ℕ) (holds : Bool) (m : Graph) (t
     stuck-after [] s h = h
     stuck-after (c ∷ w) s h = stuck-after w (step s c) (stuck s c h)
 
-    read-in : (w : Word) (s : ℕ) → IsWord w → s < m.states → after step s w < m.states → IsLast holds last (after step s w) → Reading s w []
+    read-in : (w : Word) (s : ℕ) → IsWord w → s < m.states → after step s w < m.states → IsEndState holds last (after step s w) → Reading s w []
     read-in [] s ok among below ends = (table.ends s []).1 (among, refl, ends)
     read-in (c ∷ w) s ok among below ends =
         let inside : step s c < m.states = ⊎_elim (λ a. a.0) (λ b. let x = stuck-after w (step s c) b.0 in absurd (omega (arith, x, below))) (less_or_not (step s c) m.states) in

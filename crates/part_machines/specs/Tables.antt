@@ -45,12 +45,12 @@ abbrev pub StepsOfRow : ℕ → TableRow → ℕ → ℕ → ℕ → ℕ → Lis
 StepsOfRow at row stop states s c cost t = (at ≡ s) × (c < stop) × ([] ≡ cost) × (lead row.rest row.legs c ≡ t) × (t < states)
 
 -- in a table's state a word may end, or with false may not
-abbrev pub IsLast : Bool → ℕ → ℕ → Type 0
-IsLast true last s = s ≡ last
-IsLast false last s = s ≡ last → ⊥
+abbrev pub IsEndState : Bool → ℕ → ℕ → Type 0
+IsEndState true last s = s ≡ last
+IsEndState false last s = s ≡ last → ⊥
 
 -- the machine steps as a table says, among its own states; a word may end in the state `last` alone, or with false in all states but it
 pub record IsOfTable (step : ℕ → ℕ → ℕ) (last : ℕ) (holds : Bool) (m : Graph) : Type 0 where
   pub plain : m.registers ≡ 0
   pub steps : (s c : ℕ) (cost : List ℕ) (t : ℕ) → StepsBy m.edges s c cost t ↔ ((s < m.states) × (c ≤ greatest_character) × ([] ≡ cost) × (step s c ≡ t) × (t < m.states))
-  pub ends : (s : ℕ) (cost : List ℕ) → EndsAt m.ends s cost ↔ ((s < m.states) × ([] ≡ cost) × IsLast holds last s)
+  pub ends : (s : ℕ) (cost : List ℕ) → EndsAt m.ends s cost ↔ ((s < m.states) × ([] ≡ cost) × IsEndState holds last s)

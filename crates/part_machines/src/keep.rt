@@ -81,10 +81,3 @@ impl Keep {
         self.machine.as_ref()
     }
 }
-
-fn crosses<T: Send + Sync>() {}
-
-/// What is kept may go to another thread, and threads may share it.
-pub fn keep_crosses() {
-    crosses::<Keep>()
-}

@@ -44,10 +44,10 @@ impl Machines {
         match self.digests.binary_search(&digest(regex)) {
             Ok(cell) => {
                 let mut note = self.pool.note(cell);
-                let found = self
-                    .pool
-                    .get(cell, regex, &mut note, || make(alloc, regex))?;
-                Ok(found)
+                Ok(
+                    self.pool
+                        .get(cell, regex, &mut note, || make(alloc, regex))?,
+                )
             }
             Err(_) => Ok(PoolValue::Owned(make(alloc, regex)?)),
         }
@@ -59,6 +59,5 @@ fn make(alloc: Global, regex: &Regex) -> Result<Box<Keep>, AllocError>
     ensures { IfOk result (λ keep. keep.value.0 ≡ regex.now) }
 {
     let keep = Keep::of(alloc, regex)?;
-    let boxed = Box::new(alloc, keep)?;
-    Ok(boxed)
+    Ok(Box::new(alloc, keep)?)
 }

@@ -78,7 +78,7 @@ fn sides_of(alloc: Global, parts: &[(Own, bool)], kept: &Machines) -> Result<Par
 }
 
 // The words of the machine that none of the others reads: their subsets are made as they are met with its states.
-fn without(
+fn exclude(
     alloc: Global,
     machine: Explicit,
     others: Items<Explicit>,
@@ -104,16 +104,14 @@ fn joint_machine(
     ensures refused { (n : ℕ) → result ≡ Err (States n) → MOST_STATES < product_by part_bound parts.now }
 {
     if parts.len() == 1 {
-        let machine = part_machine(alloc, &parts[0], kept)?;
-        return Ok(machine);
+        return Ok(part_machine(alloc, &parts[0], kept)?);
     }
     let PartSides { within, outside } = sides_of(alloc, parts, kept)?;
     let met = all_of(alloc, within.as_slice(), MOST_STATES)?;
     if outside.is_empty() {
         return Ok(met);
     }
-    let machine = without(alloc, met, outside)?;
-    Ok(machine)
+    Ok(exclude(alloc, met, outside)?)
 }
 
 /// The machine of a variable's own parts: it reads exactly the words that meet all of them, each character
@@ -136,6 +134,5 @@ pub fn own_machine(
     ensures refused { (n : ℕ) → result ≡ Err (States n) → MOST_STATES < product_by part_bound parts.now }
 {
     let machine = joint_machine(alloc, parts, kept)?;
-    let priced = price(alloc, &machine, each)?;
-    Ok(priced)
+    Ok(price(alloc, &machine, each)?)
 }

@@ -71,8 +71,7 @@ fn language(
     ensures refused { (n : ℕ) → result ≡ Err (States n) → MOST_STATES < part_bound (InRe regex.now, holds) }
 {
     if holds {
-        let machine = kept_machine(alloc, regex, machines)?;
-        return Ok(machine);
+        return Ok(kept_machine(alloc, regex, machines)?);
     }
     languages_are_words();
     let others = others_of(alloc, regex)?;
@@ -86,8 +85,7 @@ fn word_chain(alloc: Global, word: &Word, longer: bool, holds: bool) -> Result<E
 {
     check_length(word)?;
     let ranges = ranges_of(alloc, word)?;
-    let machine = chain(alloc, ranges.as_slice(), longer, holds)?;
-    Ok(machine)
+    Ok(chain(alloc, ranges.as_slice(), longer, holds)?)
 }
 
 // Of the words where the word occurs, with `stays` anywhere, or else at the end; within the limit.
@@ -101,8 +99,7 @@ fn word_pattern(
     ensures refused { (n : ℕ) → result ≡ Err (States n) → MOST_STATES < length word.now + 1 }
 {
     check_length(word)?;
-    let machine = pattern_machine(alloc, word, stays, holds)?;
-    Ok(machine)
+    Ok(pattern_machine(alloc, word, stays, holds)?)
 }
 
 /// The machine of a part: without registers, it reads exactly the words that meet the part, and has at most
@@ -124,29 +121,11 @@ pub fn part_machine(
 {
     let holds = part.1;
     match &part.0 {
-        Own::Word(word) => {
-            let machine = word_chain(alloc, word, false, holds)?;
-            Ok(machine)
-        }
-        Own::Prefix(word) => {
-            let machine = word_chain(alloc, word, true, holds)?;
-            Ok(machine)
-        }
-        Own::Digit => {
-            let machine = chain(alloc, &[(0x30, 0x39)], false, holds)?;
-            Ok(machine)
-        }
-        Own::Contains(word) => {
-            let machine = word_pattern(alloc, word, true, holds)?;
-            Ok(machine)
-        }
-        Own::Suffix(word) => {
-            let machine = word_pattern(alloc, word, false, holds)?;
-            Ok(machine)
-        }
-        Own::InRe(regex) => {
-            let machine = language(alloc, regex, holds, machines)?;
-            Ok(machine)
-        }
+        Own::Word(word) => Ok(word_chain(alloc, word, false, holds)?),
+        Own::Prefix(word) => Ok(word_chain(alloc, word, true, holds)?),
+        Own::Digit => Ok(chain(alloc, &[(0x30, 0x39)], false, holds)?),
+        Own::Contains(word) => Ok(word_pattern(alloc, word, true, holds)?),
+        Own::Suffix(word) => Ok(word_pattern(alloc, word, false, holds)?),
+        Own::InRe(regex) => Ok(language(alloc, regex, holds, machines)?),
     }
 }

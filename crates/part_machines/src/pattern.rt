@@ -54,8 +54,7 @@ fn whole_row(
     if rows.is_empty() {
         return Ok(plain_row(alloc, 0));
     }
-    let row = spread_row(alloc, row_at(rows, automaton.border as usize))?;
-    Ok(row)
+    Ok(spread_row(alloc, row_at(rows, automaton.border as usize))?)
 }
 
 // The table of a pattern: one row for each of its beginnings.
@@ -88,6 +87,5 @@ pub fn pattern_machine(
 {
     let rows = pattern_rows(alloc, pattern, stays)?;
     let count = pattern.len() as u32;
-    let machine = table_machine(alloc, rows.as_slice(), count + 1, count, holds)?;
-    Ok(machine)
+    Ok(table_machine(alloc, rows.as_slice(), count + 1, count, holds)?)
 }

@@ -2,7 +2,7 @@
 ghost use Rattle.std.specs.Prelude.{◌≡◌, ℕ, ◌+◌, ◌<◌, ◌≤◌, ◌⊎◌, ◌↔◌, List, [], length, slice_get, Some, IfOk, OnOk};
 ghost use Rattle.sv_word.specs.Words.{greatest_character};
 ghost use Rattle.machine_core.specs.Edges.{EndsAt, StepsBy};
-ghost use Rattle.part_machines.specs.Tables.{IsLast, IsOfTable, IsRow, StepsAlong, StepsOfRow, next, row_of};
+ghost use Rattle.part_machines.specs.Tables.{IsEndState, IsOfTable, IsRow, StepsAlong, StepsOfRow, next, row_of};
 ghost use Rattle.part_machines.specs.declared.table.TableRow.{TableRow as AnyRow};
 
 use machine_core::{Cost, Explicit};
@@ -99,7 +99,7 @@ fn add_end(
     ensures registers { machine.new.registers ≡ machine.old.registers }
     ensures edges { machine.new.edges ≡ machine.old.edges }
     ensures ends { OnOk result ((s : ℕ) (cost : List ℕ) → EndsAt machine.new.ends s cost
-        ↔ (EndsAt machine.old.ends s cost ⊎ ((at ≡ s) × ([] ≡ cost) × IsLast holds last s))) }
+        ↔ (EndsAt machine.old.ends s cost ⊎ ((at ≡ s) × ([] ≡ cost) × IsEndState holds last s))) }
 {
     if (at == last) != holds {
         return Ok(());

@@ -3,7 +3,7 @@ use Rattle.std.proofs.Common.{◌≡◌, ℕ, ◌+◌, ◌*◌, ◌<◌, ◌≤�
 use Rattle.sv_word.specs.Ranges.{in_ranges}
 use Rattle.machine_core.specs.declared.machine.Move.{Move}
 use Rattle.machine_core.specs.declared.graph.Graph.{Graph}
-use Rattle.machine_core.specs.Costs.{add_costs}
+use Rattle.machine_core.specs.Costs.{add_costs, CanAdd}
 use Rattle.machine_core.specs.Moves.{Moves}
 use Rattle.machine_core.specs.Language.{RunsFrom}
 use Rattle.machine_core.specs.LanguageLaws.{runs_join, runs_cut}
@@ -17,7 +17,7 @@ use Rattle.sv_terms.specs.TransducerSizes.{items_size, edges_most, ends_most}
 use Rattle.sv_terms.specs.TransducerSizeLaws.{edge_most}
 use Rattle.pre_image.specs.PreImages.{PreEnds, PreSteps, pre_top}
 use Rattle.pre_image.specs.PreLaws.{end_writes}
-use Rattle.pre_image.specs.Leading.{CanAdd, Goes, AreLeads, Passes, EndsInPair}
+use Rattle.pre_image.specs.Leading.{Goes, AreLeads, Passes, EndsInPair}
 use Rattle.pre_image.proofs.LeadLemmas.{lead-path}
 
 -- a lead, and a cost at which a word may end where it ends

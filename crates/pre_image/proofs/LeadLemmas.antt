@@ -5,7 +5,7 @@ use Rattle.std.proofs.lemmas.Bool.{leb-true, le-leb}
 use Rattle.sv_word.specs.Ranges.{in_ranges, IsInhabited, least_of}
 use Rattle.machine_core.specs.declared.machine.Move.{Move}
 use Rattle.machine_core.specs.declared.graph.Graph.{Graph}
-use Rattle.machine_core.specs.Costs.{add_costs, zeros}
+use Rattle.machine_core.specs.Costs.{add_costs, zeros, CanAdd}
 use Rattle.machine_core.specs.CostLaws.{add_costs-zeros}
 use Rattle.machine_core.specs.Moves.{Moves}
 use Rattle.machine_core.specs.Language.{StopsAt}
@@ -15,7 +15,7 @@ use Rattle.machine_core.specs.Edges.{StepsBy, edges_top}
 use Rattle.machine_core.specs.EdgeLaws.{step_most, listed_paths, path_target, path_width}
 use Rattle.sv_terms.specs.Language.{Word}
 use Rattle.pre_image.specs.declared.letter.Letter.{Letter}
-use Rattle.pre_image.specs.Leading.{CanAdd, next_of, spelled, Goes, GoesOn, Led, IsLead, AreLeads}
+use Rattle.pre_image.specs.Leading.{next_of, spelled, Goes, GoesOn, Led, IsLead, AreLeads}
 
 and-true : (a b : Bool) → IsTrue a → IsTrue b → IsTrue (a && b)
 and-true true true p q = refl

@@ -22,11 +22,6 @@ next_of (Moved k) c = moved_to k c
 abbrev pub spelled : List Letter → ℕ → List ℕ
 spelled nexts c = map (λ n. next_of n c) nexts
 
--- two costs can be added
-pub record CanAdd (a b : List ℕ) : Type 0 where
-  pub same : length a ≡ length b
-  pub fits : (k : ℕ) → slice_index a k + slice_index b k < 2 ^ 64
-
 -- the machine has a path from the state s to the state `to` on the word, at this cost
 abbrev pub Goes : Graph → ℕ → Word → List ℕ → ℕ → Type 0
 Goes m s word cost to = RunsFrom (StopsAt m.registers to) (StepsBy m.edges) s word cost

@@ -1,5 +1,5 @@
 -- What an edge of a transducer writes, told item by item.
-use Rattle.std.specs.Prelude.{◌≡◌, ℕ, ℤ, pos, ◌+ℤ◌, ◌≤◌, List, [], ◌∷◌, ◌++◌, length, Option, Some, None, Contains}
+use Rattle.std.specs.Prelude.{◌≡◌, ℕ, ◌+◌, ℤ, pos, ◌+ℤ◌, ◌≤◌, List, [], ◌∷◌, ◌++◌, length, Option, Some, None, Contains}
 use Rattle.std.specs.Option.{option_map, unwrap_or}
 use Rattle.std.proofs.Common.{refl, sym, ap, ◌∙◌, arith}
 use Rattle.std.proofs.lemmas.List.{length-append}
@@ -15,7 +15,7 @@ use Rattle.sv_terms.specs.declared.transducer.Transducer.{Transducer}
 
 -- a number that is no character
 abbrev pub no_character : ℕ
-no_character = 0x30000
+no_character = greatest_character + 1
 
 -- the character moved by a number, and a number that is no character where that leaves the characters
 abbrev pub moved_to : ℤ → ℕ → ℕ

@@ -5,7 +5,8 @@ ghost use Rattle.machine_core.specs.declared.machine.Move.{Move};
 ghost use Rattle.machine_core.specs.Moves.{Moves};
 ghost use Rattle.machine_core.specs.Edges.{edges_top};
 ghost use Rattle.pre_image.specs.Spelling.{moved_to, spelling};
-ghost use Rattle.pre_image.specs.Leading.{CanAdd, next_of, spelled, GoesOn, Led, IsLead, AreLeads};
+ghost use Rattle.pre_image.specs.Leading.{next_of, spelled, GoesOn, Led, IsLead, AreLeads};
+ghost use Rattle.machine_core.specs.Costs.{CanAdd};
 ghost use Rattle.sv_word.specs.Words.{greatest_character};
 
 use crate::letter::Letter;
@@ -62,7 +63,7 @@ pub fn spell(alloc: Global, items: &[Item]) -> Result<Items<Letter>, AllocError>
 }
 
 // The characters that are in the pair once they are moved by this number.
-fn before(alloc: Global, pair: (u32, u32), by: i32) -> Result<Ranges, AllocError>
+fn move_back(alloc: Global, pair: (u32, u32), by: i32) -> Result<Ranges, AllocError>
     requires { pair.1 ≤ greatest_character }
     ensures { IfOk result (λ r. (c : ℕ) → c ≤ greatest_character → in_ranges r c ≡ in_pair pair (moved_to by c)) }
 {
@@ -70,14 +71,12 @@ fn before(alloc: Global, pair: (u32, u32), by: i32) -> Result<Ranges, AllocError
     if by < 0 {
         let least = pair.0.saturating_add(steps);
         let greatest = pair.1.saturating_add(steps).min(GREATEST_CHARACTER);
-        let all = Ranges::of(alloc, least, greatest)?;
-        return Ok(all);
+        return Ok(Ranges::of(alloc, least, greatest)?);
     }
     if pair.1 < steps {
         return Ok(Ranges::none(alloc));
     }
-    let all = Ranges::of(alloc, pair.0.saturating_sub(steps), pair.1 - steps)?;
-    Ok(all)
+    Ok(Ranges::of(alloc, pair.0.saturating_sub(steps), pair.1 - steps)?)
 }
 
 // The characters of a lead that are read by a move once they are moved by this number.
@@ -87,7 +86,7 @@ fn meet_moved(alloc: Global, lead: &Ranges, step: &Ranges, by: i32) -> Result<Ra
     let _lead = lead.as_slice();
     let mut on = Ranges::none(alloc);
     for pair in step.as_slice() {
-        let window = before(alloc, *pair, by)?;
+        let window = move_back(alloc, *pair, by)?;
         let more = lead.meet(alloc, &window)?;
         on = on.join(alloc, &more)?;
     }
@@ -106,17 +105,12 @@ fn characters(
     match next {
         Letter::Moved(0) => {
             let _lead = lead.as_slice();
-            let both = lead.meet(alloc, step)?;
-            Ok(both)
+            Ok(lead.meet(alloc, step)?)
         }
-        Letter::Moved(by) => {
-            let both = meet_moved(alloc, lead, step, by)?;
-            Ok(both)
-        }
+        Letter::Moved(by) => Ok(meet_moved(alloc, lead, step, by)?),
         Letter::Fixed(d) => {
             if step.holds(d) {
-                let all = lead.copy(alloc)?;
-                return Ok(all);
+                return Ok(lead.copy(alloc)?);
             }
             Ok(Ranges::none(alloc))
         }
@@ -206,7 +200,7 @@ fn go_on(
 
 /// Where the target may be, from the state `from` on, once it went along what is written for a
 /// character from `low` to `high`, and at which costs: a move for each way.
-pub fn along(
+pub fn moves_along(
     alloc: Global,
     target: &Explicit,
     from: u32,

@@ -9,7 +9,7 @@ ghost use Rattle.pre_image.specs.Parts.{EndsByPath, IsEdgePart, IsFinalPart, IsE
 ghost use Rattle.sv_word.specs.Words.{greatest_character};
 
 use crate::pre::Pre;
-use crate::ways::{CostedPath, goes, minus, way_on};
+use crate::ways::{CostedPath, goes, subtract, way_on};
 use machine_core::{Cost, End, Explicit};
 use std::alloc::{AllocError, Global};
 use sv_list::Copied;
@@ -136,7 +136,7 @@ fn final_part(
     requires fits { edges_top target.now.edges * length word.now < 2 ^ 64 }
     ensures { IfOk result (λ o. MatchOption o (EndsByPath target.now at word.now cost.now end.now → ⊥) (IsFinalPart target.now at word.now end.now cost.now)) }
 {
-    let left = match minus(alloc, cost, &end.cost)? {
+    let left = match subtract(alloc, cost, &end.cost)? {
         None => return Ok(None),
         Some(left) => left,
     };
@@ -188,8 +188,7 @@ fn closing_part(
     if end.0 != at.0 {
         return Ok(None);
     }
-    let part = end_part(alloc, target, at.1, &end.1, cost)?;
-    Ok(part)
+    Ok(end_part(alloc, target, at.1, &end.1, cost)?)
 }
 
 /// What the transducer wrote at the end, with the target's way.

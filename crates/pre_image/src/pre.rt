@@ -1,11 +1,11 @@
 ghost use Rattle.std.specs.Prelude.{◌≡◌, ℕ, ◌+◌, ◌*◌, ◌<◌, ◌≤◌, ◌^◌, ◌↔◌, ◌⊎◌, length, slice_get, Some, IfOk, OnOk, All, Any, Contains, List};
 ghost use Rattle.sv_word.specs.Ranges.{IsInhabited};
-ghost use Rattle.machine_core.specs.Costs.{add_costs};
+ghost use Rattle.machine_core.specs.Costs.{add_costs, CanAdd};
 ghost use Rattle.machine_core.specs.Moves.{Moves};
 ghost use Rattle.machine_core.specs.Places.{IsIndex, pick};
 ghost use Rattle.machine_core.specs.Language.{RunsFrom};
 ghost use Rattle.machine_core.specs.Edges.{EndsAt, StepsBy, edges_top, ends_top};
-ghost use Rattle.pre_image.specs.Leading.{CanAdd, Passes, EndsInPair, Goes};
+ghost use Rattle.pre_image.specs.Leading.{Passes, EndsInPair, Goes};
 ghost use Rattle.sv_terms.specs.Transduction.{IsFormed};
 ghost use Rattle.sv_terms.specs.TransducerSizes.{items_size};
 ghost use Rattle.sv_terms.specs.declared.transducer.TransEdge.{TransEdge};
@@ -17,7 +17,7 @@ ghost use Rattle.pre_image.specs.Indexed.{IsIndexed, edge_source, end_state};
 ghost use Rattle.pre_image.specs.PreLaws.{pre_first, pre_step_is_state, pre_step_character, pre_step_cost, pre_end_cost, pairs_at_most};
 ghost use Rattle.sv_word.specs.Words.{greatest_character};
 
-use crate::leading::{along, spell, spell_word};
+use crate::leading::{moves_along, spell, spell_word};
 use machine_core::{Cost, Explicit, Index, Machine, Move};
 use std::alloc::{AllocError, Global};
 use sv_list::{Copied, Items};
@@ -105,14 +105,12 @@ impl<'a> Machine for Pre<'a> {
 
     fn ends(&self, alloc: Global, at: &(u32, u32)) -> Result<Items<Cost>, AllocError> {
         let ends = self.through.ends.as_slice();
-        let costs = costs_of(alloc, self.target, at, ends, self.end_places.row(at.0))?;
-        Ok(costs)
+        Ok(costs_of(alloc, self.target, at, ends, self.end_places.row(at.0))?)
     }
 
     fn moves(&self, alloc: Global, at: &(u32, u32)) -> Result<Items<Move<(u32, u32)>>, AllocError> {
         let edges = self.through.edges.as_slice();
-        let moves = moves_of(alloc, self.target, at, edges, self.edge_places.row(at.0))?;
-        Ok(moves)
+        Ok(moves_of(alloc, self.target, at, edges, self.edge_places.row(at.0))?)
     }
 }
 
@@ -246,7 +244,7 @@ fn add_ends(
         (Any (λ e. e ≡ cost) all.old ⊎ RunsFrom (EndsAt target.now.ends) (StepsBy target.now.edges) at word.now cost)) }
 {
     let nexts = spell_word(alloc, word)?;
-    let leads = along(alloc, target, at, 0, 0, nexts.as_slice())?;
+    let leads = moves_along(alloc, target, at, 0, 0, nexts.as_slice())?;
     for lead in leads.as_slice() {
         let ends = target.ends(alloc, &lead.to)?;
         add_sums(alloc, all, &lead.cost, ends.as_slice())?;
@@ -289,7 +287,7 @@ fn add_moves(
     ensures inhabited { OnOk result (All (λ m. IsInhabited m.on) all.new) }
 {
     let nexts = spell(alloc, edge.items.as_slice())?;
-    let leads = along(alloc, target, at, edge.lo, edge.hi, nexts.as_slice())?;
+    let leads = moves_along(alloc, target, at, edge.lo, edge.hi, nexts.as_slice())?;
     for lead in leads.as_slice() {
         let on = lead.on.copy(alloc)?;
         let cost = lead.cost.copy(alloc)?;

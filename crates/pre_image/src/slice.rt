@@ -72,14 +72,8 @@ impl<'a> Machine for Slice<'a> {
 
     fn ends(&self, alloc: Global, at: &u32) -> Result<Items<Cost>, AllocError> {
         match self.to {
-            None => {
-                let costs = self.target.ends(alloc, at)?;
-                Ok(costs)
-            }
-            Some(to) => {
-                let costs = stops(alloc, self.target.registers(), *at == to)?;
-                Ok(costs)
-            }
+            None => Ok(self.target.ends(alloc, at)?),
+            Some(to) => Ok(stops(alloc, self.target.registers(), *at == to)?),
         }
     }
 

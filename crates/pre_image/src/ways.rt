@@ -5,7 +5,7 @@ ghost use Rattle.machine_core.specs.Edges.{edges_top};
 ghost use Rattle.pre_image.specs.Leading.{Goes};
 ghost use Rattle.pre_image.specs.Lifts.{EndsAs, GoesOnAt, IsRest, IsTried, IsWay, IsNextStep};
 
-use crate::leading::{along, spell_word};
+use crate::leading::{moves_along, spell_word};
 use machine_core::{Cost, Explicit, Machine, Move};
 use std::alloc::{AllocError, Global};
 use sv_list::{Copied, Items};
@@ -58,7 +58,7 @@ pub struct NextStep {
 }
 
 /// What is left of `whole` without `part`; none exactly where `part` is greater at some register.
-pub fn minus(alloc: Global, whole: &Cost, part: &Cost) -> Result<Option<Cost>, AllocError>
+pub fn subtract(alloc: Global, whole: &Cost, part: &Cost) -> Result<Option<Cost>, AllocError>
     requires { length part.now ≡ length whole.now }
     ensures { IfOk result (λ o. MatchOption o ((rest : List ℕ) → IsRest whole.now part.now rest → ⊥) (IsRest whole.now part.now)) }
 {
@@ -106,7 +106,7 @@ pub fn goes(
     ensures { IfOk result (λ b. IsTrue b ↔ Goes target.now from word.now cost.now to) }
 {
     let nexts = spell_word(alloc, word)?;
-    let leads = along(alloc, target, from, 0, 0, nexts.as_slice())?;
+    let leads = moves_along(alloc, target, from, 0, 0, nexts.as_slice())?;
     let found = has_lead(leads.as_slice(), to, cost);
     Ok(found)
 }
@@ -126,7 +126,7 @@ fn try_step(
     requires fits { edges_top target.now.edges * length rest.now < 2 ^ 64 }
     ensures { IfOk result (λ o. MatchOption o ((left : List ℕ) → GoesOnAt target.now step.now rest.now to cost.now left → ⊥) (IsTried target.now step.now rest.now to cost.now)) }
 {
-    let left = match minus(alloc, cost, &step.cost)? {
+    let left = match subtract(alloc, cost, &step.cost)? {
         None => return Ok(None),
         Some(left) => left,
     };

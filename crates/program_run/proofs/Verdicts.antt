@@ -15,7 +15,8 @@ use Rattle.sort_check.specs.declared.commands.Command.TheVariants as command
 use Rattle.sv_terms.specs.Meaning.{Named}
 use Rattle.sv_terms.specs.declared.term.Term.{Term}
 use Rattle.reply_text.specs.declared.error_kind.ErrorKind.{ErrorKind}
-use Rattle.smt_session.specs.Steps.{State, Outcome, opened, same_keyword, info_reply, model_reply, reason_reply, AnswersTerms, Checks, Does, Performs, Steps}
+use Rattle.smt_names.specs.Signature.{same_name}
+use Rattle.smt_session.specs.Steps.{State, Outcome, opened, info_reply, model_reply, reason_reply, AnswersTerms, Checks, Does, Performs, Steps}
 use Rattle.reply_text.specs.declared.info.Info.{Info as InfoOf}
 use Rattle.reply_text.specs.declared.info.Info.TheVariants as info
 use Rattle.smt_session.specs.declared.reply.Reply.{Reply}
@@ -83,11 +84,11 @@ no_reason None = refl
 
 no_info : (s : State) (k : List ℕ) → is_verdict (info_reply s k) ≡ false
 no_info s k =
-    let reason = either (same_keyword k (codes ":reason-unknown")) (reason_reply s.verdict) Unsupported (no_reason s.verdict) unsupported in
-    let levels = either (same_keyword k (codes ":assertion-stack-levels")) (Info (info.AssertionStackLevels (length s.levels - 1))) _ (told_info (info.AssertionStackLevels (length s.levels - 1))) reason in
-    let behavior = either (same_keyword k (codes ":error-behavior")) (Info info.ErrorBehavior) _ (told_info info.ErrorBehavior) levels in
-    let version = either (same_keyword k (codes ":version")) (Info info.Version) _ (told_info info.Version) behavior in
-    either (same_keyword k (codes ":name")) (Info info.Name) _ (told_info info.Name) version
+    let reason = either (same_name k (codes ":reason-unknown")) (reason_reply s.verdict) Unsupported (no_reason s.verdict) unsupported in
+    let levels = either (same_name k (codes ":assertion-stack-levels")) (Info (info.AssertionStackLevels (length s.levels - 1))) _ (told_info (info.AssertionStackLevels (length s.levels - 1))) reason in
+    let behavior = either (same_name k (codes ":error-behavior")) (Info info.ErrorBehavior) _ (told_info info.ErrorBehavior) levels in
+    let version = either (same_name k (codes ":version")) (Info info.Version) _ (told_info info.Version) behavior in
+    either (same_name k (codes ":name")) (Info info.Name) _ (told_info info.Name) version
 
 no_terms : (symbols : List Symbol) (k : Option LastVerdict) (items : List Sexpr) (r : Reply) → AnswersTerms symbols k items r → is_verdict r ≡ false
 unfolding is_verdict

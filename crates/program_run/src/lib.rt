@@ -8,7 +8,8 @@
 //! was written is a front of the replies' text.
 //!
 //! The source is read in pieces, and each item is answered as soon as it is whole, its reply written
-//! before the next command is done. A run keeps the unfinished item, the session and the log.
+//! before the next command is done. A run keeps the unfinished item and the session; of the log, which contracts see
+//! whole, it keeps whether a reply is an error and how many verdicts there are of each kind.
 //!
 //! ```text
 //! let outcome = run(&rt, alloc, &words, &mut source, &mut sink);   // outcome.status, outcome.log

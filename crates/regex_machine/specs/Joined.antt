@@ -2,7 +2,6 @@
 use Rattle.std.specs.Prelude.{◌≡◌, ◌≤◌, ◌↔◌, ⊤, List, [], ◌∷◌, Contains}
 use Rattle.machine_core.specs.declared.graph.Graph.{Graph}
 use Rattle.machine_core.specs.Graphs.{Accepts}
-use Rattle.sv_word.specs.Words.{IsWord}
 use Rattle.sv_terms.specs.Language.{Word, Language, In}
 use Rattle.sv_terms.specs.declared.regex.Regex.{Regex}
 use Rattle.sv_terms.specs.Bounds.{size}
@@ -26,7 +25,3 @@ AreMade [] [] = ⊤
 AreMade [] (m ∷ ms) = ⊥
 AreMade (r ∷ rs) [] = ⊥
 AreMade (r ∷ rs) (m ∷ ms) = HasWords (In r) m × (m.states ≤ size r) × AreMade rs ms
-
--- a machine with the words that aren't those of the other
-abbrev pub IsOther : Graph → Graph → Type 0
-IsOther m n = HasWords (λ w. IsWord w × (WordsOf m w → ⊥)) n

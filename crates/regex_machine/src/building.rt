@@ -16,7 +16,7 @@ use crate::joining::{all_of, complement, difference, repeat};
 use crate::leaves::{any_word, no_character, no_word, one_between, one_character, one_word};
 use crate::letters::between;
 use crate::onward::{Onward, Rest};
-use crate::written::{alone, either, embed, finish, letter, nothing_more, text};
+use crate::written::{embed, finish, letter, nothing_more, rest_of, text};
 use machine_core::Explicit;
 use std::alloc::Global;
 use sv_list::{Copied, Items};
@@ -185,9 +185,9 @@ fn before_one(
             may_end: ends,
         } = front.onward;
         moves.append(more)?;
-        may_end = either(may_end, ends);
+        may_end = may_end || ends;
     }
-    Ok(alone(moves, may_end))
+    Ok(rest_of(moves, may_end))
 }
 
 #[cycle(make)]

@@ -24,7 +24,7 @@ pub struct Copies<'a> {
     /// Whether the last copy may come again and again.
     pub again: bool,
     /// Whether the part reads the empty word.
-    pub empty: bool,
+    pub reads_empty: bool,
     ghost plain: { part.now.registers ≡ 0 },
     ghost some: { 0 < most },
 }
@@ -37,18 +37,18 @@ impl<'a> Copies<'a> {
         requires some { 0 < most }
         requires order { least ≤ most }
         requires once { IsTrue again → most ≡ 1 }
-        ensures read { (w : Word) → CopiesRead result.part.now result.least result.most result.again result.empty w ↔ InCopies (WordsOf part.now) least most again w }
+        ensures read { (w : Word) → CopiesRead result.part.now result.least result.most result.again result.reads_empty w ↔ InCopies (WordsOf part.now) least most again w }
         ensures part { result.part.now ≡ part.now }
         ensures least { result.least ≡ least }
         ensures most { result.most ≡ most }
     {
-        let empty = may_end(part, 0);
+        let reads_empty = may_end(part, 0);
         Copies {
             part,
             least,
             most,
             again,
-            empty,
+            reads_empty,
         }
     }
 
@@ -69,9 +69,9 @@ impl<'a> Copies<'a> {
 
     // Whether so many copies are enough.
     fn are_enough(&self, copies: u32) -> bool
-        ensures { IsTrue result ↔ AreEnough self.now.least self.now.empty copies }
+        ensures { IsTrue result ↔ AreEnough self.now.least self.now.reads_empty copies }
     {
-        if self.empty {
+        if self.reads_empty {
             return true;
         }
         self.least <= copies
@@ -85,9 +85,9 @@ impl<'a> Machine for Copies<'a> {
 
     ghost is_state = { λ m. IsCopyState m.part.now m.least m.most };
 
-    ghost first = { λ m. copy_start m.least m.most m.empty };
+    ghost first = { λ m. copy_start m.least m.most m.reads_empty };
 
-    ghost ends_with = { λ m. CopyEnds m.part.now m.least m.most m.empty };
+    ghost ends_with = { λ m. CopyEnds m.part.now m.least m.most m.reads_empty };
 
     ghost steps_to = { λ m. CopySteps m.part.now m.most m.again };
 
@@ -95,7 +95,7 @@ impl<'a> Machine for Copies<'a> {
 
     ghost size = { λ m. copies_size m.least m.most m.part.now.states };
 
-    ghost first_is_state = { λ m. copy-first m.part.now m.least m.most m.empty m.some };
+    ghost first_is_state = { λ m. copy-first m.part.now m.least m.most m.reads_empty m.some };
 
     ghost step_is_state = { λ m s t c cost h step. copy-state m.part.now m.least m.most m.again m.some s c cost t step };
 
@@ -112,7 +112,7 @@ impl<'a> Machine for Copies<'a> {
     }
 
     fn start(&self, _alloc: Global) -> Result<Place, AllocError> {
-        if self.empty {
+        if self.reads_empty {
             return Ok((0, 0));
         }
         if self.least > 0 {

@@ -92,8 +92,7 @@ pub fn between(alloc: Global, lo: u32, hi: u32) -> Result<Ranges, AllocError>
     ensures { IfOk result (λ on. (c : ℕ) → in_ranges on c ≡ (nat_le lo c && nat_le c (min hi greatest_character))) }
 {
     let top = cut_off_at_last(hi);
-    let on = Ranges::of(alloc, lo, top)?;
-    Ok(on)
+    Ok(Ranges::of(alloc, lo, top)?)
 }
 
 /// The words of one character between two.

@@ -1,5 +1,5 @@
 //! Parts of an expression, written before what follows them.
-ghost use Rattle.std.specs.Prelude.{◌≡◌, ℕ, ◌<◌, ◌^◌, ◌+◌, [], length, map, true, ◌||◌, IfOk, OnOk, Contains, None};
+ghost use Rattle.std.specs.Prelude.{◌≡◌, ℕ, ◌<◌, ◌^◌, ◌+◌, [], length, map, true, IfOk, OnOk, Contains, None};
 ghost use Rattle.machine_core.specs.declared.machine.Move.{Move};
 ghost use Rattle.sv_word.specs.Words.{IsWord};
 ghost use Rattle.regex_machine.specs.Built.{Builds};
@@ -53,17 +53,17 @@ pub fn letter(
 {
     let mut moves = Items::new(alloc);
     if on.is_empty() {
-        return Ok(alone(moves, false));
+        return Ok(rest_of(moves, false));
     }
     let _characters = on.as_slice();
     let to = state_of(alloc, states, rest)?;
     let cost = Cost::new(alloc);
     moves.push(Move { on, cost, to })?;
-    Ok(alone(moves, false))
+    Ok(rest_of(moves, false))
 }
 
 /// These moves and this end, without a state.
-pub fn alone(moves: Items<Move<u32>>, may_end: bool) -> Rest
+pub fn rest_of(moves: Items<Move<u32>>, may_end: bool) -> Rest
     ensures moves { result.onward.moves ≡ moves }
     ensures may_end { result.onward.may_end ≡ may_end }
     ensures state { result.state ≡ None }
@@ -201,7 +201,7 @@ pub fn nothing_more(alloc: Global) -> Rest
     ensures may_end { result.onward.may_end ≡ true }
     ensures state { result.state ≡ None }
 {
-    alone(Items::new(alloc), true)
+    rest_of(Items::new(alloc), true)
 }
 
 /// The machine that reads what follows here, with the states that are reached.
@@ -220,11 +220,4 @@ pub fn finish(
     let start = state_of(alloc, &mut states, &mut front)?;
     let woven = Woven::of(states.as_slice(), start);
     list_states(alloc, &woven, limit)
-}
-
-/// Whether one of the two holds.
-pub fn either(one: bool, other: bool) -> bool
-    ensures { result ≡ (one || other) }
-{
-    one || other
 }

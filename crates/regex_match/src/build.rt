@@ -14,7 +14,7 @@ use sv_list::{Boxed, Items};
 use sv_terms::{Regex, membership_is_decided};
 use sv_word::Word;
 
-pub fn empty_word(alloc: Global) -> Regex
+pub(crate) fn empty_word(alloc: Global) -> Regex
     ensures { result ≡ Text [] }
 {
     Regex::Text(Word::new(alloc))
@@ -49,7 +49,7 @@ fn is_empty_word(r: &Regex) -> bool
 
 /// A word of the first and then one of the second.
 #[tactic(auto, using(crate::proofs::Builds::thens))]
-pub fn then(alloc: Global, first: Regex, rest: Regex) -> Result<Regex, AllocError>
+pub(crate) fn then(alloc: Global, first: Regex, rest: Regex) -> Result<Regex, AllocError>
     ensures { IfOk result (λ d. SameWords d (Concat (first ∷ rest ∷ []))) }
 {
     if is_none(&first) {
@@ -68,12 +68,12 @@ pub fn then(alloc: Global, first: Regex, rest: Regex) -> Result<Regex, AllocErro
         drop(rest);
         return Ok(first);
     }
-    joined(alloc, first, rest)
+    join(alloc, first, rest)
 }
 
 /// A word of the first and then any number of words of `r`.
 #[tactic(auto, using(crate::proofs::Builds::thens))]
-pub fn then_any(alloc: Global, first: Regex, r: &Regex) -> Result<Regex, AllocError>
+pub(crate) fn then_any(alloc: Global, first: Regex, r: &Regex) -> Result<Regex, AllocError>
     ensures { IfOk result (λ d. SameWords d (Concat (first ∷ Star r.now ∷ []))) }
 {
     let rest = star(alloc, r)?;
@@ -82,7 +82,7 @@ pub fn then_any(alloc: Global, first: Regex, r: &Regex) -> Result<Regex, AllocEr
 
 /// A word of the first and then from `i` to `j` words of `r`.
 #[tactic(auto, using(crate::proofs::Builds::behinds))]
-pub fn then_times(
+pub(crate) fn then_times(
     alloc: Global,
     first: Regex,
     r: &Regex,
@@ -103,7 +103,7 @@ fn star(alloc: Global, r: &Regex) -> Result<Regex, AllocError>
 
 // The parts of the first and then those of the second.
 #[tactic(auto, using(crate::proofs::Builds::thens))]
-fn joined(alloc: Global, first: Regex, rest: Regex) -> Result<Regex, AllocError>
+fn join(alloc: Global, first: Regex, rest: Regex) -> Result<Regex, AllocError>
     ensures { IfOk result (λ d. SameWords d (Concat (first ∷ rest ∷ []))) }
 {
     let mut all = in_turn(alloc, first)?;
@@ -145,7 +145,7 @@ fn insert_part(parts: &mut Items<Regex>, r: Regex) -> Result<(), AllocError>
 }
 
 #[tactic(auto, using(crate::proofs::Builds::unions))]
-pub fn add_part(parts: &mut Items<Regex>, r: Regex) -> Result<(), AllocError>
+pub(crate) fn add_part(parts: &mut Items<Regex>, r: Regex) -> Result<(), AllocError>
     ensures { OnOk result (SameWords (Union parts.new) (Union (r ∷ parts.old))) }
 {
     match r {
@@ -169,7 +169,7 @@ fn add_parts(parts: &mut Items<Regex>, mut more: Items<Regex>) -> Result<(), All
 }
 
 #[tactic(auto, using(crate::proofs::Builds::unions))]
-pub fn one_of(mut parts: Items<Regex>) -> Regex
+pub(crate) fn one_of(mut parts: Items<Regex>) -> Regex
     ensures { SameWords result (Union parts) }
 {
     for part in parts.as_slice() {
@@ -203,7 +203,7 @@ fn insert_need(parts: &mut Items<Regex>, r: Regex) -> Result<(), AllocError>
 }
 
 #[tactic(auto, using(crate::proofs::Builds::inters))]
-pub fn add_need(parts: &mut Items<Regex>, r: Regex) -> Result<(), AllocError>
+pub(crate) fn add_need(parts: &mut Items<Regex>, r: Regex) -> Result<(), AllocError>
     ensures { OnOk result (SameWords (Inter parts.new) (Inter (r ∷ parts.old))) }
 {
     match r {
@@ -224,7 +224,7 @@ fn add_needs(parts: &mut Items<Regex>, mut more: Items<Regex>) -> Result<(), All
 }
 
 #[tactic(auto, using(crate::proofs::Builds::inters))]
-pub fn all_of(mut parts: Items<Regex>) -> Regex
+pub(crate) fn all_of(mut parts: Items<Regex>) -> Regex
     ensures { SameWords result (Inter parts) }
 {
     for part in parts.as_slice() {
@@ -245,7 +245,7 @@ pub fn all_of(mut parts: Items<Regex>) -> Regex
 }
 
 #[tactic(auto, using(crate::proofs::Builds::others))]
-pub fn minus(alloc: Global, a: Regex, b: Regex) -> Result<Regex, AllocError>
+pub(crate) fn minus(alloc: Global, a: Regex, b: Regex) -> Result<Regex, AllocError>
     ensures { IfOk result (λ d. SameWords d (Diff (a ∷ b ∷ []))) }
 {
     if is_none(&a) {
@@ -261,7 +261,7 @@ pub fn minus(alloc: Global, a: Regex, b: Regex) -> Result<Regex, AllocError>
 }
 
 #[tactic(auto, using(crate::proofs::Builds::others))]
-pub fn complement(alloc: Global, r: Regex) -> Result<Regex, AllocError>
+pub(crate) fn complement(alloc: Global, r: Regex) -> Result<Regex, AllocError>
     ensures { IfOk result (λ d. SameWords d (Comp r)) }
 {
     match r {

@@ -104,7 +104,7 @@ fn same_text(a: &[u32], b: &[u32]) -> bool
 
 // The place behind the text, if it stands in the word at this place.
 #[tactic(auto, using(crate::proofs::Reading::contents))]
-fn behind(text: &Word, word: &Word, at: usize) -> Option<usize>
+fn place_behind(text: &Word, word: &Word, at: usize) -> Option<usize>
     requires { at ≤ length word.now }
     ensures next { IfSome result (λ next. next ≡ at + length text.now) }
     ensures within { IfSome result (λ next. next ≤ length word.now) }
@@ -138,7 +138,7 @@ fn read_front(
                 return read_one(alloc, Regex::Concat(parts), word, at);
             }
             text.is_word();
-            match behind(text, word, at) {
+            match place_behind(text, word, at) {
                 Some(next) => {
                     let _ = parts.remove(0);
                     Ok(Some((Regex::Concat(parts), next)))

@@ -15,7 +15,7 @@ use sv_word::{GREATEST_CHARACTER, Word};
 /// What is left of it once the character is read, by cases on its form.
 #[cycle(derive)]
 #[tactic(auto, using(crate::proofs::Derives::derives))]
-pub fn derive(alloc: Global, regex: &Regex, c: u32) -> Result<Regex, AllocError>
+pub(crate) fn derive(alloc: Global, regex: &Regex, c: u32) -> Result<Regex, AllocError>
     ensures { IfOk result (IsDerivative regex.now c) }
 {
     if c > GREATEST_CHARACTER {

@@ -7,7 +7,7 @@ use sv_terms::Regex;
 /// Whether the empty word is in it.
 #[cycle(is_nullable)]
 #[tactic(auto, using(crate::proofs::Nullables::nullables))]
-pub fn is_nullable(regex: &Regex) -> bool
+pub(crate) fn is_nullable(regex: &Regex) -> bool
     ensures { IsTrue result ↔ In regex.now [] }
 {
     match regex {

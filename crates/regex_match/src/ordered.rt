@@ -23,7 +23,7 @@ fn rank(r: &Regex) -> u32 {
 
 /// Any order: nothing rests on it but the search for a place.
 #[cycle(order)]
-pub fn order(a: &Regex, b: &Regex) -> Ordering {
+pub(crate) fn order(a: &Regex, b: &Regex) -> Ordering {
     match (a, b) {
         (Regex::Text(s), Regex::Text(t)) => s.cmp(t),
         (Regex::Range(i, j), Regex::Range(k, l)) => order_two(*i, *j, *k, *l),

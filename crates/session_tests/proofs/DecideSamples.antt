@@ -6,7 +6,7 @@ use Rattle.std.specs.List.{AllByRecursion}
 use Rattle.sv_terms.specs.Language.{Word}
 use Rattle.sv_terms.specs.Meaning.{all_of}
 use Rattle.sv_terms.specs.Sorting.{applied_sort_if, is_of, is_valued, sort_of, sort_step, tested_sort}
-use Rattle.sv_terms.specs.TransducerSizes.{is_formed}
+use Rattle.sv_terms.specs.TransducerSizes.{is_formed, has_formed}
 use Rattle.sv_terms.specs.declared.op.Op.{Op}
 use Rattle.sv_terms.specs.declared.regex.Regex.{Regex}
 use Rattle.sv_terms.specs.declared.sort.Sort.{Sort}
@@ -14,7 +14,7 @@ use Rattle.sv_terms.specs.declared.sort.Sort.TheVariants as sort
 use Rattle.sv_terms.specs.declared.term.Term.{Term}
 use Rattle.sv_terms.specs.declared.term.Term.TheVariants as v
 use Rattle.sv_terms.specs.declared.term.Term.TheOpen.{Term-F}
-use Rattle.assertion_parts.specs.Constants.{HaveOneSort, has_formed}
+use Rattle.assertion_parts.specs.Constants.{ConstantsHaveOneSort}
 use Rattle.decide.specs.Samples.{IsSample, sample}
 use Rattle.assertion_parts.proofs.Fillings.{at-places}
 use Rattle.assertion_parts.proofs.Terms.{at, every-Apply, every-Constant, every-InRe, every-Text}
@@ -61,5 +61,5 @@ module _ (a b : Term) (x : IsSample sort.Bool a) (y : IsSample sort.Bool b) wher
   pub two-formed : AllByRecursion (λ t. IsTrue (has_formed t)) (a ∷ b ∷ [])
   two-formed = (x.formed, (y.formed, tt))
 
-  pub two-valued : HaveOneSort (a ∷ b ∷ [])
+  pub two-valued : ConstantsHaveOneSort (a ∷ b ∷ [])
   two-valued = (sample, at-places (λ t. IsTrue (is_valued sample t)) (a ∷ b ∷ []) (x.valued, (y.valued, tt)))

@@ -12,7 +12,8 @@ use Rattle.sexpr_reader.specs.Items.{tokens_of_all, open_tokens}
 use Rattle.sexpr_reader.specs.Parts.{IsPart, IsGap}
 use Rattle.sexpr_reader.specs.Reads.{Reads, Ends, IsOpenEnd, FaultAfter}
 use Rattle.sexpr_reader.specs.Stepping.{is_idle}
-use Rattle.sexpr_reader.specs.Standing.{At, HasGiven, AnswersStep, AnswersEnd, IsOpenToken}
+use Rattle.sexpr_reader.specs.Standing.{At, HasGiven, AnswersEnd}
+use Rattle.sexpr_reader.specs.Progress.{AnswersStep, IsOpenToken}
 use Rattle.sexpr_reader.proofs.Fronts.{Stuck}
 use Rattle.sexpr_reader.proofs.Lasts.{reads}
 use Rattle.sexpr_reader.proofs.Nexts.{none_left}

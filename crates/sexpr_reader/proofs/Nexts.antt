@@ -12,7 +12,8 @@ use Rattle.sexpr_reader.specs.Lexes.{IsBlank, IsBlankEnd, Lexes}
 use Rattle.sexpr_reader.specs.Items.{tokens_of, tokens_of_all, open_tokens, HasFormedAtoms, AreTokens}
 use Rattle.sexpr_reader.specs.Parts.{IsPart, IsGap}
 use Rattle.sexpr_reader.specs.Reads.{Begins, Waits, EndsWith, IsUnfinished}
-use Rattle.sexpr_reader.specs.Standing.{HasGiven, AnswersStep, AnswersNext, GivesItem, kept}
+use Rattle.sexpr_reader.specs.Standing.{HasGiven, AnswersNext, GivesItem, kept}
+use Rattle.sexpr_reader.specs.Progress.{AnswersStep}
 use Rattle.sexpr_reader.proofs.Faults.{no_fault}
 use Rattle.sexpr_reader.proofs.Formed.{tokens_back}
 use Rattle.sexpr_reader.proofs.Fronts.{Stuck}

@@ -10,7 +10,8 @@ use Rattle.sexpr_reader.specs.Tokens.{Token, text, IsToken}
 use Rattle.sexpr_reader.specs.Lexes.{IsBlank, IsEnded}
 use Rattle.sexpr_reader.specs.Items.{tokens_of_all, open_tokens, levels, Feeds}
 use Rattle.sexpr_reader.specs.Reads.{FaultAt, FaultAfter}
-use Rattle.sexpr_reader.specs.Standing.{At, HasGiven, IsSame, IsSettled}
+use Rattle.sexpr_reader.specs.Standing.{At, HasGiven}
+use Rattle.sexpr_reader.specs.Progress.{IsSame, IsSettled}
 use Rattle.sexpr_reader.proofs.Lasts.{fault_after}
 use Rattle.sexpr_reader.proofs.Places.{at_token}
 use Rattle.sexpr_reader.proofs.Shapes.{split_at}

@@ -6,7 +6,7 @@ use Rattle.sexpr_reader.specs.Bytes.{is_line_end, is_border}
 use Rattle.sexpr_reader.specs.Tokens.{doubled, is_barred, IsTokenRun, Token, text}
 use Rattle.sexpr_reader.specs.Lexes.{EndsOrPasses, Lexes, is_comment}
 use Rattle.sexpr_reader.specs.Parts.{IsPart, IsGap}
-use Rattle.sexpr_reader.specs.Standing.{IsOpenToken}
+use Rattle.sexpr_reader.specs.Progress.{IsOpenToken}
 use Rattle.sexpr_reader.proofs.Fronts.{Stuck}
 use Rattle.sexpr_reader.proofs.Blanks.{and_left, and_right}
 use Rattle.sexpr_reader.proofs.Determined.{skip, skip-blank, skip-token, skip-stays, View, view, opens, closes, bars, quotes, plain, run_first, of_not, same_front, border_parts}

@@ -2,6 +2,7 @@ pub mod Bytes
 pub mod Items
 pub mod Lexes
 pub mod Parts
+pub mod Progress
 pub mod Reads
 pub mod Standing
 pub mod Stepping

@@ -1,9 +1,8 @@
 -- The tokens of a script (SMT-LIB 2.6, section 3.1).
-use Rattle.std.specs.Prelude.{◌≡◌, ℕ, ◌==◌, ◌||◌, ◌&&◌, not, List, [], ◌∷◌, ◌++◌, Bool, true, false, if◌then◌else◌, IsTrue, Result, Ok, Err}
+use Rattle.std.specs.Prelude.{◌≡◌, ℕ, ◌==◌, ◌||◌, ◌&&◌, not, List, [], ◌∷◌, ◌++◌, Bool, false, if◌then◌else◌, IsTrue, is_ok}
 use Rattle.std.specs.List.{list_all}
 use Rattle.sexpr_reader.specs.declared.kind.TokenKind.{TokenKind}
 use Rattle.sexpr_reader.specs.declared.kind.TokenKind.TheVariants.{Numeral, Decimal, Hexadecimal, Binary, Symbol, Quoted, Keyword, Literal}
-use Rattle.sv_word.specs.declared.literal_fault.LiteralFault.{LiteralFault}
 use Rattle.sv_word.specs.Literals.{lit}
 use Rattle.sexpr_reader.specs.Bytes.{is_border, is_digit, is_hexadecimal, is_bit, is_symbol_byte}
 
@@ -37,14 +36,9 @@ doubled (b ∷ bs) = if b == 34 then 34 ∷ 34 ∷ doubled bs else b ∷ doubled
 abbrev pub is_barred : List ℕ → Bool
 is_barred bs = list_all (λ b. not (b == 124 || b == 92)) bs
 
--- the text of a literal is that of a word
-abbrev pub is_word : Result (List ℕ) LiteralFault → Bool
-is_word (Ok w) = true
-is_word (Err fault) = false
-
 -- bytes between a literal's quotes that are the text of a word
 abbrev pub is_readable : List ℕ → Bool
-is_readable bs = is_word (lit bs)
+is_readable bs = is_ok (lit bs)
 
 -- one or more bytes of which none ends a token
 abbrev pub IsTokenRun : List ℕ → Type 0

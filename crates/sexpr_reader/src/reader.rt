@@ -39,7 +39,8 @@ impl Reader {
     ghost use Rattle.sexpr_reader.specs.Items.{Feeds};
     ghost use Rattle.sexpr_reader.specs.Lexes.{EndsOrPasses};
     ghost use Rattle.sexpr_reader.specs.Reads.{Ends, FaultAfter};
-    ghost use Rattle.sexpr_reader.specs.Standing.{HasGiven, AnswersStep, IsSame, IsSettled, IsOpenToken, AnswersNext, AnswersEnd, kept, work};
+    ghost use Rattle.sexpr_reader.specs.Standing.{HasGiven, AnswersNext, AnswersEnd, kept};
+    ghost use Rattle.sexpr_reader.specs.Progress.{AnswersStep, IsSame, IsSettled, IsOpenToken, work};
     ghost use Rattle.sexpr_reader.specs.Stepping.{Acts};
     ghost use Rattle.sexpr_reader.specs.Tokens.{Open, Close, Atomic};
 

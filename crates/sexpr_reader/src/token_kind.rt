@@ -22,7 +22,7 @@ fn is_readable(alloc: Global, content: &[u8]) -> Result<bool, AllocError>
 }
 
 /// Whether the bytes between a literal's quotes are the text of a word.
-pub fn is_literal(alloc: Global, token: &[u8]) -> Result<bool, AllocError>
+pub(crate) fn is_literal(alloc: Global, token: &[u8]) -> Result<bool, AllocError>
     ensures { IfOk result (λ is. (content : List ℕ) → token.now ≡ 34 ∷ content ++ 34 ∷ [] → is ≡ is_readable content) }
 {
     match token {
@@ -141,7 +141,7 @@ fn is_hash(bytes: &[u8]) -> Option<TokenKind>
 }
 
 /// The kind of a run, where it is a token.
-pub fn plain_kind(bytes: &[u8]) -> Option<TokenKind>
+pub(crate) fn plain_kind(bytes: &[u8]) -> Option<TokenKind>
     ensures some { IfSome result (λ kind. IsPlain kind bytes.now) }
     ensures none { IfNone result ((kind : TokenKind) → IsPlain kind bytes.now → ⊥) }
 {

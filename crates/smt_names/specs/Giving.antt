@@ -37,9 +37,6 @@ module _ {A : Type 0} (P : A → Type 0) where
   some-maybe (Some x) h = h x refl
   some-maybe None h = tt
 
-  pub maybe-some : (o : Option A) (x : A) → Maybe P o → o ≡ Some x → P x
-  maybe-some o x h e = let k : Maybe P (Some x) = subst (Maybe P) e h in k
-
   pub if-maybe : (b : Bool) (x : A) → P x → Maybe P (if b then Some x else None)
   if-maybe true x h = h
   if-maybe false x h = tt

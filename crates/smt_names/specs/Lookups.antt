@@ -1,7 +1,7 @@
 -- Look-up in a list that is joined of two.
-use Rattle.std.proofs.Common.{◌≡◌, refl, sym, ap, true, false, Bool, List, [], ◌∷◌, ◌++◌, Option, Some, None}
+use Rattle.std.proofs.Common.{◌≡◌, refl, sym, ap, true, false, Bool, List, [], ◌∷◌, ◌++◌, Option, Some, None, is_some}
 use Rattle.std.specs.Map.{lookup}
-use Rattle.smt_names.specs.Signature.{Name, same_name, is_some}
+use Rattle.smt_names.specs.Signature.{Name, same_name}
 use mathlib.Core.Bool.{cond}
 
 there : {A : Type 0} (b : Bool) (v : A) (o p q : Option A) → (o ≡ None → p ≡ q) → cond b (Some v) o ≡ None → cond b (Some v) p ≡ q

@@ -1,5 +1,5 @@
 -- The signature: the functions of the theories Core, Ints and UnicodeStrings of SMT-LIB 2.6 with their names, their ranks and what an application of each is.
-use Rattle.std.specs.Prelude.{ℕ, Bool, true, false, ◌||◌, nat_eq, List, [], ◌∷◌, ◌++◌, Option, Some, None, codes}
+use Rattle.std.specs.Prelude.{ℕ, Bool, true, false, ◌||◌, nat_eq, List, [], ◌∷◌, ◌++◌, codes, is_some}
 use Rattle.std.specs.Map.{lookup}
 use Rattle.std.specs.Cmp.Lexicographic.{pointwise}
 use Rattle.std.specs.List.{list_any}
@@ -126,10 +126,6 @@ character c = function Nothing S (is.Character c)
 
 abbrev pub stands_in : List Name → Name → Bool
 stands_in names n = list_any (same_name n) names
-
-abbrev pub is_some : {A : Type 0} → Option A → Bool
-is_some (Some x) = true
-is_some None = false
 
 -- the names of the functions with indices
 abbrev pub indexed_names : List Name

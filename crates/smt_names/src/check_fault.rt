@@ -5,34 +5,34 @@ use thiserror::Error;
 #[derive(Debug, Drop, Error)]
 pub enum CheckFault {
     /// A symbol, index or token that stands for no function, constant or sort.
-    #[error("unknown symbol")]
+    #[error("a symbol, index or token stands for no function, constant or sort")]
     Unknown,
     /// An argument, asserted term, body, declared name or term to be valued of the wrong sort.
-    #[error("sort")]
+    #[error("a term, argument or name has a sort that isn't taken there")]
     Sort,
     /// A number of arguments that isn't taken.
-    #[error("arity")]
+    #[error("a function is given a number of arguments that it doesn't take")]
     Arity,
     /// A name that is declared, or that stands twice.
-    #[error("declared")]
+    #[error("a name is declared already, or stands twice")]
     Declared,
     /// A numeral above 2^127 - 1.
-    #[error("number")]
+    #[error("a numeral is above 2^127 - 1")]
     Number,
     /// A declared name that a function or a word of the syntax has.
-    #[error("reserved")]
+    #[error("a name that is to be declared belongs to a function or the syntax")]
     Reserved,
     /// An item, command or term that isn't in its written form.
-    #[error("shape")]
+    #[error("a command or term isn't in its written form")]
     Shape,
     /// A transducer's description has a fault.
-    #[error("transducer")]
+    #[error("the description of a transducer has a fault")]
     Transducer,
     /// An index that is too large, missing, too many, no numeral or no character.
-    #[error("index")]
+    #[error("an index is too large, missing, one too many, or no numeral or character")]
     Index,
     /// A term with more than 1,048,576 nodes or nesting above 1,000.
-    #[error("size")]
+    #[error("a term has more than 1,048,576 nodes, or more than 1,000 inside one another")]
     Size,
     #[error("out of memory")]
     Memory(AllocError),

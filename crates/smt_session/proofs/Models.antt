@@ -1,18 +1,17 @@
 -- The model that is made of the values of a verdict, over the declared symbols.
-use Rattle.std.proofs.Common.{◌≡◌, refl, sym, ap, ◌∙◌, subst, ℕ, Bool, true, false, not, ◌&&◌, List, [], ◌∷◌, ◌++◌, Option, Some, None, IsTrue, zero, suc, ◌+◌, ◌<◌, length, take, drop, arith, get_or, append_assoc, append-nil}
+use Rattle.std.proofs.Common.{◌≡◌, refl, sym, ap, ◌∙◌, subst, ℕ, Bool, true, false, not, ◌&&◌, List, [], ◌∷◌, ◌++◌, Option, Some, None, IsTrue, zero, suc, ◌+◌, ◌<◌, length, take, drop, arith, get_or, append_assoc, append-nil, is_some}
 use Rattle.std.specs.Prelude.{All, slice_get, if◌then◌else◌}
 use Rattle.std.proofs.lemmas.Option.{slice_get_within, get_or_from_slice_get}
 use Rattle.std.specs.List.{AllByRecursion}
 use Rattle.std.specs.Map.{lookup}
 use Rattle.std.proofs.lemmas.Bool.{true≢false}
 use Rattle.assert_stack.specs.Levels.{Symbol}
-use Rattle.assertion_parts.specs.Constants.{AreOnly, HaveOneSort}
+use Rattle.assertion_parts.specs.Constants.{AreOnly, ConstantsHaveOneSort}
 use Rattle.assertion_parts.specs.Filling.{default, or_default}
 use Rattle.decide.specs.Completeness.{IsComplete}
 use Rattle.decide.specs.Verdicts.{RightVerdict}
 use Rattle.verdict_tally.specs.declared.verdict.Verdict.TheVariants.{Sat}
 use Rattle.term_weight.specs.Bodies.{is_escaped}
-use Rattle.smt_names.specs.Signature.{is_some}
 use Rattle.sort_check.specs.WellFormed.{is_constant_of, is_declared, constants_known, is_entry, is_new, follow, is_well_formed, is_given, AreGiven}
 use Rattle.sv_terms.specs.Meaning.{Named}
 use Rattle.sv_terms.specs.Sorting.{kind, same_sort, is_of, is_valued}
@@ -23,7 +22,8 @@ use Rattle.sv_terms.specs.declared.sort.Sort.{Sort}
 use Rattle.sv_terms.specs.declared.sort.Sort.TheVariants as sort
 use Rattle.sv_terms.specs.declared.term.Term.{Term}
 use Rattle.sv_terms.specs.declared.value.Value.{Value}
-use Rattle.smt_session.specs.Verdicts.{Name, IsModelFor, constants_of, kinds_of}
+use Rattle.smt_names.specs.Signature.{Name}
+use Rattle.smt_session.specs.Verdicts.{IsModelFor, constants_of, kinds_of}
 use Rattle.smt_session.specs.Models.{model_of}
 use Rattle.smt_session.proofs.Agreeing.{agrees}
 use Rattle.smt_session.proofs.Names.{same, one, one-more, parted, by-index, skip, cases, found-has}
@@ -283,7 +283,7 @@ valued-all allowed placed valued symbols live values formed known k d l =
     (by-place (λ t. IsTrue (constants_known symbols t)) live known k d l)
 
 -- terms over well formed names have one sort for each name
-pub one-sort : Allowed → Placed → Valued → (symbols : List Symbol) (live : List Term) → IsTrue (is_well_formed symbols) → AllByRecursion (λ t. IsTrue (constants_known symbols t)) live → HaveOneSort live
+pub one-sort : Allowed → Placed → Valued → (symbols : List Symbol) (live : List Term) → IsTrue (is_well_formed symbols) → AllByRecursion (λ t. IsTrue (constants_known symbols t)) live → ConstantsHaveOneSort live
 one-sort allowed placed valued symbols live formed known = (model_of [] symbols, valued-all allowed placed valued symbols live [] formed known)
 
 -- what is true at the values of a verdict is true at the model

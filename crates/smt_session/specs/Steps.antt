@@ -1,10 +1,10 @@
 -- What a session answers to an item and what it is afterwards, a row for each command (SMT-LIB 2.6, sections 4.1 and 4.2). Of `check-sat` a right verdict is asked; every other reply is a function of the session and the item.
-use Rattle.std.specs.Prelude.{◌≡◌, ℕ, ◌+◌, ◌-◌, Bool, true, false, nat_eq, nat_le, nat_lt, List, [], ◌∷◌, ◌++◌, length, drop, map, Option, None, Some, Result, Ok, Err, codes, if◌then◌else◌}
-use Rattle.std.specs.Cmp.Lexicographic.{pointwise}
+use Rattle.std.specs.Prelude.{◌≡◌, ℕ, ◌+◌, ◌-◌, Bool, true, false, nat_le, nat_lt, List, [], ◌∷◌, ◌++◌, length, drop, map, Option, None, Some, Result, Ok, Err, codes, if◌then◌else◌}
 use Rattle.assert_stack.specs.Levels.{Level, Symbol, empty, symbols_of, live, pushed, declared, asserted}
 use Rattle.sexpr_reader.specs.declared.sexpr.Sexpr.{Sexpr}
 use Rattle.sort_check.specs.Checking.{asked_term, checked}
 use Rattle.smt_names.specs.Form.{seen}
+use Rattle.smt_names.specs.Signature.{same_name}
 use Rattle.smt_names.specs.declared.check_fault.CheckFault.{CheckFault}
 use Rattle.sort_check.specs.declared.commands.Command.{Command}
 use Rattle.sort_check.specs.declared.commands.Command.TheVariants as command
@@ -91,9 +91,6 @@ model_reply (Some kept.Unsat) = reply.Error error.NoModel
 model_reply (Some (kept.Unknown c)) = reply.Error error.NoModel
 model_reply None = reply.Error error.NoModel
 
-abbrev pub same_keyword : List ℕ → List ℕ → Bool
-same_keyword k other = pointwise nat_eq k other
-
 -- the reason needs a kept `unknown`
 abbrev pub reason_reply : Option LastVerdict → Reply
 reason_reply (Some (kept.Sat values)) = reply.Error error.NoReason
@@ -104,11 +101,11 @@ reason_reply None = reply.Error error.NoReason
 -- what is known of the program and of the session
 abbrev pub info_reply : State → List ℕ → Reply
 info_reply s k =
-    if same_keyword k (codes ":name") then reply.Info info.Name else
-    if same_keyword k (codes ":version") then reply.Info info.Version else
-    if same_keyword k (codes ":error-behavior") then reply.Info info.ErrorBehavior else
-    if same_keyword k (codes ":assertion-stack-levels") then reply.Info (info.AssertionStackLevels (length s.levels - 1)) else
-    if same_keyword k (codes ":reason-unknown") then reason_reply s.verdict else reply.Unsupported
+    if same_name k (codes ":name") then reply.Info info.Name else
+    if same_name k (codes ":version") then reply.Info info.Version else
+    if same_name k (codes ":error-behavior") then reply.Info info.ErrorBehavior else
+    if same_name k (codes ":assertion-stack-levels") then reply.Info (info.AssertionStackLevels (length s.levels - 1)) else
+    if same_name k (codes ":reason-unknown") then reason_reply s.verdict else reply.Unsupported
 
 -- the terms' values under these declarations, each beside the s-expression as it was read
 abbrev pub AreAskedValues : List Symbol → Named → List Sexpr → List (Sexpr × Value) → Type 0

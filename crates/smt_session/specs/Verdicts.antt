@@ -1,7 +1,8 @@
 -- The model of a verdict, and what is told of an open one.
-use Rattle.std.specs.Prelude.{◌≡◌, ℕ, false, nat_eq, List, [], ◌∷◌, map, Some, ⊤}
+use Rattle.std.specs.Prelude.{◌≡◌, false, nat_eq, List, [], ◌∷◌, map, Some, ⊤}
 use Rattle.std.specs.Map.{lookup}
 use Rattle.std.specs.Cmp.Lexicographic.{pointwise}
+use Rattle.smt_names.specs.Signature.{Name}
 use Rattle.assert_stack.specs.Levels.{Symbol}
 use Rattle.cube_answers.specs.declared.reason.OpenReason.{OpenReason}
 use Rattle.cube_answers.specs.declared.reason.OpenReason.TheVariants as reason
@@ -22,9 +23,6 @@ use Rattle.reply_text.specs.declared.cause.Cause.{Cause}
 use Rattle.reply_text.specs.declared.cause.Cause.TheVariants as cause
 use Rattle.reply_text.specs.declared.cause.CubeCause.{CubeCause}
 use Rattle.reply_text.specs.declared.cause.CubeCause.TheVariants as cube_cause
-
-abbrev pub Name : Type 0
-Name = List ℕ
 
 -- the constants that are declared, in order, with their sorts
 abbrev pub constants_of : List Symbol → List (Name × Sort)

@@ -4,14 +4,14 @@ use Rattle.sexpr_reader.specs.declared.sexpr.Sexpr.{Sexpr}
 use Rattle.smt_names.specs.declared.check_fault.CheckFault.TheVariants as fault
 use Rattle.sort_check.specs.declared.commands.Command.{Command}
 use Rattle.sort_check.specs.declared.commands.Command.TheVariants as command
-use Rattle.sort_check.specs.Checking.{plain, set_logic, set_option, declare_const, declare_fun, define_fun, define_transducer, assertion, stepped, get_value, get_info, echo}
+use Rattle.sort_check.specs.Checking.{without_parts, set_logic, set_option, declare_const, declare_fun, define_fun, define_transducer, assertion, stepped, get_value, get_info, echo}
 use Rattle.smt_names.specs.Form.{forms, seen}
 use Rattle.term_walk.specs.Meant.{Names}
 use Rattle.smt_names.specs.Shapes.{none-seen, one-seen, two-seen, first-seen, seen-Atom, seen-List}
 
-pub plain-many : (c : Command) (xs : List Sexpr) → 1 ≤ length xs → plain c (forms (map seen xs)) ≡ Err fault.Shape
-plain-many c [] h = absurd (omega arith)
-plain-many c (a ∷ xs) h = refl
+pub without_parts-many : (c : Command) (xs : List Sexpr) → 1 ≤ length xs → without_parts c (forms (map seen xs)) ≡ Err fault.Shape
+without_parts-many c [] h = absurd (omega arith)
+without_parts-many c (a ∷ xs) h = refl
 
 pub set_logic-few : (xs : List Sexpr) → length xs < 1 → set_logic (forms (map seen xs)) ≡ Err fault.Shape
 set_logic-few [] h = refl
@@ -130,4 +130,4 @@ get_value-many symbols [] h = absurd (omega arith)
 get_value-many symbols (a ∷ []) h = absurd (omega arith)
 get_value-many symbols (a ∷ b ∷ xs) h = refl
 
-pub ruleset commands = (none-seen, one-seen, two-seen, first-seen, seen-Atom, seen-List, plain-many, set_logic-few, set_logic-many, get_info-few, get_info-many, echo-few, echo-many, set_option-few, set_option-many, stepped-many, declare_const-few, declare_const-many, declare_fun-few, declare_fun-many, define_fun-few, define_fun-many, define_transducer-few, define_transducer-many, assertion-few, assertion-many, get_value-few, get_value-many)
+pub ruleset commands = (none-seen, one-seen, two-seen, first-seen, seen-Atom, seen-List, without_parts-many, set_logic-few, set_logic-many, get_info-few, get_info-many, echo-few, echo-many, set_option-few, set_option-many, stepped-many, declare_const-few, declare_const-many, declare_fun-few, declare_fun-many, define_fun-few, define_fun-many, define_transducer-few, define_transducer-many, assertion-few, assertion-many, get_value-few, get_value-many)

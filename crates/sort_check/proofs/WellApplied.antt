@@ -1,5 +1,5 @@
 -- An application of a function to arguments that it takes has the sort that it gives.
-use Rattle.std.proofs.Common.{◌≡◌, refl, sym, ap, ◌∙◌, subst, map, length, Bool, true, false, not, ◌&&◌, IsTrue, nat_le, List, [], ◌∷◌, Option, Some, None, if◌then◌else◌}
+use Rattle.std.proofs.Common.{◌≡◌, refl, sym, ap, ◌∙◌, subst, map, length, Bool, true, false, not, ◌&&◌, IsTrue, nat_le, List, [], ◌∷◌, Option, Some, None, if◌then◌else◌, is_some}
 use Rattle.std.proofs.lemmas.List.{length-map}
 use Rattle.std.specs.List.{list_all}
 use Rattle.std.specs.Map.{lookup}
@@ -23,7 +23,7 @@ use Rattle.smt_names.specs.declared.function.Interpretation.{Interpretation}
 use Rattle.smt_names.specs.declared.function.Interpretation.TheVariants as is
 use Rattle.term_weight.specs.Bodies.{body_sort, literal, term_of, is_language, regex_of, opaque}
 use Rattle.term_weight.specs.Ranks.{takes_count, takes_sorts, apply, equality, choice, unknowns, product, replacement, membership, text_of, characters, range_of, combined, of_one, applied_as, applied}
-use Rattle.smt_names.specs.Signature.{Name, Rows, signature, is_some}
+use Rattle.smt_names.specs.Signature.{Name, Rows, signature}
 use Rattle.sort_check.proofs.WellTerms.{both, both-make, Each, Fit, Fits, fit-truth, fit-text, fit-opaque, fit-member, fit-apply}
 
 pub same-is : (s t : Sort) → IsTrue (same_sort s t) → t ≡ s

@@ -1,5 +1,5 @@
 -- The terms of a command have sorts, and what it declares keeps the names well formed.
-use Rattle.std.proofs.Common.{◌≡◌, refl, ap, ◌∙◌, map, Bool, true, false, ◌&&◌, ◌||◌, IsTrue, ℕ, List, [], ◌∷◌, ◌++◌, Option, Some, None, Result, Ok, Err, codes, if◌then◌else◌}
+use Rattle.std.proofs.Common.{◌≡◌, refl, ap, ◌∙◌, map, Bool, true, false, ◌&&◌, ◌||◌, IsTrue, ℕ, List, [], ◌∷◌, ◌++◌, Option, Some, None, Result, Ok, Err, codes, if◌then◌else◌, is_some}
 use Rattle.std.specs.List.{list_all, list_any}
 use Rattle.std.specs.Map.{lookup}
 use Rattle.std.specs.Option.{option_to_list}
@@ -26,16 +26,16 @@ use Rattle.smt_names.specs.Faults.{◌>>◌, refuse, or_fault}
 use Rattle.smt_names.specs.Form.{Form, Forms, token, group, end, ◌⨾◌, count}
 use Rattle.term_walk.specs.Meant as m
 use Rattle.term_walk.specs.Meant.{Scope, Names, meant_all, any_size, parameters_of}
-use Rattle.smt_names.specs.Signature.{Name, same_name, is_reserved, is_some}
+use Rattle.smt_names.specs.Signature.{Name, same_name, is_reserved}
 use Rattle.term_weight.specs.Sizes.{fits}
 use Rattle.smt_names.specs.Tokens as t
-use Rattle.sort_check.specs.WellFormed.{is_constant_of, is_declared, IsTermOf, IsOfWrittenSort, hidden_by, is_bound, is_sort, constants_are, has_formed, is_entry, is_well_formed, IsAdded}
+use Rattle.sort_check.specs.WellFormed.{is_constant_of, is_declared, IsTermOf, IsOfWrittenSort, hidden_by, is_bound, is_sort, constants_are, is_entry, is_well_formed, IsAdded}
 use Rattle.sort_check.proofs.Asked.{all-asked}
 use Rattle.sort_check.proofs.WellApplied.{same-is, same-self, IsWell}
 use Rattle.sort_check.proofs.WellMeant.{Knows, AreWell, Scoped, Any, any-gives, constants-well, all-well}
 use Rattle.sort_check.proofs.WellNames.{same-name-self, sound-entry, one-more, not-true, not-false}
 use Rattle.smt_names.specs.Verbs.{verb_of}
-use Rattle.sv_terms.specs.TransducerSizes.{is_formed}
+use Rattle.sv_terms.specs.TransducerSizes.{is_formed, has_formed}
 use Rattle.transducer_form.specs.Descriptions.{described}
 use Rattle.transducer_form.specs.Formed.{described-gives}
 use Rattle.transducer_form.specs.Written.{DescriptionForm, description_form}
@@ -163,15 +163,15 @@ module _ (symbols : Names) (wf : IsTrue (is_well_formed symbols)) where
   written : (s : Sort) (b : Body) → IsWell (is_declared symbols) b → body_sort b ≡ s → IsTermOf symbols s (term_of b)
   written s b w e = record { sorted = w.sorted ∙ ap Some e; known = w.constants; formed = w.formed }
 
-  asserted-sound : (bs : List Body) → Each (IsWell (is_declared symbols)) bs → Gives Sound (c.asserted bs)
-  asserted-sound [] w = tt
-  asserted-sound (b ∷ []) w = need-gives Sound (same_sort sort.Bool (body_sort b)) fault.Sort _ (λ h. written sort.Bool b w.0 (same-is sort.Bool (body_sort b) h))
-  asserted-sound (b ∷ d ∷ bs) w = tt
+  assertion_of-sound : (bs : List Body) → Each (IsWell (is_declared symbols)) bs → Gives Sound (c.assertion_of bs)
+  assertion_of-sound [] w = tt
+  assertion_of-sound (b ∷ []) w = need-gives Sound (same_sort sort.Bool (body_sort b)) fault.Sort _ (λ h. written sort.Bool b w.0 (same-is sort.Bool (body_sort b) h))
+  assertion_of-sound (b ∷ d ∷ bs) w = tt
 
   assertion-sound : (fs : Forms) → Gives Sound (c.assertion symbols fs)
   assertion-sound end = tt
   assertion-sound (u ⨾ end) = after-gives Sound (passed (u ⨾ end)) _
-      (then-gives (AreWell (is_declared symbols) 1) Sound c.asserted (m.settled symbols [] (u ⨾ end)) (settled-well (is_declared symbols) declared-knows [] tt (u ⨾ end)) (λ bs a. asserted-sound bs a.well))
+      (then-gives (AreWell (is_declared symbols) 1) Sound c.assertion_of (m.settled symbols [] (u ⨾ end)) (settled-well (is_declared symbols) declared-knows [] tt (u ⨾ end)) (λ bs a. assertion_of-sound bs a.well))
   assertion-sound (u ⨾ w ⨾ fs) = tt
 
   -- terms whose values are asked for
@@ -285,17 +285,17 @@ module _ (symbols : Names) (wf : IsTrue (is_well_formed symbols)) where
   define-sound (n ⨾ ps ⨾ s ⨾ u ⨾ w ⨾ fs) = tt
 
   -- commands that hold no term and declare nothing
-  plain-sound : (d : Command) (fs : Forms) → Sound d → Gives Sound (c.plain d fs)
-  plain-sound d end h = h
-  plain-sound d (f ⨾ fs) h = tt
+  without_parts-sound : (d : Command) (fs : Forms) → Sound d → Gives Sound (c.without_parts d fs)
+  without_parts-sound d end h = h
+  without_parts-sound d (f ⨾ fs) h = tt
 
-  levels-sound : (make : ℕ → Command) (o : Option (List ℕ)) → ((n : ℕ) → Sound (make n)) → Gives Sound (c.levels make o)
-  levels-sound make None h = tt
-  levels-sound make (Some ds) h = refuse-gives Sound (t.is_too_large ds) fault.Number _ (λ _. h (t.level ds))
+  level_command-sound : (make : ℕ → Command) (o : Option (List ℕ)) → ((n : ℕ) → Sound (make n)) → Gives Sound (c.level_command make o)
+  level_command-sound make None h = tt
+  level_command-sound make (Some ds) h = refuse-gives Sound (t.is_too_large ds) fault.Number _ (λ _. h (t.level ds))
 
   stepped-sound : (make : ℕ → Command) (fs : Forms) → ((n : ℕ) → Sound (make n)) → Gives Sound (c.stepped make fs)
   stepped-sound make end h = h 1
-  stepped-sound make (n ⨾ end) h = levels-sound make (t.digits n) h
+  stepped-sound make (n ⨾ end) h = level_command-sound make (t.digits n) h
   stepped-sound make (n ⨾ m ⨾ fs) h = tt
 
   logic-sound : (fs : Forms) → Gives Sound (c.set_logic fs)
@@ -344,14 +344,14 @@ module _ (symbols : Names) (wf : IsTrue (is_well_formed symbols)) where
   commanded-sound (Some verb.Assert) fs = assertion-sound fs
   commanded-sound (Some verb.Push) fs = stepped-sound command.Push fs (λ n. tt)
   commanded-sound (Some verb.Pop) fs = stepped-sound command.Pop fs (λ n. tt)
-  commanded-sound (Some verb.CheckSat) fs = plain-sound command.CheckSat fs tt
-  commanded-sound (Some verb.GetModel) fs = plain-sound command.GetModel fs tt
+  commanded-sound (Some verb.CheckSat) fs = without_parts-sound command.CheckSat fs tt
+  commanded-sound (Some verb.GetModel) fs = without_parts-sound command.GetModel fs tt
   commanded-sound (Some verb.GetValue) fs = get-sound fs
   commanded-sound (Some verb.GetInfo) fs = info-sound fs
   commanded-sound (Some verb.Echo) fs = echo-sound fs
-  commanded-sound (Some verb.Reset) fs = plain-sound command.Reset fs tt
-  commanded-sound (Some verb.ResetAssertions) fs = plain-sound command.ResetAssertions fs tt
-  commanded-sound (Some verb.Exit) fs = plain-sound command.Exit fs tt
+  commanded-sound (Some verb.Reset) fs = without_parts-sound command.Reset fs tt
+  commanded-sound (Some verb.ResetAssertions) fs = without_parts-sound command.ResetAssertions fs tt
+  commanded-sound (Some verb.Exit) fs = without_parts-sound command.Exit fs tt
 
   begun-sound : (fs : Forms) → Gives Sound (c.begun symbols fs)
   begun-sound end = tt

@@ -26,8 +26,8 @@ use Rattle.term_walk.specs.Meant.{Scope, Names, Head, theory, constant, macro, m
 use Rattle.term_weight.specs.Ranks.{are_of}
 use Rattle.smt_names.specs.Signature.{Name, same_name, stands_in, signature, indexed_names, power, loop, character}
 use Rattle.smt_names.specs.Tokens.{symbol, digits, value, is_too_large, literal_word, character_token, opening, is_identifier}
-use Rattle.sv_terms.specs.TransducerSizes.{is_formed}
-use Rattle.sort_check.specs.WellFormed.{is_constant_of, is_declared, hidden_by, is_bound, is_sort, constants_are, has_formed, is_body, is_well_formed}
+use Rattle.sv_terms.specs.TransducerSizes.{is_formed, has_formed}
+use Rattle.sort_check.specs.WellFormed.{is_constant_of, is_declared, hidden_by, is_bound, is_sort, constants_are, is_body, is_well_formed}
 use Rattle.sort_check.proofs.WellApplied.{same-is, same-self, Sound, function-sound, IsWell, well-term, well-opaque, well-language, well-applied}
 use Rattle.sort_check.proofs.WellNames.{sound-entry}
 use Rattle.smt_names.specs.Giving.{Gives, Maybe, need-gives, refuse-gives, or-gives, some-maybe, if-maybe, then-gives}

@@ -1,5 +1,5 @@
 -- Names that are declared one after another, and what is known of the ones before.
-use Rattle.std.proofs.Common.{◌≡◌, refl, sym, ap, ◌∙◌, subst, Bool, true, false, not, ◌&&◌, IsTrue, All, ℕ, take, drop, List, [], ◌∷◌, ◌++◌, Option, Some, None, append_assoc}
+use Rattle.std.proofs.Common.{◌≡◌, refl, sym, ap, ◌∙◌, subst, Bool, true, false, not, ◌&&◌, IsTrue, All, ℕ, take, drop, List, [], ◌∷◌, ◌++◌, Option, Some, None, append_assoc, is_some}
 use Rattle.std.proofs.lemmas.List.{append-nil, take-append-drop}
 use Rattle.std.specs.Map.{lookup}
 use Rattle.std.specs.Cmp.Lexicographic.{same_text, lists_equiv}
@@ -15,8 +15,9 @@ use Rattle.sv_terms.specs.Meaning.{Named}
 use Rattle.sv_terms.specs.Sorting.{sort_of, is_of, is_valued}
 use Rattle.term_weight.specs.Bodies.{body_sort, is_escaped}
 use Rattle.term_walk.specs.Meant.{Names}
-use Rattle.smt_names.specs.Signature.{Name, same_name, is_some}
-use Rattle.sort_check.specs.WellFormed.{constants_are, is_constant_of, is_declared, constants_known, has_formed, hidden_by, is_bound, is_sort, is_body, is_entry, is_new, follow, is_well_formed, is_given, AreGiven}
+use Rattle.smt_names.specs.Signature.{Name, same_name}
+use Rattle.sv_terms.specs.TransducerSizes.{has_formed}
+use Rattle.sort_check.specs.WellFormed.{constants_are, is_constant_of, is_declared, constants_known, hidden_by, is_bound, is_sort, is_body, is_entry, is_new, follow, is_well_formed, is_given, AreGiven}
 use Rattle.smt_names.specs.Lookups.{lookup-there}
 use Rattle.sort_check.proofs.WellApplied.{same-is}
 use Rattle.sort_check.proofs.WellTerms.{both, both-make, Each, each-all, all-each, weaker, known-valued}

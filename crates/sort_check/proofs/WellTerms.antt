@@ -15,11 +15,12 @@ use Rattle.sv_terms.specs.declared.term.Term.TheFolds.{map-Term, ind-Term, fold-
 use Rattle.sv_terms.specs.declared.transducer.Transducer.{Transducer}
 use Rattle.sv_terms.specs.Language.{Word}
 use Rattle.sv_terms.specs.Meaning.{Named, all_of}
+use Rattle.sv_terms.specs.Parts.{every_step}
 use Rattle.sv_terms.specs.Sorting.{applied_sort, applied_sort_if, tested_sort, related_sort, sort_step, sort_of, is_of, valued_step, is_valued, op_sort, layer_sort}
 use Rattle.term_weight.specs.Bodies.{or_constant, put_in_layer, put_in}
 use Rattle.smt_names.specs.Signature.{Name}
-use Rattle.sv_terms.specs.TransducerSizes.{is_formed}
-use Rattle.sort_check.specs.WellFormed.{constants_step, constants_are, formed_step, has_formed}
+use Rattle.sv_terms.specs.TransducerSizes.{is_formed, has_formed}
+use Rattle.sort_check.specs.WellFormed.{constants_step, constants_are}
 
 pub both : (a b : Bool) → IsTrue (a && b) → IsTrue a × IsTrue b
 both true b h = (refl, h)
@@ -43,6 +44,10 @@ module _ {A : Type 0} (P : A → Type 0) where
   pub all-each : (xs : List A) → All P xs → Each P xs
   all-each [] h = tt
   all-each (x ∷ xs) h = (h 0 x (omega arith), all-each xs (λ k d l. h (suc k) d (omega arith)))
+
+-- the step of `has_formed`
+abbrev formed_step : Term-F Bool → Bool
+formed_step = every_step (λ n s. true) is_formed
 
 -- a fold of a term by those of its parts
 at : {A : Type 0} (f : Term-F A → A) (t : Term) (x : Term-F Term) → roll-Term x ≡ t → fold-Term A f t ≡ f (map-Term Term A (fold-Term A f) x)

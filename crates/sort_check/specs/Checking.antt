@@ -1,5 +1,5 @@
 -- The command that an item is, or its first fault (SMT-LIB 2.6, section 3.9). What is looked for stands in this order, each over the whole item: its written form; declared names; sorts; numerals; the walk over its terms; the size of the terms; their sorts; the description of a transducer.
-use Rattle.std.specs.Prelude.{◌≡◌, ℕ, Bool, true, false, ◌&&◌, not, List, [], ◌∷◌, map, Option, Some, None, Result, Ok, Err, codes, if◌then◌else◌}
+use Rattle.std.specs.Prelude.{◌≡◌, ℕ, Bool, true, false, ◌&&◌, not, List, [], ◌∷◌, map, Option, Some, None, Result, Ok, Err, codes, if◌then◌else◌, is_some}
 use Rattle.std.specs.List.{list_all}
 use Rattle.std.specs.Map.{lookup}
 use Rattle.sexpr_reader.specs.declared.sexpr.Sexpr.{Sexpr}
@@ -24,16 +24,16 @@ use Rattle.smt_names.specs.Faults.{and_then, ◌>>◌, need, refuse, or_fault}
 use Rattle.smt_names.specs.Form.{Form, Forms, end, ◌⨾◌, seen, raws}
 use Rattle.term_walk.specs.Meant.{Names, settled, settled_sorts, parameters_of}
 use Rattle.item_passes.specs.Passes.{at_variables, looked, passed}
-use Rattle.smt_names.specs.Signature.{Name, same_name, is_reserved, is_some}
+use Rattle.smt_names.specs.Signature.{Name, same_name, is_reserved}
 use Rattle.smt_names.specs.Tokens.{symbol, word, digits, keyword, literal_text, listed, truth, is_too_large, level, is_sort_form, sort_of}
 use Rattle.smt_names.specs.Verbs.{verb_of}
 use Rattle.transducer_form.specs.Descriptions.{described}
 use Rattle.transducer_form.specs.Written.{DescriptionForm, description_form}
 
 -- a command without parts
-abbrev pub plain : Command → Forms → Result Command CheckFault
-plain c end = Ok c
-plain c _ = Err fault.Shape
+abbrev pub without_parts : Command → Forms → Result Command CheckFault
+without_parts c end = Ok c
+without_parts c _ = Err fault.Shape
 
 abbrev pub set_logic : Forms → Result Command CheckFault
 set_logic (n ⨾ end) = need (is_some (symbol n)) fault.Shape >> Ok command.Inform
@@ -119,24 +119,24 @@ abbrev pub define_transducer : Names → Forms → Result Command CheckFault
 define_transducer symbols (n ⨾ states ⨾ start ⨾ edges ⨾ ends ⨾ end) = and_then (λ d. and_then (machine symbols d) (or_fault fault.Shape (symbol n))) (or_fault fault.Shape (description_form states start edges ends))
 define_transducer symbols _ = Err fault.Shape
 
-abbrev pub asserted : List Body → Result Command CheckFault
-asserted (b ∷ []) = need (same_sort sort.Bool (body_sort b)) fault.Sort >> Ok (command.Assert (term_of b))
-asserted _ = Err fault.Shape
+abbrev pub assertion_of : List Body → Result Command CheckFault
+assertion_of (b ∷ []) = need (same_sort sort.Bool (body_sort b)) fault.Sort >> Ok (command.Assert (term_of b))
+assertion_of _ = Err fault.Shape
 
 -- one term
 abbrev pub assertion : Names → Forms → Result Command CheckFault
-assertion symbols (t ⨾ end) = passed (t ⨾ end) >> and_then asserted (settled symbols [] (t ⨾ end))
+assertion symbols (t ⨾ end) = passed (t ⨾ end) >> and_then assertion_of (settled symbols [] (t ⨾ end))
 assertion symbols _ = Err fault.Shape
 
 -- a number of levels
-abbrev pub levels : (ℕ → Command) → Option (List ℕ) → Result Command CheckFault
-levels make None = Err fault.Shape
-levels make (Some ds) = refuse (is_too_large ds) fault.Number >> Ok (make (level ds))
+abbrev pub level_command : (ℕ → Command) → Option (List ℕ) → Result Command CheckFault
+level_command make None = Err fault.Shape
+level_command make (Some ds) = refuse (is_too_large ds) fault.Number >> Ok (make (level ds))
 
 -- which is 1 where it isn't written
 abbrev pub stepped : (ℕ → Command) → Forms → Result Command CheckFault
 stepped make end = Ok (make 1)
-stepped make (n ⨾ end) = levels make (digits n)
+stepped make (n ⨾ end) = level_command make (digits n)
 stepped make _ = Err fault.Shape
 
 abbrev pub has_values : Sort → Bool
@@ -192,14 +192,14 @@ commanded symbols (Some verb.DefineTransducer) parts = define_transducer symbols
 commanded symbols (Some verb.Assert) parts = assertion symbols parts
 commanded symbols (Some verb.Push) parts = stepped command.Push parts
 commanded symbols (Some verb.Pop) parts = stepped command.Pop parts
-commanded symbols (Some verb.CheckSat) parts = plain command.CheckSat parts
-commanded symbols (Some verb.GetModel) parts = plain command.GetModel parts
+commanded symbols (Some verb.CheckSat) parts = without_parts command.CheckSat parts
+commanded symbols (Some verb.GetModel) parts = without_parts command.GetModel parts
 commanded symbols (Some verb.GetValue) parts = get_value symbols parts
 commanded symbols (Some verb.GetInfo) parts = get_info parts
 commanded symbols (Some verb.Echo) parts = echo parts
-commanded symbols (Some verb.Reset) parts = plain command.Reset parts
-commanded symbols (Some verb.ResetAssertions) parts = plain command.ResetAssertions parts
-commanded symbols (Some verb.Exit) parts = plain command.Exit parts
+commanded symbols (Some verb.Reset) parts = without_parts command.Reset parts
+commanded symbols (Some verb.ResetAssertions) parts = without_parts command.ResetAssertions parts
+commanded symbols (Some verb.Exit) parts = without_parts command.Exit parts
 
 abbrev pub begun : Names → Forms → Result Command CheckFault
 begun symbols end = Err fault.Shape

@@ -1,5 +1,5 @@
 -- What keeps the declared names such that every term that is read has a sort, and a value for each of its constants.
-use Rattle.std.specs.Prelude.{◌≡◌, IsTrue, All, Bool, true, false, not, ◌&&◌, List, [], ◌∷◌, ◌++◌, Option, Some, None}
+use Rattle.std.specs.Prelude.{◌≡◌, IsTrue, All, Bool, true, false, not, ◌&&◌, List, [], ◌∷◌, ◌++◌, Option, Some, None, is_some}
 use Rattle.std.specs.Map.{lookup}
 use Rattle.sv_terms.specs.declared.entry.Body.{Body}
 use Rattle.sv_terms.specs.declared.entry.Body.TheVariants as body
@@ -13,10 +13,10 @@ use Rattle.sv_terms.specs.declared.term.Term.TheFolds.{fold-Term}
 use Rattle.sv_terms.specs.Meaning.{Named}
 use Rattle.sv_terms.specs.Parts.{every_step}
 use Rattle.sv_terms.specs.Sorting.{same_sort, sort_of, is_of}
-use Rattle.sv_terms.specs.TransducerSizes.{is_formed}
+use Rattle.sv_terms.specs.TransducerSizes.{is_formed, has_formed}
 use Rattle.term_weight.specs.Bodies.{body_sort, is_escaped}
 use Rattle.term_walk.specs.Meant.{Names}
-use Rattle.smt_names.specs.Signature.{Name, same_name, is_some}
+use Rattle.smt_names.specs.Signature.{Name, same_name}
 
 -- whether each constant of a term is known, by its name and sort
 module _ (known : Name → Sort → Bool) where
@@ -37,13 +37,6 @@ is_declared symbols n s = is_constant_of s (lookup (same_name n) symbols)
 -- whether each constant of a term is declared with its sort
 abbrev pub constants_known : Names → Term → Bool
 constants_known symbols = constants_are (is_declared symbols)
-
-abbrev pub formed_step : Term-F Bool → Bool
-formed_step = every_step (λ n s. true) is_formed
-
--- whether each transducer of a term is formed
-abbrev pub has_formed : Term → Bool
-has_formed = fold-Term Bool formed_step
 
 -- a term of this sort over the declared constants, whose transducers are formed
 pub record IsTermOf (symbols : Names) (s : Sort) (t : Term) : Type 0 where

@@ -29,8 +29,8 @@ use term_weight::{Declarations, same_sort};
 use transducer_form::{Description, build_transducer};
 
 #[tactic(auto, using(crate::proofs::Counted::commands))]
-fn plain(made: Command, parts: &[Sexpr]) -> Result<Command, CheckFault>
-    ensures { result ≡ commands.plain made (forms (map seen parts.now)) }
+fn command_without_parts(made: Command, parts: &[Sexpr]) -> Result<Command, CheckFault>
+    ensures { result ≡ commands.without_parts made (forms (map seen parts.now)) }
 {
     match parts {
         [] => Ok(made),
@@ -125,7 +125,7 @@ fn is_escaped(name: &[u8]) -> bool
 }
 
 /// A name that may be declared.
-fn free(alloc: Global, symbols: &Declarations, text: &[u8]) -> Result<Name, CheckFault>
+fn free_name(alloc: Global, symbols: &Declarations, text: &[u8]) -> Result<Name, CheckFault>
     ensures ok { IfOk result (λ n. (n ≡ symbol_name text.now) × (commands.free symbols.now n ≡ Ok tt)) }
     ensures err { IfErr result (λ f. Answers (commands.free symbols.now (symbol_name text.now)) (Err f)) }
 {
@@ -165,7 +165,7 @@ fn declaration(
         return Err(CheckFault::Shape);
     }
     match symbol(name) {
-        Some(text) => match free(alloc, symbols, text) {
+        Some(text) => match free_name(alloc, symbols, text) {
             Ok(name) => match sort_of(sort) {
                 Some(sort) => declare_as(name, sort),
                 None => Err(CheckFault::Unknown),
@@ -273,7 +273,7 @@ fn define_macro(
     ensures { (ps : Forms) → variables.now ≡ binders.variables ps → Answers (commands.defined name ps sort (body ∷ [])) result }
 {
     if !same_sort(sort, body_sort(&body)) {
-        // as in `plain`, by one call
+        // as in `command_without_parts`, by one call
         drop(body);
         return Err(CheckFault::Sort);
     }
@@ -310,7 +310,7 @@ fn definition(
 ) -> Result<Command, CheckFault>
     ensures { Answers (commands.definition symbols.now (symbol_name text.now) (forms (map seen parameters.now)) (seen sort.now) (seen body.now)) result }
 {
-    match free(alloc, symbols, text) {
+    match free_name(alloc, symbols, text) {
         Ok(name) => match pass_definition(alloc, parameters, sort, body) {
             Ok(()) => match sort_of(sort) {
                 Some(sort) => settle_definition(alloc, symbols, name, parameters, sort, body),
@@ -353,7 +353,7 @@ fn machine(
 ) -> Result<Command, CheckFault>
     ensures { Answers (commands.machine symbols.now (written.description_seen description.now) (symbol_name text.now)) result }
 {
-    match free(alloc, symbols, text) {
+    match free_name(alloc, symbols, text) {
         Ok(name) => match build_transducer(alloc, description) {
             Ok(transducer) => Ok(Command::Define(name, Entry::Machine(transducer))),
             Err(fault) => Err(fault),
@@ -385,12 +385,12 @@ fn define_transducer(
 }
 
 fn assert_body(body: Body) -> Result<Command, CheckFault>
-    ensures { result ≡ commands.asserted (body ∷ []) }
+    ensures { result ≡ commands.assertion_of (body ∷ []) }
 {
     if same_sort(Sort::Bool, body_sort(&body)) {
         Ok(Command::Assert(into_term(body)))
     } else {
-        // as in `plain`, by one call
+        // as in `command_without_parts`, by one call
         drop(body);
         Err(CheckFault::Sort)
     }
@@ -414,7 +414,7 @@ fn assertion(alloc: Global, symbols: &Declarations, parts: &[Sexpr]) -> Result<C
 
 /// A number of levels.
 fn levels(part: &Sexpr) -> Result<u32, CheckFault>
-    ensures { (make : ℕ → AnyCommand) → made_of make result ≡ commands.levels make (tokens.digits (seen part.now)) }
+    ensures { (make : ℕ → AnyCommand) → made_of make result ≡ commands.level_command make (tokens.digits (seen part.now)) }
 {
     match digits(part) {
         Some(digits) => match level(digits) {
@@ -497,7 +497,7 @@ fn term_of(body: Body) -> Result<Term, CheckFault>
     if has_values(body_sort(&body)) {
         Ok(into_term(body))
     } else {
-        // as in `plain`, by one call
+        // as in `command_without_parts`, by one call
         drop(body);
         Err(CheckFault::Sort)
     }
@@ -579,14 +579,14 @@ fn command_of(
         CommandName::Assert => assertion(alloc, symbols, parts),
         CommandName::Push => Ok(Command::Push(level_count(parts)?)),
         CommandName::Pop => Ok(Command::Pop(level_count(parts)?)),
-        CommandName::CheckSat => plain(Command::CheckSat, parts),
-        CommandName::GetModel => plain(Command::GetModel, parts),
+        CommandName::CheckSat => command_without_parts(Command::CheckSat, parts),
+        CommandName::GetModel => command_without_parts(Command::GetModel, parts),
         CommandName::GetValue => get_value(alloc, symbols, parts),
         CommandName::GetInfo => get_info(alloc, parts),
         CommandName::Echo => echo(alloc, parts),
-        CommandName::Reset => plain(Command::Reset, parts),
-        CommandName::ResetAssertions => plain(Command::ResetAssertions, parts),
-        CommandName::Exit => plain(Command::Exit, parts),
+        CommandName::Reset => command_without_parts(Command::Reset, parts),
+        CommandName::ResetAssertions => command_without_parts(Command::ResetAssertions, parts),
+        CommandName::Exit => command_without_parts(Command::Exit, parts),
     }
 }
 

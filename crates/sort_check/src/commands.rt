@@ -24,8 +24,8 @@ pub enum Command {
     Produce(Product, bool),
     /// `declare-const`, or `declare-fun` without parameters.
     Declare(Name, Sort),
-    /// `define-fun`: the name and its macro. Each parameter `p` stands as `\\p`, in the list of the
-    /// parameters and in the body. No symbol holds a backslash, so that a parameter is never taken
+    /// `define-fun` or `define-transducer`: the name, and its macro or its transducer. Each parameter `p` of a macro
+    /// stands as `\\p`, in the list of the parameters and in the body. No symbol holds a backslash, so that a parameter is never taken
     /// for a declared constant of its name, which the body of another macro may bring in.
     Define(Name, Entry),
     /// `assert` of a term of sort Bool.
@@ -46,6 +46,7 @@ pub enum Command {
     Reset,
     ResetAssertions,
     Exit,
-    /// Any other list that begins with a symbol, and `set-option` of any other keyword.
+    /// Any other list that begins with a symbol, and `set-option` of any other keyword, or with a value other than
+    /// `true` and `false`.
     Unsupported,
 }

@@ -24,7 +24,7 @@ pub fn fronts_are_well_formed()
 {}
 
 /// Of well formed names each is found under its name, and stands for what may be declared: a
-/// constant of a sort other than RegLan, or a macro.
+/// constant of a sort other than RegLan, a macro, or a formed transducer.
 pub fn entries_are_well_formed()
     ensures allowed { (symbols : Names) → IsTrue (is_well_formed symbols) → All (λ e. IsTrue (is_entry symbols e.1)) symbols }
     ensures found { (symbols : Names) → IsTrue (is_well_formed symbols) → All (λ e. lookup (same_name e.0) symbols ≡ Some e.1) symbols }

@@ -39,7 +39,8 @@ known_compared ns rs op.LessEqual a h = h
 known_compared ns rs op.Less a h = fine_added (Stands ns rs) a (of_number (pos 1)) h tt
 known_compared ns rs op.GreaterEqual a h = fine_scaled (Stands ns rs) a minus_one h
 known_compared ns rs op.Greater a h = fine_added (Stands ns rs) (scaled a minus_one) (of_number (pos 1)) (fine_scaled (Stands ns rs) a minus_one h) tt
-known_compared ns rs _ a h = h
+known_compared ns rs op.Equal a h = h
+known_compared ns rs _ a h = tt
 
 -- unknowns that are kept
 map_first : {X : Type 0} (f : X → Unknown) (y : X) (xs : List X) (ys : List Unknown) (b : Bool) → map f xs ≡ ys → map f (cond b (y ∷ xs) xs) ≡ cond b (f y ∷ ys) ys

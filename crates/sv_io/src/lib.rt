@@ -19,6 +19,7 @@
 //! ```
 #![tactic(auto)]
 
+mod call_count;
 mod memory_sink;
 mod memory_source;
 mod sink;

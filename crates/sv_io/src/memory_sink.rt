@@ -3,6 +3,7 @@ ghost use Rattle.std.specs.Io.KnownBytes.{WriteAppends};
 ghost use Rattle.sv_io.specs.Counts.{HasCause, Rose, raised};
 ghost use Rattle.sv_io.specs.Memory.{is_failing, faults_after};
 
+use crate::call_count::CallCount;
 use crate::{Failed, Sink, SinkFault};
 use std::alloc::Global;
 use std::marker::Model;
@@ -11,9 +12,8 @@ use std::marker::Model;
 #[derive(Debug, Drop)]
 pub struct MemSink {
     taken: Vec<u8>,
-    failing: Vec<u64>,
+    calls: CallCount,
     piece: usize,
-    calls: u64,
     faults: u64,
 }
 
@@ -23,7 +23,7 @@ impl Model for MemSink {
 
     ghost Value = { Taken };
 
-    ghost view = { λ s. record { taken = s.taken.items; failing = s.failing.items; piece = s.piece; calls = s.calls; faults = s.faults } };
+    ghost view = { λ s. record { taken = s.taken.items; failing = s.calls.failing.items; piece = s.piece; calls = s.calls.made; faults = s.faults } };
 
     ghost invariant = { λ s. 1 ≤ s.piece };
 }
@@ -38,9 +38,8 @@ impl MemSink {
     {
         MemSink {
             taken: Vec::new(alloc),
-            failing,
+            calls: CallCount::new(failing),
             piece,
-            calls: 0,
             faults: 0,
         }
     }
@@ -50,16 +49,6 @@ impl MemSink {
         ensures { result.now ≡ self.now.taken }
     {
         &self.taken
-    }
-
-    // Counts a call, and says whether it is one of those that fail.
-    fn fails(&mut self) -> bool
-        ensures fails { result ≡ is_failing self.old.failing self.old.calls }
-        ensures counted { self.new ≡ record self.old { calls = raised self.old.calls } }
-    {
-        let fails = self.failing.contains(&self.calls);
-        self.calls = self.calls.saturating_add(1);
-        fails
     }
 }
 
@@ -78,7 +67,7 @@ impl Sink for MemSink {
         ensures bytes { WriteAppends (Some self.old.taken) (Some self.new.taken) result piece.now }
         ensures state { self.new ≡ record self.old { taken = self.new.taken; calls = raised self.old.calls; faults = faults_after (is_failing self.old.failing self.old.calls) self.old.faults } }
     {
-        if self.fails() {
+        if self.calls.fails() {
             self.faults = self.faults.saturating_add(1);
             return Err(SinkFault::Failed);
         }
@@ -94,7 +83,7 @@ impl Sink for MemSink {
         ensures failed { is_ok result ≡ not (is_failing self.old.failing self.old.calls) }
         ensures state { self.new ≡ record self.old { calls = raised self.old.calls; faults = faults_after (is_failing self.old.failing self.old.calls) self.old.faults } }
     {
-        if self.fails() {
+        if self.calls.fails() {
             self.faults = self.faults.saturating_add(1);
             return Err(Failed);
         }

@@ -4,6 +4,7 @@ ghost use Rattle.std.specs.Option.{option_map};
 ghost use Rattle.sv_io.specs.Counts.{HasCause, raised};
 ghost use Rattle.sv_io.specs.Memory.{is_failing, faults_after};
 
+use crate::call_count::CallCount;
 use crate::{Failed, Source};
 use std::marker::Model;
 
@@ -13,9 +14,8 @@ pub struct MemSource {
     name: Option<String>,
     bytes: Vec<u8>,
     at: usize,
-    failing: Vec<u64>,
+    calls: CallCount,
     piece: usize,
-    calls: u64,
     is_open: bool,
     is_astray: bool,
     faults: u64,
@@ -29,7 +29,7 @@ impl Model for MemSource {
 
     ghost Value = { Given };
 
-    ghost view = { λ s. record { name = option_map string_bytes s.name; left = drop s.at s.bytes.items; failing = s.failing.items; piece = s.piece; calls = s.calls; is_open = s.is_open; is_astray = s.is_astray; faults = s.faults; last = s.last } };
+    ghost view = { λ s. record { name = option_map string_bytes s.name; left = drop s.at s.bytes.items; failing = s.calls.failing.items; piece = s.piece; calls = s.calls.made; is_open = s.is_open; is_astray = s.is_astray; faults = s.faults; last = s.last } };
 
     ghost invariant = { λ s. (s.at ≤ length s.bytes.items) × (1 ≤ s.piece) };
 }
@@ -46,9 +46,8 @@ impl MemSource {
             name,
             bytes,
             at: 0,
-            failing,
+            calls: CallCount::new(failing),
             piece,
-            calls: 0,
             is_open: false,
             is_astray: false,
             faults: 0,
@@ -64,16 +63,6 @@ impl MemSource {
             (Some(own), Some(name)) => own.as_str() == name,
             _ => false,
         }
-    }
-
-    // Counts a call, and says whether it is one of those that fail.
-    fn fails(&mut self) -> bool
-        ensures fails { result ≡ is_failing self.old.failing self.old.calls }
-        ensures counted { self.new ≡ record self.old { calls = raised self.old.calls } }
-    {
-        let fails = self.failing.contains(&self.calls);
-        self.calls = self.calls.saturating_add(1);
-        fails
     }
 }
 
@@ -100,7 +89,7 @@ impl Source for MemSource {
         ensures wrong { (option_map (λ text. text.now) name.entry ≡ self.old.name → ⊥) → self.new.is_astray ≡ true }
         ensures state { self.new ≡ record self.old { calls = raised self.old.calls; is_open = is_ok result; is_astray = self.new.is_astray; faults = faults_after (not (is_ok result)) self.old.faults } }
     {
-        let fails = self.fails();
+        let fails = self.calls.fails();
         let is_own = self.is_own(name);
         if !is_own {
             self.is_astray = true;
@@ -123,7 +112,7 @@ impl Source for MemSource {
         ensures last { MatchResult result (λ count. self.new.last ≡ count) (λ _. self.new.last ≡ 0) }
         ensures state { self.new ≡ record self.old { left = self.new.left; calls = raised self.old.calls; faults = faults_after (not (is_ok result)) self.old.faults; last = self.new.last } }
     {
-        if self.fails() {
+        if self.calls.fails() {
             self.last = 0;
             self.faults = self.faults.saturating_add(1);
             return Err(Failed);

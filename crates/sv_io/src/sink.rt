@@ -5,13 +5,16 @@ ghost use Rattle.sv_io.specs.Counts.{Rose, HasCause};
 
 use crate::Failed;
 use std::alloc::AllocError;
+use thiserror::Error;
 
 /// Why a write took nothing.
-#[derive(Clone, Copy, Debug, PartialEq, Eq)]
+#[derive(Clone, Copy, Debug, Error, PartialEq, Eq)]
 pub enum SinkFault {
     /// It failed, and the sink's count of faults rose.
+    #[error("the bytes couldn't be written")]
     Failed,
     /// There was no memory for the bytes.
+    #[error("out of memory")]
     Memory(AllocError),
 }
 

@@ -7,8 +7,11 @@ ghost use Rattle.sv_io.specs.Counts.{HasCause};
 ghost use Rattle.sv_io.specs.Lasts.{IsLast};
 ghost use Rattle.sv_io.specs.Names.{IsOwn};
 
+use thiserror::Error;
+
 /// A call failed, and the count of faults of the object that it was made on rose.
-#[derive(Clone, Copy, Debug, PartialEq, Eq)]
+#[derive(Clone, Copy, Debug, Error, PartialEq, Eq)]
+#[error("the call failed")]
 pub struct Failed;
 
 /// Where the bytes of a script come from: opened once, and then read to its end.

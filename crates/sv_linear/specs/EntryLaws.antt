@@ -1,5 +1,5 @@
 -- What a form has at a column is its value at one point.
-use Rattle.std.proofs.Common.{◌≡◌, ℕ, ℤ, pos, ◌+ℤ◌, ◌*ℤ◌, sym, ap, ◌∙◌, arith}
+use Rattle.std.proofs.Common.{◌≡◌, ℕ, ℤ, pos, ◌+ℤ◌, ◌∙◌, arith}
 use Rattle.std.proofs.lemmas.Int.{ints}
 use Rattle.sv_linear.specs.Terms.{coefficient}
 use Rattle.sv_linear.specs.Forms.{form_value, entry}
@@ -27,9 +27,6 @@ pub entry_value : (c : Column) (f : Form) → entry c f ≡ form_value (point_at
 entry_value (Unknown u) f = coefficient_value u f
 entry_value Constant f = constant_value f
 
--- entries of a sum and of a product
+-- entries of a sum
 pub entry_of_sum : (f g h : Form) → ((x : ℕ → ℤ) (d : ℤ) → form_value x d h ≡ form_value x d f +ℤ form_value x d g) → (c : Column) → entry c h ≡ entry c f +ℤ entry c g
 entry_of_sum f g h e c = omega (arith, ints, entry_value c f, entry_value c g, entry_value c h, e (point_at c) (over_at c))
-
-pub entry_of_product : (f h : Form) (by : ℤ) → ((x : ℕ → ℤ) (d : ℤ) → form_value x d h ≡ by *ℤ form_value x d f) → (c : Column) → entry c h ≡ by *ℤ entry c f
-entry_of_product f h by e c = entry_value c h ∙ e (point_at c) (over_at c) ∙ ap (λ z. by *ℤ z) (sym (entry_value c f))

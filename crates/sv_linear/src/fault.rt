@@ -16,7 +16,7 @@ pub enum FormFault {
 #[derive(Debug, Drop, Error)]
 pub enum CombineFault {
     /// A product or the sum at this column is below -(2^127 - 1) or above 2^127 - 1.
-    #[error("a product or sum needs more than 128 bits")]
+    #[error("a product or sum at one column needs more than 128 bits")]
     Outside(Column),
     #[error("out of memory")]
     Memory(AllocError),

@@ -4,7 +4,7 @@ ghost use Rattle.sv_linear.specs.Terms.{AscendsWithin, AscendsWithin-prop};
 use crate::column::Column;
 use crate::fault::{CombineFault, FormFault};
 use crate::number::{combine_numbers, divide_number};
-use crate::terms::{coefficient_at, content_of, divide_terms, fitted, merge};
+use crate::terms::{coefficient_at, content_of, divide_terms, fit_capacity, merge};
 use std::alloc::{AllocError, Global};
 use sv_list::{Copied, Items};
 
@@ -154,7 +154,7 @@ impl Form {
             return Err(CombineFault::Outside(Column::Constant));
         };
         Ok(Form {
-            coefficients: fitted(terms),
+            coefficients: fit_capacity(terms),
             constant,
         })
     }

@@ -59,7 +59,7 @@ pub(crate) fn merge(
 }
 
 /// The terms, without the room that is left over where it is more than they take, as where terms cancelled.
-pub(crate) fn fitted(mut terms: Vec<(u32, i128)>) -> Items<(u32, i128)>
+pub(crate) fn fit_capacity(mut terms: Vec<(u32, i128)>) -> Items<(u32, i128)>
     ensures { result ≡ terms.items }
 {
     if terms.len() < terms.capacity() / 2 {

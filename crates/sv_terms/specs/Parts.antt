@@ -37,13 +37,6 @@ module _ (of_constant : List ℕ → Sort → Bool) (of_opaque : Bool) where
   abbrev pub some_part : Term → Bool
   some_part = fold-Term Bool some_step
 
--- whether no transducer stands in a term
-abbrev pub plain_step : Term-F Bool → Bool
-plain_step = every_step (λ name s. true) (λ t. false)
-
-abbrev pub is_plain : Term → Bool
-is_plain = fold-Term Bool plain_step
-
 -- whether an opaque part stands in a term
 abbrev pub opaque_step : Term-F Bool → Bool
 opaque_step = some_step (λ name s. false) true

@@ -1,11 +1,10 @@
 -- Patterns in words: where one stands, and what a replacement makes of it.
-use Rattle.std.proofs.Common.{◌≡◌, refl, ap, sym, ◌∙◌, subst, ℕ, zero, suc, ◌+◌, ◌-◌, ◌<◌, ◌≤◌, Bool, true, false, [], ◌∷◌, ◌++◌, length, take, drop, reverse, if◌then◌else◌, arith, ⊎_elim}
-use Rattle.std.proofs.lemmas.List.{append-nil, reverse-append, reverse-reverse, length-append, length-reverse, take-append-drop, drop-drop, length-drop, length-take}
-use Rattle.std.proofs.lemmas.Bool.{cases_lt}
+use Rattle.std.proofs.Common.{◌≡◌, refl, ap, sym, ◌∙◌, subst, ℕ, zero, suc, ◌+◌, ◌-◌, ◌<◌, ◌≤◌, Bool, true, false, [], ◌∷◌, ◌++◌, length, take, drop, reverse, if◌then◌else◌, arith}
+use Rattle.std.proofs.lemmas.List.{append-nil, reverse-append, reverse-reverse, length-append, length-reverse, take-append-drop, drop-drop, length-drop}
 use Rattle.std.proofs.Math.Seq.{take-append_seam, drop-append_seam, drop-nil, take-nil}
 use Rattle.sv_terms.specs.Language.{Word}
 use Rattle.sv_terms.specs.ReplacementLaws.{begins-of, begins-split, refuted, passed}
-use Rattle.sv_terms.specs.Replacement.{Stands, StandsFirst, IsFirst, begins, occurs, replace_first, replace_from}
+use Rattle.sv_terms.specs.Replacement.{IsFirst, begins, occurs, replace_first, replace_from}
 
 pub starts-so : (p w : Word) → take (length p) w ≡ p → begins p w ≡ true
 starts-so p w e = subst (λ (v : Word). begins p v ≡ true) (ap (λ (q : Word). q ++ drop (length p) w) (sym e) ∙ take-append-drop (length p) w) (begins-of p (drop (length p) w))
@@ -135,16 +134,3 @@ module _ (a : ℕ) (p u : Word) where
   pub each-unreplaced : (v : Word) → occurs (a ∷ p) v ≡ false → replace_from (a ∷ p) u zero v ≡ v
   each-unreplaced [] e = refl
   each-unreplaced (c ∷ v) e = each-more c v e (each-unreplaced v)
-
--- the least place where p stands is the place of the first occurrence
-pub first_stands : (w p : Word) (k : ℕ) → IsFirst w p 0 k → StandsFirst p w (take k w) (drop (length p) (drop k w))
-first_stands w p k first = record {
-  stands = sym (take-append-drop k w) ∙ ap (λ (v : Word). take k w ++ v) (begins-split p (drop k w) first.stands);
-  least = λ c d s. ⊎_elim (λ low. absurd (too-early c d s low)) (λ (high : k ≤ length c). let n = length-take k w in omega (arith, n, high)) (cases_lt (length c) k);
-}
-  where
-    too-early : (c d : Word) → Stands p w c d → length c < k → ⊥
-    too-early c d s low =
-        let yes : begins p (drop (length c) w) ≡ true = ap (λ (v : Word). begins p (drop (length c) v)) s ∙ ap (begins p) (drop-append_seam c (p ++ d)) ∙ begins-of p d in
-        let no = first.before (length c) (omega arith) low in
-        cc

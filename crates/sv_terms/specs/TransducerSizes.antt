@@ -4,6 +4,8 @@ use Rattle.std.specs.List.{list_all}
 use Rattle.sv_word.specs.Words.{greatest_character}
 use Rattle.sv_terms.specs.Language.{Word}
 use Rattle.sv_terms.specs.Matches.{is_word}
+use Rattle.sv_terms.specs.Parts.{every_part}
+use Rattle.sv_terms.specs.declared.term.Term.{Term}
 use Rattle.sv_terms.specs.declared.transducer.Item.{Item}
 use Rattle.sv_terms.specs.declared.transducer.Item.TheVariants as item
 use Rattle.sv_terms.specs.declared.transducer.TransEdge.{TransEdge}
@@ -40,3 +42,7 @@ is_formed_end states e = nat_lt e.0 states && is_word e.1
 -- `IsFormed` as a test
 abbrev pub is_formed : Transducer → Bool
 is_formed t = nat_lt t.start t.states && (list_all (is_formed_edge t.states) t.edges && list_all (is_formed_end t.states) t.ends)
+
+-- whether each transducer of a term is formed
+abbrev pub has_formed : Term → Bool
+has_formed = every_part (λ name s. true) is_formed

@@ -47,12 +47,8 @@ written_word c (item.Shift n ∷ is) v h e =
     let k = then_some (item_at c (item.Shift n)) (written_at c is) v e in
     subst IsWord (sym k.4) (words_join k.0 k.1 (shift_word c n k.0 k.2) (written_word c is k.1 h k.3))
 
--- a formed transducer leads from states to states, and relates words with words alone
+-- a formed transducer relates words with words alone
 module _ (t : Transducer) (formed : IsFormed t) where
-  pub leads_state : (s to : ℕ) (read written : Word) → s < t.states → Leads t s read written to → to < t.states
-  leads_state s to [] written h p = subst (λ n. n < t.states) p.1 h
-  leads_state s to (c ∷ read) written h p = leads_state p.0.to to read p.2 (formed.edge p.0 p.3).to p.6
-
   pub leads_words : (s to : ℕ) (read written : Word) → Leads t s read written to → IsWord read × IsWord written
   leads_words s to [] written p = (tt, subst IsWord (sym p.0) tt)
   leads_words s to (c ∷ read) written p =

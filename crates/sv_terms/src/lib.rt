@@ -19,6 +19,7 @@
 #![tactic(auto)]
 
 mod bounds;
+mod crossing;
 mod entry;
 mod laws;
 mod limits;

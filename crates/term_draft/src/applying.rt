@@ -60,7 +60,7 @@ fn into_regexes(alloc: Global, bodies: Items<Body>) -> Result<Items<Regex>, Allo
     Ok(all)
 }
 
-pub fn opaque(sort: Sort) -> Body
+pub(crate) fn opaque_body(sort: Sort) -> Body
     ensures { result ≡ b.opaque sort }
 {
     Body::Term(Term::Opaque(sort))
@@ -110,7 +110,7 @@ fn membership(alloc: Global, bodies: Items<Body>) -> Result<Body, AllocError>
             let word = Boxed::new(alloc, into_term(word))?;
             Ok(Body::Term(Term::InRe(word, regex)))
         }
-        None => Ok(opaque(Sort::Bool)),
+        None => Ok(opaque_body(Sort::Bool)),
     }
 }
 
@@ -125,7 +125,7 @@ fn boxes<T: Drop>(alloc: Global, first: T, second: T) -> Result<(Boxed<T>, Boxed
 
 /// That a transducer may write the one term where it reads the other.
 #[inline(never)]
-pub fn relate_terms(
+pub(crate) fn relate_terms(
     alloc: Global,
     transducer: &Transducer,
     read: Boxed<Term>,
@@ -140,7 +140,7 @@ pub fn relate_terms(
 /// What a transducer relates.
 #[tactic(auto, using(crate::proofs::Shapes::shaped))]
 #[inline(never)]
-pub fn relate(
+pub(crate) fn relate(
     alloc: Global,
     transducer: &Transducer,
     bodies: Items<Body>,
@@ -152,7 +152,7 @@ pub fn relate(
             let (read, written) = boxes(alloc, into_term(read), into_term(written))?;
             Ok(Body::Term(relate_terms(alloc, transducer, read, written)?))
         }
-        None => Ok(opaque(Sort::Bool)),
+        None => Ok(opaque_body(Sort::Bool)),
     }
 }
 
@@ -187,7 +187,7 @@ fn text_of(word: Option<Word>) -> Body
 {
     match word {
         Some(word) => Body::Language(Regex::Text(word)),
-        None => opaque(Sort::RegLan),
+        None => opaque_body(Sort::RegLan),
     }
 }
 
@@ -197,7 +197,7 @@ fn word_body(bodies: Items<Body>) -> Body
 {
     match one(bodies) {
         Some(body) => text_of(literal(body)),
-        None => opaque(Sort::RegLan),
+        None => opaque_body(Sort::RegLan),
     }
 }
 
@@ -227,9 +227,9 @@ fn range_of(low: Option<Word>, high: Option<Word>) -> Body
     match low {
         Some(low) => match high {
             Some(high) => Body::Language(characters(&low, &high)),
-            None => opaque(Sort::RegLan),
+            None => opaque_body(Sort::RegLan),
         },
-        None => opaque(Sort::RegLan),
+        None => opaque_body(Sort::RegLan),
     }
 }
 
@@ -239,7 +239,7 @@ fn range_body(bodies: Items<Body>) -> Body
 {
     match two(bodies) {
         Some((low, high)) => range_of(literal(low), literal(high)),
-        None => opaque(Sort::RegLan),
+        None => opaque_body(Sort::RegLan),
     }
 }
 
@@ -293,7 +293,11 @@ fn character(alloc: Global, c: u32) -> Result<Body, AllocError>
 
 /// An application that isn't opaque, in time linear in the number of arguments.
 #[inline(never)]
-pub fn apply(alloc: Global, sense: Interpretation, bodies: Items<Body>) -> Result<Body, AllocError>
+pub(crate) fn apply(
+    alloc: Global,
+    sense: Interpretation,
+    bodies: Items<Body>,
+) -> Result<Body, AllocError>
     ensures { IfOk result (λ x. x ≡ w.plain sense bodies) }
 {
     match sense {
@@ -303,7 +307,7 @@ pub fn apply(alloc: Global, sense: Interpretation, bodies: Items<Body>) -> Resul
         Interpretation::Choice => apply_op(alloc, Op::IfThenElse, bodies),
         Interpretation::Product => apply_op(alloc, Op::Multiply, bodies),
         Interpretation::Replacement(op) => apply_op(alloc, op, bodies),
-        Interpretation::Opaque => Ok(opaque(Sort::Bool)),
+        Interpretation::Opaque => Ok(opaque_body(Sort::Bool)),
         Interpretation::Membership => membership(alloc, bodies),
         Interpretation::TextOf => Ok(word_body(bodies)),
         Interpretation::Range => Ok(range_body(bodies)),

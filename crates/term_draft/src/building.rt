@@ -6,7 +6,7 @@ ghost use Rattle.term_weight.specs.Bodies as bodies;
 ghost use Rattle.term_draft.specs.Drafts as drafts;
 ghost use Rattle.term_weight.specs.Weights as weights;
 
-use crate::applying::{apply, into_term, opaque, relate, relate_terms};
+use crate::applying::{apply, into_term, opaque_body, relate, relate_terms};
 use crate::draft::{DraftNode, DraftPart, TermDraft};
 use smt_names::Interpretation;
 use std::alloc::{AllocError, Global};
@@ -61,7 +61,7 @@ fn build(alloc: Global, parts: &[DraftPart<'_>], place: usize) -> Result<Body, A
     ensures { IfOk result (λ x. x ≡ drafts.at_place (drafts.senses parts.now) place) }
 {
     if place >= parts.len() {
-        return Ok(opaque(Sort::Bool));
+        return Ok(opaque_body(Sort::Bool));
     }
     let node = &parts[place].node;
     Ok(build_node(alloc, &parts[..place], node)?)

@@ -5,7 +5,7 @@ ghost use Rattle.sv_terms.specs.Matches.{matches};
 ghost use Rattle.sv_terms.specs.Parts.{is_opaque};
 ghost use Rattle.sv_terms.specs.Sorting.{is_valued, sort_of};
 ghost use Rattle.sv_terms.specs.Transduction.{writes};
-ghost use Rattle.term_eval.specs.Evaluation.{Answers, evaluated, in_turn, or_opaque, value_or_fault};
+ghost use Rattle.term_eval.specs.Evaluation.{EvaluatesAs, evaluated, in_turn, or_opaque, value_or_fault};
 
 use crate::fault::EvalFault;
 use crate::functions::apply;
@@ -35,7 +35,7 @@ use transducer_core::run_pair;
 pub fn eval(alloc: Global, term: &Term, model: &Model) -> Result<Value, EvalFault>
     requires sorted { IsSome (sort_of term.now) }
     requires valued { IsTrue (is_valued model.now term.now) }
-    ensures answer { Answers (value_or_fault model.now term.now) result }
+    ensures answer { EvaluatesAs (value_or_fault model.now term.now) result }
     ensures value { IfOk result (λ v. val model.now term.now ≡ Some v) }
 {
     if has_opaque(term) {
@@ -78,7 +78,7 @@ fn some_opaque(terms: &[Term]) -> bool
 // `str.in_re`
 #[tactic(auto, using(crate::proofs::Evaluating::evaluating))]
 fn is_member(alloc: Global, value: &Value, regex: &Regex) -> Result<Value, EvalFault>
-    ensures { Answers (or_opaque (tested (matches regex.now) (Some value.now))) result }
+    ensures { EvaluatesAs (or_opaque (tested (matches regex.now) (Some value.now))) result }
 {
     match value {
         Value::Text(word) => {
@@ -115,7 +115,7 @@ fn relation(
     read: &Value,
     written: &Value,
 ) -> Result<Value, EvalFault>
-    ensures { Answers (or_opaque (related transducer.now (Some read.now) (Some written.now))) result }
+    ensures { EvaluatesAs (or_opaque (related transducer.now (Some read.now) (Some written.now))) result }
 {
     match read {
         Value::Text(read) => match written {
@@ -130,7 +130,7 @@ fn relation(
 #[cycle(value_of)]
 #[tactic(auto, using(crate::proofs::Evaluating::evaluating))]
 fn value_of(alloc: Global, term: &Term, model: &Model) -> Result<Value, EvalFault>
-    ensures { Answers (evaluated model.now term.now) result }
+    ensures { EvaluatesAs (evaluated model.now term.now) result }
 {
     match term {
         Term::Truth(b) => Ok(Value::Truth(*b)),
@@ -162,7 +162,7 @@ fn value_of(alloc: Global, term: &Term, model: &Model) -> Result<Value, EvalFaul
 #[cycle(value_of)]
 #[tactic(auto, using(crate::proofs::Evaluating::evaluating))]
 fn values_of(alloc: Global, terms: &[Term], model: &Model) -> Result<Items<Value>, EvalFault>
-    ensures { Answers (in_turn (map (evaluated model.now) terms.now)) result }
+    ensures { EvaluatesAs (in_turn (map (evaluated model.now) terms.now)) result }
 {
     let mut all = Items::new(alloc);
     for term in terms {

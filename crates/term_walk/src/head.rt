@@ -28,7 +28,7 @@ pub enum Head<'a> {
 }
 
 /// The function of the theories, or what was declared, of this name. Time is linear in the name.
-pub fn find_head<'a>(
+pub(crate) fn find_head<'a>(
     alloc: Global,
     symbols: &'a Declarations,
     text: &[u8],
@@ -116,7 +116,7 @@ fn character_function(indices: &[Sexpr]) -> Result<Function, CheckFault>
 
 /// The function that stands behind `_`. An index that the symbol doesn't take is Index.
 #[tactic(auto, using(crate::proofs::Shapes::indices))]
-pub fn find_function(
+pub(crate) fn find_function(
     alloc: Global,
     symbols: &Declarations,
     parts: &[Sexpr],
@@ -157,7 +157,7 @@ fn indexed_function(
 }
 
 /// What an application begins with.
-pub fn head_of<'a>(
+pub(crate) fn head_of<'a>(
     alloc: Global,
     symbols: &'a Declarations,
     first: &Sexpr,

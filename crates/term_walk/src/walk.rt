@@ -61,7 +61,7 @@ impl<'a> Walk<'a> {
     }
 }
 
-fn opaque(walk: &mut Walk<'_>, sort: Sort) -> Result<usize, CheckFault>
+fn put_opaque(walk: &mut Walk<'_>, sort: Sort) -> Result<usize, CheckFault>
     ensures { ReadsMeaning Here (λ t. Ok (bodies.opaque sort)) walk.old walk.new result }
 {
     Ok(walk.draft.put_opaque(sort)?)
@@ -148,7 +148,7 @@ fn apply<'a>(
 }
 
 /// An identifier by itself.
-fn alone<'a>(alloc: Global, walk: &mut Walk<'a>, head: Head<'a>) -> Result<usize, CheckFault>
+fn apply_alone<'a>(alloc: Global, walk: &mut Walk<'a>, head: Head<'a>) -> Result<usize, CheckFault>
     ensures { ReadsMeaning Here (λ t. meaning.application (kept head.entry) 0 (Ok [])) walk.old walk.new result }
 {
     if !head.takes_count(0) {
@@ -170,7 +170,7 @@ fn read_name<'a>(
     match walk.scope.latest(&name) {
         Some(place) => Ok(place),
         None => match find_head(alloc, symbols, text) {
-            Ok(head) => alone(alloc, walk, head),
+            Ok(head) => apply_alone(alloc, walk, head),
             Err(fault) => Err(fault),
         },
     }
@@ -207,7 +207,7 @@ fn read_identifier<'a>(
     ensures { ReadsMeaning Here (λ t. meaning.alone (meaning.of_theory (meaning.identified symbols.now (forms (map seen parts.now))))) walk.old walk.new result }
 {
     match find_function(alloc, symbols, parts) {
-        Ok(function) => alone(alloc, walk, Head::Theory(function)),
+        Ok(function) => apply_alone(alloc, walk, Head::Theory(function)),
         Err(fault) => Err(fault),
     }
 }
@@ -446,7 +446,7 @@ fn bound_place(
     }
 }
 
-fn either(a: bool, b: bool) -> bool
+fn is_either_true(a: bool, b: bool) -> bool
     ensures { result ≡ (a || b) }
 {
     a || b
@@ -459,7 +459,7 @@ fn note(walk: &mut Walk<'_>, place: usize)
     ensures past { walk.new.is_past ≡ (walk.old.is_past || not (sizes.fits (drafts.at_place walk.old.draft place))) }
 {
     let past = !walk.draft.fits(place);
-    walk.is_past = either(walk.is_past, past);
+    walk.is_past = is_either_true(walk.is_past, past);
 }
 
 /// The name of a binding with the place of its value, which is noted if it is too large.
@@ -531,7 +531,7 @@ fn quantify(walk: &mut Walk<'_>, place: usize) -> Result<usize, CheckFault>
     if !same_sort(Sort::Bool, walk.draft.sort(place)) {
         return Err(CheckFault::Sort);
     }
-    opaque(walk, Sort::Bool)
+    put_opaque(walk, Sort::Bool)
 }
 
 /// The sorts of what terms mean, or their first fault, Size included. None is built.

@@ -19,15 +19,15 @@ use Rattle.term_weight.specs.declared.weight.Weight.{Weight}
 use Rattle.smt_names.specs.Signature.{Name}
 use Rattle.term_weight.specs.Bodies.{is_unknown}
 use Rattle.term_weight.specs.Places.{shown, weight_found}
-use Rattle.term_weight.specs.Sizes.{total as total_of, one_deeper}
+use Rattle.term_weight.specs.Sizes.{total, one_deeper}
 use Rattle.term_weight.specs.Weights.{capped, leaf, as_term, op_weight, in_weight, related_weight, regex_weight, weighed, or_leaf, nth_if, opaque_weight, is_literal}
-use Rattle.term_weight.specs.Summaries.{share, nothing, unknown_if, plus, argument, used, used_at, measured, changed, all_used, total, part, part_named, shares, is_measure, PlacesAreWithin, Gains}
+use Rattle.term_weight.specs.Summaries.{share, nothing, unknown_if, plus, argument, used, used_at, measured, changed, all_used, share_of_call, part, part_named, shares, is_measure, PlacesAreWithin, Gains}
 use Rattle.term_weight.specs.FactorLaws.{or-false, op-factor, unknown-holds}
 use Rattle.term_weight.proofs.Layers.{weighed-Constant, weighed-Apply, weighed-InRe, weighed-Related}
 use Rattle.term_weight.proofs.Sharing.{shares-same, plus-assoc, used-more, used-measured, all-changed, length-changed}
 
 -- one function around parts
-shares-nodes : (d : ℕ) (ws : List Weight) → (shares d ws).nodes ≡ capped (total_of (map (λ w. w.nodes) ws))
+shares-nodes : (d : ℕ) (ws : List Weight) → (shares d ws).nodes ≡ capped (total (map (λ w. w.nodes) ws))
 shares-nodes d [] = refl
 shares-nodes d (w ∷ ws) = let e = shares-nodes d ws in omega arith
 
@@ -65,11 +65,11 @@ module _ (places : List (Name × Option ℕ)) where
   pub gains-then : (a b c : MacroSummary) (f g : List Weight → Share) → Gains places a b f → Gains places b c g → Gains places a c (λ ws. plus (f ws) (g ws))
   gains-then a b c f g p q = record {
     kept = q.kept ∙ p.kept;
-    added = λ cover ws. q.added (subst (PlacesAreWithin places) (sym p.kept) cover) ws ∙ ap (λ z. plus z (g ws)) (p.added cover ws) ∙ plus-assoc (total a ws) (f ws) (g ws);
+    added = λ cover ws. q.added (subst (PlacesAreWithin places) (sym p.kept) cover) ws ∙ ap (λ z. plus z (g ws)) (p.added cover ws) ∙ plus-assoc (share_of_call a ws) (f ws) (g ws);
   }
 
   pub gains-alike : (a b : MacroSummary) (f g : List Weight → Share) → Gains places a b f → ((ws : List Weight) → f ws ≡ g ws) → Gains places a b g
-  gains-alike a b f g p e = record { kept = p.kept; added = λ cover ws. p.added cover ws ∙ ap (plus (total a ws)) (e ws) }
+  gains-alike a b f g p e = record { kept = p.kept; added = λ cover ws. p.added cover ws ∙ ap (plus (share_of_call a ws)) (e ws) }
 
   -- at the place of a name
   pub gains-changed : (t : MacroSummary) (n : Name) (i : ℕ) (f : Uses → Uses) (x : Weight → Share) → ((u : Uses) (w : Weight) → used (f u) w ≡ plus (used u w) (x w)) → Some i ≡ shown n places → Gains places t (changed f i t) (λ ws. x (part_named places ws n))
@@ -79,7 +79,7 @@ module _ (places : List (Name × Option ℕ)) where
         let h : i < length t.uses = subst (λ o. IfSome o (λ j. j < length t.uses)) (sym e) (cover.within n) in
         ap (plus t.own) (all-changed f x so t.uses i ws h)
         ∙ sym (plus-assoc t.own (all_used t.uses ws) (x (argument ws i)))
-        ∙ ap (λ o. plus (total t ws) (x (or_leaf sort.Bool (option_map as_term (nth_if ws o))))) e;
+        ∙ ap (λ o. plus (share_of_call t ws) (x (or_leaf sort.Bool (option_map as_term (nth_if ws o))))) e;
   }
 
   pub gains-used : (t : MacroSummary) (n : Name) (i d : ℕ) → Some i ≡ shown n places → Gains places t (changed (used_at d) i t) (λ ws. share d (part_named places ws n))

@@ -1,5 +1,5 @@
 -- Which arguments are taken, by number and by sort, and what an application is.
-use Rattle.std.specs.Prelude.{ℕ, Bool, true, false, nat_eq, nat_le, not, ◌&&◌, List, [], ◌∷◌, length, map, Option, Some, None, if◌then◌else◌}
+use Rattle.std.specs.Prelude.{ℕ, Bool, true, false, nat_eq, nat_le, not, ◌&&◌, List, [], ◌∷◌, length, map, Option, Some, None, if◌then◌else◌, is_some}
 use Rattle.std.specs.List.{list_all, filter}
 use Rattle.sv_terms.specs.declared.regex.Regex.{Regex}
 use Rattle.sv_terms.specs.declared.regex.Regex.TheVariants as re
@@ -18,7 +18,6 @@ use Rattle.smt_names.specs.declared.function.ArgumentSorts.TheVariants.{Nothing,
 use Rattle.smt_names.specs.declared.function.Interpretation.{Interpretation}
 use Rattle.smt_names.specs.declared.function.Interpretation.TheVariants as is
 use Rattle.term_weight.specs.Bodies.{body_sort, literal, term_of, is_language, regex_of, opaque, holds_unknown}
-use Rattle.smt_names.specs.Signature.{is_some}
 
 -- whether so many arguments are taken
 abbrev pub takes_count : ArgumentSorts → ℕ → Bool

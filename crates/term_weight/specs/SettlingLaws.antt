@@ -1,6 +1,6 @@
 -- Applications by the weights of their arguments: which are opaque, and what the others are and weigh.
 use Rattle.std.proofs.Common.{◌≡◌, refl, sym, ap, ◌∙◌, ℕ, suc, Bool, true, false, cond, ◌&&◌, List, [], ◌∷◌, length, map, filter, Option, Some, None}
-use Rattle.std.specs.Prelude.{if◌then◌else◌, not, nat_le}
+use Rattle.std.specs.Prelude.{if◌then◌else◌, not, nat_le, is_some}
 use Rattle.std.specs.List.{list_all}
 use Rattle.sv_terms.specs.declared.regex.Regex.{Regex}
 use Rattle.sv_terms.specs.declared.regex.Regex.TheVariants as re
@@ -20,7 +20,6 @@ use Rattle.smt_names.specs.declared.function.Interpretation.TheVariants as is
 use Rattle.term_weight.specs.declared.weight.Factor.{Factor}
 use Rattle.term_weight.specs.Bodies.{body_sort, literal, factor, layer_word, layer_factor, is_language, is_unknown, holds_unknown, term_of, regex_of, opaque}
 use Rattle.term_weight.specs.Ranks.{apply, text_of, range_of, characters, combined, of_one, applied_as, unknowns, word_of}
-use Rattle.smt_names.specs.Signature.{is_some}
 use Rattle.term_weight.specs.Weights.{weight_of, as_term, unless, is_literal, opacity, plain, plain_weight, op_weight, in_weight, combined_weight, one_weight, regex_weight, language, of_languages}
 use Rattle.term_weight.specs.FactorLaws.{holds-known, op-known}
 use Rattle.term_weight.specs.LayerLaws.{weight-Truth, weight-Text, weight-Apply, weight-InRe, weight-term_of, weight-Empty, weight-All, weight-AnyChar, weight-Word, weight-Range, weight-Concat, weight-Union, weight-Inter, weight-Diff, weight-Star, weight-Plus, weight-Opt, weight-Comp, weight-Loop}

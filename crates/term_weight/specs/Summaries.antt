@@ -78,9 +78,9 @@ all_used [] ws = nothing
 all_used (u ∷ us) [] = plus (used u (opaque_weight sort.Bool)) (all_used us [])
 all_used (u ∷ us) (w ∷ ws) = plus (used u (as_term w)) (all_used us ws)
 
--- with what stands there whatever the arguments are
-abbrev pub total : MacroSummary → List Weight → Share
-total t ws = plus t.own (all_used t.uses ws)
+-- what a call of the macro comes to: the parameters, with what stands there whatever the arguments are
+abbrev pub share_of_call : MacroSummary → List Weight → Share
+share_of_call t ws = plus t.own (all_used t.uses ws)
 
 -- no node yet, and so many parameters
 abbrev pub empty : ℕ → MacroSummary
@@ -100,7 +100,7 @@ of_total s t = record { sort = s; factor = holds t.is_unknown; is_language = fal
 abbrev pub weight_at : Summary → List Weight → Weight
 weight_at (summary.Same w) ws = w
 weight_at (summary.Parameter i s) ws = or_leaf s (option_map as_term (slice_get ws i))
-weight_at (summary.Term s tally) ws = of_total s (total tally ws)
+weight_at (summary.Term s tally) ws = of_total s (share_of_call tally ws)
 
 -- the parameter that it is of, where the body is one alone
 abbrev pub parameter_of : Summary → Option ℕ
@@ -134,7 +134,7 @@ pub record PlacesAreWithin (places : List (Name × Option ℕ)) (parameters : �
 -- the change of a tally adds this, by the weights of the arguments
 pub record Gains (places : List (Name × Option ℕ)) (old new : MacroSummary) (by : List Weight → Share) : Type 0 where
   pub kept : length new.uses ≡ length old.uses
-  pub added : PlacesAreWithin places (length old.uses) → (ws : List Weight) → total new ws ≡ plus (total old ws) (by ws)
+  pub added : PlacesAreWithin places (length old.uses) → (ws : List Weight) → share_of_call new ws ≡ plus (share_of_call old ws) (by ws)
 
 -- a summary tells the weight, by the weights of the arguments
 pub record TellsWeight (places : List (Name × Option ℕ)) (parameters : ℕ) (x : Summary) (by : List Weight → Weight) : Type 0 where

@@ -73,7 +73,7 @@ impl MacroSummary {
 
     /// What all comes to with arguments of these weights. Linear in the parameters.
     pub fn total(&self, weights: &[Weight]) -> Share
-        ensures { result ≡ sums.total self.now weights.now }
+        ensures { result ≡ sums.share_of_call self.now weights.now }
     {
         let mut sum = Share::nothing();
         for (i, uses) in self.uses.as_slice().iter().enumerate() {
@@ -215,7 +215,7 @@ fn tally_all(
 }
 
 /// What a term over these parameters comes to, in time linear in both.
-pub fn tally_of(
+pub(crate) fn tally_of(
     alloc: Global,
     parameters: usize,
     places: &NamePlaces,

@@ -49,7 +49,7 @@ impl Weight {
     }
 
     /// A regular expression of this size.
-    pub fn language(nodes: u32, nesting: u32) -> Weight
+    pub(crate) fn language(nodes: u32, nesting: u32) -> Weight
         ensures { result ≡ w.language nodes nesting }
     {
         Weight {
@@ -69,7 +69,7 @@ impl Weight {
     }
 
     /// What stands in its place where a term is wanted: a regular expression is opaque there.
-    pub fn as_term(self) -> Weight
+    pub(crate) fn as_term(self) -> Weight
         ensures { result ≡ w.as_term self }
     {
         if self.is_language {
@@ -88,7 +88,7 @@ impl Weight {
 }
 
 /// Unknown where it holds one.
-pub fn holds(unknown: bool) -> Factor
+pub(crate) fn holds(unknown: bool) -> Factor
     ensures { result ≡ b.holds unknown }
 {
     if unknown {
@@ -98,7 +98,7 @@ pub fn holds(unknown: bool) -> Factor
     }
 }
 
-pub fn is_unknown(factor: Factor) -> bool
+pub(crate) fn is_unknown(factor: Factor) -> bool
     ensures { result ≡ b.is_unknown factor }
 {
     match factor {
@@ -107,7 +107,7 @@ pub fn is_unknown(factor: Factor) -> bool
     }
 }
 
-pub fn is_literal(factor: Factor) -> bool
+pub(crate) fn is_literal(factor: Factor) -> bool
     ensures { result ≡ w.is_literal factor }
 {
     match factor {
@@ -161,7 +161,7 @@ fn weight_around(
 
 /// How many hold an unknown.
 #[tactic(auto, using(crate::proofs::Sums::sums))]
-pub fn unknowns(weights: &[Weight]) -> usize
+pub(crate) fn unknowns(weights: &[Weight]) -> usize
     ensures { result ≡ length (filter (λ x. b.is_unknown x.factor) weights.now) }
 {
     weights.iter().filter(|w| is_unknown(w.factor)).count()
@@ -181,7 +181,7 @@ fn any_unknown(weights: &[Weight]) -> bool
 }
 
 #[tactic(auto, using(crate::proofs::Sums::sums))]
-pub fn are_languages(weights: &[Weight]) -> bool
+pub(crate) fn are_languages(weights: &[Weight]) -> bool
     ensures { result ≡ list_all (λ x. x.is_language) weights.now }
 {
     for weight in weights {
@@ -205,14 +205,14 @@ fn op_factor(op: Op, weights: &[Weight]) -> Factor
 }
 
 /// A function with a meaning at terms of these weights.
-pub fn op_weight(op: Op, weights: &[Weight]) -> Weight
+pub(crate) fn op_weight(op: Op, weights: &[Weight]) -> Weight
     ensures { result ≡ w.op_weight op (map w.as_term weights.now) }
 {
     weight_around(op.sort(), op_factor(op, weights), false, weights, true)
 }
 
 /// The membership of a word in a regular expression of these weights.
-pub fn weigh_membership(word: Weight, regex: Weight) -> Weight
+pub(crate) fn weigh_membership(word: Weight, regex: Weight) -> Weight
     ensures { result ≡ w.in_weight (w.as_term word) regex }
 {
     let word = word.as_term();
@@ -226,7 +226,7 @@ pub fn weigh_membership(word: Weight, regex: Weight) -> Weight
 }
 
 /// What a transducer relates, of these weights.
-pub fn related_weight(read: Weight, written: Weight) -> Weight
+pub(crate) fn related_weight(read: Weight, written: Weight) -> Weight
     ensures { result ≡ w.related_weight (w.as_term read) (w.as_term written) }
 {
     let read = read.as_term();
@@ -235,14 +235,14 @@ pub fn related_weight(read: Weight, written: Weight) -> Weight
     weight_around(Sort::Bool, holds(unknown), false, &[read, written], false)
 }
 
-pub fn combined_weight(weights: &[Weight]) -> Weight
+pub(crate) fn combined_weight(weights: &[Weight]) -> Weight
     ensures { result ≡ w.combined_weight weights.now }
 {
     weight_around(Sort::RegLan, Factor::Known, true, weights, false)
 }
 
 /// Of any other number of parts than one none is made.
-pub fn one_weight(weights: &[Weight]) -> Weight
+pub(crate) fn one_weight(weights: &[Weight]) -> Weight
     ensures { result ≡ w.one_weight weights.now }
 {
     match weights {

@@ -31,14 +31,6 @@ impl Drop for Arcs {
     }
 }
 
-fn no_arcs(alloc: Global, rows: usize) -> Result<Vec<usize>, AllocError> {
-    let mut first = Vec::with_capacity(alloc, rows)?;
-    for _ in 0..rows {
-        first.push(0)?;
-    }
-    Ok(first)
-}
-
 // What stands at the row, where `new` stands from now on.
 fn replace_row(first: &mut Vec<usize>, row: usize, new: usize) -> usize {
     let Some(place) = first.get_mut(row) else {
@@ -71,8 +63,8 @@ impl Arcs {
     fn none(alloc: Global, rows: usize) -> Result<Arcs, AllocError> {
         Ok(Arcs {
             arcs: Vec::new(alloc),
-            first_from: no_arcs(alloc, rows)?,
-            first_to: no_arcs(alloc, rows)?,
+            first_from: vec![in alloc; 0; rows]?,
+            first_to: vec![in alloc; 0; rows]?,
         })
     }
 

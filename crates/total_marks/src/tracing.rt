@@ -37,7 +37,7 @@ pub fn trace(
 ) -> Result<Option<Vec<Pair>>, AllocError> {
     let mut way = Way {
         back: Vec::new(alloc),
-        seen: empty_marks(alloc, rows)?,
+        seen: vec![in alloc; 0; rows]?,
     };
     if !go_back(alloc, marks, arcs, &mut way, last)? {
         return Ok(None);
@@ -65,14 +65,6 @@ fn go_back(
         }
     }
     Ok(false)
-}
-
-fn empty_marks(alloc: Global, rows: usize) -> Result<Vec<u64>, AllocError> {
-    let mut seen = Vec::with_capacity(alloc, rows)?;
-    for _ in 0..rows {
-        seen.push(0)?;
-    }
-    Ok(seen)
 }
 
 // Where a search back has led to.

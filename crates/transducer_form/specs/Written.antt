@@ -1,7 +1,7 @@
 -- The written form of a transducer's description: `(STATE ..) START (EDGE ..) (END ..)`. A STATE and START are symbols. An EDGE is `(FROM LO HI (ITEM ..) TO)` with literals LO and HI; an ITEM is a literal, the symbol `in`, `(in K)` or `(in (- K))` with a numeral K. An END is `(STATE (WORD ..))` with literals, which are written one after another.
-use Rattle.std.specs.Prelude.{Bool, false, ◌&&◌, ◌||◌, Option, Some, None, codes, if◌then◌else◌}
+use Rattle.std.specs.Prelude.{Bool, false, ◌&&◌, ◌||◌, Option, Some, None, codes, if◌then◌else◌, is_some}
 use Rattle.smt_names.specs.Form.{Form, Forms, group, end, ◌⨾◌, two, are_all}
-use Rattle.smt_names.specs.Signature.{Name, same_name, is_some}
+use Rattle.smt_names.specs.Signature.{Name, same_name}
 use Rattle.smt_names.specs.Tokens.{symbol, digits, literal_text, listed}
 use Rattle.transducer_form.specs.declared.description.Description.{Description}
 use Rattle.transducer_form.specs.declared.description.EdgeParts.{EdgeParts}

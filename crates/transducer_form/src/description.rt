@@ -55,7 +55,7 @@ impl<'a> Description<'a> {
 
 /// The parts of an edge, if it is a list of five of which the fourth is a list.
 #[tactic(auto, using(smt_names::specs::Shapes::shapes, crate::proofs::Five::fives))]
-pub fn edge_parts(edge: &Sexpr) -> Option<EdgeParts<'_>>
+pub(crate) fn edge_parts(edge: &Sexpr) -> Option<EdgeParts<'_>>
     ensures { option_map w.edge_seen result ≡ w.edge_form (seen edge.now) }
 {
     match edge {

@@ -49,7 +49,7 @@ fn end(alloc: Global, states: &IndexSet<Name>, part: &Sexpr) -> Result<(u32, Wor
 
 /// All ends, in their order. Linear.
 #[tactic(auto, using(crate::proofs::Joined::listing))]
-pub fn ends(
+pub(crate) fn ends(
     alloc: Global,
     states: &IndexSet<Name>,
     parts: &[Sexpr],

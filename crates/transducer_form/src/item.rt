@@ -60,7 +60,7 @@ fn item_of(alloc: Global, part: &Sexpr) -> Result<Item, CheckFault>
 
 /// What items write, in their order. Linear.
 #[tactic(auto, using(crate::proofs::Joined::listing))]
-pub fn items(alloc: Global, parts: &[Sexpr]) -> Result<Items<Item>, CheckFault>
+pub(crate) fn items(alloc: Global, parts: &[Sexpr]) -> Result<Items<Item>, CheckFault>
     ensures { Answers (d.items_of (forms (map seen parts.now))) result }
 {
     let mut all = Items::new(alloc);

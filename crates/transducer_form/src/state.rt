@@ -26,7 +26,7 @@ fn is_new(names: &mut IndexSet<Name>, name: Name) -> Result<bool, AllocError>
 
 /// The names of the states in their order. Linear in them.
 #[tactic(auto, using(crate::proofs::States::listing))]
-pub fn state_names(alloc: Global, states: &[Sexpr]) -> Result<IndexSet<Name>, CheckFault>
+pub(crate) fn state_names(alloc: Global, states: &[Sexpr]) -> Result<IndexSet<Name>, CheckFault>
     ensures { Answers (d.states_behind [] (forms (map seen states.now))) (made_of (λ names. names.keys) result) }
 {
     let mut names: IndexSet<Name> = IndexSet::new(alloc);
@@ -45,7 +45,7 @@ pub fn state_names(alloc: Global, states: &[Sexpr]) -> Result<IndexSet<Name>, Ch
 }
 
 /// The number of a state: its place among those listed. Time is linear in its name, by its hash.
-pub fn state(alloc: Global, states: &IndexSet<Name>, part: &Sexpr) -> Result<u32, CheckFault>
+pub(crate) fn state(alloc: Global, states: &IndexSet<Name>, part: &Sexpr) -> Result<u32, CheckFault>
     requires { length states.now.keys ≤ 256 }
     ensures { Answers (d.state_at states.now.keys (t.symbol (seen part.now))) result }
 {

@@ -11,7 +11,7 @@ use std::alloc::Global;
 use sv_word::Word;
 
 /// The word of a literal. Linear.
-pub fn word(alloc: Global, part: &Sexpr) -> Result<Word, CheckFault>
+pub(crate) fn word(alloc: Global, part: &Sexpr) -> Result<Word, CheckFault>
     ensures { Answers (d.word_at (t.literal_text (seen part.now))) result }
 {
     match literal_text(part) {
@@ -24,7 +24,7 @@ pub fn word(alloc: Global, part: &Sexpr) -> Result<Word, CheckFault>
 }
 
 /// The character of a literal of one.
-pub fn character(alloc: Global, part: &Sexpr) -> Result<u32, CheckFault>
+pub(crate) fn character(alloc: Global, part: &Sexpr) -> Result<u32, CheckFault>
     ensures { Answers (d.character_at (t.literal_text (seen part.now))) result }
 {
     let word = word(alloc, part)?;

@@ -14,13 +14,13 @@ use Rattle.bool_cubes.specs.Cubes.{count, cube, cubes, cubes_of}
 use Rattle.literal_forms.specs.Literals.{IsTrueLiteral}
 use Rattle.bool_cubes.specs.Laws.{CubesAreCounted}
 use Rattle.bool_cubes.specs.Picking.{CubesArePicked, cube_at}
-use Rattle.bool_cubes.specs.Refusing.{count_of}
+use Rattle.bool_cubes.specs.Refusing.{count_of, most_cubes}
 use Rattle.literal_forms.specs.Shapes.{seen}
 use Rattle.bool_cubes.specs.Trees.{formula, tree_of}
 use Rattle.literal_forms.specs.declared.literal.Cube.{Cube}
 use Rattle.literal_forms.specs.declared.literal.Literal.{Literal}
 use Rattle.verdict_tally.specs.CubeValues.{CubeHasNoValues}
-use Rattle.verdict_tally.specs.Passing.{AreKnown, PassesCubes, is_single, shared_of}
+use Rattle.verdict_tally.specs.Passing.{AreKnown, GoesOn, PassesCubes, is_single, shared_of}
 use Rattle.verdict_tally.specs.Tallies.{IsTallyOf, batch}
 use Rattle.verdict_tally.specs.declared.tally.CubeTally.{CubeTally}
 use Rattle.verdict_tally.proofs.Listed.{first-part}
@@ -315,3 +315,27 @@ passes-none clear cubes tally = record {
   left = refl;
   tallied = λ opaque answers h. subst (λ l. IsTallyOf opaque l tally) (sym (append-nil answers)) h;
 }
+
+-- a block with a whole batch ahead, from what is known of the block and of what is ahead
+module _ (ts : List Term) (given first block ahead : ℕ) (counted : 0 < block → block ≡ count_of (drop first ts)) where
+  pub goes-on : block ≤ most_cubes → (batches : ℕ) × (ahead ≡ batches * batch) → ahead ≤ block → (0 < ahead → given % block + ahead ≤ block) → 0 < ahead → GoesOn ts given first
+  goes-on low whole below within some =
+      let is : block ≡ count_of (drop first ts) = counted (omega (arith, below, some)) in
+      let enough : batch ≤ ahead = many whole.0 whole.1 in
+      let here = within some in
+      subst (λ n. (n ≤ most_cubes) × (given % n + batch ≤ n)) is (low, omega (arith, enough, here))
+    where
+      many : (batches : ℕ) → ahead ≡ batches * batch → batch ≤ ahead
+      many zero e = absurd (omega (arith, e, some))
+      many (suc n) e = omega (arith, e)
+
+  pub stops : (count_of (drop first ts) ≤ most_cubes → block ≡ count_of (drop first ts)) → block < given % block + ahead + batch → ahead ≡ 0 → GoesOn ts given first → ⊥
+  stops few most none on =
+      let is = few on.0 in
+      let here : given % block + batch ≤ block = subst (λ n. given % n + batch ≤ n) (sym is) on.1 in
+      absurd (omega (arith, here, most, none))
+
+-- no cube is left where as many are left out
+pub none-left : (choice : ℕ) (o : Option Cube) (cubes new : List Cube) → LeftBy (drop choice cubes) new o → o ≡ None → choice < length cubes → ⊥
+none-left choice None cubes new h e lt = let n = length-drop choice cubes in let z = ap length h.0 in omega (arith, n, z, lt)
+none-left choice (Some c) cubes new h e lt = cc

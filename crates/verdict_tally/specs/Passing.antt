@@ -1,10 +1,10 @@
 -- Cubes that need no work, by what they share.
-use Rattle.std.specs.Prelude.{◌≡◌, ℕ, zero, suc, ◌*◌, ◌≤◌, Bool, List, [], ◌∷◌, ◌++◌, length, drop, take, nat_eq, if◌then◌else◌}
+use Rattle.std.specs.Prelude.{◌≡◌, ℕ, zero, suc, ◌+◌, ◌*◌, ◌%◌, ◌≤◌, Bool, List, [], ◌∷◌, ◌++◌, length, drop, take, nat_eq, if◌then◌else◌}
 use Rattle.std.specs.List.{AllByRecursion}
 use Rattle.sv_terms.specs.CutOff.{cut_off}
 use Rattle.sv_terms.specs.declared.term.Term.{Term}
 use Rattle.bool_cubes.specs.Cubes.{cubes_of}
-use Rattle.bool_cubes.specs.Refusing.{count_of}
+use Rattle.bool_cubes.specs.Refusing.{count_of, most_cubes}
 use Rattle.literal_forms.specs.declared.literal.Cube.{Cube}
 use Rattle.cube_answers.specs.declared.answer.CubeAnswer.{CubeAnswer}
 use Rattle.cube_answers.specs.declared.answer.CubeAnswer.TheVariants as answer
@@ -22,6 +22,10 @@ abbrev pub shared_of : ℕ → List Term → List Term
 shared_of first [] = []
 shared_of zero (t ∷ ts) = if is_single t then t ∷ shared_of zero ts else shared_of zero ts
 shared_of (suc first) (t ∷ ts) = t ∷ shared_of first ts
+
+-- the cubes of one choice for so many first terms aren't too many, and the block of the first one behind so many goes on for a whole batch
+abbrev pub GoesOn : List Term → ℕ → ℕ → Type 0
+GoesOn terms given first = (count_of (drop first terms) ≤ most_cubes) × (given % count_of (drop first terms) + batch ≤ count_of (drop first terms))
 
 -- so many of the cubes behind those that were given have no values: whole batches of them
 pub record AreKnown (terms : List Term) (given cubes : ℕ) : Type 0 where

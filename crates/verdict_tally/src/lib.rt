@@ -23,6 +23,6 @@ mod passing;
 mod tally;
 mod verdict;
 
-pub use passing::{Pace, block_of, count_ahead, longest, shared_literals};
+pub use passing::{Pace, block_of, count_ahead, longest_choice, shared_literals};
 pub use tally::{BATCH, CubeTally, tally_all};
 pub use verdict::{Open, Verdict};

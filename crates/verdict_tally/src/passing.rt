@@ -1,10 +1,11 @@
 //! Which cubes share literals, so that they need no work where these have no values, and when to ask for such.
-ghost use Rattle.std.specs.Prelude.{◌≡◌, ◌<◌, ◌≤◌, ◌*◌, ◌+◌, ◌%◌, ◌||◌, ◌++◌, ◌∷◌, [], ℕ, IfOk, IfSome, OnOk, Some, drop, if◌then◌else◌, length, nat_lt, slice_get};
+ghost use Rattle.std.specs.Prelude.{◌≡◌, ◌<◌, ◌≤◌, ◌*◌, ◌+◌, ◌%◌, ◌||◌, ◌++◌, ◌∷◌, [], ℕ, IfOk, IfSome, OnOk, None, Some, true, false, drop, if◌then◌else◌, length, nat_lt, slice_get};
 ghost use Rattle.std.specs.List.{AllByRecursion};
 ghost use Rattle.bool_cubes.specs.Cubes.{cubes_of};
 ghost use Rattle.bool_cubes.specs.Laws.{IsClearBool};
+ghost use Rattle.bool_cubes.specs.Past.{HasNoPast};
 ghost use Rattle.bool_cubes.specs.Refusing.{count_of, most_cubes};
-ghost use Rattle.verdict_tally.specs.Passing.{is_single, shared_of};
+ghost use Rattle.verdict_tally.specs.Passing.{GoesOn, is_single, shared_of};
 ghost use Rattle.verdict_tally.specs.Tallies.{batch};
 
 use crate::tally::BATCH;
@@ -101,7 +102,8 @@ pub fn shared_literals(
     choice: u64,
 ) -> Result<Option<Cube>, AllocError>
     requires { AllByRecursion IsClearBool terms.now }
-    ensures { IfOk result (λ o. IfSome o (λ cube. slice_get (cubes_of (shared_of first terms.now)) choice ≡ Some cube)) }
+    ensures some { IfOk result (λ o. IfSome o (λ cube. slice_get (cubes_of (shared_of first terms.now)) choice ≡ Some cube)) }
+    ensures none { IfOk result (λ o. o ≡ None → choice < length (cubes_of (shared_of first terms.now)) → HasNoPast (shared_of first terms.now) → most_cubes < count_of (shared_of first terms.now)) }
 {
     let shared = shared_terms(alloc, terms, first)?;
     match Cubes::new(alloc, shared.as_slice()) {
@@ -111,7 +113,8 @@ pub fn shared_literals(
             Ok(cube)
         }
         Err(CubeFault::Memory(error)) => Err(error),
-        Err(_) => Ok(None),
+        Err(CubeFault::Past { left: _, right: _ }) => Ok(None),
+        Err(CubeFault::TooMany(_)) => Ok(None),
     }
 }
 
@@ -121,6 +124,7 @@ pub fn block_of(terms: &[Term], first: usize) -> u64
     requires first { first ≤ length terms.now }
     ensures counted { 0 < result → result ≡ count_of (drop first terms.now) }
     ensures few { count_of (drop first terms.now) ≤ most_cubes → result ≡ count_of (drop first terms.now) }
+    ensures most { result ≤ most_cubes }
 {
     let cubes = count(&terms[first..]);
     if cubes > MOST_CUBES {
@@ -142,16 +146,30 @@ pub fn count_ahead(block: u64, given: u64) -> u64
     (block - given % block) / (BATCH as u64) * (BATCH as u64)
 }
 
-/// The greatest number of first terms of which a block goes on for a whole batch.
-pub fn longest(terms: &[Term], given: u64) -> usize
+/// Whether a block of one choice for so many first terms goes on for a whole batch.
+fn goes_on(terms: &[Term], given: u64, first: usize) -> bool
+    requires sorted { AllByRecursion IsClearBool terms.now }
+    requires first { first ≤ length terms.now }
+    ensures yes { result ≡ true → GoesOn terms.now given first }
+    ensures no { result ≡ false → GoesOn terms.now given first → ⊥ }
+{
+    let block = block_of(terms, first);
+    count_ahead(block, given) > 0
+}
+
+/// A number of first terms of which a block goes on for a whole batch, and with one more doesn't; 0 where none is
+/// found. Found by halving.
+pub fn longest_choice(terms: &[Term], given: u64) -> usize
     requires { AllByRecursion IsClearBool terms.now }
-    ensures { result ≤ length terms.now }
+    ensures within { result ≤ length terms.now }
+    ensures some { 0 < result → GoesOn terms.now given result }
+    ensures most { result < length terms.now → GoesOn terms.now given (result + 1) → ⊥ }
 {
     let mut least = 0;
     let mut most = terms.len();
     while least < most {
         let middle = most - (most - least) / 2;
-        if count_ahead(block_of(terms, middle), given) > 0 {
+        if goes_on(terms, given, middle) {
             least = middle;
         } else {
             most = middle - 1;

@@ -9,7 +9,7 @@ use Rattle.literal_forms.specs.Linear.{Linear, Unknown, added, are_linear, are_s
 use Rattle.literal_forms.specs.Mirrors.{raw-seen, seen-Apply}
 use Rattle.literal_forms.specs.Shapes.{Shape, Shapes, truth, number, text, constant, apply, member, related, opaque, end, ◌⨾◌, raw, seen, shapes}
 use Rattle.written_terms.specs.Strings.{build_of, is_replaced, is_text, replacer}
-use Rattle.written_terms.specs.Numbers.{joined_from, joined_of, joined_on, joint_of, kind_of, linearity_of, one_of, product_of, read_of, sum_of}
+use Rattle.written_terms.specs.Numbers.{joined_from, joined_of, joined_on, joining_of, kind_of, linearity_of, one_of, product_of, read_of, sum_of}
 use Rattle.written_terms.specs.declared.strings.Occurrences.{Occurrences}
 use Rattle.written_terms.specs.declared.strings.Occurrences.TheVariants as occurrences
 use Rattle.written_terms.specs.declared.strings.PlaceBuild.{PlaceBuild}
@@ -63,10 +63,6 @@ replacer_op op.Replace occurrences.All e = absurd (cc)
 replacer_op op.ReplaceAll occurrences.First e = absurd (cc)
 replacer_op op.ReplaceAll occurrences.All e = refl
 replacer_op _ r e = absurd (cc)
-
--- the term as one that replaces
-pub replaces_as : (t : Term) (o : Op) (r : Occurrences) (b : PlaceBuild) (ts us : List Term) → t ≡ term.Apply o ts → us ≡ ts → b ≡ build_of o → b ≡ build.Replace r → t ≡ term.Apply (replacer r) us
-replaces_as t o r b ts us i f k e = i ∙ (λ j. term.Apply (replacer_op o r (sym k ∙ e) j) (sym f j))
 
 pub seen_apply : (t : Term) (o p : Op) (ts : List Term) → t ≡ term.Apply o ts → o ≡ p → seen t ≡ apply p (seen_all ts)
 seen_apply t o p ts i e = ap seen (i ∙ ap (λ x. term.Apply x ts) e) ∙ seen-Apply p ts
@@ -248,7 +244,7 @@ length_kind : (s : Shape) → one_of s ≡ kind_of (is_string s) (is_constant (l
 length_kind (text w) = refl
 length_kind _ = refl
 
-read_kind : (o : Op) (ss : Shapes) → read_of (joint_of o) ss ≡ linearity_of (apply o ss)
+read_kind : (o : Op) (ss : Shapes) → read_of (joining_of o) ss ≡ linearity_of (apply o ss)
 read_kind op.Add end = refl
 read_kind op.Add (s ⨾ ss) = sums (is_linear s) (linear s) ss
 read_kind op.Subtract end = refl
@@ -260,7 +256,7 @@ read_kind op.Length (s ⨾ end) = length_kind s
 read_kind op.Length (s ⨾ t ⨾ ss) = refl
 read_kind _ ss = refl
 
-pub applied_kind : (t : Term) (o : Op) (ts : List Term) (j : Joining) (k : Linearity) → t ≡ term.Apply o ts → j ≡ joint_of o → k ≡ read_of j (seen_all ts) → k ≡ linearity_of (seen t)
+pub applied_kind : (t : Term) (o : Op) (ts : List Term) (j : Joining) (k : Linearity) → t ≡ term.Apply o ts → j ≡ joining_of o → k ≡ read_of j (seen_all ts) → k ≡ linearity_of (seen t)
 applied_kind t o ts j k i e f = f ∙ ap (λ x. read_of x (seen_all ts)) e ∙ read_kind o (seen_all ts) ∙ sym (ap linearity_of (seen_apply t o o ts i refl))
 
 pub length_not : (ts : List Term) (j : Joining) → j ≡ joining.Length → (length ts ≡ 1 → ⊥) → linearity.Other ≡ read_of j (seen_all ts)

@@ -30,8 +30,8 @@ joining_by (role.Joined joint.Product) = joining.Product
 joining_by role.Length = joining.Length
 joining_by _ = joining.Nothing
 
-abbrev pub joint_of : Op → Joining
-joint_of o = joining_by (role_of o)
+abbrev pub joining_of : Op → Joining
+joining_of o = joining_by (role_of o)
 
 abbrev pub sum_of : Linearity → Linearity → Linearity
 sum_of linearity.Constant k = k

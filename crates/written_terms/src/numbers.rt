@@ -2,7 +2,7 @@
 ghost use Rattle.std.specs.Prelude.{◌≡◌, ◌<◌, length, map};
 ghost use Rattle.literal_forms.specs.Linear.{is_linear};
 ghost use Rattle.literal_forms.specs.Shapes.{seen, shapes};
-ghost use Rattle.written_terms.specs.Numbers.{joined_from, joined_of, joint_of, linearity_of, one_of, read_of};
+ghost use Rattle.written_terms.specs.Numbers.{joined_from, joined_of, joining_of, linearity_of, one_of, read_of};
 
 use crate::strings::{is_string, is_text};
 use literal_forms::{Joint, Role, role_of};
@@ -30,7 +30,7 @@ pub enum Joining {
 
 /// How a function of sort Int joins what its arguments are. Constant time.
 pub fn joining_of(op: Op) -> Joining
-    ensures { result ≡ joint_of op }
+    ensures { result ≡ joining_of op }
 {
     match role_of(op) {
         Role::Joined(Joint::Sum) | Role::Joined(Joint::Difference) => Joining::Sum,

@@ -30,7 +30,7 @@ returns-clause-state c =
     let high = c.loop-v.auto.v-end in
     let same = ap length c.as_slice-variables.ensures in
     let size : length c.args.flat.now.variables ≡ c.loop-v.v = omega (arith, low, high, same) in
-    c.in_ok-state.ensures.first c.args.flat.now c.requires.straight (ap length c.as_slice-registers.ensures) (begun-all c.args.flat.now c.loop-v.v c.loop-v.machines size c.loop-v.invariant)
+    c.in_ok-of.ensures.first c.args.flat.now c.requires.straight (ap length c.as_slice-registers.ensures) (begun-all c.args.flat.now c.loop-v.v c.loop-v.machines size c.loop-v.invariant)
 
 pub returns-in_err-machine-clause-refused : goal.returns-in_err-machine-clause-refused
 returns-in_err-machine-clause-refused c = λ n e.

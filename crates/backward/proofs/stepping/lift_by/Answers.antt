@@ -21,5 +21,5 @@ lift_through-requires-clause-passed c =
 pub returns-clause-defined : goal.returns-clause-defined
 returns-clause-defined c =
     let m = made-through c.args.by.now c.args.x c.read_by-read.result c.args.cuts.now c.args.before.now.machines c.args.after.now c.read_by-read.ensures c.requires.made in
-    let rs = c.in_ok-lifted-2.lifted in
-    gives-comes c.args.by.now c.read_by-read.result c.read_by-read.ensures m.0 m.1 (run_words rs) (run_words rs c.args.x) (c.in_ok-lifted-2.ensures.defined m.0 m.2)
+    let rs = c.in_ok-lift_through.field-0 in
+    gives-comes c.args.by.now c.read_by-read.result c.read_by-read.ensures m.0 m.1 (run_words rs) (run_words rs c.args.x) (c.in_ok-lift_through.ensures.defined m.0 m.2)

@@ -11,7 +11,7 @@ lift_by-requires-clause-made c = c.requires.made c.definition_at-definition.resu
 
 pub returns : goal.returns
 returns c d at =
-    let rs = c.in_ok-lifted.lifted in
-    let e = c.in_ok-lifted.ensures in
+    let rs = c.in_ok-lift_by.field-0 in
+    let e = c.in_ok-lift_by.ensures in
     subst (λ (x : Definition). AreBack c.args.before.now.machines x.variable c.args.runs rs × ComesBy (run_words rs) (run_words rs x.variable) x.by)
     (one-definition c.args.flat.now.definitions c.args.at c.definition_at-definition.result.now d c.definition_at-definition.ensures at) (e.back, e.defined)

@@ -31,8 +31,8 @@ returns-clause-conf c =
     let ps = c.as_slice.result.now in
     let is = c.in-Concat.is ∙ ap by.Concat (sym c.as_slice.ensures) in
     let can = can-cut-with flat at d there ps c.requires is in
-    let new = c.in_ok-next.next in
-    let e = c.in_ok-next.ensures in
+    let new = c.in_ok-carry_concat.field-0 in
+    let e = c.in_ok-carry_concat.ensures in
     let carried = e.carried can.0 can.1 in
     cut-at flat at d there s new ps c.args.cuts.now is can.0 can.1 e.registers carried
 
@@ -46,8 +46,8 @@ returns-clause-state c straight state =
     let ps = c.as_slice.result.now in
     let is = c.in-Concat.is ∙ ap by.Concat (sym c.as_slice.ensures) in
     let can = can-cut-with flat at d there ps c.requires is in
-    let new = c.in_ok-next.next in
-    let e = c.in_ok-next.ensures in
+    let new = c.in_ok-carry_concat.field-0 in
+    let e = c.in_ok-carry_concat.ensures in
     let carried = e.carried can.0 can.1 in
     let next : at + 1 ≡ suc at = omega arith in
     concat-state flat straight at s (subst (λ n. IsState flat n s) next state) d there c.states_are_solved.ensures.solved c.growth_is_solved.ensures.solved ps c.args.cuts.now is can.0 can.1.machine
@@ -63,12 +63,12 @@ returns-clause-made c =
     let ps = c.as_slice.result.now in
     let is = c.in-Concat.is ∙ ap by.Concat (sym c.as_slice.ensures) in
     let can = can-cut-with flat at d there ps c.requires is in
-    let new = c.in_ok-next.next in
-    let e = c.in_ok-next.ensures in
+    let new = c.in_ok-carry_concat.field-0 in
+    let e = c.in_ok-carry_concat.ensures in
     let carried = e.carried can.0 can.1 in
     cut-made flat at d there s new ps c.args.cuts.now is can.0 can.1 e.registers carried e.made
 
-pub returns-in_err-next-clause-refused : goal.returns-in_err-next-clause-refused
-returns-in_err-next-clause-refused c = λ n e.
+pub returns-in_err-carry_concat-clause-refused : goal.returns-in_err-carry_concat-clause-refused
+returns-in_err-carry_concat-clause-refused c = λ n e.
     let d = rw e at c.from_residual.ensures.1 in
-    c.in_err-next.ensures.refused n (ap Err (sym d))
+    c.in_err-carry_concat.ensures.refused n (ap Err (sym d))

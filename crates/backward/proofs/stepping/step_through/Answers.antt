@@ -49,8 +49,8 @@ returns-clause-conf c =
     let t = c.in_ok-through.through in
     let f = c.in_ok-through.ensures in
     let pass = can-pass-through can.2 f in
-    let new = c.in_ok-next.next in
-    let e = c.in_ok-next.ensures in
+    let new = c.in_ok-carry_through.field-0 in
+    let e = c.in_ok-carry_through.ensures in
     let carried = e.carried can.0 can.1 (slope_of d.by) (base_of d.by) pass f.writes in
     passed-at flat at d there s new v reading t f can.0 can.1 pass e.registers carried
 
@@ -67,8 +67,8 @@ returns-clause-state c straight state =
     let t = c.in_ok-through.through in
     let f = c.in_ok-through.ensures in
     let pass = can-pass-through can.2 f in
-    let new = c.in_ok-next.next in
-    let e = c.in_ok-next.ensures in
+    let new = c.in_ok-carry_through.field-0 in
+    let e = c.in_ok-carry_through.ensures in
     let carried = e.carried can.0 can.1 (slope_of d.by) (base_of d.by) pass f.writes in
     let next : at + 1 ≡ suc at = omega arith in
     through-state flat straight at s (subst (λ n. IsState flat n s) next state) d there c.states_are_solved.ensures.solved c.growth_goes_along.ensures.along v reading can.0 can.2.machine
@@ -81,9 +81,9 @@ returns-clause-made c =
     let d = c.definition_at-definition.result.now in
     let there = c.definition_at-definition.ensures in
     let s = c.args.state.now in
-    passed-made flat at d there s c.in_ok-next.next c.read_by-read.result c.read_by-read.ensures c.in_ok-through.through c.in_ok-through.ensures c.in_ok-next.ensures.made
+    passed-made flat at d there s c.in_ok-carry_through.field-0 c.read_by-read.result c.read_by-read.ensures c.in_ok-through.through c.in_ok-through.ensures c.in_ok-carry_through.ensures.made
 
-pub returns-in_err-next-clause-refused : goal.returns-in_err-next-clause-refused
-returns-in_err-next-clause-refused c = λ n e.
-    let d = rw e at c.from_residual-in_err-next.ensures.1 in
-    c.in_err-next.ensures.refused n (ap Err (sym d))
+pub returns-in_err-carry_through-clause-refused : goal.returns-in_err-carry_through-clause-refused
+returns-in_err-carry_through-clause-refused c = λ n e.
+    let d = rw e at c.from_residual-in_err-carry_through.ensures.1 in
+    c.in_err-carry_through.ensures.refused n (ap Err (sym d))

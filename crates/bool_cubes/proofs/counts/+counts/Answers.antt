@@ -1,11 +1,13 @@
-use Rattle.std.proofs.Common.{◌≡◌, ◌+◌, sym, ap, ◌∙◌, drop, zero, arith}
-use Rattle.bool_cubes.specs.Counting.{and_counts, counts_of, not_counts, parts_of, first_pairs}
-use Rattle.bool_cubes.specs.Trees.{conjunction, equal, negated, pairs}
-use Rattle.bool_cubes.proofs.Arms.{few_neighbours, first_step, pairs_step}
+use Rattle.std.proofs.Common.{◌≡◌, ◌+◌, sym, ap, ◌∙◌, drop, zero, length, ◌-◌, get_or, arith}
+use Rattle.literal_forms.specs.Shapes.{seen}
+use Rattle.bool_cubes.specs.Counting.{counts_of, parts_of, first_pairs}
+use Rattle.bool_cubes.specs.Trees.{conjunction, equal, formula, negated, pairs}
+use Rattle.bool_cubes.proofs.Arms.{few_neighbours, first_step, got_at, neighbour_step, pairs_step, some_terms}
+use Rattle.bool_cubes.proofs.Tallies.{all_more, any_more, exclusive_more, implied_last, negations_more}
 use Rattle.bool_cubes.proofs.counts.+counts.Goals as goal
 
 pub distinct_counts-loop-i-preserved : goal.distinct_counts-loop-i-preserved
-distinct_counts-loop-i-preserved t c = c.and-all.ensures ∙ pairs_step c.args.terms.now c.loop-i.i c.loop-i.all c.first_counts.result (omega arith) (omega arith) c.first_counts.ensures c.loop-i.invariant
+distinct_counts-loop-i-preserved t c = pairs_step c.args.terms.now c.loop-i.i c.loop-i.all c.first_counts.result c.and-all.result (omega arith) (omega arith) c.first_counts.ensures c.loop-i.invariant c.and-all.ensures
 
 pub distinct_counts-returns : goal.distinct_counts-returns
 distinct_counts-returns t c =
@@ -15,7 +17,9 @@ distinct_counts-returns t c =
 pub first_counts-loop-j-preserved : goal.first_counts-loop-j-preserved
 first_counts-loop-j-preserved t c = record {
   bound = omega arith;
-  all = λ u e. c.and-all.ensures ∙ ap (λ x. and_counts x c.loop-j.all) (c.not.ensures ∙ ap not_counts c.equal_counts.ensures) ∙ first_step c.args.terms.now c.loop-j.j c.args.at u c.index-terms-j.result c.index-terms-at.result c.head_sort-sort.result c.loop-j.all c.count_both-first.result c.count_both.result c.loop-j.all (omega arith) (omega arith) (omega arith) e c.index-terms-at.is c.index-terms-j.is (c.loop-j.invariant.all u e) c.head_sort-sort.ensures c.count_both-first.ensures c.count_both.ensures;
+  all = λ u e.
+      first_step c.args.terms.now c.loop-j.j c.args.at u c.index-terms-j.result c.index-terms-at.result c.head_sort-sort.result c.loop-j.all c.count_both-first.result c.count_both.result c.equal_counts.result c.not.result c.and-all.result (omega arith) (omega arith) (omega arith) e c.index-terms-at.is c.index-terms-j.is
+      (c.loop-j.invariant.all u e) c.head_sort-sort.ensures c.count_both-first.ensures c.count_both.ensures c.equal_counts.ensures c.not.ensures c.and-all.ensures;
 }
 
 pub first_counts-returns-after-loop-j : goal.first_counts-returns-after-loop-j
@@ -25,3 +29,34 @@ first_counts-returns-after-loop-j t c u e =
 
 pub neighbour_counts-returns-then-terms-lt2 : goal.neighbour_counts-returns-then-terms-lt2
 neighbour_counts-returns-then-terms-lt2 t c = c.of_truth-all.ensures ∙ sym (few_neighbours c.args.terms.now (omega arith))
+
+pub all_counts-loop-term-preserved : goal.all_counts-loop-term-preserved
+all_counts-loop-term-preserved t c = all_more c.args.terms.now c.loop-term.term-index c.term-item.result c.loop-term.all c.count_both.result c.and-all.result (omega arith) c.term-item.is c.loop-term.invariant c.count_both.ensures c.and-all.ensures
+
+pub any_counts-loop-term-preserved : goal.any_counts-loop-term-preserved
+any_counts-loop-term-preserved t c = any_more c.args.terms.now c.loop-term.term-index c.term-item.result c.loop-term.any c.count_both.result c.or-any.result (omega arith) c.term-item.is c.loop-term.invariant c.count_both.ensures c.or-any.ensures
+
+pub exclusive_counts-loop-i-preserved : goal.exclusive_counts-loop-i-preserved
+exclusive_counts-loop-i-preserved t c =
+    exclusive_more c.args.terms.now c.loop-i.i c.index-terms-i.result c.loop-i.odd c.count_both.result c.agree.result c.not-odd.result (omega arith) (omega arith) c.index-terms-i.is c.loop-i.invariant c.count_both.ensures c.agree.ensures c.not-odd.ensures
+
+pub implied_counts-loop-i-preserved : goal.implied_counts-loop-i-preserved
+implied_counts-loop-i-preserved t c =
+    negations_more c.args.terms.now c.loop-i.i c.index-terms-i.result c.loop-i.any c.count_both.result c.not.result c.or-any.result (omega arith) c.index-terms-i.is c.loop-i.invariant c.count_both.ensures c.not.ensures c.or-any.ensures
+
+pub implied_counts-returns : goal.implied_counts-returns
+implied_counts-returns t c =
+    let some = some_terms c.args.terms.now (sym c.is_empty.ensures ∙ c.if-is_empty.false) in
+    let end : length c.args.terms.now - 1 ≡ c.loop-i.i = omega arith in
+    let all : c.loop-i.i + 1 ≡ length c.args.terms.now = omega (arith, some) in
+    let u = c.index-terms-last.result in
+    implied_last c.args.terms.now c.loop-i.i u c.loop-i.any c.count_both-2.result c.or.result all (c.index-terms-last.is ∙ ap (λ n. get_or c.args.terms.now n u) end) c.loop-i.invariant c.count_both-2.ensures c.or.ensures
+
+pub neighbour_counts-loop-i-preserved : goal.neighbour_counts-loop-i-preserved
+neighbour_counts-loop-i-preserved t c = record {
+  all =
+      let u = c.index-terms-i-in-loop-i.result in
+      neighbour_step c.args.terms.now c.loop-i.i u c.index-terms-i.result c.head_sort.result c.loop-i.all c.loop-i.left c.count_both-right.result c.equal_counts.result c.and-all.result (omega arith) (omega arith) c.index-terms-i-in-loop-i.is c.index-terms-i.is c.loop-i.invariant.all c.head_sort.ensures
+      (c.loop-i.invariant.left u ∙ ap (λ x. counts_of (formula (seen x))) (sym c.index-terms-i-in-loop-i.is)) c.count_both-right.ensures c.equal_counts.ensures c.and-all.ensures;
+  left = λ u. c.count_both-right.ensures ∙ ap (λ x. counts_of (formula (seen x))) (got_at c.args.terms.now c.loop-i.i c.index-terms-i.result u (omega arith) c.index-terms-i.is);
+}

@@ -1,6 +1,6 @@
 use Rattle.std.proofs.Common.{◌≡◌, ◌≤◌, ◌∙◌, ℕ, List, Contains, map, ap, sym, subst, arith}
 use Rattle.std.proofs.lemmas.Result.{IfOk-weaker}
-use Rattle.box_layers.specs.Moving.{end_moves, AreEnds}
+use Rattle.box_layers.specs.Moving.{end_moves, AreLayerEnds}
 use Rattle.box_layers.proofs.ExactLemmas.{end-width}
 use Rattle.box_layers.proofs.moving.moves_onward.Goals as goal
 
@@ -12,7 +12,7 @@ pub returns : goal.returns
 returns c =
     let uppers = map (λ (s : ℕ × ℕ). s.1) c.args.sides.now in
     let zero : 0 ≤ 0 = omega arith in
-    IfOk-weaker c.ends-2.result (λ all. all ≡ end_moves uppers c.in_ok-on.on c.args.at.now c.as_slice.result.now) (AreEnds c.args.machine.now uppers c.args.at.now)
+    IfOk-weaker c.ends-2.result (λ all. all ≡ end_moves uppers c.in_ok-on.on c.args.at.now c.as_slice.result.now) (AreLayerEnds c.args.machine.now uppers c.args.at.now)
     (λ all made. record {
       on = c.in_ok-on.on;
       costs = c.in_ok-last.last;

@@ -9,3 +9,6 @@ returns-in_ok-plus_one-in-Below c = record { each = λ us l r d. subst (λ b. Is
 
 pub returns-in_ok-plus_one-in-Above : goal.returns-in_ok-plus_one-in-Above
 returns-in_ok-plus_one-in-Above c = record { each = λ us l r d. subst (λ b. IsNumbered us (form_by b (less l r)) c.in_ok-plus_one-in-Above.field-0) (sym c.in-Above.is) (c.in_ok-plus_one-in-Above.ensures.each us (scaled (less l r) minus_one) d.numbered d.second) }
+
+pub returns-in-Never : goal.returns-in-Never
+returns-in-Never c = record { each = λ us l r d. subst (λ b. IsNumbered us (form_by b (less l r)) c.number.result) (sym c.in-Never.is) (c.number.ensures us) }

@@ -5,8 +5,8 @@ use Rattle.flat_cubes.specs.Flattening.{IsCycle}
 use Rattle.cube_order.proofs.Traced.{ahead_within, traced_cycle, traced_on, unseen, unseen_less}
 use Rattle.cube_order.proofs.cycling.cycle.Goals as goal
 
-pub behind-requires : goal.behind-requires
-behind-requires c =
+pub copy_from-requires : goal.copy_from-requires
+copy_from-requires c =
     let e : get_or c.loop-at.seen c.loop-at.at None ≡ Some c.in-Some.place = ap (λ z. get_or z c.loop-at.at None) (sym c.as_slice.ensures) ∙ c.in-Some.is in
     let l = (c.loop-at.invariant.on c.loop-at.at c.in-Some.place e).0 in
     let m : c.in-Some.place ≤ length c.loop-at.path = omega arith in
@@ -15,7 +15,7 @@ behind-requires c =
 pub returns-in-Some : goal.returns-in-Some
 returns-in-Some c =
     let e : get_or c.loop-at.seen c.loop-at.at None ≡ Some c.in-Some.place = ap (λ z. get_or z c.loop-at.at None) (sym c.as_slice.ensures) ∙ c.in-Some.is in
-    IfOk-weaker c.behind.result _ (IsCycle c.args.definitions.now) (λ vs h. subst (IsCycle c.args.definitions.now) (sym (h ∙ ap (λ z. drop c.in-Some.place z) c.as_slice-in-Some.ensures)) (traced_cycle c.args.definitions.now c.args.ahead.now c.loop-at.path c.loop-at.seen c.loop-at.at c.in-Some.place c.loop-at.invariant e)) c.behind.ensures
+    IfOk-weaker c.copy_from.result _ (IsCycle c.args.definitions.now) (λ vs h. subst (IsCycle c.args.definitions.now) (sym (h ∙ ap (λ z. drop c.in-Some.place z) c.as_slice-in-Some.ensures)) (traced_cycle c.args.definitions.now c.args.ahead.now c.loop-at.path c.loop-at.seen c.loop-at.at c.in-Some.place c.loop-at.invariant e)) c.copy_from.ensures
 
 pub loop-at-smaller : goal.loop-at-smaller
 loop-at-smaller c =

@@ -1,6 +1,6 @@
 use Rattle.std.proofs.Common.{◌≡◌, ◌∙◌, ◌<◌, ap, sym, subst, inl, inr, length, get_or, false, arith, ℕ}
 use Rattle.std.specs.List.{AllZip}
-use Rattle.cube_order.specs.Columns.{AreNumbersWithin, IsRenumbered, Rises, has_entry}
+use Rattle.cube_order.specs.Columns.{AreNumbersWithin, IsRenumberedRow, Rises, has_entry}
 use Rattle.cube_order.proofs.Numbered.{rows_numbered}
 use Rattle.cube_order.proofs.Rowed.{counted, excess_is, integers_are, register_count, registers_are, rows_are}
 use Rattle.cube_order.proofs.rowing.settle_rows.Goals as goal
@@ -36,9 +36,9 @@ returns-clause-exact c = λ ts bs z.
     let count = ap length c.as_slice.ensures ∙ c.in_ok-used.ensures.count ∙ c.len.ensures in
     let exact : (u : ℕ) → u < length c.args.quantities → get_or c.as_slice.result.now u false ≡ has_entry c.args.rows.now u = λ u l. ap (λ z. get_or z u false) c.as_slice.ensures ∙ c.in_ok-used.ensures.exact u (subst (λ z. u < z) (sym c.len.ensures) l) in
     let k = c.in_ok-kept.kept in
-    let g1 = subst (λ n. AllZip (IsRenumbered n c.as_slice-2.result.now c.as_slice-3.result.now) c.args.rows.now c.in_ok-rows.rows) c.len-integers.ensures c.in_ok-rows.ensures in
-    let g2 = subst (λ n. AllZip (IsRenumbered (length c.in_ok-kept.kept.integers) n c.as_slice-3.result.now) c.args.rows.now c.in_ok-rows.rows) c.as_slice-2.ensures g1 in
-    let g3 = subst (λ n. AllZip (IsRenumbered (length c.in_ok-kept.kept.integers) c.in_ok-kept.kept.integer_numbers n) c.args.rows.now c.in_ok-rows.rows) c.as_slice-3.ensures g2 in
+    let g1 = subst (λ n. AllZip (IsRenumberedRow n c.as_slice-2.result.now c.as_slice-3.result.now) c.args.rows.now c.in_ok-rows.rows) c.len-integers.ensures c.in_ok-rows.ensures in
+    let g2 = subst (λ n. AllZip (IsRenumberedRow (length c.in_ok-kept.kept.integers) n c.as_slice-3.result.now) c.args.rows.now c.in_ok-rows.rows) c.as_slice-2.ensures g1 in
+    let g3 = subst (λ n. AllZip (IsRenumberedRow (length c.in_ok-kept.kept.integers) c.in_ok-kept.kept.integer_numbers n) c.args.rows.now c.in_ok-rows.rows) c.as_slice-3.ensures g2 in
     record {
       integers = integers_are (λ i. get_or c.args.of.now i 0) c.args.quantities c.as_slice.result.now c.in_ok-kept.kept c.in_ok-kept.ensures ts bs c.args.rows.now z count exact;
       registers = registers_are (λ i. get_or c.args.of.now i 0) c.args.quantities c.as_slice.result.now c.in_ok-kept.kept c.in_ok-kept.ensures ts bs c.args.rows.now z count exact;
@@ -50,7 +50,7 @@ returns-clause-exact c = λ ts bs z.
 pub returns-clause-numbered : goal.returns-clause-numbered
 returns-clause-numbered c = λ s.
     let k = counted (λ i. get_or c.args.of.now i 0) c.args.quantities c.as_slice.result.now c.in_ok-kept.kept c.in_ok-kept.ensures in
-    let g1 = subst (λ n. AllZip (IsRenumbered n c.as_slice-2.result.now c.as_slice-3.result.now) c.args.rows.now c.in_ok-rows.rows) c.len-integers.ensures c.in_ok-rows.ensures in
-    let g2 = subst (λ n. AllZip (IsRenumbered (length c.in_ok-kept.kept.integers) n c.as_slice-3.result.now) c.args.rows.now c.in_ok-rows.rows) c.as_slice-2.ensures g1 in
-    let g3 = subst (λ n. AllZip (IsRenumbered (length c.in_ok-kept.kept.integers) c.in_ok-kept.kept.integer_numbers n) c.args.rows.now c.in_ok-rows.rows) c.as_slice-3.ensures g2 in
+    let g1 = subst (λ n. AllZip (IsRenumberedRow n c.as_slice-2.result.now c.as_slice-3.result.now) c.args.rows.now c.in_ok-rows.rows) c.len-integers.ensures c.in_ok-rows.ensures in
+    let g2 = subst (λ n. AllZip (IsRenumberedRow (length c.in_ok-kept.kept.integers) n c.as_slice-3.result.now) c.args.rows.now c.in_ok-rows.rows) c.as_slice-2.ensures g1 in
+    let g3 = subst (λ n. AllZip (IsRenumberedRow (length c.in_ok-kept.kept.integers) c.in_ok-kept.kept.integer_numbers n) c.args.rows.now c.in_ok-rows.rows) c.as_slice-3.ensures g2 in
     rows_numbered (length c.in_ok-kept.kept.integers) (length c.in_ok-kept.kept.registers) c.in_ok-kept.kept.integer_numbers c.in_ok-kept.kept.register_numbers k.0.rising k.1.rising k.0.within k.1.within c.args.rows.now c.in_ok-rows.rows s g3

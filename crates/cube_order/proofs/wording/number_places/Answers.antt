@@ -27,9 +27,9 @@ returns-clause-few c = subst (λ n. n < 2 ^ 32) c.in_ok-places.ensures.count c.i
 pub returns-clause-count : goal.returns-clause-count
 returns-clause-count c =
     let is = c.as_slice.ensures.value ∙ c.in_ok-firsts.ensures ∙ ap (λ m. least_of m c.args.equalities.now) c.in_ok-places.ensures.count in
-    count_is c.args.places c.args.equalities.now c.requires c.as_slice.result.now is c.in_ok-numbering.numbering.count c.in_ok-numbering.ensures.count
+    count_is c.args.places c.args.equalities.now c.requires c.as_slice.result.now is c.in_ok-number.field-0.count c.in_ok-number.ensures.count
 
 pub returns-clause-of : goal.returns-clause-of
 returns-clause-of c =
     let is = c.as_slice.ensures.value ∙ c.in_ok-firsts.ensures ∙ ap (λ m. least_of m c.args.equalities.now) c.in_ok-places.ensures.count in
-    numbers_are c.args.places c.args.equalities.now c.requires c.as_slice.result.now is c.in_ok-numbering.numbering.of.items c.in_ok-numbering.ensures.of
+    numbers_are c.args.places c.args.equalities.now c.requires c.as_slice.result.now is c.in_ok-number.field-0.of.items c.in_ok-number.ensures.of

@@ -1,8 +1,8 @@
 use Rattle.std.proofs.Common.{Ok, Err, inl, inr, sym, ap, ◌∙◌, subst, arith, rules, w64, length, IfSome}
 use Rattle.std.proofs.lemmas.Int.{to_z-of_z}
 use mir.Val.{SFits}
-use Rattle.cube_search.specs.Answers.{IsCubeAnswer, IsDecided}
-use Rattle.cube_search.specs.Searches.{IsFound}
+use Rattle.cube_search.specs.Answers.{IsCubeAnswer, IsDecidedCube}
+use Rattle.cube_search.specs.Searches.{AreFoundRuns}
 use Rattle.cube_search.specs.Tallies.{IsCovered}
 use Rattle.cube_search.proofs.AnswerLemmas.{left-answers, left-decides, little, model-of, reachable}
 use Rattle.cube_search.proofs.CountLemmas.{few-definitions}
@@ -34,14 +34,14 @@ pub model_of-requires-clause-satisfies : goal.model_of-requires-clause-satisfies
 model_of-requires-clause-satisfies c =
     let flat = c.args.flat.now in
     let state = c.in_ok-state.state in
-    let found = subst (λ o. IfSome o (IsFound flat (length flat.definitions) state.machines)) c.in-Some.is (subst (λ n. IfSome c.in_ok-found.field-0 (IsFound flat n state.machines)) c.len-left.ensures c.in_ok-found.ensures.found) in
+    let found = subst (λ o. IfSome o (AreFoundRuns flat (length flat.definitions) state.machines)) c.in-Some.is (subst (λ n. IfSome c.in_ok-found.field-0 (AreFoundRuns flat n state.machines)) c.len-left.ensures c.in_ok-found.ensures.found) in
     found-satisfies flat state.machines c.in-Some.found c.requires.straight c.in_ok-state.ensures.state.led c.requires.whole found
 
 pub returns-in-Some-clause-right : goal.returns-in-Some-clause-right
 returns-in-Some-clause-right c =
     let flat = c.args.flat.now in
     let state = c.in_ok-state.state in
-    let found = subst (λ o. IfSome o (IsFound flat (length flat.definitions) state.machines)) c.in-Some.is (subst (λ n. IfSome c.in_ok-found.field-0 (IsFound flat n state.machines)) c.len-left.ensures c.in_ok-found.ensures.found) in
+    let found = subst (λ o. IfSome o (AreFoundRuns flat (length flat.definitions) state.machines)) c.in-Some.is (subst (λ n. IfSome c.in_ok-found.field-0 (AreFoundRuns flat n state.machines)) c.len-left.ensures c.in_ok-found.ensures.found) in
     model-of flat state.machines c.in-Some.found c.in_ok-model_of-in-Some.field-0 found
     (found-satisfies flat state.machines c.in-Some.found c.requires.straight c.in_ok-state.ensures.state.led c.requires.whole found) c.in_ok-model_of-in-Some.ensures.named c.in_ok-model_of-in-Some.ensures.worded
 
@@ -55,7 +55,7 @@ returns-clause-right c =
 
 pub returns-clause-decided : goal.returns-clause-decided
 returns-clause-decided c = λ must.
-    subst IsDecided (sym c.open_answer.ensures) (left-decides c.args.flat.now c.in_ok-region_of.field-0 c.in_ok-region_of.ensures c.descend.new.tally c.in_ok-found.ensures.tally must)
+    subst IsDecidedCube (sym c.open_answer.ensures) (left-decides c.args.flat.now c.in_ok-region_of.field-0 c.in_ok-region_of.ensures c.descend.new.tally c.in_ok-found.ensures.tally must)
 
 pub returns-in_err-state-clause-refused : goal.returns-in_err-state-clause-refused
 returns-in_err-state-clause-refused c = λ n e.

@@ -2,7 +2,7 @@ use Rattle.std.proofs.Common.{◌≡◌, suc, ◌+◌, ◌-◌, ◌<◌, [], ◌
 use Rattle.backward.specs.Families.{Conf}
 use Rattle.backward.specs.States.{IsState}
 use Rattle.backward.specs.Steps.{CanPassAt}
-use Rattle.cube_search.specs.Searches.{IsFound}
+use Rattle.cube_search.specs.Searches.{AreFoundRuns}
 use Rattle.cube_search.specs.Steps.{IsCutting}
 use Rattle.cube_search.specs.Tallies.{AreCoveredFrom, IsTally, Keeps}
 use Rattle.cube_search.proofs.CoverLemmas.{keeps-same, keeps-more}
@@ -24,8 +24,8 @@ descend-try_cuts-requires t c =
     let lt : suc (weight flat.definitions (c.args.left - 1) + (length c.in-Some.pieces.now - 0)) < t = omega arith in
     (lt, (c.requires.search, (subst (λ n. IsState flat n c.args.state.now) back c.requires.state, (cutting, c.requires.tally))))
 
-pub descend-below-requires : goal.descend-below-requires
-descend-below-requires t c =
+pub descend-carry_definition-requires : goal.descend-carry_definition-requires
+descend-carry_definition-requires t c =
     let flat = c.args.search.now.flat.now in
     let ms = c.args.state.now.machines in
     let ne = c.if-left-eq0.false in
@@ -71,25 +71,25 @@ try_cuts-returns-clause-covered t c = λ none.
     all-arm c.args.search.now.flat.now c.args.search.now.region c.args.at c.args.pieces.now c.args.cuts.now c.args.state.now.machines c.loop-s.tally c.states_at-s-end.result
     c.states_at-s-end.ensures ne (λ s lt. c.loop-s.invariant.covered s (omega arith))
 
-pub below-descend-found-requires : goal.below-descend-found-requires
-below-descend-found-requires t c =
+pub carry_definition-descend-found-requires : goal.carry_definition-descend-found-requires
+carry_definition-descend-found-requires t c =
     let flat = c.args.search.now.flat.now in
     let dec = c.decreases in
     let lt : weight flat.definitions c.args.at < t = omega arith in
     let at = step-below flat c.args.at c.args.state.now.machines c.args.cuts.now c.requires.step in
     (lt, (c.requires.search, (c.in_ok-next.ensures.state c.requires.search.straight c.requires.state, (omega (arith, at), c.requires.tally))))
 
-pub below-leave-requires-clause-at : goal.below-leave-requires-clause-at
-below-leave-requires-clause-at t c = step-below c.args.search.now.flat.now c.args.at c.args.state.now.machines c.args.cuts.now c.requires.step
+pub carry_definition-leave-requires-clause-at : goal.carry_definition-leave-requires-clause-at
+carry_definition-leave-requires-clause-at t c = step-below c.args.search.now.flat.now c.args.at c.args.state.now.machines c.args.cuts.now c.requires.step
 
-pub below-returns-clause-covered : goal.below-returns-clause-covered
-below-returns-clause-covered t c = λ e. (c.in_ok-next.next, c.in_ok-next.ensures.next, c.descend-found.ensures.covered (c.leave.ensures.none (c.in_ok-lifted.was ∙ e)))
+pub carry_definition-returns-clause-covered : goal.carry_definition-returns-clause-covered
+carry_definition-returns-clause-covered t c = λ e. (c.in_ok-next.next, c.in_ok-next.ensures.next, c.descend-found.ensures.covered (c.leave.ensures.none (c.in_ok-lifted.was ∙ e)))
 
-pub below-returns-clause-tally : goal.below-returns-clause-tally
-below-returns-clause-tally t c = subst (λ r. OnOk r (IsTally c.args.search.now.flat.now c.descend-found.new.tally)) c.in_ok-lifted.ensures.taken.1 c.descend-found.ensures.tally
+pub carry_definition-returns-clause-tally : goal.carry_definition-returns-clause-tally
+carry_definition-returns-clause-tally t c = subst (λ r. OnOk r (IsTally c.args.search.now.flat.now c.descend-found.new.tally)) c.in_ok-lifted.ensures.taken.1 c.descend-found.ensures.tally
 
-pub below-returns-clause-kept : goal.below-returns-clause-kept
-below-returns-clause-kept t c = subst (λ r. OnOk r (Keeps c.args.tally.now c.descend-found.new.tally)) c.in_ok-lifted.ensures.taken.1 c.descend-found.ensures.kept
+pub carry_definition-returns-clause-kept : goal.carry_definition-returns-clause-kept
+carry_definition-returns-clause-kept t c = subst (λ r. OnOk r (Keeps c.args.tally.now c.descend-found.new.tally)) c.in_ok-lifted.ensures.taken.1 c.descend-found.ensures.kept
 
 pub descend-returns-in-Some-clause-covered : goal.descend-returns-in-Some-clause-covered
 descend-returns-in-Some-clause-covered t c = λ none.
@@ -108,18 +108,18 @@ descend-returns-in-None-clause-covered t c = λ none.
     let ne = c.if-left-eq0.false in
     let after : c.args.left ≡ suc (c.args.left - 1) = omega arith in
     let can = subst (λ o. MatchOption o (CanPassAt flat (c.args.left - 1) ms) (λ pieces. IsCutting flat (c.args.left - 1) pieces.now ms [])) c.in-None.is c.pieces_at.ensures.step in
-    through-arm flat c.args.search.now.region c.args.left (c.args.left - 1) c.args.state.now c.below.new.tally after c.requires.state.registers can (c.below.ensures.covered none)
+    through-arm flat c.args.search.now.region c.args.left (c.args.left - 1) c.args.state.now c.carry_definition.new.tally after c.requires.state.registers can (c.carry_definition.ensures.covered none)
 
 pub descend-returns-in-None-clause-found : goal.descend-returns-in-None-clause-found
 descend-returns-in-None-clause-found t c =
     let ne = c.if-left-eq0.false in
     let back : c.args.left - 1 + 1 ≡ c.args.left = omega arith in
-    subst (λ n. IfOk c.below.result (λ o. IfSome o (IsFound c.args.search.now.flat.now n c.args.state.now.machines))) back c.below.ensures.found
+    subst (λ n. IfOk c.carry_definition.result (λ o. IfSome o (AreFoundRuns c.args.search.now.flat.now n c.args.state.now.machines))) back c.carry_definition.ensures.found
 
 pub try_cuts-returns-then-cuts-pieces-clause-covered : goal.try_cuts-returns-then-cuts-pieces-clause-covered
 try_cuts-returns-then-cuts-pieces-clause-covered t c = λ none.
-    whole-arm c.args.search.now.flat.now c.args.search.now.region c.args.at c.args.pieces.now c.args.cuts.now c.args.state.now c.below.new.tally c.requires.state.registers c.if-cuts-pieces.true
-    (c.below.ensures.covered none)
+    whole-arm c.args.search.now.flat.now c.args.search.now.region c.args.at c.args.pieces.now c.args.cuts.now c.args.state.now c.carry_definition.new.tally c.requires.state.registers c.if-cuts-pieces.true
+    (c.carry_definition.ensures.covered none)
 
 pub try_cuts-states_at-s-end-requires-clause-at : goal.try_cuts-states_at-s-end-requires-clause-at
 try_cuts-states_at-s-end-requires-clause-at t c = cutting-below c.args.search.now.flat.now c.args.at c.args.pieces.now c.args.state.now.machines c.args.cuts.now c.requires.cuts
@@ -127,13 +127,13 @@ try_cuts-states_at-s-end-requires-clause-at t c = cutting-below c.args.search.no
 pub try_cuts-states_at-s-end-requires-clause-machine : goal.try_cuts-states_at-s-end-requires-clause-machine
 try_cuts-states_at-s-end-requires-clause-machine t c = cutting-machine c.args.search.now.flat.now c.args.at c.args.pieces.now c.args.state.now.machines c.args.cuts.now c.requires.cuts
 
-pub below-returns-in_err-next-clause-refused : goal.below-returns-in_err-next-clause-refused
-below-returns-in_err-next-clause-refused t c = λ n e.
+pub carry_definition-returns-in_err-next-clause-refused : goal.carry_definition-returns-in_err-next-clause-refused
+carry_definition-returns-in_err-next-clause-refused t c = λ n e.
     let d = rw e at c.from_residual.ensures.1 in
     c.in_err-next.ensures.refused n (ap Err (sym d))
 
-pub below-returns-in_err-lifted-clause-refused : goal.below-returns-in_err-lifted-clause-refused
-below-returns-in_err-lifted-clause-refused t c = λ n e.
+pub carry_definition-returns-in_err-lifted-clause-refused : goal.carry_definition-returns-in_err-lifted-clause-refused
+carry_definition-returns-in_err-lifted-clause-refused t c = λ n e.
     let d = rw e at c.from_residual-in_err-lifted.ensures.1 in
     c.descend-found.ensures.refused n (c.leave.ensures.refused n (c.in_err-lifted.was ∙ ap Err (sym d)))
 
@@ -159,13 +159,13 @@ pub descend-returns-in-Some-clause-refused : goal.descend-returns-in-Some-clause
 descend-returns-in-Some-clause-refused t c = c.try_cuts.ensures.refused
 
 pub descend-returns-in-None-clause-refused : goal.descend-returns-in-None-clause-refused
-descend-returns-in-None-clause-refused t c = c.below.ensures.refused
+descend-returns-in-None-clause-refused t c = c.carry_definition.ensures.refused
 
 pub try_cuts-returns-then-cuts-pieces-clause-refused : goal.try_cuts-returns-then-cuts-pieces-clause-refused
-try_cuts-returns-then-cuts-pieces-clause-refused t c = c.below.ensures.refused
+try_cuts-returns-then-cuts-pieces-clause-refused t c = c.carry_definition.ensures.refused
 
 pub try_cuts-returns-clause-refused : goal.try_cuts-returns-clause-refused
 try_cuts-returns-clause-refused t c = λ n e. cc
 
-pub below-returns-clause-refused : goal.below-returns-clause-refused
-below-returns-clause-refused t c = λ n e. cc
+pub carry_definition-returns-clause-refused : goal.carry_definition-returns-clause-refused
+carry_definition-returns-clause-refused t c = λ n e. cc

@@ -9,8 +9,8 @@ decreases-descend l = weight l.search.now.flat.now.definitions l.left
 abbrev pub decreases-try_cuts : goal.decreases-try_cuts
 decreases-try_cuts l = suc (weight l.search.now.flat.now.definitions l.at + (length l.pieces.now - length l.cuts.now))
 
-abbrev pub decreases-below : goal.decreases-below
-decreases-below l = suc (weight l.search.now.flat.now.definitions l.at)
+abbrev pub decreases-carry_definition : goal.decreases-carry_definition
+decreases-carry_definition l = suc (weight l.search.now.flat.now.definitions l.at)
 
 -- the cuts before this one are covered
 abbrev pub invariant-try_cuts-loop-s : goal.invariant-try_cuts-loop-s

@@ -1,5 +1,5 @@
 use Rattle.std.proofs.Common.{subst}
-use Rattle.cube_search.specs.Answers.{IsCubeAnswer, IsDecided}
+use Rattle.cube_search.specs.Answers.{IsCubeAnswer, IsDecidedCube}
 use Rattle.decide.proofs.Models.{bare, cause-of, must-of, none-of, sat-of}
 use Rattle.decide.proofs.cube_job.flat_answer.Goals as goal
 
@@ -22,5 +22,5 @@ returns-in-Unsat c = record {
 pub returns : goal.returns
 returns c = record {
   right = cause-of c.args.shared.now.terms.now c.args.cube.now c.args.flat.now c.requires.asked c.requires.flattening c.flat_cubes_are_exact.ensures c.in-Open.reason (subst (IsCubeAnswer c.args.flat.now) c.in-Open.is c.in_ok-model.ensures.right);
-  decided = λ must. subst IsDecided c.in-Open.is (c.in_ok-model.ensures.decided (must-of c.flat_cubes_are_unique.ensures c.args.cube.now c.args.flat.now c.requires.flattening must));
+  decided = λ must. subst IsDecidedCube c.in-Open.is (c.in_ok-model.ensures.decided (must-of c.flat_cubes_are_unique.ensures c.args.cube.now c.args.flat.now c.requires.flattening must));
 }

@@ -1,8 +1,14 @@
-use Rattle.std.proofs.Common.{◌+◌, length, take, true, ⊎_elim, get_or, ap, sym, ◌∙◌, subst}
+use Rattle.std.proofs.Common.{rules, ◌≡◌, ◌+◌, length, take, true, false, replicate, ⊎_elim, get_or, ap, sym, ◌∙◌, subst}
+use Rattle.std.proofs.lemmas.List.{length-replicate}
 use Rattle.std.proofs.lemmas.Bool.{cases_lt}
 use Rattle.lia_branch.specs.EdgeSums.{AreSetMarks}
-use Rattle.lia_branch.proofs.EdgeRows.{marked_more, marked_beyond, length_set}
+use Rattle.lia_branch.proofs.EdgeRows.{marked_none, marked_more, marked_beyond, length_set}
 use Rattle.lia_branch.proofs.edge_sums.marks_of.Goals as goal
+
+pub loop-state-init : goal.loop-state-init
+loop-state-init c =
+    let none : c.in_ok-marks.marks.items ≡ replicate c.args.states false = search rules in
+    (ap length none ∙ length-replicate c.args.states false, marked_none c.args.states c.in_ok-marks.marks.items none)
 
 pub loop-state-preserved : goal.loop-state-preserved
 loop-state-preserved c =

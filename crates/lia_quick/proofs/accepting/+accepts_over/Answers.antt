@@ -40,8 +40,8 @@ accepts_over-returns-in_ok-row-in-Split-2-clause-told t c =
     let minus : FitsSigned w128 (neg_ℤ at) = omega (arith, ints, fa, c.if-at.false) in
     let next : FitsSigned w128 (at +ℤ pos 1) = omega (arith, ints, fa, c.if-at-eq170141183460469231731687303715884105727.false) in
     let fx : SFits w128 (at +ℤ pos 1) = next in
-    let is_most = rw (to_z-of_z w128 _ fa) at c.in_ok-row-in-Split.ensures in
-    let is_least = rw (to_z-of_z w128 _ fa, to_z-of_z w128 _ fx) at c.in_ok-row-in-Split-2.ensures in
+    let is_most = rw (to_z-of_z w128 _ fa) at c.in_ok-row-in-Split.ensures.row in
+    let is_least = rw (to_z-of_z w128 _ fa, to_z-of_z w128 _ fx) at c.in_ok-row-in-Split-2.ensures.row in
     let first = rw (c.get.ensures) at c.in_ok-accepts_side-in-Split.ensures.told in
     IfOk-weaker c.accepts_side-in-Split.result (λ b. IsTrue b → (nets : List Net) → Told nets (rows ++ constraint_of least ∷ []) high) (λ b. IsTrue b → (nets : List Net) → Told nets rows c.args.tree.now)
     (λ b second is nets. subst (Told nets rows) (sym c.in-Split.is)

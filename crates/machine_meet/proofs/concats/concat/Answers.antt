@@ -1,11 +1,12 @@
 use Rattle.std.proofs.Common.{◌≡◌, ◌∙◌, refl, sym, subst, arith}
 use Rattle.std.proofs.lemmas.List.{take_all}
 use Rattle.machine_core.specs.Costs.{IsCost}
+use Rattle.machine_core.specs.CostLaws.{CanAdd-within}
 use Rattle.machine_core.specs.EdgeLaws.{end_cost}
 use Rattle.machine_core.specs.Graphs.{graph_top}
 use Rattle.machine_meet.specs.Builds.{AddsPart}
 use Rattle.machine_meet.proofs.BuildEdges.{read-in}
-use Rattle.machine_meet.proofs.ConcatEdges.{goes-on-start, goes-on-next, can-add-within, concat-language, concat-top}
+use Rattle.machine_meet.proofs.ConcatEdges.{goes-on-start, goes-on-next, concat-language, concat-top}
 use Rattle.machine_meet.proofs.concats.concat.Goals as goal
 
 pub loop-end-init : goal.loop-end-init
@@ -32,7 +33,7 @@ go_on-requires c =
       registers = c.requires.registers ∙ sym registers;
       at = omega arith;
       cost = f.cost ∙ sym registers;
-      fits = λ k long below. can-add-within w.registers (graph_top a) (graph_top b) e.cost k c.requires.fits cost (record { entries = long; below = below });
+      fits = λ k long below. CanAdd-within w.registers (graph_top a) (graph_top b) e.cost k c.requires.fits cost (record { entries = long; below = below });
     }
 
 pub loop-end-preserved : goal.loop-end-preserved

@@ -6,7 +6,7 @@ use Rattle.number_tests.proofs.LiaBranchRows.{each_more}
 use Rattle.number_tests.proofs.systems.system_over.Goals as goal
 
 pub loop-row-preserved : goal.loop-row-preserved
-loop-row-preserved c = each_more (IsRowWithin c.args.unknowns) c.as_slice-row-items.result.now c.loop-row.row-index c.row-item.result c.row-item.is c.loop-row.invariant (c.if-not-is_within.ensures refl)
+loop-row-preserved c = each_more (IsRowWithin c.args.unknowns) c.as_slice-row-items.result.now c.loop-row.row-index c.row-item.result c.row-item.is c.loop-row.invariant (c.if-not-is_within.ensures.0 refl)
 
 pub returns-clause-rows : goal.returns-clause-rows
 returns-clause-rows c = λ i r g.

@@ -18,6 +18,6 @@ table_machine-requires-clause-formed c = λ s row e.
 pub returns : goal.returns
 returns c =
     let bound : Bool → ℕ = λ b. length c.args.ranges.now + (if b then 1 else 2) in
-    chain-decides c.args.ranges.now c.args.longer c.args.holds c.as_slice.result.now c.if-holds.states c.in_ok-machine.machine (c.as_slice.ensures ∙ c.in_ok-rows.ensures)
+    chain-decides c.args.ranges.now c.args.longer c.args.holds c.as_slice.result.now c.if-holds.states c.in_ok-table_machine.field-0 (c.as_slice.ensures ∙ c.in_ok-rows.ensures)
     (elim c.if-holds.branch [ then-holds w ↦ w.states-is ∙ ap bound (sym w.if-holds.true) | else-holds w ↦ w.states-is ∙ ap bound (sym w.if-holds.false) ])
-    c.in_ok-machine.ensures.states c.in_ok-machine.ensures.table
+    c.in_ok-table_machine.ensures.states c.in_ok-table_machine.ensures.table

@@ -29,18 +29,18 @@ returns-then-is_empty-clause-machine c =
     let p = rw c.as_slice.ensures at o in
     sides-met c.args.parts.now c.in_ok-within.field-0.within c.in_ok-within.field-0.outside c.in_ok-met.met c.in_ok-within.ensures.sides ((c.is_empty.ensures).0 c.if-is_empty.true) p.0 p.1
 
-pub without-requires-clause-others : goal.without-requires-clause-others
-without-requires-clause-others c =
+pub exclude-requires-clause-others : goal.exclude-requires-clause-others
+exclude-requires-clause-others c =
     of-plain c.in_ok-within.ensures.sides.barred c.in_ok-within.field-0.outside c.in_ok-within.ensures.sides.of_barred
 
-pub returns-in_err-machine-2-clause-refused : goal.returns-in_err-machine-2-clause-refused
-returns-in_err-machine-2-clause-refused c = λ n e.
-    let d = rw e at c.from_residual-in_err-machine-2.ensures.1 in
+pub returns-in_err-exclude-clause-refused : goal.returns-in_err-exclude-clause-refused
+returns-in_err-exclude-clause-refused c = λ n e.
+    let d = rw e at c.from_residual-in_err-exclude.ensures.1 in
     let ms = c.as_slice.result.now in
     let o = made (InAllOf WordsOf ms) (multiplied states_of ms) 262144 c.all_of.result c.in_ok-met.met c.all_of.ensures c.in_ok-met.was in
     let p = rw c.as_slice.ensures at o in
     let all = c.in_ok-met.met ∷ c.in_ok-within.field-0.outside in
-    let f = refused (InFirstOnly WordsOf all) (from_left without_size (map states_of all)) 262144 c.without.result n c.without.ensures (c.in_err-machine-2.was ∙ ap Err (sym d)) in
+    let f = refused (InFirstOnly WordsOf all) (from_left without_size (map states_of all)) 262144 c.exclude.result n c.exclude.ensures (c.in_err-exclude.was ∙ ap Err (sym d)) in
     let below = sides-few c.args.parts.now c.in_ok-within.field-0.within c.in_ok-within.field-0.outside c.in_ok-met.met c.in_ok-within.ensures.sides p.0 p.1 in
     omega (arith, f, below)
 
@@ -50,5 +50,5 @@ returns-clause-machine c =
     let o = made (InAllOf WordsOf ms) (multiplied states_of ms) 262144 c.all_of.result c.in_ok-met.met c.all_of.ensures c.in_ok-met.was in
     let p = rw c.as_slice.ensures at o in
     let all = c.in_ok-met.met ∷ c.in_ok-within.field-0.outside in
-    let q = made (InFirstOnly WordsOf all) (from_left without_size (map states_of all)) 262144 c.without.result c.in_ok-machine-2.machine c.without.ensures c.in_ok-machine-2.was in
-    sides-read c.args.parts.now c.in_ok-within.field-0.within c.in_ok-within.field-0.outside c.in_ok-met.met c.in_ok-within.ensures.sides p.0 p.1 c.in_ok-machine-2.machine q.0 q.1
+    let q = made (InFirstOnly WordsOf all) (from_left without_size (map states_of all)) 262144 c.exclude.result c.in_ok-exclude.field-0 c.exclude.ensures c.in_ok-exclude.was in
+    sides-read c.args.parts.now c.in_ok-within.field-0.within c.in_ok-within.field-0.outside c.in_ok-met.met c.in_ok-within.ensures.sides p.0 p.1 c.in_ok-exclude.field-0 q.0 q.1

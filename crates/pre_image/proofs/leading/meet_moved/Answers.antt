@@ -14,8 +14,8 @@ loop-pair-init c d = ap (λ (l : List (ℕ × ℕ)). in_ranges l d) c.none-on.en
     none true = refl
     none false = refl
 
-pub before-requires : goal.before-requires
-before-requires c = apart-top 0 c.as_slice-pair-items.result.now c.loop-pair.pair-index (subst (IsApartFrom 0) (sym c.as_slice-pair-items.ensures.pairs) c.as_slice-pair-items.ensures.apart) c.loop-pair-test.true
+pub move_back-requires : goal.move_back-requires
+move_back-requires c = apart-top 0 c.as_slice-pair-items.result.now c.loop-pair.pair-index (subst (IsApartFrom 0) (sym c.as_slice-pair-items.ensures.pairs) c.as_slice-pair-items.ensures.apart) c.loop-pair-test.true
 
 pub loop-pair-preserved : goal.loop-pair-preserved
 loop-pair-preserved c d =

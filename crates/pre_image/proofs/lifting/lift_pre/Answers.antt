@@ -29,7 +29,7 @@ returns-clause-pair c =
     let same : get_or c.as_slice.result.now (length c.as_slice-2.result.now) (0, 0) ≡ at = ap₂ (λ (l : List (ℕ × ℕ)) (n : ℕ). get_or l n (0, 0)) c.as_slice.ensures (ap length c.as_slice-2.ensures) in
     let last : IsLiftedEnd t m at run.last e.word e.way.states e.way.costs e.last = subst (λ q. IsLiftedEnd t m q run.last e.word e.way.states e.way.costs e.last) same c.in_ok-ending.ensures in
     let total = total_of run.costs (zeros m.registers) in
-    subst (Pairs t run.word) (sym (c.in_ok-lifted.ensures.pair ∙ c.in_ok-append.ensures.word)) (lifting-pair t m at run.word s.word s.way.states s.way.costs total c.in_ok-whole.ensures run.last e.word e.way.states e.way.costs e.last last)
+    subst (Pairs t run.word) (sym (c.in_ok-whole_run.ensures.pair ∙ c.in_ok-append.ensures.word)) (lifting-pair t m at run.word s.word s.way.states s.way.costs total c.in_ok-whole.ensures run.last e.word e.way.states e.way.costs e.last last)
 
 pub returns-clause-run : goal.returns-clause-run
 returns-clause-run c =
@@ -43,11 +43,11 @@ returns-clause-run c =
     let last : IsLiftedEnd t m at run.last e.word e.way.states e.way.costs e.last = subst (λ q. IsLiftedEnd t m q run.last e.word e.way.states e.way.costs e.last) same c.in_ok-ending.ensures in
     let total = total_of run.costs (zeros m.registers) in
     lifting-run t m at run.word s.word s.way.states s.way.costs total c.in_ok-whole.ensures run.last e.word e.way.states e.way.costs e.last last
-    c.in_ok-lifted.lifted.1
-    (c.in_ok-lifted.ensures.word ∙ c.in_ok-append.ensures.word)
-    (c.in_ok-lifted.ensures.states ∙ ap (λ (l : List ℕ). 0 ∷ l) c.in_ok-append.ensures.states)
-    (c.in_ok-lifted.ensures.costs ∙ c.in_ok-append.ensures.costs)
-    c.in_ok-lifted.ensures.last
+    c.in_ok-whole_run.field-0.1
+    (c.in_ok-whole_run.ensures.word ∙ c.in_ok-append.ensures.word)
+    (c.in_ok-whole_run.ensures.states ∙ ap (λ (l : List ℕ). 0 ∷ l) c.in_ok-append.ensures.states)
+    (c.in_ok-whole_run.ensures.costs ∙ c.in_ok-append.ensures.costs)
+    c.in_ok-whole_run.ensures.last
 
 pub returns-clause-total : goal.returns-clause-total
 returns-clause-total c =
@@ -62,8 +62,8 @@ returns-clause-total c =
     let total = total_of run.costs (zeros m.registers) in
     let wide : length run.last ≡ m.registers = (c.runs_are_formed.ensures.costs run c.requires).1 in
     lifting-total t m at run.word s.word s.way.states s.way.costs total c.in_ok-whole.ensures run.last e.word e.way.states e.way.costs e.last last
-    c.in_ok-lifted.lifted.1
-    (c.in_ok-lifted.ensures.costs ∙ c.in_ok-append.ensures.costs) c.in_ok-lifted.ensures.last ∙ sym (behind run.costs run.last m.registers wide)
+    c.in_ok-whole_run.field-0.1
+    (c.in_ok-whole_run.ensures.costs ∙ c.in_ok-append.ensures.costs) c.in_ok-whole_run.ensures.last ∙ sym (behind run.costs run.last m.registers wide)
 
 pub last_part-requires-clause-end : goal.last_part-requires-clause-end
 last_part-requires-clause-end c =

@@ -12,8 +12,8 @@ use Rattle.pre_image.proofs.MoreLemmas.{more-of, all-of, alike, any-more, old-ye
 use Rattle.pre_image.proofs.EndLemmas.{Sent, sent-move, sent-all}
 use Rattle.pre_image.proofs.pre.add_moves.Goals as goal
 
-pub along-requires-clause-fits : goal.along-requires-clause-fits
-along-requires-clause-fits c =
+pub moves_along-requires-clause-fits : goal.moves_along-requires-clause-fits
+moves_along-requires-clause-fits c =
     let items = c.args.edge.now.items in
     let n : length c.as_slice-2.result.now ≡ length (spelling 0 items) =
     ap length c.as_slice-2.ensures ∙ sym (spelled-length c.in_ok-nexts.nexts 0) ∙ ap length (c.in_ok-nexts.ensures 0 ∙ ap (spelling 0) c.as_slice.ensures) in

@@ -6,8 +6,8 @@ use Rattle.pre_image.proofs.LeadLemmas.{spelled-length}
 use Rattle.pre_image.proofs.WayLemmas.{goes-lead, lead-goes}
 use Rattle.pre_image.proofs.ways.goes.Goals as goal
 
-pub along-requires-clause-fits : goal.along-requires-clause-fits
-along-requires-clause-fits c =
+pub moves_along-requires-clause-fits : goal.moves_along-requires-clause-fits
+moves_along-requires-clause-fits c =
     let n : length c.as_slice.result.now ≡ length c.args.word.now = ap length c.as_slice.ensures ∙ sym (spelled-length c.in_ok-nexts.nexts 0) ∙ ap length (c.in_ok-nexts.ensures 0) in
     let room = c.requires.fits in
     let same = ap (λ n. edges_top c.args.target.now.edges * n) n in

@@ -1,4 +1,4 @@
-use Rattle.std.proofs.Common.{◌≡◌, suc, false, ◌+◌, ◌-◌, ◌<◌, ◌^◌, [], min, max, length, Err, ap, refl, sym, ◌∙◌, subst, arith}
+use Rattle.std.proofs.Common.{◌≡◌, ◌||◌, suc, false, ◌+◌, ◌-◌, ◌<◌, ◌^◌, [], min, max, length, Err, ap, refl, sym, ◌∙◌, subst, arith}
 use Rattle.sv_word.specs.Words.{IsWord, greatest_character}
 use Rattle.sv_terms.specs.declared.regex.Regex.TheVariants as v
 use Rattle.sv_terms.specs.Opened.{In-Empty, In-All, In-AnyChar, In-Text, In-Range}
@@ -19,6 +19,7 @@ use Rattle.regex_machine.specs.Onwards.{PrecedesRest, unmade}
 use Rattle.std.proofs.lemmas.Result.{IfOk-weaker}
 use Rattle.machine_meet.specs.Products.{summed}
 use Rattle.regex_machine.proofs.building.+make.Goals as goal
+use Rattle.regex_machine.proofs.building.+make.Goals.{before_one-then-may_end, before_one-else-may_end}
 
 pub make-returns-in-Empty : goal.make-returns-in-Empty
 make-returns-in-Empty t c =
@@ -314,10 +315,15 @@ before_one-returns-in_err-front-clause-beyond t c = λ n e.
 
 pub before_one-loop-r-preserved : goal.before_one-loop-r-preserved
 before_one-loop-r-preserved t c begun =
+    let ends = c.in_ok-front.front.onward.may_end in
+    let joined : c.if-may_end.may_end ≡ (c.loop-r.may_end || ends) = elim c.if-may_end.branch [
+      | before_one-then-may_end w ↦ w.may_end-is ∙ w.if-may_end.true ∙ sym (ap (λ b. b || ends) w.if-may_end.true)
+      | before_one-else-may_end w ↦ w.may_end-is ∙ sym (ap (λ b. b || ends) w.if-may_end.false)
+    ] in
     one-step c.args.rs.now c.args.states.now c.args.rest.now begun c.loop-r.r-index c.r-item.result c.loop-r.states c.before-in-loop-r.new.states c.loop-r.rest c.before-in-loop-r.new.rest c.in_ok-front.front
-    c.loop-r.moves c.append.new.self c.loop-r.may_end c.either-may_end.result c.loop-r-test.true c.r-item.is (c.loop-r.invariant begun) c.in_ok-front.ensures.ok c.in_ok-append.ensures.ok c.either-may_end.ensures
+    c.loop-r.moves c.append.new.self c.loop-r.may_end c.if-may_end.may_end c.loop-r-test.true c.r-item.is (c.loop-r.invariant begun) c.in_ok-front.ensures.ok c.in_ok-append.ensures.ok joined
 
 pub before_one-returns-clause-ok : goal.before_one-returns-clause-ok
 before_one-returns-clause-ok t c begun =
-    subst (PrecedesRest (InOneOf In c.args.rs.now) (length c.args.states.now + max 1 (summed (λ q. size q + 1) c.args.rs.now - 1)) c.args.states.now c.args.rest.now c.loop-r.states c.loop-r.rest) (sym c.alone.ensures.whole)
+    subst (PrecedesRest (InOneOf In c.args.rs.now) (length c.args.states.now + max 1 (summed (λ q. size q + 1) c.args.rs.now - 1)) c.args.states.now c.args.rest.now c.loop-r.states c.loop-r.rest) (sym c.rest_of.ensures.whole)
     (one-all c.args.rs.now c.args.states.now c.args.rest.now begun c.loop-r.r-index c.loop-r.states c.loop-r.rest c.loop-r.moves c.loop-r.may_end c.loop-r-test.false c.if-rs-eq1.false (c.loop-r.invariant begun))

@@ -7,7 +7,7 @@ use Rattle.machine_core.specs.Lists.{slice_get-contains}
 use Rattle.machine_core.specs.Moves.{Moves}
 use Rattle.box_layers.specs.declared.layer.Layer.{Layer}
 use Rattle.box_layers.specs.Layers.{uppers_of, AreGoodTotals, LayerStep}
-use Rattle.box_layers.specs.Moving.{AreSteps, AreEnds}
+use Rattle.box_layers.specs.Moving.{AreLayerSteps, AreLayerEnds}
 use Rattle.box_layers.proofs.ExactLemmas.{moves-exact, moves-some, moves-made}
 use Rattle.box_layers.proofs.SideLemmas.{spent-length}
 use Rattle.box_layers.proofs.layers.LayersMachine.moves.Goals as goal
@@ -42,8 +42,8 @@ returns-clause-exact c = λ read cost to.
     let layers = c.args.self.now in
     let m = c.machine_at-machine.result.now in
     let uppers = uppers_of layers.region.now in
-    let inner = subst (λ l. AreSteps m (map (λ s. s.1) l) c.args.at.now c.in_ok-all.all) c.as_slice-sides.ensures c.in_ok-all.ensures in
-    let last = subst (λ l. AreEnds m (map (λ s. s.1) l) c.args.at.now c.in_ok-next.next) c.as_slice-sides.ensures c.in_ok-next.ensures in
+    let inner = subst (λ l. AreLayerSteps m (map (λ s. s.1) l) c.args.at.now c.in_ok-all.all) c.as_slice-sides.ensures c.in_ok-all.ensures in
+    let last = subst (λ l. AreLayerEnds m (map (λ s. s.1) l) c.args.at.now c.in_ok-next.next) c.as_slice-sides.ensures c.in_ok-next.ensures in
     subst (λ (l : List (Move Layer)). LayerStep layers.machines.now uppers (AreGoodTotals layers.rows.now layers.region.now) c.args.at.now read cost to ↔ Any (Moves read cost to) l)
     (sym (c.in_ok-append.ensures.ok ∙ moves-made m uppers c.args.at.now c.in_ok-all.all c.in_ok-next.next inner last))
     (moves-exact layers.machines.now uppers (AreGoodTotals layers.rows.now layers.region.now) c.args.at.now m c.machine_at-machine.ensures inner.inner last.costs last.on inner.exact last.exact last.single read cost to)
@@ -52,7 +52,7 @@ pub returns-clause-inhabited : goal.returns-clause-inhabited
 returns-clause-inhabited c =
     let m = c.machine_at-machine.result.now in
     let uppers = uppers_of c.args.self.now.region.now in
-    let inner = subst (λ l. AreSteps m (map (λ s. s.1) l) c.args.at.now c.in_ok-all.all) c.as_slice-sides.ensures c.in_ok-all.ensures in
-    let last = subst (λ l. AreEnds m (map (λ s. s.1) l) c.args.at.now c.in_ok-next.next) c.as_slice-sides.ensures c.in_ok-next.ensures in
+    let inner = subst (λ l. AreLayerSteps m (map (λ s. s.1) l) c.args.at.now c.in_ok-all.all) c.as_slice-sides.ensures c.in_ok-all.ensures in
+    let last = subst (λ l. AreLayerEnds m (map (λ s. s.1) l) c.args.at.now c.in_ok-next.next) c.as_slice-sides.ensures c.in_ok-next.ensures in
     subst (All (λ (m : Move Layer). IsInhabited m.on)) (sym (c.in_ok-append.ensures.ok ∙ moves-made m uppers c.args.at.now c.in_ok-all.all c.in_ok-next.next inner last))
     (moves-some uppers last.on c.args.at.now inner.inner last.costs inner.inhabited last.inhabited)

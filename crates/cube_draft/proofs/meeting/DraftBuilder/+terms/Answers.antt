@@ -7,7 +7,7 @@ use Rattle.cube_draft.proofs.Placing.{piece_concat, piece_other, replaced_is_kno
 use Rattle.cube_draft.proofs.meeting.DraftBuilder.+terms.Goals as goal
 
 pub replace-returns-in_default-clause-met : goal.replace-returns-in_default-clause-met
-replace-returns-in_default-clause-met t c = replaced_nothing c.args.self.now c.args.term.now c.args.occurrences c.args.terms.now c.requires (sym c.in_default.ensures)
+replace-returns-in_default-clause-met t c = replaced_nothing c.args.self.now c.args.term.now c.args.occurrences c.args.terms.now c.in_ok-next_place.field-0 c.requires (sym c.in_default.ensures) c.in_ok-next_place.ensures
 
 pub replace-returns-in-Known-clause-met : goal.replace-returns-in-Known-clause-met
 replace-returns-in-Known-clause-met t c = replaced_is_known c.args.self.now c.seek.new.self c.args.term.now c.args.occurrences c.args.terms.now _ c.in_ok-place.field-0 c.in-Known.place c.requires c.in-Some.ensures c.in_ok-place.ensures.sought c.in-Known.is

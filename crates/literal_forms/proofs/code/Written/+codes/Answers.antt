@@ -35,4 +35,4 @@ term-returns-in_ok-term-in-Related t c =
 
 pub term-returns-in_ok-open-in-Opaque : goal.term-returns-in_ok-open-in-Opaque
 term-returns-in_ok-open-in-Opaque t c =
-    on_ok_weaker c.small-in-Opaque.result (opaque_arm c.args.self.now.numbers c.open-in-Opaque.new.self.numbers c.small-in-Opaque.new.self.numbers [] [] c.args.term.now c.in-Opaque.sort c.sort_number-in-Opaque.result c.in-Opaque.is c.in_ok-open-in-Opaque.ensures c.sort_number-in-Opaque.ensures) c.small-in-Opaque.ensures
+    on_ok_weaker c.put_small-in-Opaque.result (opaque_arm c.args.self.now.numbers c.open-in-Opaque.new.self.numbers c.put_small-in-Opaque.new.self.numbers [] [] c.args.term.now c.in-Opaque.sort c.sort_number-in-Opaque.result c.in-Opaque.is c.in_ok-open-in-Opaque.ensures c.sort_number-in-Opaque.ensures) c.put_small-in-Opaque.ensures

@@ -26,7 +26,7 @@ pub returns-clause-exact : goal.returns-clause-exact
 returns-clause-exact c d cost to =
     let p = c.args.self.now in
     let at = c.args.at.now in
-    let listed = subst (λ l. Any (Moves d cost to) c.in_ok-moves.moves ↔ Any (Passes p.target.now at d cost to) (pick l c.row.result.now)) c.as_slice-edges.ensures (c.in_ok-moves.ensures.exact d cost to) in
+    let listed = subst (λ l. Any (Moves d cost to) c.in_ok-moves_of.field-0 ↔ Any (Passes p.target.now at d cost to) (pick l c.row.result.now)) c.as_slice-edges.ensures (c.in_ok-moves_of.ensures.exact d cost to) in
     let all = row-all edge_source at.0 (Passes p.target.now at d cost to) (λ x h. h.0) p.through.now.edges c.row.result.now (p.indexed.edges_found at.0 c.row.result.now c.row.ensures) _ listed in
     let moves = all-moves p.through.now p.target.now at d cost to in
     (λ s. all.1 (moves.0 s), λ a. moves.1 (all.0 a))

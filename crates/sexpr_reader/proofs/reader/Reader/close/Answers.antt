@@ -2,7 +2,7 @@ use Rattle.std.proofs.Common.{◌≡◌, ◌+◌, ◌-◌, ◌++◌, ◌∷◌, 
 use Rattle.sexpr_reader.specs.declared.syntax_fault.SyntaxFault.TheVariants as f
 use Rattle.sexpr_reader.specs.declared.sexpr.Sexpr.{Sexpr}
 use Rattle.sexpr_reader.specs.Items.{Feeds, tokens_of_all, open_tokens}
-use Rattle.sexpr_reader.specs.Standing.{IsSettled}
+use Rattle.sexpr_reader.specs.Progress.{IsSettled}
 use Rattle.sexpr_reader.specs.Tokens.{Close}
 use Rattle.sexpr_reader.proofs.Levels.{levels-close}
 use Rattle.sexpr_reader.proofs.Readers.{stands_token, fault_here}

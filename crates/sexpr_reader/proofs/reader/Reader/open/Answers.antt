@@ -1,7 +1,7 @@
 use Rattle.std.proofs.Common.{◌≡◌, ◌≤◌, ◌<◌, ◌+◌, ◌-◌, ◌++◌, ◌∷◌, [], refl, sym, ap, ◌∙◌, List, ℕ, suc, Some, None, take, drop, length, arith, get_or, length-append}
 use Rattle.sexpr_reader.specs.declared.syntax_fault.SyntaxFault.TheVariants as f
 use Rattle.sexpr_reader.specs.Items.{tokens_of_all, open_tokens, most_open_lists}
-use Rattle.sexpr_reader.specs.Standing.{IsSettled}
+use Rattle.sexpr_reader.specs.Progress.{IsSettled}
 use Rattle.sexpr_reader.specs.Tokens.{Open}
 use Rattle.sexpr_reader.proofs.Levels.{levels-open, levels_bound}
 use Rattle.sexpr_reader.proofs.Nests.{open_feeds}

@@ -1,6 +1,7 @@
 use Rattle.std.proofs.Common.{ℕ, List, Bool}
 use Rattle.sexpr_reader.specs.declared.sexpr.Sexpr.{Sexpr}
-use Rattle.sexpr_reader.specs.Standing.{HasGiven, work}
+use Rattle.sexpr_reader.specs.Standing.{HasGiven}
+use Rattle.sexpr_reader.specs.Progress.{work}
 use Rattle.sexpr_reader.proofs.reader.Reader.read_on.Given as goal
 
 abbrev pub invariant-bytes : goal.invariant-bytes

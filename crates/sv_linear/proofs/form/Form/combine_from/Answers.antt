@@ -40,7 +40,7 @@ returns-clause-value c = λ x d.
     let terms = rw (p, q, c.as_slice.ensures, c.as_slice-2.ensures) at (c.in_ok-terms.ensures.value x) in
     let constant = rw (l, p, to_z-of_z w128 _ ff, q, to_z-of_z w128 _ fg) at c.in-Some.ensures in
     let fk : SFits w128 c.in-Some.constant = rw constant.1 constant.0.1.1.1 in
-    rw (c.fitted.ensures, to_z-of_z w128 _ fk) (hom_combined _ _ _ _ _ _ _ _ d terms constant.1)
+    rw (c.fit_capacity.ensures, to_z-of_z w128 _ fk) (hom_combined _ _ _ _ _ _ _ _ d terms constant.1)
 
 pub returns-clause-outside : goal.returns-clause-outside
 returns-clause-outside c =

@@ -2,7 +2,7 @@ use Rattle.std.proofs.Common.{rules, ◌≡◌, ◌+◌, ℤ, pos, get_or, drop,
 use Rattle.std.specs.Int.{w128}
 use Rattle.std.proofs.lemmas.Int.{to_z-of_z}
 use mir.Val.{SFits, to_z}
-use Rattle.term_eval.specs.Evaluation.{Answers, and_then, steps_from}
+use Rattle.term_eval.specs.Evaluation.{EvaluatesAs, and_then, steps_from}
 use Rattle.term_eval.specs.Steps.{step_of}
 use Rattle.term_eval.proofs.Stepping.{steps-more, steps-fault}
 use Rattle.term_eval.proofs.sums.FoldStep.take_all.Goals as goal
@@ -13,7 +13,7 @@ returns-in-Err c =
     let others = c.args.others.now in
     let i = c.loop-other.other-index in
     let element : SFits w128 (get_or others i (pos 0)) = search rules in
-    let fault : Answers (step (to_z w128 c.loop-other.total-bits) (get_or others i (pos 0))) (Err c.in-Err.fault) = subst (λ (z : ℤ). Answers (step (to_z w128 c.loop-other.total-bits) z) (Err c.in-Err.fault)) (to_z-of_z w128 (get_or others i (pos 0)) element) c.in-Err.ensures in
+    let fault : EvaluatesAs (step (to_z w128 c.loop-other.total-bits) (get_or others i (pos 0))) (Err c.in-Err.fault) = subst (λ (z : ℤ). EvaluatesAs (step (to_z w128 c.loop-other.total-bits) z) (Err c.in-Err.fault)) (to_z-of_z w128 (get_or others i (pos 0)) element) c.in-Err.ensures in
     let start : SFits w128 c.args.first = search rules in
     let kept = ap (λ (z : ℤ). steps_from step z others) (sym (to_z-of_z w128 c.args.first start)) ∙ c.loop-other.invariant in
     steps-fault step (steps_from step c.args.first others) (to_z w128 c.loop-other.total-bits) others i (pos 0) c.in-Err.fault c.loop-other-test.true kept fault
