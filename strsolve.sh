@@ -8,8 +8,8 @@ root=$(cd "$(dirname "${BASH_SOURCE[0]}")" && pwd) || exit 70
 program=$root/crates/strsolve/out/strsolve
 
 is_built() {
-    [ -x "$program" ] && [ -z "$(find "$root/crates.txt" "$root/crates" -name out -prune -o \
-        -name must-fail -prune -o -type f -newer "$program" -print -quit)" ]
+    [ -x "$program" ] && [ -z "$(find "$root/crates.txt" "$root/crates"/*/{src,specs,proofs} -type f \
+        -newer "$program" -print -quit 2>/dev/null)" ]
 }
 
 # Puts into `below` the crates of the repository that each crate uses; the toolchain's are left out.
@@ -69,7 +69,7 @@ build_crate() {
     local verb=lib log=$building/$1.log status
     if [ "$1" = strsolve ]; then verb=run; fi
     link_crates "$1" || return 1
-    (cd "$building/$1/crates/$1" && rt "$verb" --jobs "$2") </dev/null >"$log" 2>&1 9>&-
+    (cd "$building/$1/crates/$1" && python3 "$root/remembering_rt.py" "$verb" --jobs "$2") </dev/null >"$log" 2>&1 9>&-
     status=$?
     rm -rf "$root/crates/$1/out"
     mv "$building/$1/crates/$1/out" "$root/crates/$1/out" && rm -rf "${building:?}/$1" || return 1

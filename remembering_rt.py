@@ -1,0 +1,37 @@
+#!/usr/bin/env python3
+"""The toolchain's command `rt`, which looks at what a crate below is made from once.
+
+    python3 remembering_rt.py lib --jobs 1        in a crate's folder, with rt's own words
+
+rt asks for a checksum of each crate below by each way that leads to it in crates.txt: 6,500 ways from `program_run`, each
+a look at all files of the crate, some minutes in all before the prover begins. Here a crate's checksum is kept while the
+command runs; that of the crate in whose folder it runs isn't, since rt compares it behind the proof with that before.
+Where the toolchain is made otherwise, its command runs as it is.
+"""
+import functools
+import os
+import runpy
+import shutil
+import sys
+
+
+def remember(crates):
+    """Keeps the checksums of the crates of this class, but for that of the crate at work."""
+    plain = crates.stamp
+    kept = functools.cache(plain)
+    crates.stamp = lambda crate: plain(crate) if crate.folder == os.getcwd() else kept(crate)
+
+
+def main():
+    command = os.path.realpath(shutil.which("rt") or sys.exit("the toolchain's command rt isn't there"))
+    try:
+        toolchain = runpy.run_path(command, run_name="rt")
+        remember(toolchain["rtlib"].Crate)
+        run = toolchain["main"]
+    except (AttributeError, KeyError, SyntaxError, UnicodeDecodeError):
+        os.execv(command, [command, *sys.argv[1:]])
+    return run(sys.argv[1:])
+
+
+if __name__ == "__main__":
+    sys.exit(main())
