@@ -1,11 +1,15 @@
 #!/usr/bin/env python3
-"""The toolchain's command `rt`, which looks at what a crate below is made from once.
+"""The toolchain's command `rt`, which looks at what a crate below is made from once, and keeps no proof in a library.
 
     python3 remembering_rt.py lib --jobs 1        in a crate's folder, with rt's own words
 
 rt asks for a checksum of each crate below by each way that leads to it in crates.txt: 6,500 ways from `program_run`, each
 a look at all files of the crate, some minutes in all before the prover begins. Here a crate's checksum is kept while the
 command runs; that of the crate in whose folder it runs isn't, since rt compares it behind the proof with that before.
+
+A library of `rt lib` holds the crate's checked proofs, and a check over it reads those of all functions that are called,
+and of those that they call: a minute for a crate on top. Here it holds what crates above can cite, as in `rt ci`.
+
 Where the toolchain is made otherwise, its command runs as it is.
 """
 import functools
@@ -22,11 +26,26 @@ def remember(crates):
     crates.stamp = lambda crate: plain(crate) if crate.folder == os.getcwd() else kept(crate)
 
 
+def keep_statements(crates, kept):
+    """Has the libraries that crates of this class write hold statements without proofs, in place of the words `kept`."""
+    plain = crates.call
+
+    def call(crate, *words):
+        if words[1] == "build" and words[-1] == crate.rlib:
+            words = [*(word for word in words if word not in kept), "--statements"]
+        return plain(crate, *words)
+
+    crates.call = call
+
+
 def main():
     command = os.path.realpath(shutil.which("rt") or sys.exit("the toolchain's command rt isn't there"))
     try:
         toolchain = runpy.run_path(command, run_name="rt")
-        remember(toolchain["rtlib"].Crate)
+        library = toolchain["rtlib"]
+        remember(library.Crate)
+        if "--statements" in library.help_of("build"):
+            keep_statements(library.Crate, library.KEPT)
         run = toolchain["main"]
     except (AttributeError, KeyError, SyntaxError, UnicodeDecodeError):
         os.execv(command, [command, *sys.argv[1:]])

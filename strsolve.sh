@@ -32,13 +32,14 @@ list_crates() {
     order+=("$1")
 }
 
-# Sorts `order`: first those on which most lines of source wait, in the longest chain of crates above.
+# Sorts `order`: first those on which most lines of source wait, in the longest chain of crates above. To read what lies
+# below a crate takes about as long as 200 lines of its own.
 declare -A lines
 sort_by_chains() {
     local at name under
     for ((at = ${#order[@]} - 1; at >= 0; at--)); do
         name=${order[at]}
-        lines[$name]=$((${lines[$name]:-0} + $(cat "$root/crates/$name/src/"*.rt | wc -l)))
+        lines[$name]=$((${lines[$name]:-0} + 200 + $(cat "$root/crates/$name/src/"*.rt | wc -l)))
         for under in ${below[$name]:-}; do
             if [ "${lines[$under]:-0}" -lt "${lines[$name]}" ]; then lines[$under]=${lines[$name]}; fi
         done
@@ -46,8 +47,8 @@ sort_by_chains() {
     mapfile -t order < <(for name in "${order[@]}"; do echo "${lines[$name]} $name"; done | sort -rn | cut -d ' ' -f 2)
 }
 
-# Makes $building/$1 a repository of links, of the crate $1, with what an earlier run kept of it, and those below. A run
-# of the toolchain keeps others out of each folder that it reads, so that over one folder they would go in turn.
+# Makes $building/$1 a repository of links, of the crate $1 and those below. A run of the toolchain keeps others out of
+# each folder that it reads, so that over one folder they would go in turn.
 link_crates() {
     local -a order=()
     local name part to
@@ -59,24 +60,24 @@ link_crates() {
             if [ -e "$root/crates/$name/$part" ]; then cp -al "$root/crates/$name/$part" "$to/$part" || return 1; fi
         done
     done
-    if [ -d "$root/crates/$1/out/incremental" ]; then
-        cp -a "$root/crates/$1/out/incremental" "$building/$1/crates/$1/out" || return 1
-    fi
 }
 
 # Proves the crate $1 by $2 jobs, and builds its library, or the program; says why it can't.
 build_crate() {
-    local verb=lib log=$building/$1.log status
+    local verb=lib log=$building/$1.log to=$root/crates/$1/out made
     if [ "$1" = strsolve ]; then verb=run; fi
     link_crates "$1" || return 1
-    (cd "$building/$1/crates/$1" && python3 "$root/remembering_rt.py" "$verb" --jobs "$2") </dev/null >"$log" 2>&1 9>&-
-    status=$?
-    rm -rf "$root/crates/$1/out"
-    mv "$building/$1/crates/$1/out" "$root/crates/$1/out" && rm -rf "${building:?}/$1" || return 1
-    if [ "$status" -ne 0 ]; then
+    if ! (cd "$building/$1/crates/$1" && python3 "$root/remembering_rt.py" "$verb" --jobs "$2") \
+        </dev/null >"$log" 2>&1 9>&-; then
         cat "$log" >&2
         return 1
     fi
+    # What `rt check` keeps there stays.
+    mkdir -p "$to" || return 1
+    for made in "$building/$1/crates/$1/out"/*; do
+        rm -rf "${to:?}/${made##*/}" && mv "$made" "$to" || return 1
+    done
+    rm -rf "${building:?}/$1"
 }
 
 # Whether all crates below the crate $1 are done.

@@ -1,7 +1,7 @@
 use literal_forms::Literal;
 
 /// How a node's tree is made of those of earlier nodes, which are named by their places.
-#[derive(Debug, Drop)]
+#[derive(Drop)]
 pub enum NodeKind {
     Always,
     Never,
@@ -11,14 +11,14 @@ pub enum NodeKind {
 }
 
 /// A node, with the number of its tree's cubes, 2^64 - 1 where they are more.
-#[derive(Debug, Drop)]
+#[derive(Drop)]
 pub struct CubeNode {
     pub kind: NodeKind,
     pub cubes: u64,
 }
 
 /// The nodes of a formula and of its negation.
-#[derive(Clone, Copy, Debug)]
+#[derive(Clone, Copy)]
 pub struct NodePair {
     pub holding: usize,
     pub failing: usize,

@@ -12,7 +12,7 @@ use sv_linear::{Row, RowKind};
 use sv_list::Items;
 
 /// The least and the greatest value of an unknown, where the rows give them.
-#[derive(Clone, Copy, Debug)]
+#[derive(Clone, Copy)]
 pub struct ValueRange {
     pub least: Option<i128>,
     pub most: Option<i128>,

@@ -2,7 +2,7 @@ use sv_list::Items;
 
 /// The numbers of a straight cube, computed from its text. Sums and products end at 2^64 - 1, which
 /// stands for all that are larger.
-#[derive(Debug, Drop)]
+#[derive(Drop)]
 pub struct Numbers {
     /// The most states of a machine of one variable, at least 1.
     pub states: u64,

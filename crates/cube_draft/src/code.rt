@@ -3,7 +3,7 @@ use std::marker::Model;
 use sv_list::Items;
 
 /// The code of a term or of an unknown, as a key of a map. Contracts see the list of its numbers.
-#[derive(Debug, Drop)]
+#[derive(Drop)]
 pub struct Code {
     numbers: Items<i128>,
 }

@@ -6,7 +6,7 @@ ghost use Rattle.cube_order.specs.Leading.{AreRooted, IsForest, ordinal, roots_i
 use std::alloc::{AllocError, Global};
 
 /// The variables of places.
-#[derive(Debug, Drop)]
+#[derive(Drop)]
 pub struct VariableNumbers {
     /// The number of each place's variable.
     pub of: Vec<u32>,

@@ -11,7 +11,7 @@ use std::mem;
 use sv_list::Items;
 
 /// A definition that waits for a variable that it uses.
-#[derive(Clone, Copy, Debug)]
+#[derive(Clone, Copy)]
 struct Waiter {
     /// The place of the definition.
     definition: usize,

@@ -1,5 +1,6 @@
 -- A family with a machine without an end reads nothing.
 use Rattle.std.proofs.Common.{◌≡◌, ℕ, zero, suc, ◌<◌, List, [], ◌∷◌, length, get_or, Option, Some, None, slice_get, ap, ◌∙◌, sym, subst, arith}
+use Rattle.std.proofs.lemmas.Option.{none-some, same_Some}
 use Rattle.machine_core.specs.declared.graph.Graph.{Graph}
 use Rattle.machine_core.specs.declared.end.End.{End}
 use Rattle.machine_core.specs.Edges.{EndsAt, StepsBy}
@@ -12,11 +13,11 @@ no_run m none at [] cost p = let q = subst (λ (es : List End). EndsAt es at cos
 no_run m none at (c ∷ word) cost p = no_run m none p.1 word p.2 p.4
 
 pub no-conf : (width : ℕ) (ms : Family) (v : ℕ) (m : Graph) → HasMachine ms v m → m.ends ≡ [] → (words : Words) (totals : List ℕ) → Conf width ms words totals → ⊥
-no-conf width [] v m h e words totals conf = cc
-no-conf width (None ∷ ms) zero m h e words totals conf = cc
+no-conf width [] v m h e words totals conf = none-some (Some m) h
+no-conf width (None ∷ ms) zero m h e words totals conf = none-some m (same_Some None (Some m) h)
 no-conf width (None ∷ ms) (suc v) m h e words totals conf = no-conf width ms v m h e (after words) totals conf
 no-conf width (Some n ∷ ms) zero m h e words totals conf =
-    let same : n ≡ m = cc in
+    let same = same_Some n m (same_Some (Some n) (Some m) h) in
     no_run m e 0 (words 0) conf.0 (subst (λ (g : Graph). Accepts g (words 0) conf.0) same conf.2)
 no-conf width (Some n ∷ ms) (suc v) m h e words totals conf = no-conf width ms v m h e (after words) conf.1 conf.3
 

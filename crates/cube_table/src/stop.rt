@@ -1,7 +1,7 @@
 use std::alloc::AllocError;
 
 /// Why a run stops before its script has ended.
-#[derive(Clone, Copy, Debug, PartialEq, Eq)]
+#[derive(Clone, Copy, PartialEq, Eq)]
 pub enum TableStop {
     Unread,
     Unwritten,

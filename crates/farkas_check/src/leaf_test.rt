@@ -13,7 +13,7 @@ use std::alloc::{AllocError, Global};
 use sv_linear::{Column, Row};
 
 /// What multipliers show of some rows.
-#[derive(Clone, Copy, Debug, PartialEq, Eq)]
+#[derive(Clone, Copy, PartialEq, Eq)]
 pub enum LeafTest {
     /// The leaf closes the rows: its rule is met, and no sum leaves 128 bits.
     Closes,

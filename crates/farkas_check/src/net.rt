@@ -1,7 +1,7 @@
 use sv_list::Items;
 
 /// An edge between two states, taken as often as the value of its unknown says.
-#[derive(Clone, Copy, Debug, PartialEq, Eq)]
+#[derive(Clone, Copy, PartialEq, Eq)]
 pub struct NetEdge {
     pub from: u32,
     pub to: u32,
@@ -11,7 +11,7 @@ pub struct NetEdge {
 /// A graph whose used edges are to be reached from its start.
 ///
 /// States are numbered from 0. Edges may be alike, and may share an unknown.
-#[derive(Debug, Drop)]
+#[derive(Drop)]
 pub struct Net {
     pub states: u32,
     pub start: u32,

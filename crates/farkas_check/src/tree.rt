@@ -4,7 +4,7 @@ use sv_list::{Boxed, Items};
 ///
 /// The rows of a node are those of the system and then, from the root, one for each branch above it.
 /// `multipliers` lists pairs of a row's number and its multiplier, the row numbers ascending.
-#[derive(Debug, Drop)]
+#[derive(Drop)]
 pub enum Tree {
     /// In `low` the unknown is at most `at`, in `high` at least `at + 1`.
     Split {

@@ -4,7 +4,7 @@ use sv_terms::Transducer;
 use sv_word::Word;
 
 /// How the word of a variable comes from those of others, which are named by their numbers.
-#[derive(Debug, Drop)]
+#[derive(Drop)]
 pub enum By {
     /// The words of these, joined in this order.
     Concat(Items<u32>),
@@ -17,7 +17,7 @@ pub enum By {
 }
 
 /// The definition of a variable.
-#[derive(Debug, Drop)]
+#[derive(Drop)]
 pub struct Definition {
     pub variable: u32,
     pub by: By,

@@ -5,7 +5,7 @@ use sv_list::Items;
 use sv_terms::Name;
 
 /// An unknown of rows.
-#[derive(Debug, Drop)]
+#[derive(Drop)]
 pub enum Quantity {
     /// An integer constant.
     Integer(Name),
@@ -21,7 +21,7 @@ pub enum Quantity {
 /// others, `equalities` pairs of places that are one. `quantities` lists the integer constants and the
 /// lengths that stand in comparisons, also where they cancel; the unknowns of `rows` are numbered by it.
 /// All lists are in the order in which things first came, `rows` has one row for each comparison.
-#[derive(Debug, Drop)]
+#[derive(Drop)]
 pub struct FlatDraft {
     pub names: Items<Option<Name>>,
     pub parts: Items<(u32, (Own, bool))>,

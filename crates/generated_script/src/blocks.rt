@@ -10,7 +10,7 @@ use std::marker::Model;
 const MODULUS: u32 = 65_537;
 
 /// The blocks of a generated script, one after another. Contracts see the number that was drawn last.
-#[derive(Debug, Drop)]
+#[derive(Drop)]
 pub struct Blocks {
     last: u32,
 }

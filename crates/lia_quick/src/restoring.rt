@@ -11,7 +11,7 @@ use std::alloc::{AllocError, Global};
 use sv_list::Items;
 
 /// What a quick way finds of a system.
-#[derive(Debug, Drop)]
+#[derive(Drop)]
 pub enum QuickAnswer {
     /// A value for each unknown, which meet the rows.
     Point(Items<i128>),

@@ -8,7 +8,7 @@ use std::alloc::{AllocError, Global};
 use sv_linear::{Form, FormFault};
 
 /// The form of a term, and whether no unknown stands in the term.
-#[derive(Debug, Drop)]
+#[derive(Drop)]
 pub struct TermForm {
     pub form: Form,
     pub constant: bool,

@@ -11,14 +11,14 @@ use sv_list::Items;
 use sv_word::{GREATEST_CHARACTER, Ranges};
 
 /// The characters below `stop` lead to the state `to`, from where the leg before stops.
-#[derive(Debug, Drop)]
+#[derive(Drop)]
 pub struct TableLeg {
     pub stop: u32,
     pub to: u32,
 }
 
 /// Where a state leads: along its legs, and to the state `rest` behind the last one.
-#[derive(Debug, Drop)]
+#[derive(Drop)]
 pub struct TableRow {
     pub legs: Items<TableLeg>,
     pub rest: u32,

@@ -5,7 +5,7 @@ use crate::log::ReplyLog;
 use sv_io::SinkFault;
 
 /// How a run ended.
-#[derive(Clone, Copy, Debug, PartialEq, Eq)]
+#[derive(Clone, Copy, PartialEq, Eq)]
 pub enum Status {
     /// The script was answered to its end or to an answered `exit`, and no reply is an error. Or a generated one
     /// was, and the line that sums up its verdicts was written.

@@ -1,7 +1,7 @@
 use crate::mode::Mode;
 
 /// What a byte does.
-#[derive(Clone, Copy, Debug, PartialEq, Eq)]
+#[derive(Clone, Copy, PartialEq, Eq)]
 pub enum Action {
     /// It belongs to white space or a comment.
     Skip(Mode),

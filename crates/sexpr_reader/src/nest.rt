@@ -10,7 +10,7 @@ use sv_list::Items;
 const MOST_OPEN_LISTS: usize = 1_000;
 
 /// The lists that are open, the outermost first, each with its items so far.
-#[derive(Debug, Drop)]
+#[derive(Drop)]
 pub struct Nest {
     pub lists: Vec<Items<Sexpr>>,
 }

@@ -5,7 +5,7 @@ use std::alloc::{AllocError, Global};
 use sv_list::{Copied, Items};
 
 /// An s-expression (SMT-LIB 2.6, section 3.2).
-#[derive(Debug, Drop)]
+#[derive(Drop)]
 pub enum Sexpr {
     /// A token with its bytes as they stood, quotes and bars included.
     Atom(TokenKind, Items<u8>),

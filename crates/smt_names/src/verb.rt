@@ -1,5 +1,5 @@
 /// The word of a command whose parts are looked at.
-#[derive(Clone, Copy, Debug, PartialEq, Eq)]
+#[derive(Clone, Copy, PartialEq, Eq)]
 pub enum CommandName {
     SetLogic,
     SetInfo,

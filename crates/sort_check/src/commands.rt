@@ -3,7 +3,7 @@ use sv_list::Items;
 use sv_terms::{Entry, Name, Sort, Term};
 
 /// What a check is asked to make by an option.
-#[derive(Clone, Copy, Debug, PartialEq, Eq)]
+#[derive(Clone, Copy, PartialEq, Eq)]
 pub enum Product {
     /// `:produce-models`
     Models,
@@ -14,7 +14,7 @@ pub enum Product {
 }
 
 /// A command of SMT-LIB 2.6 with its sorted terms, `let` and macros put in.
-#[derive(Debug, Drop)]
+#[derive(Drop)]
 pub enum Command {
     /// `set-logic` or `set-info`, which have no effect.
     Inform,

@@ -3,7 +3,7 @@ ghost use Rattle.sv_io.specs.Counts.{raised};
 ghost use Rattle.sv_io.specs.Memory.{is_failing};
 
 /// How many calls were made, up to the last `u64`, and the numbers of those that fail.
-#[derive(Debug, Drop)]
+#[derive(Drop)]
 pub(crate) struct CallCount {
     pub(crate) failing: Vec<u64>,
     pub(crate) made: u64,

@@ -9,7 +9,7 @@ use crate::{Failed, Source};
 use std::marker::Model;
 
 /// A source in memory, for tests: it gives its bytes in pieces, and fails at chosen calls.
-#[derive(Debug, Drop)]
+#[derive(Drop)]
 pub struct MemSource {
     name: Option<String>,
     bytes: Vec<u8>,

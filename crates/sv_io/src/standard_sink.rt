@@ -4,7 +4,7 @@ use crate::{Failed, Sink, SinkFault};
 use std::io::Write;
 
 /// Standard output. It doesn't tell what it took. A write that takes nothing is a counted fault.
-#[derive(Debug, Drop)]
+#[derive(Drop)]
 pub struct StdSink {
     runtime: HostRuntime,
     faults: u64,

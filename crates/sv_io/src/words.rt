@@ -6,7 +6,7 @@ use std::marker::Model;
 
 /// The words of the command line behind the program's name, in order. Contracts see the list of
 /// the words' bytes.
-#[derive(Debug, Drop)]
+#[derive(Drop)]
 pub struct ProgramArguments {
     words: Vec<String>,
 }

@@ -13,7 +13,7 @@ use std::alloc::{AllocError, Global};
 use sv_terms::{Body, Name, Sort, Term};
 
 /// What is kept of a macro's body, so that a call of it is weighed in time linear in its arguments.
-#[derive(Debug, Drop)]
+#[derive(Drop)]
 pub enum Summary {
     /// The same weight whatever the arguments are.
     Same(Weight),

@@ -15,7 +15,7 @@ use sv_terms::{Name, Op, Regex, Sort, Term};
 
 /// What stands in a term whatever the arguments are, and how its parameters are used, each at its
 /// place.
-#[derive(Debug, Drop)]
+#[derive(Drop)]
 pub struct MacroSummary {
     pub own: Share,
     pub uses: Items<Uses>,
