@@ -1,5 +1,7 @@
 -- Steps of the passes over forms.
 use Rattle.std.proofs.Common.{◌≡◌, refl, sym, ap, ◌∙◌, ℕ, zero, suc, ◌+◌, ◌<◌, ◌≤◌, Bool, false, List, [], ◌∷◌, length, map, get_or, take, drop, ◌-◌, Result, Ok, Err, arith, add-one}
+use Rattle.std.proofs.lemmas.List.{take_all}
+use Rattle.sexpr_reader.specs.declared.kind.TokenKind.{TokenKind}
 use Rattle.sexpr_reader.specs.declared.sexpr.Sexpr.{Sexpr}
 use Rattle.sexpr_reader.specs.declared.sexpr.Sexpr.TheVariants as v
 use Rattle.smt_names.specs.declared.check_fault.CheckFault.{CheckFault}
@@ -15,8 +17,6 @@ use Rattle.item_passes.specs.Passes.{at_identifier, at_numeral, in_list, looked,
 use Rattle.smt_names.specs.Tokens.{opening}
 use Rattle.smt_names.specs.Shapes.{seen-Atom, seen-List, none-seen, are-on, are-stop, are-end}
 use Rattle.smt_names.specs.Answering.{answers-same, exact-answers}
-use Rattle.std.proofs.lemmas.List.{take_all}
-use Rattle.sexpr_reader.specs.declared.kind.TokenKind.{TokenKind}
 
 -- what is looked for in forms from the left, each by `one`, goes on with the next item
 module _ (one : Form → Result Unit CheckFault) (all : Forms → Result Unit CheckFault) (none : all end ≡ Ok tt) (next : (f : Form) (fs : Forms) → all (f ⨾ fs) ≡ (one f >> all fs)) where
