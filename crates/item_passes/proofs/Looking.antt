@@ -1,5 +1,7 @@
 -- Steps of the passes over forms.
-use Rattle.std.proofs.Common.{◌≡◌, refl, sym, ap, ◌∙◌, ℕ, zero, suc, ◌+◌, ◌<◌, ◌≤◌, Bool, false, List, [], ◌∷◌, length, map, get_or, drop, Result, Ok, Err, arith, add-one}
+use Rattle.std.proofs.Common.{◌≡◌, refl, sym, ap, ◌∙◌, ℕ, zero, suc, ◌+◌, ◌<◌, ◌≤◌, Bool, false, List, [], ◌∷◌, length, map, get_or, take, drop, ◌-◌, Result, Ok, Err, arith, add-one}
+use Rattle.std.proofs.lemmas.List.{take_all}
+use Rattle.sexpr_reader.specs.declared.kind.TokenKind.{TokenKind}
 use Rattle.sexpr_reader.specs.declared.sexpr.Sexpr.{Sexpr}
 use Rattle.sexpr_reader.specs.declared.sexpr.Sexpr.TheVariants as v
 use Rattle.smt_names.specs.declared.check_fault.CheckFault.{CheckFault}
@@ -8,12 +10,13 @@ use Rattle.smt_names.specs.declared.opening.Opening.TheVariants.{Let, Quantifier
 use Rattle.item_passes.specs.declared.pass.Pass.{Pass}
 use Rattle.item_passes.specs.Binders.{are_some, each}
 use Rattle.smt_names.specs.Form.{are_all}
-use Rattle.smt_names.specs.Faults.{◌>>◌}
-use Rattle.smt_names.specs.Form.{Form, Forms, forms, seen, group, end, ◌⨾◌}
+use Rattle.smt_names.specs.Faults.{Answers, ◌>>◌}
+use Rattle.smt_names.specs.Form.{Form, Forms, forms, seen, token, group, end, ◌⨾◌}
 use Rattle.smt_names.specs.Tokens.{chosen}
-use Rattle.item_passes.specs.Passes.{at_identifier, in_list, looked, looked_all, looked_let, looked_values, looked_value, looked_quantifier, looked_annotated}
+use Rattle.item_passes.specs.Passes.{at_identifier, at_numeral, in_list, looked, looked_all, looked_let, looked_values, looked_value, looked_quantifier, looked_annotated}
 use Rattle.smt_names.specs.Tokens.{opening}
-use Rattle.smt_names.specs.Shapes.{seen-List, are-on, are-stop, are-end}
+use Rattle.smt_names.specs.Shapes.{seen-Atom, seen-List, none-seen, are-on, are-stop, are-end}
+use Rattle.smt_names.specs.Answering.{answers-same, exact-answers}
 
 -- what is looked for in forms from the left, each by `one`, goes on with the next item
 module _ (one : Form → Result Unit CheckFault) (all : Forms → Result Unit CheckFault) (none : all end ≡ Ok tt) (next : (f : Form) (fs : Forms) → all (f ⨾ fs) ≡ (one f >> all fs)) where
@@ -78,32 +81,45 @@ module _ (test : Form → Bool) where
 
 pub ruleset testing = (are-on, are-stop, are-end, some-is, some-none)
 
+-- an atom, and a list of nothing
+module _ (pass : Pass) (b : Sexpr) where
+  pub look-atom : (k : TokenKind) (text : List ℕ) (r : Result Unit CheckFault) → b ≡ v.Atom k text → r ≡ at_numeral pass (seen b) → Answers (looked pass (seen b)) r
+  look-atom k text r is_ e =
+      let s : seen b ≡ token k text = ap seen is_ ∙ seen-Atom k text in
+      exact-answers (looked pass (seen b)) r (ap (looked pass) s ∙ sym (ap (at_numeral pass) s) ∙ sym e)
+
+  pub look-none : (xs : List Sexpr) → b ≡ v.List xs → length xs < 1 → looked pass (seen b) ≡ Ok tt
+  look-none xs is_ h = ap (looked pass) (ap seen is_ ∙ seen-List xs ∙ ap group (none-seen xs h))
+
 -- a list with a first item, by what that makes of it
-module _ (pass : Pass) (b : Sexpr) (xs : List Sexpr) (is_ : b ≡ v.List xs) where
-  first-seen : (x : Sexpr) (ys : List Sexpr) → 1 ≤ length xs → x ≡ get_or xs 0 x → ys ≡ drop 1 xs → seen b ≡ group (seen x ⨾ forms (map seen ys))
-  first-seen x ys h e f = ap seen is_ ∙ seen-List xs ∙ go xs h e f
+module _ (pass : Pass) (b : Sexpr) (xs : List Sexpr) (is_ : b ≡ v.List xs) (x : Sexpr) (h : 1 ≤ length xs) (e : x ≡ get_or xs 0 x) where
+  abbrev behind : Forms
+  behind = forms (map seen (take (length xs - 1) (drop 1 xs)))
+
+  first-seen : seen b ≡ group (seen x ⨾ behind)
+  first-seen = ap seen is_ ∙ seen-List xs ∙ go xs h e
     where
-      go : (xs : List Sexpr) → 1 ≤ length xs → x ≡ get_or xs 0 x → ys ≡ drop 1 xs → group (forms (map seen xs)) ≡ group (seen x ⨾ forms (map seen ys))
-      go [] h e f = absurd (omega arith)
-      go (a ∷ xs) h e f = λ i. group (seen (sym e i) ⨾ forms (map seen (sym f i)))
+      go : (xs : List Sexpr) → 1 ≤ length xs → x ≡ get_or xs 0 x → group (forms (map seen xs)) ≡ group (seen x ⨾ forms (map seen (take (length xs - 1) (drop 1 xs))))
+      go [] h e = absurd (omega arith)
+      go (a ∷ xs) h e = λ i. group (seen (sym e i) ⨾ forms (map seen (sym (take_all (length (a ∷ xs) - 1) xs (omega arith)) i)))
 
-  module _ (x : Sexpr) (ys : List Sexpr) (h : 1 ≤ length xs) (e : x ≡ get_or xs 0 x) (f : ys ≡ drop 1 xs) where
-    by : (o : Opening) → opening (seen x) ≡ o → looked pass (seen b) ≡ chosen o (looked_let pass (forms (map seen ys))) (looked_quantifier pass (forms (map seen ys))) (looked_annotated pass (forms (map seen ys))) (at_identifier pass (forms (map seen ys))) (in_list (seen x) (looked pass (seen x)) >> looked_all pass (forms (map seen ys)))
-    by o g = ap (looked pass) (first-seen x ys h e f) ∙ ap (λ o. chosen o (looked_let pass (forms (map seen ys))) (looked_quantifier pass (forms (map seen ys))) (looked_annotated pass (forms (map seen ys))) (at_identifier pass (forms (map seen ys))) (in_list (seen x) (looked pass (seen x)) >> looked_all pass (forms (map seen ys)))) g
+  by : (o : Opening) → o ≡ opening (seen x) → looked pass (seen b) ≡ chosen o (looked_let pass behind) (looked_quantifier pass behind) (looked_annotated pass behind) (at_identifier pass behind) (in_list (seen x) (looked pass (seen x)) >> looked_all pass behind)
+  by o g = ap (looked pass) first-seen ∙ ap (λ o. chosen o (looked_let pass behind) (looked_quantifier pass behind) (looked_annotated pass behind) (at_identifier pass behind) (in_list (seen x) (looked pass (seen x)) >> looked_all pass behind)) (sym g)
 
-    pub look-let : opening (seen x) ≡ Let → looked pass (seen b) ≡ looked_let pass (forms (map seen ys))
-    look-let g = by Let g
+  module _ (r : Result Unit CheckFault) where
+    pub look-let : Let ≡ opening (seen x) → Answers (looked_let pass behind) r → Answers (looked pass (seen b)) r
+    look-let g a = answers-same (looked_let pass behind) (looked pass (seen b)) r (by Let g) a
 
-    pub look-quantifier : opening (seen x) ≡ Quantifier → looked pass (seen b) ≡ looked_quantifier pass (forms (map seen ys))
-    look-quantifier g = by Quantifier g
+    pub look-quantifier : Quantifier ≡ opening (seen x) → Answers (looked_quantifier pass behind) r → Answers (looked pass (seen b)) r
+    look-quantifier g a = answers-same (looked_quantifier pass behind) (looked pass (seen b)) r (by Quantifier g) a
 
-    pub look-annotated : opening (seen x) ≡ Annotation → looked pass (seen b) ≡ looked_annotated pass (forms (map seen ys))
-    look-annotated g = by Annotation g
+    pub look-annotated : Annotation ≡ opening (seen x) → Answers (looked_annotated pass behind) r → Answers (looked pass (seen b)) r
+    look-annotated g a = answers-same (looked_annotated pass behind) (looked pass (seen b)) r (by Annotation g) a
 
-    pub look-identifier : opening (seen x) ≡ Identifier → looked pass (seen b) ≡ at_identifier pass (forms (map seen ys))
-    look-identifier g = by Identifier g
+    pub look-identifier : Identifier ≡ opening (seen x) → r ≡ at_identifier pass behind → Answers (looked pass (seen b)) r
+    look-identifier g a = exact-answers (looked pass (seen b)) r (by Identifier g ∙ sym a)
 
-    pub look-application : opening (seen x) ≡ Application → looked pass (seen b) ≡ (in_list (seen x) (looked pass (seen x)) >> looked_all pass (forms (map seen ys)))
-    look-application g = by Application g
+    pub look-application : (u : Unit {0}) → Application ≡ opening (seen x) → in_list (seen x) (looked pass (seen x)) ≡ Ok u → Answers (looked_all pass behind) r → Answers (looked pass (seen b)) r
+    look-application u g k a = answers-same (looked_all pass behind) (looked pass (seen b)) r (by Application g ∙ ap (λ m. m >> looked_all pass behind) k) a
 
 pub ruleset looking = (all-on, all-stop, all-end, values-on, values-stop, values-end, each-on, each-stop, each-end)

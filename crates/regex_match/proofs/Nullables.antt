@@ -1,5 +1,5 @@
 -- Whether the empty word is in a regular expression.
-use Rattle.std.proofs.Common.{Bool, true, false, not, IsTrue, ◌↔◌, drop, take, ◌-◌, ◌≡◌, refl, sym, ap, ◌∙◌, subst, ℕ, zero, suc, ◌≤◌, ◌<◌, List, [], ◌∷◌, ◌++◌, length, get_or, inl, inr, arith}
+use Rattle.std.proofs.Common.{Bool, true, false, not, IsTrue, ◌↔◌, drop, take, ◌-◌, ◌≡◌, refl, sym, ap, ◌∙◌, subst, nat_eq, ℕ, zero, suc, ◌≤◌, ◌<◌, List, [], ◌∷◌, ◌++◌, length, get_or, inl, inr, arith}
 use Rattle.std.proofs.lemmas.Grind.{common_steps}
 use Rattle.sv_terms.specs.declared.regex.Regex.{Regex}
 use Rattle.sv_terms.specs.declared.regex.Regex.TheVariants as v
@@ -148,3 +148,28 @@ diff-front r x rs (y ∷ xs) b e f l g p h =
     let k : r ≡ v.Diff (y ∷ xs) = e ∙ ap v.Diff (sym f) in
     let n = not_same b (In x []) (InOneOf In xs []) p (subst (λ z. IsTrue b ↔ InOneOf In z []) (whole_rest y xs) h) in
     (λ q. subst (λ z. In z []) (sym k) (nil-Diff y xs (subst (λ z. In z []) g p) (n.1 q)), λ q. let d = of-nil-Diff y xs (subst (λ z. In z []) k q) in n.0 p d.1)
+
+pub diff-else : (r x : Regex) (rs xs : List Regex) (b : Bool) → r ≡ v.Diff rs → xs ≡ rs → 1 ≤ length xs → x ≡ get_or xs 0 x → b ≡ false → (In x [] → IsTrue b) → (IsTrue b → In r []) × (In r [] → IsTrue b)
+diff-else r x rs [] b e f l g k p = absurd (omega arith)
+diff-else r x rs (y ∷ xs) b e f l g k p =
+    (λ q. absurd (cc), λ q. p (subst (λ z. In z []) (sym g) (of-nil-Diff y xs (subst (λ z. In z []) (e ∙ ap v.Diff (sym f)) q)).0))
+
+-- the answers at a regular expression of each kind
+pub is-never : IsTrue false → ⊥
+is-never h = cc
+
+pub answers-true : (r s : Regex) → r ≡ s → In s [] → (IsTrue true → In r []) × (In r [] → IsTrue true)
+answers-true r s e h = (λ q. subst (λ z. In z []) (sym e) h, λ q. refl)
+
+pub answers-false : (r s : Regex) → r ≡ s → (In s [] → ⊥) → (IsTrue false → In r []) × (In r [] → IsTrue false)
+answers-false r s e h = (λ q. absurd (is-never q), λ q. absurd (h (subst (λ z. In z []) e q)))
+
+pub answers-as : (r s : Regex) (b : Bool) (P : Type 0) → r ≡ s → (P → In s []) → (In s [] → P) → (IsTrue b ↔ P) → (IsTrue b → In r []) × (In r [] → IsTrue b)
+answers-as r s b P e f g h = (λ q. subst (λ z. In z []) (sym e) (f (h.0 q)), λ q. h.1 (g (subst (λ z. In z []) e q)))
+
+pub answers-not : (r s : Regex) (b : Bool) → r ≡ v.Comp s → (IsTrue b ↔ In s []) → (IsTrue (not b) → In r []) × (In r [] → IsTrue (not b))
+answers-not r s true e h = (λ q. absurd (is-never q), λ q. absurd (of-nil-Comp s (subst (λ z. In z []) e q) (h.0 refl)))
+answers-not r s false e h = (λ q. subst (λ z. In z []) (sym e) (nil-Comp s (λ k. is-never (h.1 k))), λ q. refl)
+
+pub answers-zero : (r s : Regex) (i j : ℕ) → r ≡ v.Loop s i j → i ≡ 0 → (IsTrue (nat_eq i 0) → In r []) × (In r [] → IsTrue (nat_eq i 0))
+answers-zero r s i j e h = (λ q. subst (λ z. In z []) (sym e) (nil-Loop-zero s i j h), λ q. ap (λ n. nat_eq n 0) h)

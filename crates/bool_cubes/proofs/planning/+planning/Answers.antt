@@ -1,10 +1,11 @@
-use Rattle.std.proofs.Common.{◌≡◌, arith, drop, subst, zero}
+use Rattle.std.proofs.Common.{◌≡◌, ◌-◌, arith, drop, length, subst, zero}
 use Rattle.sv_terms.specs.declared.op.Op.TheVariants as op
-use Rattle.bool_cubes.specs.Counting.{parts_of}
+use Rattle.bool_cubes.specs.Counting.{formulas_of, parts_of}
 use Rattle.bool_cubes.specs.Nodes.{IsPlanned}
-use Rattle.bool_cubes.specs.Trees.{conjunction, equal, negated, pairs}
-use Rattle.bool_cubes.proofs.Plans.{longer_trans}
-use Rattle.bool_cubes.proofs.Steps.{all_step, and_applied, any_step, as_op, boolean_longer, choice_other, choice_three, equal_step, exclusive_step, implied_step, implies_applied, not_other, or_applied, pairs_step, xor_applied}
+use Rattle.bool_cubes.specs.Trees.{atom, conjunction, disjunction, equal, fixed, formula, implied, negated, pairs}
+use Rattle.literal_forms.specs.Shapes.{seen}
+use Rattle.bool_cubes.proofs.Plans.{longer_trans, within_longer}
+use Rattle.bool_cubes.proofs.Steps.{all_none, all_step, and_applied, any_none, any_step, as_op, boolean_longer, choice_other, choice_three, equal_step, exclusive_all, exclusive_step, formula_other, formula_truth, implied_step, implies_applied, not_one, not_other, or_applied, pairs_step, planned_as, side_left, side_right, xor_applied}
 use Rattle.bool_cubes.proofs.planning.+planning.Goals as goal
 
 pub all_sides-loop-i-preserved : goal.all_sides-loop-i-preserved
@@ -82,3 +83,162 @@ implied_sides-loop-i-preserved t c = record {
 pub opposite_sides-returns-in_ok-atom : goal.opposite_sides-returns-in_ok-atom
 opposite_sides-returns-in_ok-atom t c =
     not_other c.args.plan.now.nodes c.atom.new.self.nodes c.in_ok-atom.field-0 c.args.terms.now c.args.term.now c.if-terms-eq1.false c.in_ok-atom.ensures
+
+pub all_sides-loop-i-init : goal.all_sides-loop-i-init
+all_sides-loop-i-init t c =
+    all_none c.args.plan.now.nodes c.settle.new.self.nodes c.in_ok-all.all c.args.terms.now (length c.args.terms.now) (omega arith) c.in_ok-all.ensures
+
+pub all_sides-and-requires-clause-plan : goal.all_sides-and-requires-clause-plan
+all_sides-and-requires-clause-plan t c =
+    c.in_ok-next.ensures.longer.plan
+
+pub all_sides-and-requires-clause-left : goal.all_sides-and-requires-clause-left
+all_sides-and-requires-clause-left t c =
+    (c.in_ok-next.ensures.stands.holding, c.in_ok-next.ensures.stands.failing)
+
+pub all_sides-and-requires-clause-right : goal.all_sides-and-requires-clause-right
+all_sides-and-requires-clause-right t c =
+    within_longer c.loop-i.plan.nodes c.term_sides.new.plan.nodes c.loop-i.all c.in_ok-next.ensures.longer (c.loop-i.invariant.stands.holding, c.loop-i.invariant.stands.failing)
+
+pub all_sides-returns : goal.all_sides-returns
+all_sides-returns t c =
+    let end : c.loop-i.i ≡ zero = omega arith in
+    subst (λ n. IsPlanned c.args.plan.now.nodes c.loop-i.plan.nodes c.loop-i.all (conjunction (formulas_of (drop n c.args.terms.now)))) end c.loop-i.invariant
+
+pub any_sides-loop-i-init : goal.any_sides-loop-i-init
+any_sides-loop-i-init t c =
+    any_none c.args.plan.now.nodes c.settle.new.self.nodes c.in_ok-any.any c.args.terms.now (length c.args.terms.now) (omega arith) c.in_ok-any.ensures
+
+pub any_sides-or-requires-clause-plan : goal.any_sides-or-requires-clause-plan
+any_sides-or-requires-clause-plan t c =
+    c.in_ok-next.ensures.longer.plan
+
+pub any_sides-or-requires-clause-left : goal.any_sides-or-requires-clause-left
+any_sides-or-requires-clause-left t c =
+    (c.in_ok-next.ensures.stands.holding, c.in_ok-next.ensures.stands.failing)
+
+pub any_sides-or-requires-clause-right : goal.any_sides-or-requires-clause-right
+any_sides-or-requires-clause-right t c =
+    within_longer c.loop-i.plan.nodes c.term_sides.new.plan.nodes c.loop-i.any c.in_ok-next.ensures.longer (c.loop-i.invariant.stands.holding, c.loop-i.invariant.stands.failing)
+
+pub any_sides-returns : goal.any_sides-returns
+any_sides-returns t c =
+    let end : c.loop-i.i ≡ zero = omega arith in
+    subst (λ n. IsPlanned c.args.plan.now.nodes c.loop-i.plan.nodes c.loop-i.any (disjunction (formulas_of (drop n c.args.terms.now)))) end c.loop-i.invariant
+
+pub applied_sides-returns-in_ok-opposite_sides-in-Not : goal.applied_sides-returns-in_ok-opposite_sides-in-Not
+applied_sides-returns-in_ok-opposite_sides-in-Not t c =
+    as_op c.args.plan.now.nodes c.opposite_sides.new.plan.nodes c.in_ok-opposite_sides-in-Not.field-0 (parts_of c.args.terms.now) c.args.term.now op.Not c.args.op c.in-Not.is c.in_ok-opposite_sides-in-Not.ensures
+
+pub applied_sides-returns-in_ok-equal_sides-in-Equal : goal.applied_sides-returns-in_ok-equal_sides-in-Equal
+applied_sides-returns-in_ok-equal_sides-in-Equal t c =
+    as_op c.args.plan.now.nodes c.equal_sides.new.plan.nodes c.in_ok-equal_sides-in-Equal.field-0 (parts_of c.args.terms.now) c.args.term.now op.Equal c.args.op c.in-Equal.is c.in_ok-equal_sides-in-Equal.ensures
+
+pub applied_sides-returns-in_ok-distinct_sides-in-Distinct : goal.applied_sides-returns-in_ok-distinct_sides-in-Distinct
+applied_sides-returns-in_ok-distinct_sides-in-Distinct t c =
+    as_op c.args.plan.now.nodes c.distinct_sides.new.plan.nodes c.in_ok-distinct_sides-in-Distinct.field-0 (parts_of c.args.terms.now) c.args.term.now op.Distinct c.args.op c.in-Distinct.is c.in_ok-distinct_sides-in-Distinct.ensures
+
+pub applied_sides-returns-in_ok-choice_sides-in-IfThenElse : goal.applied_sides-returns-in_ok-choice_sides-in-IfThenElse
+applied_sides-returns-in_ok-choice_sides-in-IfThenElse t c =
+    as_op c.args.plan.now.nodes c.choice_sides.new.plan.nodes c.in_ok-choice_sides-in-IfThenElse.field-0 (parts_of c.args.terms.now) c.args.term.now op.IfThenElse c.args.op c.in-IfThenElse.is c.in_ok-choice_sides-in-IfThenElse.ensures
+
+pub choice_sides-choice-requires-clause-plan : goal.choice_sides-choice-requires-clause-plan
+choice_sides-choice-requires-clause-plan t c =
+    c.in_ok-second.ensures.longer.plan
+
+pub choice_sides-choice-requires-clause-second : goal.choice_sides-choice-requires-clause-second
+choice_sides-choice-requires-clause-second t c =
+    (c.in_ok-second.ensures.stands.holding, c.in_ok-second.ensures.stands.failing)
+
+pub choice_sides-choice-requires-clause-first : goal.choice_sides-choice-requires-clause-first
+choice_sides-choice-requires-clause-first t c =
+    within_longer c.term_sides-then-terms-eq3.new.plan.nodes c.term_sides-then-terms-eq3-2.new.plan.nodes c.in_ok-first.first c.in_ok-second.ensures.longer (c.in_ok-first.ensures.stands.holding, c.in_ok-first.ensures.stands.failing)
+
+pub choice_sides-choice-requires-clause-test : goal.choice_sides-choice-requires-clause-test
+choice_sides-choice-requires-clause-test t c =
+    within_longer c.term_sides.new.plan.nodes c.term_sides-then-terms-eq3-2.new.plan.nodes c.in_ok-test.test (longer_trans c.term_sides.new.plan.nodes c.term_sides-then-terms-eq3.new.plan.nodes c.term_sides-then-terms-eq3-2.new.plan.nodes c.in_ok-first.ensures.longer c.in_ok-second.ensures.longer) (c.in_ok-test.ensures.stands.holding, c.in_ok-test.ensures.stands.failing)
+
+pub distinct_sides-first_sides-requires-clause-plan : goal.distinct_sides-first_sides-requires-clause-plan
+distinct_sides-first_sides-requires-clause-plan t c =
+    c.loop-i.invariant.planned.longer.plan
+
+pub distinct_sides-first_sides-requires-clause-sides : goal.distinct_sides-first_sides-requires-clause-sides
+distinct_sides-first_sides-requires-clause-sides t c =
+    c.loop-i.invariant.sides
+
+pub distinct_sides-first_sides-requires-clause-i : goal.distinct_sides-first_sides-requires-clause-i
+distinct_sides-first_sides-requires-clause-i t c =
+    omega arith
+
+pub distinct_sides-first_sides-requires-clause-rest : goal.distinct_sides-first_sides-requires-clause-rest
+distinct_sides-first_sides-requires-clause-rest t c =
+    (c.loop-i.invariant.planned.stands.holding, c.loop-i.invariant.planned.stands.failing)
+
+pub equal_sides-pair_sides-requires-clause-plan : goal.equal_sides-pair_sides-requires-clause-plan
+equal_sides-pair_sides-requires-clause-plan t c =
+    c.loop-i.invariant.planned.longer.plan
+
+pub equal_sides-pair_sides-requires-clause-left : goal.equal_sides-pair_sides-requires-clause-left
+equal_sides-pair_sides-requires-clause-left t c =
+    side_left c.loop-i.plan.nodes c.args.terms.now c.as_slice-sides.result.now (c.loop-i.i - 1 - 1) c.index-terms-i.result c.loop-i.invariant.sides (omega arith) c.index-terms-i.is
+
+pub equal_sides-pair_sides-requires-clause-right : goal.equal_sides-pair_sides-requires-clause-right
+equal_sides-pair_sides-requires-clause-right t c =
+    side_right c.loop-i.plan.nodes c.args.terms.now c.as_slice-sides.result.now (c.loop-i.i - 1 - 1) (c.loop-i.i - 1) c.index-terms-i.result c.index-terms-i-in-loop-i.result c.loop-i.invariant.sides (omega arith) c.index-terms-i.is (omega arith) c.index-terms-i-in-loop-i.is
+
+pub equal_sides-and-requires-clause-plan : goal.equal_sides-and-requires-clause-plan
+equal_sides-and-requires-clause-plan t c =
+    c.in_ok-next.ensures.longer.plan
+
+pub equal_sides-and-requires-clause-left : goal.equal_sides-and-requires-clause-left
+equal_sides-and-requires-clause-left t c =
+    (c.in_ok-next.ensures.stands.holding, c.in_ok-next.ensures.stands.failing)
+
+pub equal_sides-and-requires-clause-right : goal.equal_sides-and-requires-clause-right
+equal_sides-and-requires-clause-right t c =
+    within_longer c.loop-i.plan.nodes c.pair_sides.new.plan.nodes c.loop-i.all c.in_ok-next.ensures.longer (c.loop-i.invariant.planned.stands.holding, c.loop-i.invariant.planned.stands.failing)
+
+pub exclusive_sides-agreement-requires-clause-plan : goal.exclusive_sides-agreement-requires-clause-plan
+exclusive_sides-agreement-requires-clause-plan t c =
+    c.in_ok-next.ensures.longer.plan
+
+pub exclusive_sides-agreement-requires-clause-left : goal.exclusive_sides-agreement-requires-clause-left
+exclusive_sides-agreement-requires-clause-left t c =
+    within_longer c.loop-i.plan.nodes c.term_sides-in-loop-i.new.plan.nodes c.loop-i.odd c.in_ok-next.ensures.longer (c.loop-i.invariant.stands.holding, c.loop-i.invariant.stands.failing)
+
+pub exclusive_sides-agreement-requires-clause-right : goal.exclusive_sides-agreement-requires-clause-right
+exclusive_sides-agreement-requires-clause-right t c =
+    (c.in_ok-next.ensures.stands.holding, c.in_ok-next.ensures.stands.failing)
+
+pub exclusive_sides-returns : goal.exclusive_sides-returns
+exclusive_sides-returns t c =
+    exclusive_all c.args.plan.now.nodes c.loop-i.plan.nodes c.loop-i.odd c.args.terms.now c.loop-i.i c.loop-i-test.false c.loop-i.invariant
+
+pub implied_sides-implication-requires-clause-plan : goal.implied_sides-implication-requires-clause-plan
+implied_sides-implication-requires-clause-plan t c =
+    c.in_ok-next.ensures.longer.plan
+
+pub implied_sides-implication-requires-clause-left : goal.implied_sides-implication-requires-clause-left
+implied_sides-implication-requires-clause-left t c =
+    (c.in_ok-next.ensures.stands.holding, c.in_ok-next.ensures.stands.failing)
+
+pub implied_sides-implication-requires-clause-right : goal.implied_sides-implication-requires-clause-right
+implied_sides-implication-requires-clause-right t c =
+    within_longer c.loop-i.plan.nodes c.term_sides-in-loop-i.new.plan.nodes c.loop-i.any c.in_ok-next.ensures.longer (c.loop-i.invariant.planned.stands.holding, c.loop-i.invariant.planned.stands.failing)
+
+pub implied_sides-returns : goal.implied_sides-returns
+implied_sides-returns t c =
+    let end : c.loop-i.i ≡ zero = omega arith in
+    subst (λ n. IsPlanned c.args.plan.now.nodes c.loop-i.plan.nodes c.loop-i.any (implied (formulas_of (drop n c.args.terms.now)))) end c.loop-i.invariant.planned
+
+pub opposite_sides-returns-in_ok-term_sides : goal.opposite_sides-returns-in_ok-term_sides
+opposite_sides-returns-in_ok-term_sides t c =
+    not_one c.args.plan.now.nodes c.term_sides.new.plan.nodes c.in_ok-term_sides.field-0 c.negation.result c.args.terms.now c.args.term.now c.index-terms-0.result c.if-terms-eq1.true c.index-terms-0.is c.in_ok-term_sides.ensures c.negation.ensures.holding c.negation.ensures.failing
+
+pub term_sides-returns-in_ok-settle-in-Truth : goal.term_sides-returns-in_ok-settle-in-Truth
+term_sides-returns-in_ok-settle-in-Truth t c =
+    planned_as c.args.plan.now.nodes c.settle.new.self.nodes c.in_ok-settle-in-Truth.field-0 (fixed c.in-Truth.b) (formula (seen c.args.term.now)) c.in_ok-settle-in-Truth.ensures (formula_truth c.args.term.now c.in-Truth.b c.in-Truth.is)
+
+pub term_sides-returns-in_ok-atom-in_default : goal.term_sides-returns-in_ok-atom-in_default
+term_sides-returns-in_ok-atom-in_default t c =
+    planned_as c.args.plan.now.nodes c.atom.new.self.nodes c.in_ok-atom-in_default.field-0 (atom c.args.term.now) (formula (seen c.args.term.now)) c.in_ok-atom-in_default.ensures (formula_other c.args.term.now c.in_default.not-Truth c.in_default.not-Apply)

@@ -1,6 +1,7 @@
 use Rattle.std.proofs.Common.{sym, ap, ◌∙◌, map, Err}
 use Rattle.sexpr_reader.specs.declared.sexpr.Sexpr.TheVariants as v
 use Rattle.item_passes.proofs.Bound.{let-value, let-body, quantifier-variable, quantifier-body, value-two, value-few, value-many}
+use Rattle.item_passes.proofs.Looking.{look-atom, look-none, look-let, look-quantifier, look-annotated, look-identifier, look-application}
 use Rattle.smt_names.specs.Form.{forms, seen}
 use Rattle.item_passes.specs.Passes.{looked_quantifier}
 use Rattle.smt_names.specs.Answering.{exact-answers}
@@ -26,3 +27,24 @@ look_quantifier-returns-in-Err t c = exact-answers (looked_quantifier c.args.pas
 
 pub look_quantifier-returns-in-Ok : goal.look_quantifier-returns-in-Ok
 look_quantifier-returns-in-Ok t c = quantifier-body c.args.pass c.args.parts.now c.variables-item.result c.body-item.result c.in-len2.len_at_least c.in-len2.len_below c.variables-item.is c.body-item.is c.as_slice-variables.result.now (c.in-List.is ∙ ap v.List (sym c.as_slice-variables.ensures)) c.look.result c.in-Ok.field-0 (sym c.if-not-are_variables.ensures) (sym c.in-Ok.ensures) c.look.ensures
+
+pub look-returns-in-Atom : goal.look-returns-in-Atom
+look-returns-in-Atom t c = look-atom c.args.pass c.args.item.now c.in-Atom.field-0 c.in-Atom.field-1 c.at_numeral.result c.in-Atom.is c.at_numeral.ensures
+
+pub look-returns-in-empty : goal.look-returns-in-empty
+look-returns-in-empty t c = look-none c.args.pass c.args.item.now c.as_slice.result.now (c.in-List.is ∙ ap v.List (sym c.as_slice.ensures)) c.in-empty.len_below
+
+pub look-returns-in-Let : goal.look-returns-in-Let
+look-returns-in-Let t c = look-let c.args.pass c.args.item.now c.as_slice.result.now (c.in-List.is ∙ ap v.List (sym c.as_slice.ensures)) c.first-item.result c.in-len1-up.len_at_least c.first-item.is c.look_let.result c.in-Let.ensures c.look_let.ensures
+
+pub look-returns-in-Quantifier : goal.look-returns-in-Quantifier
+look-returns-in-Quantifier t c = look-quantifier c.args.pass c.args.item.now c.as_slice.result.now (c.in-List.is ∙ ap v.List (sym c.as_slice.ensures)) c.first-item.result c.in-len1-up.len_at_least c.first-item.is c.look_quantifier.result c.in-Quantifier.ensures c.look_quantifier.ensures
+
+pub look-returns-in-Annotation : goal.look-returns-in-Annotation
+look-returns-in-Annotation t c = look-annotated c.args.pass c.args.item.now c.as_slice.result.now (c.in-List.is ∙ ap v.List (sym c.as_slice.ensures)) c.first-item.result c.in-len1-up.len_at_least c.first-item.is c.look_annotated.result c.in-Annotation.ensures c.look_annotated.ensures
+
+pub look-returns-in-Identifier : goal.look-returns-in-Identifier
+look-returns-in-Identifier t c = look-identifier c.args.pass c.args.item.now c.as_slice.result.now (c.in-List.is ∙ ap v.List (sym c.as_slice.ensures)) c.first-item.result c.in-len1-up.len_at_least c.first-item.is c.at_identifier.result c.in-Identifier.ensures c.at_identifier.ensures
+
+pub look-returns-in_ok-look_first-in-Application : goal.look-returns-in_ok-look_first-in-Application
+look-returns-in_ok-look_first-in-Application t c = look-application c.args.pass c.args.item.now c.as_slice.result.now (c.in-List.is ∙ ap v.List (sym c.as_slice.ensures)) c.first-item.result c.in-len1-up.len_at_least c.first-item.is c.look_all.result c.in_ok-look_first-in-Application.field-0 c.in-Application.ensures c.in_ok-look_first-in-Application.ensures c.look_all.ensures
