@@ -3,13 +3,13 @@ use Rattle.std.proofs.lemmas.Grind.{common_steps}
 use Rattle.sexpr_reader.specs.declared.sexpr.Sexpr.TheVariants as v
 use Rattle.smt_names.specs.declared.opening.Opening.TheVariants as o
 use Rattle.smt_names.specs.Form.{forms, seen, end, ◌⨾◌}
-use Rattle.term_walk.specs.Meant.{Head, any_size, head, in_parentheses, meant, meant_all, meant_quantifier, meant_value}
+use Rattle.term_walk.specs.Meant.{Head, any_size, head, in_parentheses, meant, meant_all, meant_annotated, meant_let, meant_quantifier, meant_value}
 use Rattle.term_walk.specs.Heads.{kept}
 use Rattle.smt_names.specs.declared.check_fault.CheckFault.{CheckFault}
 use Rattle.smt_names.specs.Signature.{Name}
 use Rattle.term_walk.specs.Walks.{Each, Bound, Read, Here, ReadsMeaning}
 use Rattle.term_walk.proofs.Reading.{fault-first, gathered, single, each-grow, each-append, bound-grow, bound-append}
-use Rattle.smt_names.specs.Shapes.{two-seen, seen-List, seen-Atom}
+use Rattle.smt_names.specs.Shapes.{none-seen, two-seen, seen-List, seen-Atom}
 use Rattle.term_walk.proofs.Termwise.{atom-read, list-read, arm-read, annotated-read, count-seen, application-read, application-fault, go-on, gather-none, gather-next, gather-fault, gather-end, single-read, single-fault, all-read, values-read, rest-seen, within-read, quantifier-read, quantifier-fault, let-few, let-many, quantifier-few, quantifier-many, empty-shape, binding-seen, value-read, value-fault, value-few, value-many, let-read, let-fault, at-least}
 use Rattle.term_walk.proofs.walk.+read.Goals as goal
 
@@ -174,3 +174,10 @@ read_quantifier-returns-in-List t c =
 pub read_quantifier-returns-in-len2 : goal.read_quantifier-returns-in-len2
 read_quantifier-returns-in-len2 t c =
     λ s b. ap (meant_quantifier any_size c.args.symbols.now s) (two-seen c.args.parts.now c.bound-item.result c.body-item.result c.in-len2.len_at_least c.in-len2.len_below c.bound-item.is c.body-item.is ∙ ap (λ z. z ⨾ seen c.body-item.result ⨾ end) (ap seen c.in-Atom.is ∙ seen-Atom c.in-Atom.field-0 c.in-Atom.field-1))
+
+pub read_let-returns-in-Atom : goal.read_let-returns-in-Atom
+read_let-returns-in-Atom t c =
+    λ s b. ap (meant_let any_size c.args.symbols.now s) (two-seen c.args.parts.now c.bindings-item.result c.body-item.result c.in-len2.len_at_least c.in-len2.len_below c.bindings-item.is c.body-item.is ∙ ap (λ z. z ⨾ seen c.body-item.result ⨾ end) (ap seen c.in-Atom.is ∙ seen-Atom c.in-Atom.field-0 c.in-Atom.field-1))
+
+pub read_annotated-returns-in-empty : goal.read_annotated-returns-in-empty
+read_annotated-returns-in-empty t c = λ s b. ap (meant_annotated any_size c.args.symbols.now s) (none-seen c.args.parts.now c.in-empty.len_below)

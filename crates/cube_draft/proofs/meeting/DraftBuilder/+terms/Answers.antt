@@ -1,9 +1,11 @@
-use Rattle.std.proofs.Common.{◌∙◌, subst, sym}
+use Rattle.std.proofs.Common.{◌∙◌, arith, subst, sym}
 use Rattle.literal_forms.specs.Linear.{pieces}
+use Rattle.sv_terms.specs.declared.op.Op.TheVariants as any_op
 use Rattle.cube_draft.specs.Gathered.{ArePieced}
 use Rattle.cube_draft.specs.Kinds.{replaced_by}
+use Rattle.written_terms.specs.Strings.{replacer}
 use Rattle.written_terms.proofs.Forms.{seen_all}
-use Rattle.cube_draft.proofs.Placing.{piece_concat, piece_other, replaced_is_known, replaced_is_new, replaced_nothing}
+use Rattle.cube_draft.proofs.Placing.{apply_no_name, apply_no_text, concat_is_known, concat_is_new, piece_concat, piece_leaf, piece_other, pieced_all, pieced_step, replaced_is_known, replaced_is_new, replaced_nothing}
 use Rattle.cube_draft.proofs.meeting.DraftBuilder.+terms.Goals as goal
 
 pub replace-returns-in_default-clause-met : goal.replace-returns-in_default-clause-met
@@ -29,3 +31,42 @@ piece-returns-in_ok-push-in_default-build_of t c = record {
       c.in_ok-place-in_default-build_of.ensures.met c.in_ok-push-in_default-build_of.ensures.ok;
   numbers = c.in_ok-place-in_default-build_of.ensures.numbers;
 }
+
+pub concat-seek-requires-clause-text : goal.concat-seek-requires-clause-text
+concat-seek-requires-clause-text t c = apply_no_text c.args.term.now any_op.Concat c.args.terms.now c.requires
+
+pub concat-seek-requires-clause-name : goal.concat-seek-requires-clause-name
+concat-seek-requires-clause-name t c = apply_no_name c.args.term.now any_op.Concat c.args.terms.now c.requires
+
+pub concat-returns-in-Known-clause-met : goal.concat-returns-in-Known-clause-met
+concat-returns-in-Known-clause-met t c = concat_is_known c.args.self.now c.seek.new.self c.args.term.now c.args.terms.now c.in_ok-place.field-0 c.in-Known.place c.requires c.in_ok-place.ensures.sought c.in-Known.is
+
+pub concat-returns-in_ok-define-in-New-clause-met : goal.concat-returns-in_ok-define-in-New-clause-met
+concat-returns-in_ok-define-in-New-clause-met t c =
+    concat_is_new c.args.self.now c.seek.new.self c.pieces.new.self c.define.new.self c.args.term.now c.args.terms.now c.in_ok-place.field-0 c.in-New.place c.new-places.result c.pieces.new.places c.requires c.in_ok-place.ensures.sought c.in-New.is c.new-places.ensures
+    c.in_ok-pieces-in-New.ensures.met c.in_ok-define-in-New.ensures
+
+pub replace-seek-requires-clause-text : goal.replace-seek-requires-clause-text
+replace-seek-requires-clause-text t c = apply_no_text c.args.term.now (replacer c.args.occurrences) c.args.terms.now c.requires
+
+pub replace-seek-requires-clause-name : goal.replace-seek-requires-clause-name
+replace-seek-requires-clause-name t c = apply_no_name c.args.term.now (replacer c.args.occurrences) c.args.terms.now c.requires
+
+pub piece-returns-in_ok-push-in_default : goal.piece-returns-in_ok-push-in_default
+piece-returns-in_ok-push-in_default t c = record {
+  met =
+      piece_leaf c.args.self.now c.place-in_default.new.self c.args.term.now c.in_ok-place-in_default.place c.args.places.now c.push-in_default.new.self c.in_default.not-Apply c.in_ok-place-in_default.ensures.met
+      c.in_ok-push-in_default.ensures.ok;
+  numbers = c.in_ok-place-in_default.ensures.numbers;
+}
+
+pub pieces-loop-i-preserved : goal.pieces-loop-i-preserved
+pieces-loop-i-preserved t c = record {
+  met =
+      pieced_step c.args.self.now c.loop-i.self c.piece.new.self c.args.terms.now c.loop-i.i c.index-terms-i.result c.args.places.now c.loop-i.places c.piece.new.places (omega arith) c.index-terms-i.is c.loop-i.invariant.met
+      c.in_ok-piece.ensures.met;
+  numbers = c.in_ok-piece.ensures.numbers ∙ c.loop-i.invariant.numbers;
+}
+
+pub pieces-returns-clause-met : goal.pieces-returns-clause-met
+pieces-returns-clause-met t c = pieced_all c.args.self.now c.loop-i.self c.args.terms.now c.loop-i.i c.args.places.now c.loop-i.places (omega arith) c.loop-i.invariant.met
