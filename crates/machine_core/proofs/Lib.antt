@@ -1,6 +1,7 @@
 pub mod CostLemmas
 pub mod FoundLemmas
 pub mod FormedLemmas
+pub mod PushLemmas
 pub mod WideLemmas
 pub mod GraphLemmas
 pub mod LikeLemmas

@@ -1,10 +1,13 @@
-use Rattle.std.proofs.Common.{◌≡◌, sym, subst, inl, inr, ap, Err}
+use Rattle.std.proofs.Common.{◌≡◌, length, sym, subst, inl, inr, ap, arith, Result, Ok, Err}
 use Rattle.trim_search.specs.Grown.{IsNodeOf}
 use Rattle.trim_search.proofs.Gets.{slice_get-read}
 use Rattle.trim_search.proofs.NodeLemmas.{target-follows, grown-valid, node-of, node-formed, node-top}
 use Rattle.trim_search.specs.Grown.{IsTarget}
 use Rattle.trim_search.proofs.FullLemmas.{full-weaker}
 use Rattle.trim_search.proofs.explore.look_at.Goals as goal
+
+ok-no-err : {A B C : Type 0} (a : A) (b : B) → ◌≡◌ {A = Result A B} (Ok a) (Err b) → C
+ok-no-err a b e = absurd cc
 
 pub returns-in_err-edges-clause-valid : goal.returns-in_err-edges-clause-valid
 returns-in_err-edges-clause-valid g c =
@@ -84,3 +87,66 @@ returns-in_err-edges-clause-full g c = λ n e.
           c.index-names-at.result (c.requires.valid _ _ here) c.in_ok-moves.moves c.in_ok-moves.ensures.exact c.in_ok-moves.ensures.inhabited t k,
     ))
     (c.in_err-edges.ensures.full n (ap Err (sym d)))
+
+pub returns-in_err-ends-clause-valid : goal.returns-in_err-ends-clause-valid
+returns-in_err-ends-clause-valid g c = c.requires.valid
+
+pub returns-in_err-ends-clause-within : goal.returns-in_err-ends-clause-within
+returns-in_err-ends-clause-within g c = c.requires.within
+
+pub returns-in_err-ends-clause-counted : goal.returns-in_err-ends-clause-counted
+returns-in_err-ends-clause-counted g c = c.requires.counted
+
+pub returns-in_err-ends-clause-kept : goal.returns-in_err-ends-clause-kept
+returns-in_err-ends-clause-kept g c = λ n s e. e
+
+pub returns-in_err-ends-clause-added : goal.returns-in_err-ends-clause-added
+returns-in_err-ends-clause-added g c = λ n s e. inl e
+
+pub returns-in_err-moves-clause-valid : goal.returns-in_err-moves-clause-valid
+returns-in_err-moves-clause-valid g c = c.requires.valid
+
+pub returns-in_err-moves-clause-within : goal.returns-in_err-moves-clause-within
+returns-in_err-moves-clause-within g c = c.requires.within
+
+pub returns-in_err-moves-clause-counted : goal.returns-in_err-moves-clause-counted
+returns-in_err-moves-clause-counted g c = c.requires.counted
+
+pub returns-in_err-moves-clause-kept : goal.returns-in_err-moves-clause-kept
+returns-in_err-moves-clause-kept g c = λ n s e. e
+
+pub returns-in_err-moves-clause-added : goal.returns-in_err-moves-clause-added
+returns-in_err-moves-clause-added g c = λ n s e. inl e
+
+pub rename-requires-clause-within : goal.rename-requires-clause-within
+rename-requires-clause-within g c = c.requires.within
+
+pub rename-requires-clause-counted : goal.rename-requires-clause-counted
+rename-requires-clause-counted g c = c.requires.counted
+
+pub returns-in_err-edges-clause-within : goal.returns-in_err-edges-clause-within
+returns-in_err-edges-clause-within g c = c.rename.ensures.within
+
+pub returns-in_err-edges-clause-counted : goal.returns-in_err-edges-clause-counted
+returns-in_err-edges-clause-counted g c = c.rename.ensures.counted
+
+pub returns-in_err-edges-clause-kept : goal.returns-in_err-edges-clause-kept
+returns-in_err-edges-clause-kept g c = c.rename.ensures.grows.kept
+
+pub returns-clause-within : goal.returns-clause-within
+returns-clause-within g c = c.rename.ensures.within
+
+pub returns-clause-counted : goal.returns-clause-counted
+returns-clause-counted g c = c.rename.ensures.counted
+
+pub returns-clause-kept : goal.returns-clause-kept
+returns-clause-kept g c = c.rename.ensures.grows.kept
+
+pub returns-clause-full : goal.returns-clause-full
+returns-clause-full g c = λ n e. ok-no-err _ _ e
+
+pub bounds-names-at : goal.bounds-names-at
+bounds-names-at g c =
+    let same : length c.names.result.now ≡ length (g.N.StateNumbering.named c.args.numbers.now) = ap length c.names.ensures.items in
+    let at = c.requires.at in
+    omega arith
