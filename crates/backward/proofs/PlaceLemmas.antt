@@ -1,5 +1,5 @@
 -- What a place of a list holds, told apart: nothing, a place that is free, or one thing. They ask nothing of the things, so that a proof compares no machines.
-use Rattle.std.proofs.Common.{◌≡◌, Option, Some, None}
+use Rattle.std.proofs.Common.{◌≡◌, Some, None}
 
 pub none-some : {X : Type 0} (x : X) → None ≡ Some x → ⊥
 none-some x e = cc
