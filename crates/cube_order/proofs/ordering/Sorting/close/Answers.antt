@@ -1,6 +1,8 @@
-use Rattle.std.proofs.Common.{rules, ◌∙◌, ap, refl, arith, length, get_or, ◌<◌, subst, sym}
+use Rattle.std.proofs.Common.{rules, ◌∙◌, ap, refl, arith, length, get_or, ◌<◌, ◌≤◌, subst, sym}
 use Rattle.flat_cubes.specs.Straight.{HaveVariablesBelow}
+use Rattle.std.proofs.lemmas.List.{drop_all}
 use Rattle.std.proofs.lemmas.Option.{slice_get-get_or}
+use Rattle.cube_order.specs.Waiting.{IsSorting}
 use Rattle.cube_order.proofs.Starting.{filed_closed, filed_drop}
 use Rattle.cube_order.proofs.Uses.{within_variable}
 use Rattle.cube_order.proofs.ordering.Sorting.close.Goals as goal
@@ -38,3 +40,12 @@ returns-clause-ahead c = c.loop-waiter.invariant.1.count
 
 pub returns-clause-rows : goal.returns-clause-rows
 returns-clause-rows c = c.loop-waiter.invariant.1.rows ∙ sym c.requires.rows
+
+pub returns-clause-sorting : goal.returns-clause-sorting
+returns-clause-sorting c =
+    let a = c.loop-waiter-test.false in
+    let past : length c.as_slice-waiter-items.result.now ≤ c.loop-waiter.waiter-index = omega (arith, a) in
+    subst (λ ws. IsSorting c.args.definitions.now ws c.loop-waiter.self.order c.loop-waiter.self.ahead c.loop-waiter.self.free.keys c.loop-waiter.self.waiters.items) (drop_all c.loop-waiter.waiter-index c.as_slice-waiter-items.result.now past) c.loop-waiter.invariant.1.sorting
+
+pub bounds-definitions-first : goal.bounds-definitions-first
+bounds-definitions-first c = c.requires.inside
