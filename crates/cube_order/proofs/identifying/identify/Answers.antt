@@ -1,4 +1,5 @@
-use Rattle.std.proofs.Common.{◌∙◌, ◌<◌, ◌∷◌, [], ℕ, zero, suc, List, sym, subst, get_or, refl, take, length, arith}
+use Rattle.std.proofs.Common.{◌∙◌, ◌<◌, ◌≤◌, ◌∷◌, [], ℕ, zero, suc, List, sym, subst, get_or, refl, take, length, arith}
+use Rattle.std.proofs.lemmas.List.{take_all}
 use Rattle.cube_order.specs.Leading.{ArePairsBelow, LeadsTo}
 use Rattle.flat_cubes.specs.Flattening.{identified}
 use Rattle.cube_order.proofs.Leads.{identified_more}
@@ -32,3 +33,9 @@ join-requires-clause-other_within c = subst (λ n. (get_or c.args.equalities.now
 
 pub settle-requires : goal.settle-requires
 settle-requires c = c.loop-one.invariant.forest
+
+pub returns : goal.returns
+returns c firsts h =
+    let a = c.loop-one-test.false in
+    let past : length c.args.equalities.now ≤ c.loop-one.one-index = omega (arith, a) in
+    c.settle.ensures (identified c.args.equalities.now firsts) (subst (λ es. LeadsTo (identified es firsts) c.loop-one.above) (take_all c.loop-one.one-index c.args.equalities.now past) (c.loop-one.invariant.leads firsts h))

@@ -1,4 +1,4 @@
-use Rattle.std.proofs.Common.{rules, ◌∙◌, ap, refl, arith, length, get_or, ◌<◌, ◌≤◌, subst, sym}
+use Rattle.std.proofs.Common.{rules, ◌∙◌, ap, refl, arith, length, get_or, ◌<◌, ◌≤◌, inl, drop-cons, subst, sym}
 use Rattle.flat_cubes.specs.Straight.{HaveVariablesBelow}
 use Rattle.std.proofs.lemmas.List.{drop_all}
 use Rattle.std.proofs.lemmas.Option.{slice_get-get_or}
@@ -49,3 +49,9 @@ returns-clause-sorting c =
 
 pub bounds-definitions-first : goal.bounds-definitions-first
 bounds-definitions-first c = c.requires.inside
+
+pub file-requires-clause-passed : goal.file-requires-clause-passed
+file-requires-clause-passed c =
+    let w = get_or c.as_slice-waiter-items.result.now c.loop-waiter.waiter-index (record { definition = 0; from = 0 }) in
+    let sorting = subst (λ ws. IsSorting c.args.definitions.now ws c.loop-waiter.self.order c.loop-waiter.self.ahead c.loop-waiter.self.free.keys c.loop-waiter.self.waiters.items) (drop-cons c.as_slice-waiter-items.result.now c.loop-waiter.waiter-index (record { definition = 0; from = 0 }) c.loop-waiter-test.true) c.loop-waiter.invariant.1.sorting in
+    sorting.pends_passed w (inl refl)
