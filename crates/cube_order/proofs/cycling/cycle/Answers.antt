@@ -44,3 +44,6 @@ next-at-requires-clause-closed c = c.requires.closed
 
 pub next-at-requires-clause-ahead : goal.next-at-requires-clause-ahead
 next-at-requires-clause-ahead c = c.loop-at.invariant.is_ahead
+
+pub bounds-as_slice-at : goal.bounds-as_slice-at
+bounds-as_slice-at c = subst (λ z. c.loop-at.at < length z) (sym c.as_slice.ensures) (subst (λ n. c.loop-at.at < n) (sym c.loop-at.invariant.count) (ahead_within c.args.ahead.now c.loop-at.at c.loop-at.invariant.is_ahead))
