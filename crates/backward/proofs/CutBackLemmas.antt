@@ -29,6 +29,7 @@ use Rattle.backward.specs.declared.meeting.Apart.{Apart}
 use Rattle.backward.specs.declared.meeting.MetPart.{MetPart}
 use Rattle.backward.proofs.ConfLemmas.{set-same, set-other, without-other}
 use Rattle.backward.proofs.LoopLemmas.{same-found, get-below, get-in, drop-at, drop-all, first-drop}
+use Rattle.backward.proofs.PlaceLemmas.{some-once, free-held, held-once}
 use Rattle.backward.proofs.RunsBack.{run-of, no-run, runs-back, totals-less, totals-more, word-there, word-other, word-of}
 
 drop-none : {X : Type 0} (xs : List X) (i : ℕ) → slice_get xs i ≡ None → drop i xs ≡ []
@@ -103,7 +104,7 @@ met-step base mid ns p ps k q rest qs done count old last now v m e more = elim 
       let at : slice_get (qs ++ done) (length ps) ≡ Some q = ap (λ l. slice_get (l ++ done) (length ps)) last ∙ ap (slice_get ((rest ++ q ∷ []) ++ done)) (sym count) ∙ get-behind rest q done in
       let here : HasMachine (slice_set mid p (Some q.small.machine)) p m = subst (λ u. HasMachine (slice_set mid p (Some q.small.machine)) u m) (sym is.1) (subst (λ l. HasMachine l v m) now e) in
       let there = set-same mid p (Some k) (Some q.small.machine) old in
-      let same : m ≡ q.small.machine = cc in
+      let same = held-once m q.small.machine (sym here ∙ there) in
       subst (λ b. Holds base v m (cond b (slice_get (qs ++ done) (length ps)) (met_at v ps (qs ++ done)))) (sym is.0) (subst (Holds base v m) (sym at) same)
   | inr off ↦
       let before : HasMachine mid v m = sym (set-other mid p v (Some q.small.machine) (λ i. off.1 (sym i))) ∙ subst (λ l. HasMachine l v m) now e in
@@ -129,7 +130,7 @@ others-step : (x p : ℕ) (ps : List ℕ) (mid ns : Family) (k : Graph) (q : Met
 others-step x p ps mid ns k q there now rest = (ap (λ l. slice_get l x) now ∙ set-other mid p x (Some q.small.machine) (λ e. other (sym e)) ∙ rest.0, each)
   where
     other : p ≡ x → ⊥
-    other e = let h = there in let none = rest.0 in let at = ap (slice_get mid) e in cc
+    other e = free-held k (sym rest.0 ∙ sym (ap (slice_get mid) e) ∙ there)
 
     each : (r : ℕ) → Contains (p ∷ ps) r → r ≡ x → ⊥
     each r (zero, lt, e) = subst (λ u. u ≡ x → ⊥) e other
@@ -155,7 +156,7 @@ pub one-met : (ms : Family) (v : ℕ) (ps : List ℕ) (qs : List MetPart) (k g :
 one-met ms v ps qs k g = by (met_at v ps qs)
   where
     by : (o : Option MetPart) → Holds ms v k o → Holds ms v g o → k ≡ g
-    by None e f = cc
+    by None e f = held-once k g (sym e ∙ f)
     by (Some q) e f = e ∙ sym f
 
 -- what is known of the piece that is taken back next
@@ -247,10 +248,10 @@ module _ (ms : Family) (x : ℕ) (target : Graph) (cuts pieces : List ℕ) (meet
     same-machine = one-met ms piece (drop (suc i) pieces) meetings next.k g machine-met mg
 
     same-meeting : next.q ≡ q
-    same-meeting = let e = meeting-at in cc
+    same-meeting = some-once next.q q (sym meeting-at ∙ mq)
 
     same-from : next.from ≡ from
-    same-from = let e = next.begins in cc
+    same-from = some-once next.from from (sym next.begins ∙ mf)
 
     same-to : first_of (drop (suc i) (0 ∷ cuts)) ≡ to
     same-to = first-drop cuts i ∙ sym mt
@@ -265,8 +266,7 @@ module _ (ms : Family) (x : ℕ) (target : Graph) (cuts pieces : List ℕ) (meet
     pub piece-run : IsRunOf q.small.machine r
     piece-run =
         let w = run-held in
-        let f = w.1 in
-        let same : w.0 ≡ r = cc in
+        let same = held-once w.0 r (sym w.1 ∙ mr) in
         subst (λ (m : MetPart). IsRunOf m.small.machine r) same-meeting (subst (IsRunOf next.q.small.machine) same w.2)
 
     -- the run so far ends where the piece's part begins

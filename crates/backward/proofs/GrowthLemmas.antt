@@ -12,6 +12,7 @@ use Rattle.backward.specs.Meetings.{IsCostWithin}
 use Rattle.backward.specs.Carried.{IsCarried, IsCarriedThrough}
 use Rattle.backward.specs.Bounds.{IsGrownWithin, total_over, sum_of}
 use Rattle.backward.proofs.ConfLemmas.{set-other}
+use Rattle.backward.proofs.PlaceLemmas.{none-some, free-held}
 use Rattle.backward.proofs.TotalLemmas.{total-le, total-fewer, total-add, total-scale, total-one, total-nothing, total-without, total-pieces}
 
 -- a machine of what came of a family is that of a variable which had one before
@@ -20,11 +21,11 @@ pub shape-back : (ms ns : Family) (x : ℕ) (target : Graph) → HasMachine ms x
 shape-back ms ns x target there shape v n h = by (slice_get ms v) refl
   where
     other : v ≡ x → ⊥
-    other e = let is = subst (λ u. slice_get ns u ≡ Some None) (sym e) shape.carried in cc
+    other e = let is = subst (λ u. slice_get ns u ≡ Some None) (sym e) shape.carried in free-held n (sym is ∙ h)
 
     by : (o : Option (Option Graph)) → slice_get ms v ≡ o → (v ≡ x → ⊥) × ((m : Graph) × HasMachine ms v m)
-    by None e = let none = shape.past v e in cc
-    by (Some None) e = let none = shape.others v other e in cc
+    by None e = absurd (none-some (Some n) (sym (shape.past v e) ∙ h))
+    by (Some None) e = absurd (free-held n (sym (shape.others v other e) ∙ h))
     by (Some (Some m)) e = (other, (m, e))
 
 -- a piece grows no more than all of them

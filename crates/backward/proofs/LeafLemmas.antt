@@ -30,6 +30,7 @@ use Rattle.backward.proofs.ConfLemmas.{put-same, put-other}
 use Rattle.backward.proofs.CutLemmas.{cuts-within}
 use Rattle.backward.proofs.LoopLemmas.{drop-at, drop-all, get-below}
 use Rattle.backward.proofs.OrderLemmas.{stands-at, not-of, or-false}
+use Rattle.backward.proofs.PlaceLemmas.{none-some, free-held, held-once}
 use Rattle.backward.proofs.StateLemmas.{get-there}
 
 -- the words by number come by the definitions
@@ -81,8 +82,7 @@ own-full flat ms own v e =
     let size = own.size in
     let there = get-there flat.variables v (omega arith) in
     let m = own.each v there.0 there.1 in
-    let at = m.1 in
-    cc
+    free-held m.0 (sym e ∙ m.1)
 
 own-reads : (flat : Flat) (ms : Family) → IsOwnFamily flat ms → (v : ℕ) (m : Graph) → HasMachine ms v m → (variable : Variable) × (slice_get flat.variables v ≡ Some variable) × ReadsOwn flat v variable m
 own-reads flat ms own v m h =
@@ -90,8 +90,7 @@ own-reads flat ms own v m h =
     let size = own.size in
     let there = get-there flat.variables v (omega arith) in
     let n = own.each v there.0 there.1 in
-    let at = n.1 in
-    let same : n.0 ≡ m = cc in
+    let same = held-once n.0 m (sym n.1 ∙ h) in
     (there.0, there.1, subst (ReadsOwn flat v there.0) same n.2)
 
 range-at : (f : Words) (k n v : ℕ) → v < n → get_or (map f (range_with_len k n)) v [] ≡ f (k + v)
@@ -138,10 +137,10 @@ lengths-agree f g n agree (u ∷ us) h = let here = ap length (agree u h.0) in l
 
 -- each machine reads the word of its variable
 conf-accepts : (n : ℕ) (ms : Family) (g : Words) (totals : List ℕ) → Conf n ms g totals → (v : ℕ) (m : Graph) → HasMachine ms v m → (cost : List ℕ) × Accepts m (g v) cost
-conf-accepts n [] g totals c v m h = cc
-conf-accepts n (None ∷ ms) g totals c zero m h = cc
+conf-accepts n [] g totals c v m h = absurd (none-some (Some m) h)
+conf-accepts n (None ∷ ms) g totals c zero m h = absurd (free-held m h)
 conf-accepts n (None ∷ ms) g totals c (suc v) m h = conf-accepts n ms (after g) totals c v m h
-conf-accepts n (Some k ∷ ms) g totals c zero m h = let is : k ≡ m = cc in (c.0, subst (λ x. Accepts x (g 0) c.0) is c.2)
+conf-accepts n (Some k ∷ ms) g totals c zero m h = (c.0, subst (λ x. Accepts x (g 0) c.0) (held-once k m h) c.2)
 conf-accepts n (Some k ∷ ms) g totals c (suc v) m h = conf-accepts n ms (after g) c.1 c.3 v m h
 
 -- and the words of a first family cost their lengths
@@ -252,12 +251,11 @@ lessened-conf n [] [] size none some words totals = (λ c. c, λ c. c)
 lessened-conf n [] (o ∷ ns) size none some words totals = absurd (omega (arith, size))
 lessened-conf n (o ∷ ms) [] size none some words totals = absurd (omega (arith, size))
 lessened-conf n (None ∷ ms) (None ∷ ns) size none some words totals = lessened-conf n ms ns (omega (arith, size)) (λ v. none (suc v)) (λ v. some (suc v)) (after words) totals
-lessened-conf n (None ∷ ms) (Some g ∷ ns) size none some words totals = let e = none 0 refl in cc
-lessened-conf n (Some m ∷ ms) (None ∷ ns) size none some words totals = let e = (some 0 m refl).1 in cc
+lessened-conf n (None ∷ ms) (Some g ∷ ns) size none some words totals = absurd (free-held g (sym (none 0 refl)))
+lessened-conf n (Some m ∷ ms) (None ∷ ns) size none some words totals = let one = some 0 m refl in absurd (free-held one.0 one.1)
 lessened-conf n (Some m ∷ ms) (Some g ∷ ns) size none some words totals =
     let one = some 0 m refl in
-    let at = one.1 in
-    let is : one.0 ≡ g = cc in
+    let is = sym (held-once g one.0 one.1) in
     let reads = subst (λ h. (word cost : List ℕ) → Accepts h word cost ↔ Accepts m word cost) is one.2 in
     let rest : (t : List ℕ) → Conf n ms (after words) t ↔ Conf n ns (after words) t = λ t. lessened-conf n ms ns (omega (arith, size)) (λ v. none (suc v)) (λ v. some (suc v)) (after words) t in (
       λ c. (c.0, c.1, (reads (words 0) c.0).1 c.2, (rest c.1).0 c.3, c.4),
@@ -274,15 +272,6 @@ machines-all {P = P} (Some g ∷ ns) h = each (machines-all ns (λ v. h (suc v))
     each rest zero d lt = h 0 g refl
     each rest (suc k) d lt = rest k d (omega (arith, lt))
 
-some-some : (m g : Graph) → Some (Some m) ≡ Some (Some g) → m ≡ g
-some-some m g e = cc
-
-some-none : (m : Graph) → Some (Some m) ≡ Some None → ⊥
-some-none m e = cc
-
-none-some : (o : Option Graph) → None ≡ Some o → ⊥
-none-some o e = cc
-
 -- a place of the lessened family is one of the family
 place-of : (ms ns : Family) → length ns ≡ length ms → (v : ℕ) (o : Option Graph) → slice_get ns v ≡ Some o → (x : Option Graph) × (slice_get ms v ≡ Some x)
 place-of ms ns size v o e = let below = get-below ns v o e in get-there ms v (omega (arith, size, below))
@@ -292,18 +281,18 @@ gone ms ns less v e = go (place-of ms ns less.size v None e)
   where
     go : (x : Option Graph) × (slice_get ms v ≡ Some x) → slice_get ms v ≡ Some None
     go (None, h) = h
-    go (Some m, h) = let n = (less.each v m h).1 in absurd (some-none (less.each v m h).0 (sym n ∙ e))
+    go (Some m, h) = let n = (less.each v m h).1 in absurd (free-held (less.each v m h).0 (sym e ∙ n))
 
 was : (ms ns : Family) → IsLessened ms ns → (v : ℕ) (g : Graph) → HasMachine ns v g → (m : Graph) × HasMachine ms v m
 was ms ns less v g e = go (place-of ms ns less.size v (Some g) e)
   where
     go : (x : Option Graph) × (slice_get ms v ≡ Some x) → (m : Graph) × HasMachine ms v m
-    go (None, h) = absurd (some-none g (sym e ∙ less.carried v h))
+    go (None, h) = absurd (free-held g (sym (less.carried v h) ∙ e))
     go (Some m, h) = (m, h)
 
 -- the machine of the family that a lessened one comes of
 less-of : (ms ns : Family) → IsLessened ms ns → (v : ℕ) (g m : Graph) → HasMachine ns v g → HasMachine ms v m → IsLess m g
-less-of ms ns less v g m e h = let n = less.each v m h in subst (IsLess m) (some-some n.0 g (sym n.1 ∙ e)) n.2
+less-of ms ns less v g m e h = let n = less.each v m h in subst (IsLess m) (held-once n.0 g (sym n.1 ∙ e)) n.2
 
 lessened-wide : (width : ℕ) (ms ns : Family) → IsLessened ms ns → AreWide width ms → AreWide width ns
 lessened-wide width ms ns less wide v g e = let w = was ms ns less v g e in (less-of ms ns less v g w.0 e w.1).registers ∙ wide v w.0 w.1

@@ -1,3 +1,4 @@
+pub mod PlaceLemmas
 pub mod CostSums
 pub mod ConfLemmas
 pub mod CutLemmas

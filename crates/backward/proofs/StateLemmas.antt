@@ -33,6 +33,7 @@ use Rattle.backward.proofs.CarryLemmas.{first-power}
 use Rattle.backward.proofs.GrowthLemmas.{shape-back, past-within, grown-free, grown-first, grown-concat, grown-through, concat-fits, through-fits}
 use Rattle.backward.proofs.LoopLemmas.{drop-at, drop-all, get-below}
 use Rattle.backward.proofs.OrderLemmas.{stands-at, or-false, or-right, each-at, not-of, factors-behind, occurrences-count, sum-same}
+use Rattle.backward.proofs.PlaceLemmas.{none-some, free-held, held-once}
 
 pub get-there : {X : Type 0} (xs : List X) (i : ℕ) → i < length xs → (x : X) × (slice_get xs i ≡ Some x)
 get-there [] i h = absurd (omega (arith, h))
@@ -50,20 +51,20 @@ get-map f (y ∷ ys) zero x e = let same : y ≡ x = cc in ap (λ z. Some (f z))
 get-map f (y ∷ ys) (suc i) x e = get-map f ys i x e
 
 some-back : (ms : List Graph) (v : ℕ) (m : Graph) → HasMachine (map Some ms) v m → slice_get ms v ≡ Some m
-some-back [] v m e = cc
-some-back (k ∷ ms) zero m e = let same : k ≡ m = cc in ap Some same
+some-back [] v m e = absurd (none-some (Some m) e)
+some-back (k ∷ ms) zero m e = ap Some (held-once k m e)
 some-back (k ∷ ms) (suc v) m e = some-back ms v m e
 
 some-none : (ms : List Graph) (v : ℕ) → slice_get (map Some ms) v ≡ Some None → ⊥
-some-none [] v e = cc
-some-none (k ∷ ms) zero e = cc
+some-none [] v e = none-some None e
+some-none (k ∷ ms) zero e = free-held k (sym e)
 some-none (k ∷ ms) (suc v) e = some-none ms v e
 
 -- as many places, where just the same ones are past the end
 same-size : {X Y : Type 0} (xs : List X) (ys : List Y) → ((i : ℕ) → slice_get xs i ≡ None → slice_get ys i ≡ None) → ((i : ℕ) → slice_get ys i ≡ None → slice_get xs i ≡ None) → length ys ≡ length xs
 same-size [] [] f g = refl
-same-size [] (y ∷ ys) f g = let e = f 0 refl in cc
-same-size (x ∷ xs) [] f g = let e = g 0 refl in cc
+same-size [] (y ∷ ys) f g = absurd (none-some y (sym (f 0 refl)))
+same-size (x ∷ xs) [] f g = absurd (none-some x (sym (g 0 refl)))
 same-size (x ∷ xs) (y ∷ ys) f g = ap suc (same-size xs ys (λ i. f (suc i)) (λ i. g (suc i)))
 
 -- the first family
@@ -140,8 +141,7 @@ module _ (flat : Flat) (straight : IsStraight flat) (left : ℕ) (s : LeafState)
       go None e =
           let size = state.size in
           let there = get-there s.machines v (omega arith) in
-          let at = there.1 in
-          cc
+          absurd (none-some there.0 (sym e ∙ there.1))
       go (Some None) e = absurd (false≢true (sym free ∙ state.carried v e))
       go (Some (Some m)) e = (m, e)
 
@@ -173,12 +173,12 @@ module _ (flat : Flat) (straight : IsStraight flat) (left : ℕ) (s : LeafState)
     new-past v e = go (slice_get s.machines v) refl
       where
         other : v ≡ d.variable → ⊥
-        other is = let gone = shape.carried in let at = ap (slice_get new.machines) is in cc
+        other is = none-some None (sym e ∙ ap (slice_get new.machines) is ∙ shape.carried)
 
         go : (o : Option (Option Graph)) → slice_get s.machines v ≡ o → slice_get s.machines v ≡ None
         go None h = h
-        go (Some None) h = let none = shape.others v other h in cc
-        go (Some (Some m)) h = let kept = (shape.kept v m other h).1 in cc
+        go (Some None) h = absurd (none-some None (sym e ∙ shape.others v other h))
+        go (Some (Some m)) h = let kept = shape.kept v m other h in absurd (none-some (Some kept.0) (sym e ∙ kept.1))
 
     new-carried : (v : ℕ) → slice_get new.machines v ≡ Some None → is_carried flat left v ≡ true
     new-carried v e = ap (λ ds. is_defined ds v) front ∙ elim (eqb_tells d.variable v) [
@@ -187,9 +187,9 @@ module _ (flat : Flat) (straight : IsStraight flat) (left : ℕ) (s : LeafState)
     ]
       where
         go : (v ≡ d.variable → ⊥) → (o : Option (Option Graph)) → slice_get s.machines v ≡ o → is_carried flat (suc left) v ≡ true
-        go ne None h = let none = shape.past v h in cc
+        go ne None h = absurd (none-some None (sym (shape.past v h) ∙ e))
         go ne (Some None) h = state.carried v h
-        go ne (Some (Some m)) h = let kept = (shape.kept v m ne h).1 in cc
+        go ne (Some (Some m)) h = let kept = shape.kept v m ne h in absurd (free-held kept.0 (sym e ∙ kept.1))
 
     new-standing : (v : ℕ) (n : Graph) → HasMachine new.machines v n → is_carried flat left v ≡ false
     new-standing v n e =

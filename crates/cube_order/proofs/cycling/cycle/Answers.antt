@@ -26,3 +26,24 @@ loop-at-smaller c =
 
 pub loop-at-preserved : goal.loop-at-preserved
 loop-at-preserved c = traced_on c.args.definitions.now c.args.ahead.now c.loop-at.path c.push.new.self c.loop-at.seen c.set.new.self c.loop-at.at c.next-at.result c.loop-at.invariant c.in_ok-push.ensures.ok (c.set.ensures ∙ ap (λ z. slice_set c.loop-at.seen c.loop-at.at (Some z)) c.len.ensures) c.next-at.ensures.ahead c.next-at.ensures.uses
+
+pub set-requires : goal.set-requires
+set-requires c = subst (λ n. c.loop-at.at < n) (sym c.loop-at.invariant.count) (ahead_within c.args.ahead.now c.loop-at.at c.loop-at.invariant.is_ahead)
+
+pub next-at-requires-clause-within : goal.next-at-requires-clause-within
+next-at-requires-clause-within c = c.requires.within
+
+pub next-at-requires-clause-count : goal.next-at-requires-clause-count
+next-at-requires-clause-count c = c.requires.count
+
+pub next-at-requires-clause-places : goal.next-at-requires-clause-places
+next-at-requires-clause-places c = c.requires.places
+
+pub next-at-requires-clause-closed : goal.next-at-requires-clause-closed
+next-at-requires-clause-closed c = c.requires.closed
+
+pub next-at-requires-clause-ahead : goal.next-at-requires-clause-ahead
+next-at-requires-clause-ahead c = c.loop-at.invariant.is_ahead
+
+pub bounds-as_slice-at : goal.bounds-as_slice-at
+bounds-as_slice-at c = subst (λ z. c.loop-at.at < length z) (sym c.as_slice.ensures) (subst (λ n. c.loop-at.at < n) (sym c.loop-at.invariant.count) (ahead_within c.args.ahead.now c.loop-at.at c.loop-at.invariant.is_ahead))

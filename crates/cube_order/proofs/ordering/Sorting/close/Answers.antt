@@ -1,5 +1,8 @@
-use Rattle.std.proofs.Common.{rules, ◌∙◌, ap, refl, arith, length, get_or, ◌<◌}
+use Rattle.std.proofs.Common.{rules, ◌∙◌, ap, refl, arith, length, get_or, ◌<◌, ◌≤◌, inl, drop-cons, subst, sym}
+use Rattle.flat_cubes.specs.Straight.{HaveVariablesBelow}
+use Rattle.std.proofs.lemmas.List.{drop_all}
 use Rattle.std.proofs.lemmas.Option.{slice_get-get_or}
+use Rattle.cube_order.specs.Waiting.{IsSorting}
 use Rattle.cube_order.proofs.Starting.{filed_closed, filed_drop}
 use Rattle.cube_order.proofs.Uses.{within_variable}
 use Rattle.cube_order.proofs.ordering.Sorting.close.Goals as goal
@@ -22,3 +25,33 @@ loop-waiter-preserved c = (
   ap length c.file.ensures.order ∙ c.loop-waiter.invariant.0,
   filed_drop (length c.args.self.now.ahead) c.args.definitions.now c.as_slice-waiter-items.result.now c.loop-waiter.waiter-index (record { definition = 0; from = 0 }) c.loop-waiter.self.order c.file.new.self.order c.loop-waiter.self.ahead c.file.new.self.ahead c.loop-waiter.self.free.keys c.file.new.self.free.keys c.loop-waiter.self.waiters.items c.file.new.self.waiters.items c.loop-waiter-test.true c.loop-waiter.invariant.1 c.file.ensures.ahead c.file.ensures.rows c.in_ok-file.ensures.filed,
 )
+
+pub file-requires-clause-within : goal.file-requires-clause-within
+file-requires-clause-within c = subst (λ n. HaveVariablesBelow n c.args.definitions.now) (sym c.loop-waiter.invariant.1.count) c.requires.within
+
+pub file-requires-clause-rows : goal.file-requires-clause-rows
+file-requires-clause-rows c = c.loop-waiter.invariant.1.rows ∙ sym c.loop-waiter.invariant.1.count
+
+pub returns-clause-order : goal.returns-clause-order
+returns-clause-order c = c.loop-waiter.invariant.0
+
+pub returns-clause-ahead : goal.returns-clause-ahead
+returns-clause-ahead c = c.loop-waiter.invariant.1.count
+
+pub returns-clause-rows : goal.returns-clause-rows
+returns-clause-rows c = c.loop-waiter.invariant.1.rows ∙ sym c.requires.rows
+
+pub returns-clause-sorting : goal.returns-clause-sorting
+returns-clause-sorting c =
+    let a = c.loop-waiter-test.false in
+    let past : length c.as_slice-waiter-items.result.now ≤ c.loop-waiter.waiter-index = omega (arith, a) in
+    subst (λ ws. IsSorting c.args.definitions.now ws c.loop-waiter.self.order c.loop-waiter.self.ahead c.loop-waiter.self.free.keys c.loop-waiter.self.waiters.items) (drop_all c.loop-waiter.waiter-index c.as_slice-waiter-items.result.now past) c.loop-waiter.invariant.1.sorting
+
+pub bounds-definitions-first : goal.bounds-definitions-first
+bounds-definitions-first c = c.requires.inside
+
+pub file-requires-clause-passed : goal.file-requires-clause-passed
+file-requires-clause-passed c =
+    let w = get_or c.as_slice-waiter-items.result.now c.loop-waiter.waiter-index (record { definition = 0; from = 0 }) in
+    let sorting = subst (λ ws. IsSorting c.args.definitions.now ws c.loop-waiter.self.order c.loop-waiter.self.ahead c.loop-waiter.self.free.keys c.loop-waiter.self.waiters.items) (drop-cons c.as_slice-waiter-items.result.now c.loop-waiter.waiter-index (record { definition = 0; from = 0 }) c.loop-waiter-test.true) c.loop-waiter.invariant.1.sorting in
+    sorting.pends_passed w (inl refl)

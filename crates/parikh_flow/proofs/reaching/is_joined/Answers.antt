@@ -1,0 +1,21 @@
+use Rattle.std.proofs.Common.{◌≡◌, ◌∙◌, ◌+◌, ◌<◌, ◌<ℤ◌, inl, inr, pos, rules, false, ℕ, List, Some, true, ap, arith, subst, sym}
+use Rattle.std.specs.Prelude.{slice_get}
+use Rattle.std.proofs.lemmas.Bool.{cases_lt}
+use Rattle.std.proofs.lemmas.Option.{slice_get-get_or}
+use Rattle.farkas_check.specs.Cuts.{values_of}
+use Rattle.farkas_check.specs.declared.net.NetEdge.{NetEdge}
+use Rattle.parikh_flow.proofs.reaching.is_joined.Goals as goal
+use Rattle.parikh_flow.proofs.reaching.is_joined.Goals.{else-point-edge-gt0-via-then-point-edge-gt0+else-not-seen-edge, else-point-edge-gt0-via-else-point-edge-gt0}
+
+some-once : {X : Type 0} (x y : X) → Some x ≡ Some y → x ≡ y
+some-once x y e = cc
+
+-- what holds of those before a place and of the one there holds of all before the next place
+one-more : {X : Type 0} (P : X → Type 0) (xs : List X) (i : ℕ) (x : X) → slice_get xs i ≡ Some x → P x → ((p : ℕ) (e : X) → p < i → slice_get xs p ≡ Some e → P e) → (p : ℕ) (e : X) → p < i + 1 → slice_get xs p ≡ Some e → P e
+one-more P xs i x at here before p e l h = elim (cases_lt p i) [
+  | inl less ↦ before p e less h
+  | inr more ↦ let same : i ≡ p = omega arith in subst P (some-once x e (sym at ∙ ap (slice_get xs) same ∙ h)) here
+]
+
+pub loop-at-preserved : goal.loop-at-preserved
+loop-at-preserved c p e l h = one-more (λ (d : NetEdge). pos 0 <ℤ values_of c.args.point.now d.unknown → slice_get c.args.seen.now d.from ≡ Some true) c.args.edges.now c.loop-at.at c.item_at-edge.result.now c.item_at-edge.ensures (elim c.else-point-edge-gt0.branch [ else-point-edge-gt0-via-then-point-edge-gt0+else-not-seen-edge w ↦ λ g. slice_get-get_or c.args.seen.now c.item_at-edge.result.now.from false (c.requires.states c.loop-at.at c.item_at-edge.result.now c.item_at-edge.ensures) ∙ ap Some w.if-not-seen-edge.false | else-point-edge-gt0-via-else-point-edge-gt0 w ↦ λ g. search (rules, w.if-point-edge-gt0.false, g) ]) (λ q d. c.loop-at.invariant q d) p e l h
