@@ -29,7 +29,7 @@ use Rattle.backward.specs.declared.meeting.Apart.{Apart}
 use Rattle.backward.specs.declared.meeting.MetPart.{MetPart}
 use Rattle.backward.proofs.ConfLemmas.{set-same, set-other, without-other}
 use Rattle.backward.proofs.LoopLemmas.{same-found, get-below, get-in, drop-at, drop-all, first-drop}
-use Rattle.backward.proofs.PlaceLemmas.{some-once, free-held, held-once}
+use Rattle.backward.proofs.PlaceLemmas.{same_Some, free-held, held-once}
 use Rattle.backward.proofs.RunsBack.{run-of, no-run, runs-back, totals-less, totals-more, word-there, word-other, word-of}
 
 drop-none : {X : Type 0} (xs : List X) (i : ℕ) → slice_get xs i ≡ None → drop i xs ≡ []
@@ -248,10 +248,10 @@ module _ (ms : Family) (x : ℕ) (target : Graph) (cuts pieces : List ℕ) (meet
     same-machine = one-met ms piece (drop (suc i) pieces) meetings next.k g machine-met mg
 
     same-meeting : next.q ≡ q
-    same-meeting = some-once next.q q (sym meeting-at ∙ mq)
+    same-meeting = same_Some next.q q (sym meeting-at ∙ mq)
 
     same-from : next.from ≡ from
-    same-from = some-once next.from from (sym next.begins ∙ mf)
+    same-from = same_Some next.from from (sym next.begins ∙ mf)
 
     same-to : first_of (drop (suc i) (0 ∷ cuts)) ≡ to
     same-to = first-drop cuts i ∙ sym mt
