@@ -8,7 +8,8 @@ a look at all files of the crate, some minutes in all before the prover begins. 
 command runs; that of the crate in whose folder it runs isn't, since rt compares it behind the proof with that before.
 
 A library of `rt lib` holds the crate's checked proofs, and a check over it reads those of all functions that are called,
-and of those that they call: a minute for a crate on top. Here it holds what crates above can cite, as in `rt ci`.
+and of those that they call: a minute for a crate on top. Here it holds what crates above can cite, as in `rt ci`; other
+commands, as `check`, write libraries as they always do, since these go over what was kept of a crate.
 
 Where the toolchain is made otherwise, its command runs as it is.
 """
@@ -44,7 +45,7 @@ def main():
         toolchain = runpy.run_path(command, run_name="rt")
         library = toolchain["rtlib"]
         remember(library.Crate)
-        if "--statements" in library.help_of("build"):
+        if sys.argv[1:2] == ["lib"] and "--statements" in library.help_of("build"):
             keep_statements(library.Crate, library.KEPT)
         run = toolchain["main"]
     except (AttributeError, KeyError, SyntaxError, UnicodeDecodeError):
