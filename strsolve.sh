@@ -107,25 +107,27 @@ finish() {
 }
 
 # Builds the crates of `order`, each as soon as those below it are done, as many at once as there are processors; begins
-# none after the first that fails. A crate gets the processors that no other one waits for.
+# none after the first that fails. The crates that run, and those that could, share two jobs for each processor, at most
+# one a processor: a crate begins and ends with a single one.
 build_all() {
     local -A name_of=()
     local -a waiting=("${order[@]}") left
-    local name job idle ready
+    local processors name job ready jobs
+    processors=$(nproc)
     while [ ${#waiting[@]} -gt 0 ] || [ ${#name_of[@]} -gt 0 ]; do
         ready=0
         for name in "${waiting[@]}"; do
             if ! is_ready "$name"; then continue; fi
             if is_current "$name"; then finish "$name" "was proved before"; else ready=$((ready + 1)); fi
         done
-        idle=$(($(nproc) - ${#name_of[@]}))
         left=()
         for name in "${waiting[@]}"; do
             if [ -n "${is_done[$name]:-}" ]; then continue; fi
-            if [ "$idle" -gt 0 ] && is_ready "$name"; then
-                build_crate "$name" $((idle > ready ? idle / ready : 1)) &
+            if [ ${#name_of[@]} -lt "$processors" ] && is_ready "$name"; then
+                jobs=$((2 * processors / (${#name_of[@]} + ready)))
+                jobs=$((jobs > processors ? processors : jobs > 1 ? jobs : 1))
+                build_crate "$name" "$jobs" &
                 name_of[$!]=$name
-                idle=$((idle - 1))
                 ready=$((ready - 1))
             else
                 left+=("$name")

@@ -22,6 +22,7 @@ impl Branch<'_> {
     ghost use Rattle.farkas_check.specs.Branches.{constraint_of_branch};
     ghost use Rattle.farkas_check.specs.Closings.{coefficient_of};
 
+    /// The constant of the row.
     pub fn constant(&self) -> i128
         ensures { result ≡ (constraint_of_branch self.now).constant }
     {
@@ -33,6 +34,7 @@ impl Branch<'_> {
         }
     }
 
+    /// The coefficient of the unknown in the row. Linear in the edges and the set where the row is of a net.
     pub fn coefficient(&self, unknown: u32) -> i128
         ensures { result ≡ coefficient_of unknown (constraint_of_branch self.now) }
     {

@@ -149,7 +149,7 @@ impl Left {
     ) -> Result<bool, AllocError> {
         for (at, sum) in elimination.sums().iter().enumerate() {
             if elimination.find_owned(at).is_none()
-                && !self.put(alloc, copy_of(alloc, sum)?, RowKind::Eq)?
+                && !self.put(copy_of(alloc, sum)?, RowKind::Eq)?
             {
                 return Ok(false);
             }
@@ -168,7 +168,7 @@ impl Left {
                 let Some(sum) = elimination.reduce(alloc, at, &row.form)? else {
                     return Ok(false);
                 };
-                if !self.put(alloc, sum, RowKind::Le)? {
+                if !self.put(sum, RowKind::Le)? {
                     return Ok(false);
                 }
             }
@@ -177,7 +177,7 @@ impl Left {
     }
 
     /// Puts a sum behind the others where it says something new; false where there are too many terms.
-    fn put(&mut self, alloc: Global, sum: RowSum, kind: RowKind) -> Result<bool, AllocError> {
+    fn put(&mut self, sum: RowSum, kind: RowKind) -> Result<bool, AllocError> {
         if is_met_always(&sum.form, kind) {
             return Ok(true);
         }

@@ -17,6 +17,7 @@ pub struct Written {
 }
 
 impl Written {
+    /// Puts down the opening of a node with this tag.
     #[tactic(auto, using(crate::proofs::Spelled::four))]
     pub fn open(&mut self, tag: u32) -> Result<(), AllocError>
         ensures { OnOk result (self.new.numbers ≡ self.old.numbers ++ opening tag) }
@@ -81,6 +82,7 @@ impl Written {
         Ok(())
     }
 
+    /// Puts down a name, byte by byte.
     #[tactic(auto, using(crate::proofs::Spelled::text_none, crate::proofs::Spelled::text_step, crate::proofs::Spelled::text_all))]
     pub fn name(&mut self, name: &[u8]) -> Result<(), AllocError>
         ensures { OnOk result (self.new.numbers ≡ self.old.numbers ++ flat (word name.now)) }

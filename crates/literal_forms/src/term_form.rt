@@ -15,6 +15,7 @@ pub struct TermForm {
 }
 
 impl TermForm {
+    /// The form of a number.
     #[tactic(auto, using(crate::proofs::Formed::number_formed))]
     pub fn number(alloc: Global, number: i128) -> TermForm
         ensures { (us : List (List ℤ)) → IsNumbered us (of_number number) result }
@@ -25,6 +26,7 @@ impl TermForm {
         }
     }
 
+    /// The form of the unknown with this number.
     #[tactic(auto, using(crate::proofs::Formed::unknown_formed))]
     pub fn unknown(alloc: Global, number: u32) -> Result<TermForm, AllocError>
         ensures { (us : List (List ℤ)) (u : Unknown) → place_in us u ≡ number → number < length us → IfOk result (λ f. IsNumbered us (of_unknown u) f) }
@@ -36,6 +38,7 @@ impl TermForm {
         })
     }
 
+    /// So many times the form. `Past` where a product leaves 128 bits.
     pub fn scale(&self, alloc: Global, by: i128) -> Result<TermForm, FormFault>
         ensures { (us : List (List ℤ)) (a : Linear) → AreNumbered us → IsNumbered us a self.now → IsFormOrPast us (scaled a by) (scaling a by ∷ []) result }
     {
@@ -48,6 +51,7 @@ impl TermForm {
         }
     }
 
+    /// The sum of both forms, linear in their terms. `Past` where a sum leaves 128 bits.
     pub fn add(&self, alloc: Global, other: &TermForm) -> Result<TermForm, FormFault>
         ensures { (us : List (List ℤ)) (a b : Linear) → AreNumbered us → IsNumbered us a self.now → IsNumbered us b other.now → IsFormOrPast us (added a b) (addition a b ∷ []) result }
     {

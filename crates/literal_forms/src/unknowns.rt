@@ -14,6 +14,7 @@ pub struct Unknowns {
 }
 
 impl Unknowns {
+    /// No unknown.
     #[tactic(auto, using(crate::proofs::Numbers::none_numbered))]
     pub fn new(alloc: Global) -> Unknowns
         ensures { AreNumbered result.codes }

@@ -43,7 +43,7 @@ pub(crate) fn derive(alloc: Global, regex: &Regex, c: u32) -> Result<Regex, Allo
                 match derive_one(alloc, rest, c) {
                     Ok(b) => minus(alloc, a, b),
                     Err(error) => {
-                        // as in `build`, by one call
+                        // One call, where a drop at the end of the scope is one for each kind of expression.
                         drop(a);
                         Err(error)
                     }

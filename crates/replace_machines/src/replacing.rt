@@ -44,7 +44,7 @@ fn front_edge(alloc: Global, by: &Word) -> Result<TransEdge, AllocError>
     })
 }
 
-// The word alone, or the replacement in front of it: what is done for the empty pattern.
+// The word as it is: with an empty pattern nothing is replaced.
 fn copy_word(alloc: Global, by: &Word) -> Result<Transducer, AllocError>
     ensures states { IfOk result (λ t. t.states ≡ 1) }
     ensures relates { IfOk result (λ t. Relates t (all_replaced [] by.now) (λ n. (n + 0) * max 1 (length by.now))) }

@@ -46,30 +46,35 @@ impl<T> Items<T> {
         items
     }
 
+    /// The elements in place.
     pub fn as_slice(&self) -> &[T]
         ensures { result.now ≡ self.now }
     {
         self.items.as_slice()
     }
 
+    /// The `Vec` that holds the elements.
     pub fn vec(&self) -> &Vec<T>
         ensures { result.now.items ≡ self.now }
     {
         &self.items
     }
 
+    /// How many elements there are.
     pub fn len(&self) -> usize
         ensures { result ≡ length self.now }
     {
         self.items.len()
     }
 
+    /// Whether there is no element.
     pub fn is_empty(&self) -> bool
         ensures { IsTrue result ↔ (self.now ≡ []) }
     {
         self.items.is_empty()
     }
 
+    /// The element at this place; `None` behind the last one.
     pub fn get(&self, at: usize) -> Option<&T>
         ensures value { option_copied result ≡ slice_get self.now at }
         ensures within { OnSome result (at < length self.now) }
@@ -142,6 +147,7 @@ impl<T: Drop> Items<T> {
         self.items.remove(at)
     }
 
+    /// Puts an element in the place of the one that is there, which is dropped.
     pub fn set(&mut self, at: usize, item: T)
         requires { at < length self.old }
         ensures { self.new ≡ slice_set self.old at item }
