@@ -66,10 +66,8 @@ fn go_on(
     requires fits { (k : List ℕ) → length k ≡ whole.old.registers → ((r : ℕ) → slice_index k r ≤ graph_top part.now) → CanAdd end.now.cost k }
     ensures { OnOk result (AddsPart whole.old whole.new part.now (end.now ∷ []) offset) }
 {
-    {
-        let moves = part.moves(alloc, &0)?;
-        edges_after(alloc, whole, end, moves.as_slice(), offset)?;
-    }
+    let moves = part.moves(alloc, &0)?;
+    edges_after(alloc, whole, end, moves.as_slice(), offset)?;
     let ends = part.ends(alloc, &0)?;
     ends_after(alloc, whole, end, ends.as_slice())?;
     Ok(())

@@ -1,10 +1,9 @@
 //! The moves of two machines, joined.
-ghost use Rattle.std.specs.Prelude.{◌≡◌, ℕ, ◌<◌, ◌∷◌, ◌↔◌, List, IfOk, Contains, IsTrue};
+ghost use Rattle.std.specs.Prelude.{◌≡◌, ℕ, ◌<◌, ◌∷◌, List, IfOk, Contains, IsTrue};
 ghost use Rattle.sv_word.specs.Ranges.{in_ranges};
 ghost use Rattle.machine_core.specs.declared.machine.Move.{Move};
 ghost use Rattle.machine_core.specs.Costs.{CanAdd};
 ghost use Rattle.machine_meet.specs.Joins.{IsJoin, AreInhabited, AreJoins};
-ghost use Rattle.machine_meet.specs.Overlaps.{MovesMeet};
 
 use crate::overlaps::meeting_pairs;
 use machine_core::{Move, State};
@@ -43,26 +42,6 @@ fn join<S: State>(
     })
 }
 
-// The moves that those at these places make together, where these are the places of moves that meet.
-fn join_pairs<S: State>(
-    alloc: Global,
-    heads: &[Move<S>],
-    tails: &[Move<Items<S>>],
-    pairs: &[(usize, usize)],
-) -> Result<Items<Move<Items<S>>>, AllocError>
-    requires add { (h : Move S) (t : Move (List S)) → Contains heads.now h → Contains tails.now t → CanAdd h.cost t.cost }
-    requires pairs { (i j : ℕ) → Contains pairs.now (i, j) ↔ MovesMeet heads.now tails.now i j }
-    ensures exact { IfOk result (AreJoins heads.now tails.now) }
-    ensures inhabited { IfOk result AreInhabited }
-{
-    let room = Vec::with_capacity(alloc, pairs.len())?;
-    let mut all = Items::from_vec(room);
-    for (head, tail) in pairs {
-        all.push(join(alloc, &heads[*head], &tails[*tail])?)?;
-    }
-    Ok(all)
-}
-
 /// The moves that one of `heads` and one of `tails` make together, in their order: first that of the
 /// heads, then that of the tails. Each two moves that meet are joined once, and no others are tried.
 pub fn join_all<S: State>(
@@ -75,5 +54,10 @@ pub fn join_all<S: State>(
     ensures inhabited { IfOk result AreInhabited }
 {
     let pairs = meeting_pairs(alloc, heads, tails)?;
-    join_pairs(alloc, heads, tails, pairs.as_slice())
+    let room = Vec::with_capacity(alloc, pairs.len())?;
+    let mut all = Items::from_vec(room);
+    for (head, tail) in pairs.as_slice() {
+        all.push(join(alloc, &heads[*head], &tails[*tail])?)?;
+    }
+    Ok(all)
 }

@@ -1,9 +1,6 @@
 //! The meeting of machines: what each of them reads, at the sum of their costs.
-ghost use Rattle.std.specs.Prelude.{◌≡◌, ℕ, ◌<◌, ◌^◌, ◌↔◌, [], ◌∷◌, List, map, IfOk, Any, Contains};
-ghost use Rattle.machine_core.specs.declared.machine.Move.{Move};
-ghost use Rattle.machine_core.specs.Costs.{CanAdd};
-ghost use Rattle.machine_core.specs.Moves.{Moves};
-ghost use Rattle.machine_meet.specs.Joins.{AreInhabited, AreJoins, listed};
+ghost use Rattle.std.specs.Prelude.{◌≡◌, ◌<◌, ◌^◌, [], ◌∷◌, map, IfOk, Contains};
+ghost use Rattle.machine_meet.specs.Joins.{AreInhabited, listed};
 ghost use Rattle.machine_meet.specs.Products.{AreStates, summed, IsNothing, AreProduct};
 
 use crate::join::join_all;
@@ -56,24 +53,6 @@ fn list_of<S: State>(alloc: Global, state: S) -> Result<Items<S>, AllocError>
     Ok(list)
 }
 
-// The moves that one of the part's own moves from this state and one of `tails` make together.
-fn join_part<P: Machine>(
-    alloc: Global,
-    part: &P,
-    at: &P::St,
-    tails: &[Move<Items<P::St>>],
-) -> Result<Items<Move<Items<P::St>>>, AllocError>
-    requires state { P.is_state part.now at.now }
-    requires fits { (heads : List (Move P.St)) → ((c : ℕ) (cost : List ℕ) (to : P.St) → P.steps_to part.now at.now c cost to ↔ Any (Moves c cost to) heads) → AreInhabited heads
-        → (h : Move P.St) (t : Move (List P.St)) → Contains heads h → Contains tails.now t → CanAdd h.cost t.cost }
-    ensures exact { IfOk result (λ all. (heads : List (Move P.St))
-        × ((c : ℕ) (cost : List ℕ) (to : P.St) → P.steps_to part.now at.now c cost to ↔ Any (Moves c cost to) heads) × AreJoins heads tails.now all) }
-    ensures inhabited { IfOk result AreInhabited }
-{
-    let heads = part.moves(alloc, at)?;
-    join_all(alloc, heads.as_slice(), tails)
-}
-
 // The moves of the product: those of the last part, joined with those of the parts before it one after
 // another, until no move is left.
 pub fn product<P: Machine>(
@@ -101,7 +80,8 @@ pub fn product<P: Machine>(
             return Ok(all);
         }
         i -= 1;
-        all = join_part(alloc, &parts[i], &at[i], all.as_slice())?;
+        let heads = parts[i].moves(alloc, &at[i])?;
+        all = join_all(alloc, heads.as_slice(), all.as_slice())?;
     }
     Ok(all)
 }

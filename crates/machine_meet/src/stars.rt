@@ -42,10 +42,8 @@ fn begin_and_end(alloc: Global, whole: &mut Explicit) -> Result<(), AllocError>
     ensures ends { OnOk result (whole.new.ends ≡ whole.old.ends ++ ending 0 [] ∷ []) }
     ensures edges { OnOk result ((moves : List (Move ℕ)) × ((c : ℕ) (k : List ℕ) (t : ℕ) → StepsBy whole.old.edges 1 c k t ↔ Any (Moves c k t) moves) × (whole.new.edges ≡ whole.old.edges ++ map (leaving_edge 0 0) moves)) }
 {
-    {
-        let moves = whole.moves(alloc, &1)?;
-        leave(alloc, whole, 0, moves.as_slice(), 0)?;
-    }
+    let moves = whole.moves(alloc, &1)?;
+    leave(alloc, whole, 0, moves.as_slice(), 0)?;
     whole.add_end(0, Cost::new(alloc))?;
     Ok(())
 }

@@ -1,5 +1,5 @@
 //! The end costs of machines, added up.
-ghost use Rattle.std.specs.Prelude.{◌≡◌, ℕ, ◌<◌, ◌^◌, ◌↔◌, List, IfOk, OnOk, Any, Contains};
+ghost use Rattle.std.specs.Prelude.{◌≡◌, ℕ, ◌<◌, ◌^◌, List, IfOk, OnOk, Contains};
 ghost use Rattle.machine_core.specs.Costs.{CanAdd};
 ghost use Rattle.machine_meet.specs.Joins.{AddsSums, AreSums};
 ghost use Rattle.machine_meet.specs.Products.{AreStates, AreEndCosts, summed};
@@ -34,22 +34,6 @@ fn sum_all(alloc: Global, heads: &[Cost], tails: &[Cost]) -> Result<Items<Cost>,
     Ok(all)
 }
 
-// The costs at which a word may end in a state of the part, each added to each of `tails`.
-fn sum_part<P: Machine>(
-    alloc: Global,
-    part: &P,
-    at: &P::St,
-    tails: &[Cost],
-) -> Result<Items<Cost>, AllocError>
-    requires state { P.is_state part.now at.now }
-    requires fits { (heads : List (List ℕ)) → ((k : List ℕ) → P.ends_with part.now at.now k ↔ Any (λ e. e ≡ k) heads)
-        → (h t : List ℕ) → Contains heads h → Contains tails.now t → CanAdd h t }
-    ensures { IfOk result (λ all. (heads : List (List ℕ)) × ((k : List ℕ) → P.ends_with part.now at.now k ↔ Any (λ e. e ≡ k) heads) × AreSums heads tails.now all) }
-{
-    let heads = part.ends(alloc, at)?;
-    sum_all(alloc, heads.as_slice(), tails)
-}
-
 // The sums of the parts' end costs, from the last part on, until none is left.
 pub fn end_product<P: Machine>(
     alloc: Global,
@@ -67,7 +51,8 @@ pub fn end_product<P: Machine>(
     let mut i = parts.len();
     while i > 0 {
         i -= 1;
-        all = sum_part(alloc, &parts[i], &at[i], all.as_slice())?;
+        let heads = parts[i].ends(alloc, &at[i])?;
+        all = sum_all(alloc, heads.as_slice(), all.as_slice())?;
         if all.is_empty() {
             return Ok(all);
         }

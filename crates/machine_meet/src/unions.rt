@@ -42,10 +42,8 @@ fn add_branch(
 {
     place_edges(alloc, whole, part, offset)?;
     place_ends(alloc, whole, part, offset)?;
-    {
-        let moves = part.moves(alloc, &0)?;
-        leave(alloc, whole, 0, moves.as_slice(), offset)?;
-    }
+    let moves = part.moves(alloc, &0)?;
+    leave(alloc, whole, 0, moves.as_slice(), offset)?;
     let ends = part.ends(alloc, &0)?;
     for cost in ends.as_slice() {
         whole.add_end(0, cost.copy(alloc)?)?;

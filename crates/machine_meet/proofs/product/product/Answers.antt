@@ -1,7 +1,4 @@
-use Rattle.std.proofs.Common.{◌≡◌, List, [], ◌<◌, ◌-◌, suc, drop, length, Contains, subst, sym, ◌∙◌, arith}
-use Rattle.machine_core.specs.declared.machine.Move.{Move}
-use Rattle.machine_core.specs.Costs.{CanAdd}
-use Rattle.machine_meet.specs.Joins.{AreJoins}
+use Rattle.std.proofs.Common.{◌≡◌, [], ◌<◌, ◌-◌, suc, drop, length, subst, sym, ◌∙◌, arith}
 use Rattle.machine_meet.specs.Products.{AreProduct}
 use Rattle.machine_meet.proofs.ProductLemmas.{product-none, product-last, product-at, product-stuck, states-length, states-at, can-add-at, listed-inhabited, some-of, nil-of}
 use Rattle.machine_meet.proofs.product.product.Goals as goal
@@ -71,20 +68,23 @@ moves-requires g c =
     let some = some-of c.args.parts.now (sym c.is_empty.ensures ∙ c.if-is_empty.false) in
     states-at g.P.Machine.is_state c.args.parts.now c.args.at.now (length c.args.parts.now - 1) c.index-parts-last.result c.index-at-last.result c.requires.states (omega arith) c.index-parts-last.is c.index-at-last.is
 
-pub join_part-requires : goal.join_part-requires
-join_part-requires g c =
+pub moves-requires-in-loop-i : goal.moves-requires-in-loop-i
+moves-requires-in-loop-i g c =
+    let room = c.loop-i.invariant.room in
+    let positive = c.loop-i-test.true in
+    states-at g.P.Machine.is_state c.args.parts.now c.args.at.now (c.loop-i.i - 1) c.index-parts-i.result c.index-at-i.result c.requires.states (omega arith) c.index-parts-i.is c.index-at-i.is
+
+pub join_all-requires : goal.join_all-requires
+join_all-requires g c =
     let inv = c.loop-i.invariant in
     let positive = c.loop-i-test.true in
     let lt : c.loop-i.i - 1 < length c.args.parts.now = omega arith in
     let next : suc (c.loop-i.i - 1) ≡ c.loop-i.i = omega arith in
     let tail = subst (λ n. AreProduct g.P.Machine.steps_to c.args.width (drop n c.args.parts.now) (drop n c.args.at.now) c.loop-i.all) (sym next) inv.exact in
     record {
-      state = states-at g.P.Machine.is_state c.args.parts.now c.args.at.now (c.loop-i.i - 1) c.index-parts-i.result c.index-at-i.result c.requires.states lt c.index-parts-i.is c.index-at-i.is;
-      fits = λ heads exact inhabited.
-          subst (λ l. (h : Move g.row.P-St.Denot) (t : Move (List g.row.P-St.Denot)) → Contains heads h → Contains l t → CanAdd h.cost t.cost) (sym c.as_slice.ensures)
-          (can-add-at g.P.Machine.is_state g.P.Machine.steps_to g.P.Machine.width g.P.Machine.top g.met.P.Machine.step_cost c.args.width c.args.parts.now c.requires.width c.requires.fits
+      add = rw (c.as_slice.ensures, c.as_slice-in-loop-i.ensures) (can-add-at g.P.Machine.is_state g.P.Machine.steps_to g.P.Machine.width g.P.Machine.top g.met.P.Machine.step_cost c.args.width c.args.parts.now c.requires.width c.requires.fits
           c.args.at.now c.requires.states (c.loop-i.i - 1) c.index-parts-i.result c.index-at-i.result lt c.index-parts-i.is c.index-at-i.is
-          heads c.loop-i.all exact inhabited tail inv.inhabited);
+          c.in_ok-heads.heads c.loop-i.all c.in_ok-heads.ensures.exact c.in_ok-heads.ensures.inhabited tail inv.inhabited);
     }
 
 pub loop-i-preserved : goal.loop-i-preserved
@@ -94,11 +94,10 @@ loop-i-preserved g c =
     let lt : c.loop-i.i - 1 < length c.args.parts.now = omega arith in
     let next : suc (c.loop-i.i - 1) ≡ c.loop-i.i = omega arith in
     let tail = subst (λ n. AreProduct g.P.Machine.steps_to c.args.width (drop n c.args.parts.now) (drop n c.args.at.now) c.loop-i.all) (sym next) inv.exact in
-    let made = c.in_ok-all-2.ensures.exact in
-    let joins = subst (λ l. AreJoins made.0 l c.in_ok-all-2.all) c.as_slice.ensures made.2 in
+    let joins = rw (c.as_slice.ensures, c.as_slice-in-loop-i.ensures) at c.in_ok-all-2.ensures.exact in
     record {
       room = omega arith;
-      exact = product-at g.P.Machine.steps_to c.args.width c.args.parts.now c.args.at.now (c.loop-i.i - 1) c.index-parts-i.result c.index-at-i.result made.0 c.loop-i.all c.in_ok-all-2.all
-          lt (states-length g.P.Machine.is_state c.args.parts.now c.args.at.now c.requires.states) c.index-parts-i.is c.index-at-i.is made.1 tail joins;
+      exact = product-at g.P.Machine.steps_to c.args.width c.args.parts.now c.args.at.now (c.loop-i.i - 1) c.index-parts-i.result c.index-at-i.result c.in_ok-heads.heads c.loop-i.all c.in_ok-all-2.all
+          lt (states-length g.P.Machine.is_state c.args.parts.now c.args.at.now c.requires.states) c.index-parts-i.is c.index-at-i.is c.in_ok-heads.ensures.exact tail joins;
       inhabited = c.in_ok-all-2.ensures.inhabited;
     }

@@ -1,6 +1,4 @@
-use Rattle.std.proofs.Common.{◌≡◌, ℕ, List, [], ◌<◌, ◌-◌, suc, drop, length, Contains, subst, sym, arith}
-use Rattle.machine_core.specs.Costs.{CanAdd}
-use Rattle.machine_meet.specs.Joins.{AreSums}
+use Rattle.std.proofs.Common.{◌≡◌, [], ◌<◌, ◌-◌, suc, drop, length, subst, sym, arith}
 use Rattle.machine_meet.specs.Products.{AreEndCosts}
 use Rattle.machine_meet.proofs.ProductLemmas.{states-length, states-at}
 use Rattle.machine_meet.proofs.SumLemmas.{ends-start, ends-at, ends-stuck, can-end-at}
@@ -26,20 +24,22 @@ bounds-at-i g c =
     let positive = c.loop-i-test.true in
     omega arith
 
-pub sum_part-requires : goal.sum_part-requires
-sum_part-requires g c =
+pub ends-requires : goal.ends-requires
+ends-requires g c =
+    let room = c.loop-i.invariant.room in
+    let positive = c.loop-i-test.true in
+    states-at g.P.Machine.is_state c.args.parts.now c.args.at.now (c.loop-i.i - 1) c.index-parts-i.result c.index-at-i.result c.requires.states (omega arith) c.index-parts-i.is c.index-at-i.is
+
+pub sum_all-requires : goal.sum_all-requires
+sum_all-requires g c =
     let inv = c.loop-i.invariant in
     let positive = c.loop-i-test.true in
     let lt : c.loop-i.i - 1 < length c.args.parts.now = omega arith in
     let next : suc (c.loop-i.i - 1) ≡ c.loop-i.i = omega arith in
     let tail = subst (λ n. AreEndCosts g.P.Machine.ends_with c.args.width (drop n c.args.parts.now) (drop n c.args.at.now) c.loop-i.all) (sym next) inv.exact in
-    record {
-      state = states-at g.P.Machine.is_state c.args.parts.now c.args.at.now (c.loop-i.i - 1) c.index-parts-i.result c.index-at-i.result c.requires.states lt c.index-parts-i.is c.index-at-i.is;
-      fits = λ heads exact. subst (λ l. (h t : List ℕ) → Contains heads h → Contains l t → CanAdd h t) (sym c.as_slice.ensures)
-          (can-end-at g.P.Machine.is_state g.P.Machine.ends_with g.P.Machine.width g.P.Machine.top g.met.P.Machine.end_cost c.args.width c.args.parts.now c.requires.width c.requires.fits
-          c.args.at.now c.requires.states (c.loop-i.i - 1) c.index-parts-i.result c.index-at-i.result lt c.index-parts-i.is c.index-at-i.is
-          heads c.loop-i.all exact tail);
-    }
+    rw (c.as_slice.ensures, c.as_slice-in-loop-i.ensures) (can-end-at g.P.Machine.is_state g.P.Machine.ends_with g.P.Machine.width g.P.Machine.top g.met.P.Machine.end_cost c.args.width c.args.parts.now c.requires.width c.requires.fits
+    c.args.at.now c.requires.states (c.loop-i.i - 1) c.index-parts-i.result c.index-at-i.result lt c.index-parts-i.is c.index-at-i.is
+    c.in_ok-heads.heads c.loop-i.all c.in_ok-heads.ensures tail)
 
 pub loop-i-preserved : goal.loop-i-preserved
 loop-i-preserved g c =
@@ -48,11 +48,11 @@ loop-i-preserved g c =
     let lt : c.loop-i.i - 1 < length c.args.parts.now = omega arith in
     let next : suc (c.loop-i.i - 1) ≡ c.loop-i.i = omega arith in
     let tail = subst (λ n. AreEndCosts g.P.Machine.ends_with c.args.width (drop n c.args.parts.now) (drop n c.args.at.now) c.loop-i.all) (sym next) inv.exact in
-    let sums = subst (λ l. AreSums c.in_ok-all.ensures.0 l c.in_ok-all.all) c.as_slice.ensures c.in_ok-all.ensures.2 in
+    let sums = rw (c.as_slice.ensures, c.as_slice-in-loop-i.ensures) at c.in_ok-all.ensures in
     record {
       room = omega arith;
-      exact = ends-at g.P.Machine.ends_with c.args.width c.args.parts.now c.args.at.now (c.loop-i.i - 1) c.index-parts-i.result c.index-at-i.result c.in_ok-all.ensures.0 c.loop-i.all c.in_ok-all.all
-          lt (states-length g.P.Machine.is_state c.args.parts.now c.args.at.now c.requires.states) c.index-parts-i.is c.index-at-i.is c.in_ok-all.ensures.1 tail sums;
+      exact = ends-at g.P.Machine.ends_with c.args.width c.args.parts.now c.args.at.now (c.loop-i.i - 1) c.index-parts-i.result c.index-at-i.result c.in_ok-heads.heads c.loop-i.all c.in_ok-all.all
+          lt (states-length g.P.Machine.is_state c.args.parts.now c.args.at.now c.requires.states) c.index-parts-i.is c.index-at-i.is c.in_ok-heads.ensures tail sums;
     }
 
 pub returns-then-is_empty : goal.returns-then-is_empty
@@ -62,9 +62,9 @@ returns-then-is_empty g c =
     let lt : c.loop-i.i - 1 < length c.args.parts.now = omega arith in
     let next : suc (c.loop-i.i - 1) ≡ c.loop-i.i = omega arith in
     let tail = subst (λ n. AreEndCosts g.P.Machine.ends_with c.args.width (drop n c.args.parts.now) (drop n c.args.at.now) c.loop-i.all) (sym next) inv.exact in
-    let sums = subst (λ l. AreSums c.in_ok-all.ensures.0 l c.in_ok-all.all) c.as_slice.ensures c.in_ok-all.ensures.2 in
+    let sums = rw (c.as_slice.ensures, c.as_slice-in-loop-i.ensures) at c.in_ok-all.ensures in
     let none : c.in_ok-all.all ≡ [] = c.is_empty.ensures.0 c.if-is_empty.true in
-    let here = ends-at g.P.Machine.ends_with c.args.width c.args.parts.now c.args.at.now (c.loop-i.i - 1) c.index-parts-i.result c.index-at-i.result c.in_ok-all.ensures.0 c.loop-i.all c.in_ok-all.all
-    lt (states-length g.P.Machine.is_state c.args.parts.now c.args.at.now c.requires.states) c.index-parts-i.is c.index-at-i.is c.in_ok-all.ensures.1 tail sums in
+    let here = ends-at g.P.Machine.ends_with c.args.width c.args.parts.now c.args.at.now (c.loop-i.i - 1) c.index-parts-i.result c.index-at-i.result c.in_ok-heads.heads c.loop-i.all c.in_ok-all.all
+    lt (states-length g.P.Machine.is_state c.args.parts.now c.args.at.now c.requires.states) c.index-parts-i.is c.index-at-i.is c.in_ok-heads.ensures tail sums in
     subst (AreEndCosts g.P.Machine.ends_with c.args.width c.args.parts.now c.args.at.now) (sym none) (ends-stuck g.P.Machine.ends_with c.args.width c.args.parts.now c.args.at.now (c.loop-i.i - 1)
     (subst (AreEndCosts g.P.Machine.ends_with c.args.width (drop (c.loop-i.i - 1) c.args.parts.now) (drop (c.loop-i.i - 1) c.args.at.now)) none here))
