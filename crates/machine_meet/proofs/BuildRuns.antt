@@ -11,6 +11,9 @@ pub record IsPlaced (E : ℕ → List ℕ → Type 0) (S : ℕ → ℕ → List 
   pub steps : (u : ℕ) → u < n → (c : ℕ) (k : List ℕ) (t : ℕ) → S (offset + u) c k t ↔ ((v : ℕ) × (t ≡ offset + v) × s u c k v)
   pub within : (u c v : ℕ) (k : List ℕ) → s u c k v → v < n
 
+no-start : (t v : ℕ) → t ≡ 0 → t ≡ 1 + v → ⊥
+no-start t v e f = omega arith
+
 module _ (E : ℕ → List ℕ → Type 0) (S : ℕ → ℕ → List ℕ → ℕ → Type 0) where
   module _ (e : ℕ → List ℕ → Type 0) (s : ℕ → ℕ → List ℕ → ℕ → Type 0) (n offset : ℕ) (placed : IsPlaced E S e s n offset) where
     pub placed-out : (w : List ℕ) (u : ℕ) (k : List ℕ) → u < n → RunsFrom E S (offset + u) w k → RunsFrom e s u w k
@@ -102,7 +105,7 @@ module _ (E : ℕ → List ℕ → Type 0) (S : ℕ → ℕ → List ℕ → ℕ
     nil-end u k h = subst (e u) (free_ends u k h) h
 
     onward : (w : List ℕ) (u c : ℕ) (k : List ℕ) (t : ℕ) (rest : List ℕ) → Next u c k t → RunsFrom E S t w rest → Onward u (c ∷ w) × (add_costs k rest ≡ [])
-    onward [] u c k t rest (inl q) r = let wrong = ((ends t rest).0 r).0 in let at = q.1 in absurd (omega arith)
+    onward [] u c k t rest (inl q) r = absurd (no-start t q.0 ((ends t rest).0 r).0 q.1)
     onward [] u c k t rest (inr q) r = (
       (c, [], [], refl, ([], q.2, [], nil-step u c q.2 q.0 q.3, nil-end q.2 q.1 q.4, refl), done),
       ap (λ l. add_costs l rest) (q.5 ∙ ap (λ l. add_costs l q.1) (free_steps u c q.2 q.0 q.3)),

@@ -1,13 +1,13 @@
 -- Moves that are joined, two by two.
 use Rattle.std.proofs.Common.{◌≡◌, ℕ, zero, suc, ◌+◌, ◌<◌, ◌≤◌, ◌↔◌, inl, inr, ◌&&◌, Bool, true, false, List, [], ◌∷◌, ◌++◌, length, take, get_or, slice_get, Some, All, Any, Contains, IsTrue, refl, ap, sym, ◌∙◌, subst, arith}
 use Rattle.std.proofs.lemmas.List.{take_more, take_all}
-use Rattle.std.proofs.lemmas.List.Elements.{Contains-get_or}
+use Rattle.std.proofs.lemmas.List.Elements.{All-nil, Contains-get_or}
 use Rattle.std.proofs.lemmas.Option.{slice_get_read, slice_get_within}
-use Rattle.sv_word.specs.Ranges.{in_ranges}
+use Rattle.sv_word.specs.Ranges.{in_ranges, IsInhabited}
 use Rattle.machine_core.specs.Lists.{Any-none, Any-here, Any-append_left, Any-append_right, Any-push_cases, Any-contains, contained, slice_get-contains}
 use Rattle.machine_core.specs.Moves.{Moves}
 use Rattle.machine_core.specs.declared.machine.Move.{Move}
-use Rattle.machine_meet.specs.Joins.{Joins, IsJoin, AreJoins}
+use Rattle.machine_meet.specs.Joins.{AreInhabited, Joins, IsJoin, AreJoins}
 use Rattle.machine_meet.specs.Overlaps.{MovesMeet}
 
 module _ {X : Type 0} where
@@ -39,7 +39,7 @@ both true true h = (refl, refl)
 both true false h = cc
 both false b h = cc
 
-together : (a b : Bool) → IsTrue a → IsTrue b → IsTrue (a && b)
+pub together : (a b : Bool) → IsTrue a → IsTrue b → IsTrue (a && b)
 together true true h k = h
 together true false h k = k
 together false b h k = h
@@ -86,8 +86,11 @@ module _ {S T : Type 0} (heads : List (Move S)) (tails : List (Move T)) (pairs i
         (m.2, subst (λ (x : Move S). IsTrue (in_ranges x.on m.2)) one m.5, subst (λ (x : Move T). IsTrue (in_ranges x.on m.2)) two m.6)
 
 module _ {S : Type 0} (heads : List (Move S)) (tails : List (Move (List S))) where
-  pub made-none : AreMade heads tails [] []
+  made-none : AreMade heads tails [] []
   made-none c cost to = (λ h. absurd (Any-none (Moves c cost to) h), λ h. absurd (Any-none (JoinsAt heads tails c cost to) h))
+
+  pub made-start : (all : List (Move (List S))) → all ≡ [] → AreMade heads tails [] all × AreInhabited all
+  made-start all e = (subst (AreMade heads tails []) (sym e) made-none, subst AreInhabited (sym e) (All-nil (λ (m : Move (List S)). IsInhabited m.on)))
 
   pub made-more : (pairs : List (ℕ × ℕ)) (old new : List (Move (List S))) (n i j : ℕ) (d : ℕ × ℕ) (h : Move S) (t m : Move (List S))
       → n < length pairs → (i, j) ≡ get_or pairs n d → slice_get heads i ≡ Some h → slice_get tails j ≡ Some t → IsJoin h t m

@@ -11,4 +11,5 @@ pub mod SumLemmas
 pub mod PlaceLemmas
 pub mod OptionLemmas
 pub mod PickLemmas
+pub mod PushLemmas
 pub mod SplitLemmas

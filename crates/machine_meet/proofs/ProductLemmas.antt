@@ -1,8 +1,8 @@
 -- The product's moves, one machine after another, from the last.
-use Rattle.std.proofs.Common.{◌≡◌, ℕ, zero, suc, ◌+◌, ◌<◌, ◌≤◌, ◌^◌, ◌↔◌, List, [], ◌∷◌, length, drop, map, nat_eq, true, false, get_or, Any, Contains, refl, ap, sym, ◌∙◌, subst, arith}
-use Rattle.sv_word.specs.Ranges.{IsInhabited, least_of}
+use Rattle.std.proofs.Common.{◌≡◌, ℕ, zero, suc, ◌+◌, ◌<◌, ◌≤◌, ◌^◌, ◌↔◌, inl, inr, nat_le, List, [], ◌∷◌, ◌++◌, length, drop, map, nat_eq, true, false, get_or, Any, Contains, refl, ap, sym, ◌∙◌, subst, arith}
+use Rattle.sv_word.specs.Ranges.{IsInhabited, in_ranges, least_of}
 use Rattle.machine_core.specs.Costs.{add_costs, zeros, IsCost, CanAdd}
-use Rattle.machine_core.specs.Lists.{Any-none, Any-map, Any-from_map}
+use Rattle.machine_core.specs.Lists.{Any-none, Any-here, Any-cases, Any-map, Any-from_map}
 use Rattle.machine_core.specs.CostLaws.{add_costs-zeros, CanAdd-within}
 use Rattle.machine_core.specs.Moves.{Moves}
 use Rattle.machine_core.specs.declared.machine.Move.{Move}
@@ -11,6 +11,8 @@ use Rattle.machine_meet.specs.Products.{AreStates, MeetSteps, AreProduct, IsNoth
 use Rattle.sv_word.specs.Words.{greatest_character}
 use Rattle.std.proofs.lemmas.Bool.Decides.{nat_tests}
 use Rattle.std.proofs.lemmas.List.{nil_from_length}
+use Rattle.std.proofs.lemmas.List.Elements.{All-nil}
+use Rattle.machine_meet.proofs.JoinLemmas.{All-push}
 use Rattle.machine_meet.specs.ProductLaws.{meet_step-cost}
 
 pub drop-here : {X : Type 0} (xs : List X) (i : ℕ) (d : X) → i < length xs → drop i xs ≡ get_or xs i d ∷ drop (suc i) xs
@@ -174,3 +176,26 @@ some-of (x ∷ xs) e = omega arith
 pub nil-of : {X : Type 0} (xs : List X) → nat_eq (length xs) 0 ≡ true → xs ≡ []
 nil-of [] e = refl
 nil-of (x ∷ xs) e = absurd (grind (arith, nat_tests))
+
+le-true : (a b : ℕ) → a ≤ b → nat_le a b ≡ true
+le-true a b h = grind (arith, nat_tests)
+
+true-le : (a b : ℕ) → nat_le a b ≡ true → a ≤ b
+true-le a b h = grind (arith, nat_tests)
+
+-- one move on every character, at no cost and to no state
+pub nothing-made : {S : Type 0} (width : ℕ) (on : List (ℕ × ℕ)) (free : List ℕ) (to : List S) (none all : List (Move (List S)))
+    → ((c : ℕ) → in_ranges on c ≡ nat_le c greatest_character) → IsInhabited on → free ≡ zeros width → to ≡ [] → none ≡ []
+    → all ≡ none ++ (record { on = on; cost = free; to = to }) ∷ [] → IsNothing width all × AreInhabited all
+nothing-made {S} width on free to none all set some costless end empty made =
+    let m : Move (List S) = record { on = on; cost = free; to = to } in
+    let whole : all ≡ m ∷ [] = made ∙ ap (λ l. l ++ m ∷ []) empty in (
+      λ c cost t. (
+        λ h. subst (Any (Moves c cost t)) (sym whole) (Any-here (Moves c cost t) m [] (set c ∙ le-true c greatest_character h.0, costless ∙ sym h.1, end ∙ sym h.2)),
+        λ a. elim (Any-cases (Moves c cost t) m [] (subst (Any (Moves c cost t)) whole a)) [
+          | inl p ↦ (true-le c greatest_character (sym (set c) ∙ p.0), sym p.1 ∙ costless, sym p.2 ∙ end)
+          | inr q ↦ absurd (Any-none (Moves c cost t) q)
+        ],
+      ),
+      subst AreInhabited (sym whole) (All-push (λ (x : Move (List S)). IsInhabited x.on) [] m (All-nil (λ (x : Move (List S)). IsInhabited x.on)) some),
+    )

@@ -240,3 +240,19 @@ only-empty P same m r = record {
 -- no word
 pub no-words : (P : Word → Type 0) → ((w : Word) → P w → ⊥) → (m : Graph) → HasWords (λ w. ⊥) m → HasWords P m
 no-words P none m r = record { plain = r.plain; words = λ w. (λ h. absurd ((r.words w).0 h), λ h. absurd (none w h)) }
+
+pub at-most : (n m : ℕ) → n ≡ m → n ≤ m
+at-most n m e = omega arith
+
+pub has-second : (n : ℕ) → n ≡ 2 → 1 < n
+has-second n e = omega arith
+
+-- the states of a word's machine: one for each place, and one behind the word
+pub place-below : (place n states : ℕ) → place < n → states ≡ n + 1 → place < states
+place-below place n states lt e = omega arith
+
+pub next-below : (place n states : ℕ) → place < n → states ≡ n + 1 → place + 1 < states
+next-below place n states lt e = omega arith
+
+pub last-below : (n states : ℕ) → states ≡ n + 1 → n < states
+last-below n states e = omega arith

@@ -1,6 +1,7 @@
 -- Move lists that grow by the steps of a part.
-use Rattle.std.proofs.Common.{◌≡◌, ℕ, suc, ◌↔◌, inl, inr, Bool, true, false, IsTrue, nat_eq, cond, not, List, [], ◌∷◌, ◌++◌, length, map, Any, All, refl, ap, sym, ◌∙◌, subst, arith}
+use Rattle.std.proofs.Common.{◌≡◌, ℕ, suc, ◌↔◌, inl, inr, Bool, true, false, IsTrue, nat_eq, cond, not, List, [], ◌∷◌, ◌++◌, length, map, Any, All, refl, ap, sym, ◌∙◌, subst, arith, append_assoc}
 use Rattle.std.proofs.lemmas.Bool.Decides.{nat_tests}
+use Rattle.std.proofs.lemmas.List.{map-append}
 use Rattle.std.proofs.lemmas.List.Elements.{All-append, All-map}
 use Rattle.sv_word.specs.Ranges.{IsInhabited}
 use Rattle.machine_core.specs.declared.graph.Graph.{Graph}
@@ -13,6 +14,12 @@ use Rattle.machine_core.specs.Lists.{Any-none, Any-here, Any-there, Any-cases, A
 use Rattle.machine_meet.specs.Joins.{AreInhabited}
 use Rattle.regex_machine.specs.Stepped.{LeadsToPart, led, AddsSteps, AreLed, AreEndsIf}
 use Rattle.regex_machine.proofs.WordLemmas.{step-free, end-free}
+
+-- one element more, pushed behind what a list began with
+pub mapped-more : {X Y : Type 0} (f : X → Y) (start : List Y) (xs : List X) (old new : List Y) (x : X) → old ≡ start ++ map f xs → new ≡ old ++ f x ∷ []
+    → new ≡ start ++ map f (xs ++ x ∷ [])
+mapped-more f start xs old new x before made =
+    made ∙ ap (λ l. l ++ f x ∷ []) before ∙ append_assoc start (map f xs) (f x ∷ []) ∙ ap (λ l. start ++ l) (sym (map-append f xs (x ∷ [])))
 
 pair-is : (k n : ℕ) (to : ℕ × ℕ) → to.0 ≡ k → n ≡ to.1 → ◌≡◌ {A = ℕ × ℕ} (k, n) to
 pair-is k n to e f = (let P : ℕ → ℕ × ℕ = λ x. (k, x) in let Q : ℕ → ℕ × ℕ = λ x. (x, to.1) in ap P f ∙ ap Q (sym e))

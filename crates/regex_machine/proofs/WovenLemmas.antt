@@ -231,6 +231,13 @@ woven-ends states s o at costs exact cost = (
   λ a. let e = (exact cost).0 a in (o, at, e.0, e.1),
 )
 
+pub woven-moves : (states : List Onward) (s : ℕ) (o : Onward) → slice_get states s ≡ Some o → (moves : List (Move ℕ)) → moves ≡ o.moves
+    → (c : ℕ) (cost : List ℕ) (t : ℕ) → WovenSteps states s c cost t ↔ Any (Moves c cost t) moves
+woven-moves states s o at moves same c cost t = (
+  λ h. subst (Any (Moves c cost t)) (ap (λ (x : Onward). x.moves) (same-some states s h.0 o h.1 at) ∙ sym same) h.2,
+  λ a. (o, at, subst (Any (Moves c cost t)) same a),
+)
+
 pub woven-inhabited : (states : List Onward) → AreClosed states → (s : ℕ) (o : Onward) → slice_get states s ≡ Some o → (moves : List (Move ℕ)) → moves ≡ o.moves → All (λ m. IsInhabited m.on) moves
 woven-inhabited states closed s o at moves same k d lt =
     ((closed o (slice_get-contains states s o at)).moves (get_or moves k d) (subst (λ l. Contains l (get_or moves k d)) same (Contains-get_or moves k d lt))).on

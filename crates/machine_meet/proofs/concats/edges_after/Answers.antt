@@ -1,6 +1,8 @@
-use Rattle.std.proofs.Common.{◌∙◌, ap, sym, subst, length, arith}
+use Rattle.std.proofs.Common.{◌∙◌, refl, ap, sym, subst, length, arith}
 use Rattle.sv_word.specs.Ranges.{IsInhabited}
 use Rattle.machine_core.specs.CostLaws.{add_costs-length}
+use Rattle.machine_meet.specs.Builds.{after_edge}
+use Rattle.machine_meet.proofs.PushLemmas.{pushed-none, pushed-more, pushed-all}
 use Rattle.machine_meet.proofs.concats.edges_after.Goals as goal
 
 pub overflow_add-offset : goal.overflow_add-offset
@@ -26,3 +28,36 @@ add_edge-requires c =
       cost = ap length c.in_ok-cost.ensures ∙ add_costs-length c.args.end.now.cost c.step-item.result.cost c.args.whole.now.registers c.requires.cost m.cost ∙ sym c.loop-step.invariant.registers;
       on = subst IsInhabited (sym c.in_ok-on.ensures) m.on;
     }
+
+pub loop-step-init : goal.loop-step-init
+loop-step-init c = record {
+  states = refl;
+  registers = refl;
+  ends = refl;
+  edges = pushed-none (after_edge c.args.end.now c.args.offset) c.args.moves.now c.args.moves.now c.args.whole.now.edges;
+}
+
+pub loop-step-preserved : goal.loop-step-preserved
+loop-step-preserved c =
+    let inv = c.loop-step.invariant in
+    let added = c.in_ok-add_edge.ensures in
+    record {
+      states = added.states ∙ inv.states;
+      registers = added.registers ∙ inv.registers;
+      ends = added.ends ∙ inv.ends;
+      edges = pushed-more (after_edge c.args.end.now c.args.offset) c.args.moves.now c.args.moves.now c.args.whole.now.edges c.loop-step.whole.edges c.add_edge.new.self.edges
+          c.loop-step.step-index c.step-item.result refl c.loop-step-test.true c.step-item.is inv.edges (rw (c.in_ok-on.ensures, c.in_ok-cost.ensures) at added.ok);
+    }
+
+pub returns-clause-states : goal.returns-clause-states
+returns-clause-states c = c.loop-step.invariant.states
+
+pub returns-clause-registers : goal.returns-clause-registers
+returns-clause-registers c = c.loop-step.invariant.registers
+
+pub returns-clause-ends : goal.returns-clause-ends
+returns-clause-ends c = c.loop-step.invariant.ends
+
+pub returns-clause-edges : goal.returns-clause-edges
+returns-clause-edges c = pushed-all (after_edge c.args.end.now c.args.offset) c.args.moves.now c.args.moves.now c.args.whole.now.edges c.loop-step.whole.edges
+    c.loop-step.step-index refl c.loop-step-test.false c.loop-step.invariant.edges

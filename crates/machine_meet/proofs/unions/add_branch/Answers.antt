@@ -4,6 +4,7 @@ use Rattle.machine_core.specs.Edges.{ending}
 use Rattle.machine_core.specs.EdgeLaws.{end_cost}
 use Rattle.machine_meet.specs.Builds.{placed_edge, placed_end, leaving_edge}
 use Rattle.machine_meet.proofs.BuildEdges.{moves-formed, branch-steps, branch-ends, read-in}
+use Rattle.machine_meet.proofs.PushLemmas.{pushed-none, pushed-more}
 use Rattle.machine_meet.proofs.unions.add_branch.Goals as goal
 
 pub leave-requires : goal.leave-requires
@@ -54,4 +55,24 @@ returns c =
       registers = c.loop-cost.invariant.registers ∙ c.in_ok-leave.ensures.registers ∙ c.in_ok-place_ends.ensures.registers ∙ c.in_ok-place_edges.ensures.registers;
       steps = branch-steps offset old.edges c.loop-cost.whole.edges part.edges c.in_ok-moves.moves edges c.in_ok-moves.ensures.exact;
       ends = branch-ends offset old.ends c.loop-cost.whole.ends part.ends c.in_ok-ends.ends ends c.in_ok-ends.ensures;
+    }
+
+pub loop-cost-init : goal.loop-cost-init
+loop-cost-init c = record {
+  states = refl;
+  registers = refl;
+  edges = refl;
+  ends = pushed-none (ending 0) c.as_slice-cost-items.result.now c.as_slice-cost-items.result.now c.leave.new.whole.ends;
+}
+
+pub loop-cost-preserved : goal.loop-cost-preserved
+loop-cost-preserved c =
+    let inv = c.loop-cost.invariant in
+    let added = c.in_ok-add_end.ensures in
+    record {
+      states = added.states ∙ inv.states;
+      registers = added.registers ∙ inv.registers;
+      edges = added.edges ∙ inv.edges;
+      ends = pushed-more (ending 0) c.as_slice-cost-items.result.now c.as_slice-cost-items.result.now c.leave.new.whole.ends c.loop-cost.whole.ends c.add_end.new.self.ends
+          c.loop-cost.cost-index c.cost-item.result refl c.loop-cost-test.true c.cost-item.is inv.ends (rw c.in_ok-copy.ensures at added.ok);
     }

@@ -1,7 +1,7 @@
-use Rattle.std.proofs.Common.{◌≡◌, [], ◌∷◌, ◌++◌, ◌+◌, ◌∙◌, length, get_or, slice_get, Some, ap, subst, arith}
+use Rattle.std.proofs.Common.{◌≡◌, [], ◌∷◌, ◌++◌, ◌+◌, ◌∙◌, length, get_or, slice_get, Some, refl, ap, sym, subst, arith}
 use Rattle.std.proofs.lemmas.Option.{slice_get-get_or}
 use Rattle.machine_core.specs.Edges.{edge, ending}
-use Rattle.regex_machine.proofs.LetterLemmas.{Spells, spells-none, spells-more, character-at, text-reads, only-end}
+use Rattle.regex_machine.proofs.LetterLemmas.{at-most, last-below, next-below, place-below, Spells, spells-none, spells-more, character-at, text-reads, only-end}
 use Rattle.regex_machine.proofs.letters.text.Goals as goal
 
 pub of-requires : goal.of-requires
@@ -44,3 +44,25 @@ returns-clause-reads c =
     let ends = only-end m.ends two.ends (length l) c.new-last.result c.in_ok-add_end.ensures.ok c.loop-place.invariant.ends c.new-last.ensures ∙ ap (λ n. ending n [] ∷ []) count in
     text-reads word m.edges (subst (λ n. Spells word n m.edges) done c.loop-place.invariant.spells) c.is_word.ensures two
     (c.in_ok-add_end.ensures.registers ∙ c.loop-place.invariant.registers) c.in_ok-add_end.ensures.edges ends
+
+pub add_edge-requires : goal.add_edge-requires
+add_edge-requires c =
+    let n = length c.as_slice-characters.result.now in
+    let m = c.loop-place.machine in
+    record {
+      from = place-below c.loop-place.place n m.states c.loop-place-test.true c.loop-place.invariant.states;
+      to = next-below c.loop-place.place n m.states c.loop-place-test.true c.loop-place.invariant.states;
+      cost = ap length c.new-cost.ensures ∙ sym c.loop-place.invariant.registers;
+      on = c.in_ok-on.ensures.inhabited (at-most _ _ refl);
+    }
+
+pub add_end-requires : goal.add_end-requires
+add_end-requires c = record {
+  at = last-below (length c.as_slice-characters.result.now) c.loop-place.machine.states c.loop-place.invariant.states;
+  cost = ap length c.new-last.ensures ∙ sym c.loop-place.invariant.registers;
+}
+
+pub returns-clause-states : goal.returns-clause-states
+returns-clause-states c =
+    at-most c.add_end.new.self.states (length c.args.word.now + 1)
+    (c.in_ok-add_end.ensures.states ∙ c.loop-place.invariant.states ∙ ap (λ n. n + 1) (ap length c.as_slice-characters.ensures))

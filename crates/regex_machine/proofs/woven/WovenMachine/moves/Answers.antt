@@ -1,4 +1,4 @@
-use Rattle.regex_machine.proofs.WovenLemmas.{woven-inhabited, stands-at}
+use Rattle.regex_machine.proofs.WovenLemmas.{woven-inhabited, woven-moves, stands-at}
 use Rattle.regex_machine.proofs.woven.WovenMachine.moves.Goals as goal
 
 pub returns-clause-inhabited : goal.returns-clause-inhabited
@@ -7,3 +7,10 @@ returns-clause-inhabited c =
     let o = c.index-states-at.result in
     let at = stands-at states c.args.at.now o c.requires c.index-states-at.is in
     woven-inhabited states c.args.self.now.closed c.args.at.now o at c.in_ok-moves.moves c.in_ok-moves.ensures
+
+pub returns-clause-exact : goal.returns-clause-exact
+returns-clause-exact c =
+    let states = c.args.self.now.states.now in
+    let o = c.index-states-at.result in
+    let at = stands-at states c.args.at.now o c.requires c.index-states-at.is in
+    woven-moves states c.args.at.now o at c.in_ok-moves.moves c.in_ok-moves.ensures

@@ -1,0 +1,21 @@
+use Rattle.std.proofs.Common.{[], sym, ◌∙◌}
+use Rattle.machine_core.specs.Lists.{split-step}
+use Rattle.regex_machine.specs.Sided.{listed}
+use Rattle.regex_machine.proofs.StepLemmas.{mapped-more}
+use Rattle.regex_machine.proofs.sides.to_lists.Goals as goal
+
+pub loop-step-init : goal.loop-step-init
+loop-step-init c = record {
+  can = tt;
+  finite = tt;
+  split = sym (c.into_iter-step-iterator.ensures.into_iter_gives.0 ∙ c.into_vec-step-items.ensures);
+  all = c.new-all.ensures;
+}
+
+pub loop-step-preserved : goal.loop-step-preserved
+loop-step-preserved c = record {
+  can = tt;
+  finite = tt;
+  split = split-step _ _ _ _ c.in-Some.step c.loop-step.invariant.split c.in-Some.ensures.steps.0;
+  all = mapped-more listed [] c.loop-step.yielded c.loop-step.all c.push.new.self c.in-Some.step c.loop-step.invariant.all (rw c.in_ok-from_slice.ensures at c.in_ok-push.ensures.ok);
+}
