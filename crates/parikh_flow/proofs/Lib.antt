@@ -1,4 +1,5 @@
 pub mod Gets
+pub mod FillLemmas
 pub mod PlaceLemmas
 pub mod CountLemmas
 pub mod TourLemmas

@@ -2,6 +2,7 @@
 use Rattle.std.proofs.Common.{◌≡◌, ◌≢◌, ℕ, zero, suc, ◌≤◌, ℤ, pos, negsuc, ◌+ℤ◌, ◌*ℤ◌, List, [], ◌∷◌, ◌++◌, length, Bool, true, false, cond, eqb, ◌⊎◌, ⊎_elim, inl, inr, refl, ap, sym, ◌∙◌, subst, arith}
 use Rattle.std.proofs.lemmas.Int.{ints}
 use Rattle.std.proofs.lemmas.Bool.Decides.{eqb_tells}
+use Rattle.std.proofs.Math.IntN.{+ℤ_assoc, +ℤ_comm, +ℤ_idl, +ℤ_idr, zero-*ℤ, *ℤ-zero}
 use Rattle.sv_linear.specs.Terms.{terms_value, coefficient}
 use Rattle.sv_linear.specs.Integers.{mul-add, add-mul, mul_assoc}
 
@@ -11,6 +12,9 @@ pub record IsIdeal (P : ℤ → Type 0) : Type 0 where
   pub at_sum : (a b : ℤ) → P a → P b → P (a +ℤ b)
   pub at_product : (a b : ℤ) → P a → P (a *ℤ b)
 
+swap_sum : (a b c : ℤ) → a +ℤ (b +ℤ c) ≡ b +ℤ (a +ℤ c)
+swap_sum a b c = sym (+ℤ_assoc a b c) ∙ ap (λ z. z +ℤ c) (+ℤ_comm a b) ∙ +ℤ_assoc b a c
+
 -- the terms of the other unknowns
 abbrev pub without : ℕ → List (ℕ × ℤ) → List (ℕ × ℤ)
 without u [] = []
@@ -19,13 +23,20 @@ without u (t ∷ ts) = cond (eqb t.0 u) (without u ts) (t ∷ without u ts)
 split_step : (x : ℕ → ℤ) (u : ℕ) (t : ℕ × ℤ) (ts : List (ℕ × ℤ)) → terms_value x ts ≡ coefficient u ts *ℤ x u +ℤ terms_value x (without u ts) →
     (b : Bool) → ((b ≡ true) × (t.0 ≡ u)) ⊎ ((b ≡ false) × (t.0 ≢ u)) →
     t.1 *ℤ x t.0 +ℤ terms_value x ts ≡ (cond b t.1 (pos 0) +ℤ coefficient u ts) *ℤ x u +ℤ terms_value x (cond b (without u ts) (t ∷ without u ts))
-split_step x u t ts h true (inl e) = let s : t.1 *ℤ x t.0 ≡ t.1 *ℤ x u = ap (λ v. t.1 *ℤ x v) e.1 in omega (arith, ints, add-mul t.1 (coefficient u ts) (x u))
+split_step x u t ts h true (inl e) =
+    ap (λ v. t.1 *ℤ x v +ℤ terms_value x ts) e.1
+    ∙ ap (λ z. t.1 *ℤ x u +ℤ z) h
+    ∙ sym (+ℤ_assoc (t.1 *ℤ x u) (coefficient u ts *ℤ x u) (terms_value x (without u ts)))
+    ∙ ap (λ z. z +ℤ terms_value x (without u ts)) (sym (add-mul t.1 (coefficient u ts) (x u)))
 split_step x u t ts h true (inr e) = absurd (let f = e.0 in cc)
 split_step x u t ts h false (inl e) = absurd (let f = e.0 in cc)
-split_step x u t ts h false (inr e) = omega (arith, ints, add-mul (pos 0) (coefficient u ts) (x u))
+split_step x u t ts h false (inr e) =
+    ap (λ z. t.1 *ℤ x t.0 +ℤ z) h
+    ∙ swap_sum (t.1 *ℤ x t.0) (coefficient u ts *ℤ x u) (terms_value x (without u ts))
+    ∙ ap (λ z. z *ℤ x u +ℤ (t.1 *ℤ x t.0 +ℤ terms_value x (without u ts))) (sym (+ℤ_idl (coefficient u ts)))
 
 pub split_off : (x : ℕ → ℤ) (u : ℕ) (ts : List (ℕ × ℤ)) → terms_value x ts ≡ coefficient u ts *ℤ x u +ℤ terms_value x (without u ts)
-split_off x u [] = omega (arith, ints)
+split_off x u [] = sym (+ℤ_idr (pos 0 *ℤ x u) ∙ zero-*ℤ (x u))
 split_off x u (t ∷ ts) = split_step x u t ts (split_off x u ts) (eqb t.0 u) (eqb_tells t.0 u)
 
 own_step : (u v : ℕ) (t : ℕ × ℤ) (ts : List (ℕ × ℤ)) → v ≡ u → coefficient v (without u ts) ≡ pos 0 →
@@ -36,7 +47,7 @@ own_step u v t ts same h true e d f g = h
 own_step u v t ts same h false (inl e) d f g = absurd (let k = e.0 in cc)
 own_step u v t ts same h false (inr e) true (inl f) g = absurd (e.1 (f.1 ∙ same))
 own_step u v t ts same h false (inr e) true (inr f) g = absurd (let k = f.0 in cc)
-own_step u v t ts same h false (inr e) false f g = ap (λ (w : Bool). cond w t.1 (pos 0) +ℤ coefficient v (without u ts)) g ∙ omega (arith, ints)
+own_step u v t ts same h false (inr e) false f g = ap (λ (w : Bool). cond w t.1 (pos 0) +ℤ coefficient v (without u ts)) g ∙ +ℤ_idl (coefficient v (without u ts)) ∙ h
 
 pub coefficient-without_own : (u v : ℕ) (ts : List (ℕ × ℤ)) → v ≡ u → coefficient v (without u ts) ≡ pos 0
 coefficient-without_own u v [] same = refl
@@ -51,7 +62,7 @@ other_step u v t ts n h false e d f g = ap (λ z. cond (eqb t.0 v) t.1 (pos 0) +
 other_step u v t ts n h true (inr e) d f g = absurd (let k = e.0 in cc)
 other_step u v t ts n h true (inl e) true (inl f) g = absurd (n (sym f.1 ∙ e.1))
 other_step u v t ts n h true (inl e) true (inr f) g = absurd (let k = f.0 in cc)
-other_step u v t ts n h true (inl e) false f g = h ∙ sym (ap (λ (w : Bool). cond w t.1 (pos 0) +ℤ coefficient v ts) g ∙ omega (arith, ints))
+other_step u v t ts n h true (inl e) false f g = h ∙ sym (ap (λ (w : Bool). cond w t.1 (pos 0) +ℤ coefficient v ts) g ∙ +ℤ_idl (coefficient v ts))
 
 pub coefficient-without_other : (u v : ℕ) (ts : List (ℕ × ℤ)) → v ≢ u → coefficient v (without u ts) ≡ coefficient v ts
 coefficient-without_other u v [] n = refl
@@ -94,30 +105,36 @@ scaled a (t ∷ ts) = (t.0, a *ℤ t.1) ∷ scaled a ts
 
 scaled_step : (u : ℕ) (a : ℤ) (t : ℕ × ℤ) (ts : List (ℕ × ℤ)) → coefficient u (scaled a ts) ≡ a *ℤ coefficient u ts →
     (b : Bool) → cond b (a *ℤ t.1) (pos 0) +ℤ coefficient u (scaled a ts) ≡ a *ℤ (cond b t.1 (pos 0) +ℤ coefficient u ts)
-scaled_step u a t ts h true = omega (arith, ints, mul-add a t.1 (coefficient u ts))
-scaled_step u a t ts h false = omega (arith, ints, mul-add a (pos 0) (coefficient u ts))
+scaled_step u a t ts h true = ap (λ z. a *ℤ t.1 +ℤ z) h ∙ sym (mul-add a t.1 (coefficient u ts))
+scaled_step u a t ts h false = +ℤ_idl (coefficient u (scaled a ts)) ∙ h ∙ ap (λ z. a *ℤ z) (sym (+ℤ_idl (coefficient u ts)))
 
 pub coefficient-scaled : (u : ℕ) (a : ℤ) (ts : List (ℕ × ℤ)) → coefficient u (scaled a ts) ≡ a *ℤ coefficient u ts
-coefficient-scaled u a [] = omega (arith, ints)
+coefficient-scaled u a [] = sym (*ℤ-zero a)
 coefficient-scaled u a (t ∷ ts) = scaled_step u a t ts (coefficient-scaled u a ts) (eqb t.0 u)
 
 pub value-scaled : (x : ℕ → ℤ) (a : ℤ) (ts : List (ℕ × ℤ)) → terms_value x (scaled a ts) ≡ a *ℤ terms_value x ts
-value-scaled x a [] = omega (arith, ints)
-value-scaled x a (t ∷ ts) = omega (arith, ints, mul-add a (t.1 *ℤ x t.0) (terms_value x ts), mul_assoc a t.1 (x t.0), value-scaled x a ts)
+value-scaled x a [] = sym (*ℤ-zero a)
+value-scaled x a (t ∷ ts) =
+    ap (λ z. z +ℤ terms_value x (scaled a ts)) (mul_assoc a t.1 (x t.0))
+    ∙ ap (λ z. a *ℤ (t.1 *ℤ x t.0) +ℤ z) (value-scaled x a ts)
+    ∙ sym (mul-add a (t.1 *ℤ x t.0) (terms_value x ts))
 
 pub coefficient-append : (u : ℕ) (xs ys : List (ℕ × ℤ)) → coefficient u (xs ++ ys) ≡ coefficient u xs +ℤ coefficient u ys
-coefficient-append u [] ys = omega (arith, ints)
-coefficient-append u (t ∷ ts) ys = omega (arith, ints, coefficient-append u ts ys)
+coefficient-append u [] ys = sym (+ℤ_idl (coefficient u ys))
+coefficient-append u (t ∷ ts) ys =
+    let here = cond (eqb t.0 u) t.1 (pos 0) in
+    ap (λ z. here +ℤ z) (coefficient-append u ts ys) ∙ sym (+ℤ_assoc here (coefficient u ts) (coefficient u ys))
 
 pub value-append : (x : ℕ → ℤ) (xs ys : List (ℕ × ℤ)) → terms_value x (xs ++ ys) ≡ terms_value x xs +ℤ terms_value x ys
-value-append x [] ys = omega (arith, ints)
-value-append x (t ∷ ts) ys = omega (arith, ints, value-append x ts ys)
+value-append x [] ys = sym (+ℤ_idl (terms_value x ys))
+value-append x (t ∷ ts) ys =
+    ap (λ z. t.1 *ℤ x t.0 +ℤ z) (value-append x ts ys) ∙ sym (+ℤ_assoc (t.1 *ℤ x t.0) (terms_value x ts) (terms_value x ys))
 
 zero_ideal : IsIdeal (λ z. z ≡ pos 0)
 zero_ideal = record {
   at_zero = refl;
-  at_sum = λ a b p q. omega (arith, ints);
-  at_product = λ a b p. ap (λ w. w *ℤ b) p ∙ omega (arith, ints);
+  at_sum = λ a b p q. ap (λ z. z +ℤ b) p ∙ +ℤ_idl b ∙ q;
+  at_product = λ a b p. ap (λ z. z *ℤ b) p ∙ zero-*ℤ b;
 }
 
 -- terms with the same coefficient at each unknown have the same value

@@ -12,7 +12,6 @@ use std::alloc::{AllocError, Global};
 use sv_list::Items;
 
 /// An unfinished tour of a machine's edges.
-#[derive(Drop)]
 pub struct Tour {
     /// How often each edge is still to be used.
     pub left: Items<u64>,
@@ -23,6 +22,19 @@ pub struct Tour {
     /// The places of the settled edges, the last of the walk first.
     pub back: Items<usize>,
     pub at: u32,
+}
+
+// A drop by hand is one call where a derived one is a call for each vector inside.
+impl Drop for Tour {
+    fn drop(self) {
+        let Self {
+            left: _,
+            next: _,
+            way: _,
+            back: _,
+            at: _,
+        } = self;
+    }
 }
 
 // The first place of the row, from `from` on, whose edge is left.

@@ -1,5 +1,6 @@
-use Rattle.std.proofs.Common.{◌≡◌, ap, ◌∙◌, ◌++◌, ◌∷◌, [], slice_set, replicate, false, true, arith}
+use Rattle.std.proofs.Common.{◌≡◌, ap, ◌∙◌, ◌++◌, ◌∷◌, [], slice_set, replicate, false, true, add-one, arith}
 use Rattle.farkas_check.specs.Cuts.{values_of}
+use Rattle.parikh_flow.proofs.FillLemmas.{replicate-more}
 use Rattle.parikh_flow.proofs.ReachLemmas.{reach-start, reach-done, listed-below, row-found}
 use Rattle.parikh_flow.proofs.reaching.reached_states.Goals as goal
 
@@ -22,3 +23,21 @@ visit-requires-clause-row c =
 
 pub returns-clause-exact : goal.returns-clause-exact
 returns-clause-exact c = λ s lt. reach-done (values_of c.args.point.now) c.args.net.now c.loop-at.found c.loop-at.seen c.loop-at.at c.loop-at.invariant (rw c.len.ensures at c.loop-at-test.false) s
+
+pub visit-requires-clause-within : goal.visit-requires-clause-within
+visit-requires-clause-within c = c.requires
+
+pub visit-requires-clause-search : goal.visit-requires-clause-search
+visit-requires-clause-search c = c.loop-at.invariant
+
+pub loop-at-preserved : goal.loop-at-preserved
+loop-at-preserved c = rw add-one c.in_ok-visit.ensures
+
+pub returns-clause-size : goal.returns-clause-size
+returns-clause-size c = c.loop-at.invariant.size
+
+pub bounds-as_slice-at : goal.bounds-as_slice-at
+bounds-as_slice-at c = rw c.as_slice-in-loop-at.ensures (rw c.len.ensures at c.loop-at-test.true)
+
+pub loop-state-preserved : goal.loop-state-preserved
+loop-state-preserved c = c.in_ok-push.ensures.ok ∙ ap (λ l. l ++ false ∷ []) c.loop-state.invariant ∙ replicate-more c.loop-state._state false

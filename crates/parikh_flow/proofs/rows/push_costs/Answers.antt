@@ -14,3 +14,6 @@ returns-clause-fit c = record {
   edges = subst (λ (l : List Edge). All (λ e. slice_index e.cost c.args.register < 2 ^ 64) l) c.edges.ensures c.in_ok-of_edges.ensures.fit;
   ends = subst (λ (l : List End). All (λ e. slice_index e.cost c.args.register < 2 ^ 64) l) c.finals.ensures c.in_ok-of_ends.ensures.fit;
 }
+
+pub push_terms-requires-clause-ascends : goal.push_terms-requires-clause-ascends
+push_terms-requires-clause-ascends c = c.requires.ascends

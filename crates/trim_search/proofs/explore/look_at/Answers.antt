@@ -3,7 +3,7 @@ use Rattle.trim_search.specs.Grown.{IsNodeOf}
 use Rattle.trim_search.proofs.Gets.{slice_get-read}
 use Rattle.trim_search.proofs.NodeLemmas.{target-follows, grown-valid, node-of, node-formed, node-top}
 use Rattle.trim_search.specs.Grown.{IsTarget}
-use Rattle.trim_search.proofs.FullLemmas.{full-weaker}
+use Rattle.trim_search.proofs.FullLemmas.{full-weaker, memory-no-states}
 use Rattle.trim_search.proofs.explore.look_at.Goals as goal
 
 ok-no-err : {A B C : Type 0} (a : A) (b : B) → ◌≡◌ {A = Result A B} (Ok a) (Err b) → C
@@ -150,3 +150,9 @@ bounds-names-at g c =
     let same : length c.names.result.now ≡ length (g.N.StateNumbering.named c.args.numbers.now) = ap length c.names.ensures.items in
     let at = c.requires.at in
     omega arith
+
+pub returns-in_err-ends-clause-full : goal.returns-in_err-ends-clause-full
+returns-in_err-ends-clause-full g c = λ n e. memory-no-states n _ (rw e at c.from_residual.ensures.1)
+
+pub returns-in_err-moves-clause-full : goal.returns-in_err-moves-clause-full
+returns-in_err-moves-clause-full g c = λ n e. memory-no-states n _ (rw e at c.from_residual-in_err-moves.ensures.1)

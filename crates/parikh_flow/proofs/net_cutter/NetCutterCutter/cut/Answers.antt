@@ -1,0 +1,17 @@
+use Rattle.std.proofs.Common.{◌≤ℤ◌, All, length, pos, subst, sym, ap, arith}
+use Rattle.farkas_check.specs.Cuts.{IsNetWithin, values_of}
+use Rattle.farkas_check.specs.declared.net.Net.{Net}
+use Rattle.parikh_flow.proofs.Gets.{slice_get-in}
+use Rattle.parikh_flow.proofs.net_cutter.NetCutterCutter.cut.Goals as goal
+
+pub unreached_states-requires-clause-within : goal.unreached_states-requires-clause-within
+unreached_states-requires-clause-within c = subst (λ (net : Net). IsNetWithin (length c.args.point.now) net) (sym (rw c.as_slice-net-items.ensures at c.net-item.is)) (c.requires.within c.loop-net.net-index c.net-item.result (rw c.as_slice-net-items.ensures at c.loop-net-test.true))
+
+pub unreached_states-requires-clause-not_negative : goal.unreached_states-requires-clause-not_negative
+unreached_states-requires-clause-not_negative c = subst (λ (net : Net). All (λ e. pos 0 ≤ℤ values_of c.args.point.now e.unknown) net.edges) (sym (rw c.as_slice-net-items.ensures at c.net-item.is)) (c.requires.not_negative c.loop-net.net-index c.net-item.result (rw c.as_slice-net-items.ensures at c.loop-net-test.true))
+
+pub returns : goal.returns
+returns c = λ i d lt.
+    let test = c.loop-net-test.false in
+    let size = ap length c.as_slice-net-items.ensures in
+    c.loop-net.invariant.joined i _ (omega arith) (rw c.as_slice-net-items.ensures (slice_get-in c.args.self.now.system.now.nets i d lt))
