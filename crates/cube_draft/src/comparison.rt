@@ -18,7 +18,7 @@ use sv_list::{Copied, Items};
 use sv_terms::{Op, Term};
 
 /// How a comparison reads as a row, by the difference of its sides.
-#[derive(Clone, Copy, PartialEq, Eq)]
+#[derive(Clone, Copy)]
 enum RowReading {
     /// The difference is 0.
     Zero,
