@@ -106,9 +106,9 @@ fn bound_form(
     let Differences { less, more } = differences;
     match bound {
         RowReading::Zero | RowReading::AtMost => Ok(less),
-        RowReading::Below => Ok(plus_one(alloc, &less)?),
+        RowReading::Below => plus_one(alloc, &less),
         RowReading::AtLeast => Ok(more),
-        RowReading::Above => Ok(plus_one(alloc, &more)?),
+        RowReading::Above => plus_one(alloc, &more),
         RowReading::Never => Ok(TermForm::number(alloc, 1)),
     }
 }
