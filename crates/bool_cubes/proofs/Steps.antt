@@ -15,7 +15,7 @@ use Rattle.bool_cubes.specs.Trees.{Formula, Part, agreement, applied, atom, chai
 use Rattle.bool_cubes.specs.declared.node.CubeNode.{CubeNode}
 use Rattle.bool_cubes.specs.declared.node.NodePair.{NodePair}
 use Rattle.bool_cubes.proofs.Plans.{longer_trans, stands_longer, planned_trans, relabelled, turned}
-use Rattle.bool_cubes.proofs.Tallies.{exclusive_push, formulas_more, parts_formulas}
+use Rattle.bool_cubes.proofs.Tallies.{exclusive_push, formulas_more}
 
 pub planned_as : (a b : List CubeNode) (s : NodePair) (f g : Formula) → IsPlanned a b s f → f ≡ g → IsPlanned a b s g
 planned_as a b s f g p e = subst (λ h. IsPlanned a b s h) e p
@@ -218,18 +218,6 @@ pairs_step a b c x r (v ∷ vs) k o l p h =
     got_again (t ∷ ts) (suc k) d e l = got_again ts k d e (omega arith)
 
 -- the functions of formulas, at the arguments of a function
-pub and_applied : (a b : List CubeNode) (s : NodePair) (ts : List Term) (t : Term) → IsPlanned a b s (conjunction (formulas_of ts)) → IsPlanned a b s (applied op.And (parts_of ts) t)
-and_applied a b s ts t p = planned_as a b s _ _ p (ap conjunction (sym (parts_formulas ts)))
-
-pub or_applied : (a b : List CubeNode) (s : NodePair) (ts : List Term) (t : Term) → IsPlanned a b s (disjunction (formulas_of ts)) → IsPlanned a b s (applied op.Or (parts_of ts) t)
-or_applied a b s ts t p = planned_as a b s _ _ p (ap disjunction (sym (parts_formulas ts)))
-
-pub xor_applied : (a b : List CubeNode) (s : NodePair) (ts : List Term) (t : Term) → IsPlanned a b s (exclusive (formulas_of ts)) → IsPlanned a b s (applied op.Xor (parts_of ts) t)
-xor_applied a b s ts t p = planned_as a b s _ _ p (ap exclusive (sym (parts_formulas ts)))
-
-pub implies_applied : (a b : List CubeNode) (s : NodePair) (ts : List Term) (t : Term) → IsPlanned a b s (implied (formulas_of ts)) → IsPlanned a b s (applied op.Implies (parts_of ts) t)
-implies_applied a b s ts t p = planned_as a b s _ _ p (ap implied (sym (parts_formulas ts)))
-
 pub not_one : (a b : List CubeNode) (s r : NodePair) (ts : List Term) (t u : Term) → length ts ≡ 1 → u ≡ get_or ts 0 u → IsPlanned a b s (formula (seen u)) → r.holding ≡ s.failing → r.failing ≡ s.holding → IsPlanned a b r (applied op.Not (parts_of ts) t)
 not_one a b s r [] t u l e p m n = absurd (omega arith)
 not_one a b s r (v ∷ []) t u l e p m n = planned_as a b r _ _ (turned a b s r _ p m n) (ap (λ (x : Term). negated (formula (seen x))) e)
@@ -276,9 +264,6 @@ equal_text a b s t u k p = subst (λ z. IsPlanned a b s (equal_at z (part_of t) 
 
 pub equal_language : (a b : List CubeNode) (s : NodePair) (t u : Term) → head_sort (seen t) ≡ sort.RegLan → IsPlanned a b s (comparison op.Equal t u) → IsPlanned a b s (equal (part_of t) (part_of u))
 equal_language a b s t u k p = subst (λ z. IsPlanned a b s (equal_at z (part_of t) (part_of u))) (sym k) (planned_as a b s _ _ p (λ i. comparison op.Equal (sym (raw-seen t) i) (sym (raw-seen u) i)))
-
-pub as_op : (a b : List CubeNode) (s : NodePair) (ps : List Part) (t : Term) (o p : Op) → p ≡ o → IsPlanned a b s (applied o ps t) → IsPlanned a b s (applied p ps t)
-as_op a b s ps t o p e h = subst (λ q. IsPlanned a b s (applied q ps t)) (sym e) h
 
 pub same_got : (ts : List Term) (i : ℕ) (t x : Term) → i < length ts → t ≡ get_or ts i t → x ≡ get_or ts i x → x ≡ t
 same_got ts i t x l e f = f ∙ got_any ts i x t l ∙ sym e

@@ -18,21 +18,19 @@ use sv_terms::{Op, Sort, Term};
 
 /// The nodes of a term and of its negation.
 #[cycle(planning)]
-#[tactic(auto, using(crate::proofs::Steps::formula_truth, crate::proofs::Steps::formula_apply, crate::proofs::Steps::formula_other, crate::proofs::Steps::planned_as))]
 pub fn term_sides(plan: &mut Plan, alloc: Global, term: &Term) -> Result<NodePair, AllocError>
     requires { IsPlan plan.old.nodes }
     ensures { IfOk result (λ s. IsPlanned plan.old.nodes plan.new.nodes s (formula (seen term.now))) }
 {
     match term {
-        Term::Truth(b) => Ok(plan.settle(*b)?),
-        Term::Apply(op, terms) => Ok(applied_sides(plan, alloc, *op, terms.as_slice(), term)?),
-        _ => Ok(plan.atom(alloc, term)?),
+        Term::Truth(b) => plan.settle(*b),
+        Term::Apply(op, terms) => applied_sides(plan, alloc, *op, terms.as_slice(), term),
+        _ => plan.atom(alloc, term),
     }
 }
 
 /// The nodes of a function at these arguments, which are those of `term`.
 #[cycle(planning)]
-#[tactic(auto, using(crate::proofs::Steps::and_applied, crate::proofs::Steps::or_applied, crate::proofs::Steps::xor_applied, crate::proofs::Steps::implies_applied))]
 fn applied_sides(
     plan: &mut Plan,
     alloc: Global,
@@ -44,14 +42,14 @@ fn applied_sides(
     ensures { IfOk result (λ s. IsPlanned plan.old.nodes plan.new.nodes s (applied op (parts_of terms.now) term.now)) }
 {
     match op {
-        Op::Not => Ok(opposite_sides(plan, alloc, terms, term)?),
-        Op::And => Ok(all_sides(plan, alloc, terms)?),
-        Op::Or => Ok(any_sides(plan, alloc, terms)?),
-        Op::Xor => Ok(exclusive_sides(plan, alloc, terms)?),
-        Op::Implies => Ok(implied_sides(plan, alloc, terms)?),
-        Op::Equal => Ok(equal_sides(plan, alloc, terms)?),
-        Op::Distinct => Ok(distinct_sides(plan, alloc, terms)?),
-        Op::IfThenElse => Ok(choice_sides(plan, alloc, terms, term)?),
+        Op::Not => opposite_sides(plan, alloc, terms, term),
+        Op::And => all_sides(plan, alloc, terms),
+        Op::Or => any_sides(plan, alloc, terms),
+        Op::Xor => exclusive_sides(plan, alloc, terms),
+        Op::Implies => implied_sides(plan, alloc, terms),
+        Op::Equal => equal_sides(plan, alloc, terms),
+        Op::Distinct => distinct_sides(plan, alloc, terms),
+        Op::IfThenElse => choice_sides(plan, alloc, terms, term),
         Op::LessEqual | Op::Less | Op::GreaterEqual | Op::Greater => {
             Ok(chain_sides(plan, alloc, op, terms)?)
         }

@@ -18,7 +18,7 @@ use sv_list::{Copied, Items};
 use sv_terms::{Op, Term};
 
 /// How a comparison reads as a row, by the difference of its sides.
-#[derive(Clone, Copy, PartialEq, Eq)]
+#[derive(Clone, Copy)]
 enum RowReading {
     /// The difference is 0.
     Zero,
@@ -106,9 +106,9 @@ fn bound_form(
     let Differences { less, more } = differences;
     match bound {
         RowReading::Zero | RowReading::AtMost => Ok(less),
-        RowReading::Below => Ok(plus_one(alloc, &less)?),
+        RowReading::Below => plus_one(alloc, &less),
         RowReading::AtLeast => Ok(more),
-        RowReading::Above => Ok(plus_one(alloc, &more)?),
+        RowReading::Above => plus_one(alloc, &more),
         RowReading::Never => Ok(TermForm::number(alloc, 1)),
     }
 }

@@ -19,7 +19,6 @@ use sv_word::Word;
 use written_terms::{is_linear, is_string};
 
 /// Whether a literal is of a written kind.
-#[derive(Clone, Copy, PartialEq, Eq)]
 pub enum LiteralReading {
     /// It is, and what it says was added.
     Written,
@@ -28,7 +27,7 @@ pub enum LiteralReading {
 }
 
 /// A function as it stands at the head of an atom of a written kind.
-#[derive(Clone, Copy, PartialEq, Eq)]
+#[derive(Clone, Copy)]
 enum AtomHead {
     Equality,
     Order,
@@ -55,7 +54,7 @@ fn head_of(op: Op) -> AtomHead
 }
 
 /// How a word stands in another.
-#[derive(Clone, Copy, PartialEq, Eq)]
+#[derive(Clone, Copy)]
 enum Affix {
     Prefix,
     Suffix,

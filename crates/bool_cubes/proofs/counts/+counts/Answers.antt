@@ -1,7 +1,8 @@
-use Rattle.std.proofs.Common.{◌≡◌, List, ◌+◌, sym, ap, ◌∙◌, drop, zero, length, ◌-◌, get_or, arith}
+use Rattle.std.proofs.Common.{◌≡◌, List, ◌+◌, sym, ap, ◌∙◌, drop, take, zero, length, ◌-◌, get_or, arith}
+use Rattle.std.proofs.lemmas.List.{take_all}
 use Rattle.literal_forms.specs.Shapes.{seen}
-use Rattle.bool_cubes.specs.Counting.{counts_of, parts_of, first_pairs}
-use Rattle.bool_cubes.specs.Trees.{Part, applied, conjunction, disjunction, equal, exclusive, formula, implied, negated, pairs}
+use Rattle.bool_cubes.specs.Counting.{counts_of, parts_of, formulas_of, first_pairs}
+use Rattle.bool_cubes.specs.Trees.{Part, applied, conjunction, disjunction, equal, exclusive, formula, implied, negated, neighbours, pairs}
 use Rattle.bool_cubes.specs.declared.counts.Counts.{Counts}
 use Rattle.sv_terms.specs.declared.op.Op.{Op}
 use Rattle.sv_terms.specs.declared.op.Op.TheVariants as op
@@ -45,9 +46,25 @@ all_counts-loop-term-preserved t c = all_more c.args.terms.now c.loop-term.term-
 pub any_counts-loop-term-preserved : goal.any_counts-loop-term-preserved
 any_counts-loop-term-preserved t c = any_more c.args.terms.now c.loop-term.term-index c.term-item.result c.loop-term.any c.count_both.result c.or-any.result (omega arith) c.term-item.is c.loop-term.invariant c.count_both.ensures c.or-any.ensures
 
+pub all_counts-returns : goal.all_counts-returns
+all_counts-returns t c =
+    let whole : take c.loop-term.term-index c.args.terms.now ≡ c.args.terms.now = take_all c.loop-term.term-index c.args.terms.now (omega arith) in
+    c.loop-term.invariant ∙ ap (λ ts. counts_of (conjunction (formulas_of ts))) whole
+
+pub any_counts-returns : goal.any_counts-returns
+any_counts-returns t c =
+    let whole : take c.loop-term.term-index c.args.terms.now ≡ c.args.terms.now = take_all c.loop-term.term-index c.args.terms.now (omega arith) in
+    c.loop-term.invariant ∙ ap (λ ts. counts_of (disjunction (formulas_of ts))) whole
+
 pub exclusive_counts-loop-i-preserved : goal.exclusive_counts-loop-i-preserved
 exclusive_counts-loop-i-preserved t c =
     exclusive_more c.args.terms.now c.loop-i.i c.index-terms-i.result c.loop-i.odd c.count_both.result c.agree.result c.not-odd.result (omega arith) (omega arith) c.index-terms-i.is c.loop-i.invariant c.count_both.ensures c.agree.ensures c.not-odd.ensures
+
+pub exclusive_counts-returns : goal.exclusive_counts-returns
+exclusive_counts-returns t c =
+    let some = some_terms c.args.terms.now (sym c.is_empty.ensures ∙ c.if-is_empty.false) in
+    let whole : take c.loop-i.i c.args.terms.now ≡ c.args.terms.now = take_all c.loop-i.i c.args.terms.now (omega (arith, some)) in
+    c.loop-i.invariant ∙ ap (λ ts. counts_of (exclusive (formulas_of ts))) whole
 
 pub implied_counts-loop-i-preserved : goal.implied_counts-loop-i-preserved
 implied_counts-loop-i-preserved t c =
@@ -69,6 +86,11 @@ neighbour_counts-loop-i-preserved t c = record {
       (c.loop-i.invariant.left u ∙ ap (λ x. counts_of (formula (seen x))) (sym c.index-terms-i-in-loop-i.is)) c.count_both-right.ensures c.equal_counts.ensures c.and-all.ensures;
   left = λ u. c.count_both-right.ensures ∙ ap (λ x. counts_of (formula (seen x))) (got_at c.args.terms.now c.loop-i.i c.index-terms-i.result u (omega arith) c.index-terms-i.is);
 }
+
+pub neighbour_counts-returns : goal.neighbour_counts-returns
+neighbour_counts-returns t c =
+    let whole : take c.loop-i.i c.args.terms.now ≡ c.args.terms.now = take_all c.loop-i.i c.args.terms.now (omega arith) in
+    c.loop-i.invariant.all ∙ ap (λ ts. counts_of (conjunction (neighbours equal (parts_of ts)))) whole
 
 pub applied_counts-returns-in-Not : goal.applied_counts-returns-in-Not
 applied_counts-returns-in-Not t c =

@@ -1,7 +1,7 @@
 use Rattle.std.proofs.Common.{ap, append_assoc, arith, get_or, sym, ◌++◌, ◌∙◌, ◌%◌}
 use Rattle.bool_cubes.specs.Nodes.{tree_at}
 use Rattle.bool_cubes.specs.Picking.{cube_at}
-use Rattle.bool_cubes.proofs.Gathered.{both_parts}
+use Rattle.bool_cubes.proofs.Gathered.{both_parts, either_parts}
 use Rattle.bool_cubes.proofs.cubes.+gather.Goals as goal
 
 pub gather-requires : goal.gather-requires
@@ -16,4 +16,22 @@ loop-at-preserved-in-Both t c =
       below = omega arith;
       number = parts.second;
       whole = ap (λ x. x ++ cube_at (tree_at c.args.nodes.now c.in-Both.second) (c.loop-at.left % (get_or c.args.nodes.now c.in-Both.second c.index-nodes-second.result).cubes)) c.in_ok-gather-in-Both.ensures ∙ append_assoc c.loop-at.literals _ _ ∙ ap (λ x. c.loop-at.literals ++ x) (sym parts.whole) ∙ c.loop-at.invariant.whole;
+    }
+
+pub loop-at-preserved-then-left-cubes : goal.loop-at-preserved-then-left-cubes
+loop-at-preserved-then-left-cubes t c =
+    let parts = either_parts c.args.nodes.now c.loop-at.at (get_or c.args.nodes.now c.loop-at.at c.index-nodes-at.result) c.loop-at.left c.in-Either.first c.in-Either.second c.requires.plan c.loop-at.invariant.number (ap (get_or c.args.nodes.now c.loop-at.at) c.index-nodes-at.is) (get_or c.args.nodes.now c.in-Either.first c.index-nodes-first.result) c.in-Either.is (ap (get_or c.args.nodes.now c.in-Either.first) c.index-nodes-first.is) in
+    record {
+      below = omega arith;
+      number = parts.first c.if-left-cubes.true;
+      whole = ap (λ x. c.loop-at.literals ++ x) (sym (parts.first_is c.if-left-cubes.true)) ∙ c.loop-at.invariant.whole;
+    }
+
+pub loop-at-preserved : goal.loop-at-preserved
+loop-at-preserved t c =
+    let parts = either_parts c.args.nodes.now c.loop-at.at (get_or c.args.nodes.now c.loop-at.at c.index-nodes-at.result) c.loop-at.left c.in-Either.first c.in-Either.second c.requires.plan c.loop-at.invariant.number (ap (get_or c.args.nodes.now c.loop-at.at) c.index-nodes-at.is) (get_or c.args.nodes.now c.in-Either.first c.index-nodes-first.result) c.in-Either.is (ap (get_or c.args.nodes.now c.in-Either.first) c.index-nodes-first.is) in
+    record {
+      below = omega arith;
+      number = parts.second c.if-left-cubes.false;
+      whole = ap (λ x. c.loop-at.literals ++ x) (sym (parts.second_is c.if-left-cubes.false)) ∙ c.loop-at.invariant.whole;
     }

@@ -1,12 +1,20 @@
-use Rattle.std.proofs.Common.{◌≡◌, ◌-◌, arith, drop, length, subst, zero}
+use Rattle.std.proofs.Common.{◌≡◌, ◌∙◌, ◌-◌, IfOk, List, Result, ap, arith, drop, length, subst, sym, zero}
 use Rattle.sv_terms.specs.declared.op.Op.TheVariants as op
+use Rattle.sv_terms.specs.declared.term.Term.TheVariants as term
 use Rattle.bool_cubes.specs.Counting.{formulas_of, parts_of}
 use Rattle.bool_cubes.specs.Nodes.{IsPlanned}
-use Rattle.bool_cubes.specs.Trees.{atom, conjunction, disjunction, equal, fixed, formula, implied, negated, pairs}
+use Rattle.bool_cubes.specs.Trees.{Formula, applied, atom, conjunction, disjunction, equal, exclusive, fixed, formula, implied, negated, neighbours, pairs}
 use Rattle.literal_forms.specs.Shapes.{seen}
+use Rattle.bool_cubes.specs.declared.node.CubeNode.{CubeNode}
+use Rattle.bool_cubes.specs.declared.node.NodePair.{NodePair}
 use Rattle.bool_cubes.proofs.Plans.{longer_trans, within_longer}
-use Rattle.bool_cubes.proofs.Steps.{all_none, all_step, and_applied, any_none, any_step, as_op, boolean_longer, choice_other, choice_three, equal_step, exclusive_all, exclusive_step, formula_other, formula_truth, implied_step, implies_applied, not_one, not_other, or_applied, pairs_step, planned_as, side_left, side_right, xor_applied}
+use Rattle.bool_cubes.proofs.Steps.{all_none, all_step, any_none, any_step, boolean_longer, choice_other, choice_three, equal_step, exclusive_all, exclusive_step, formula_apply, formula_other, formula_truth, implied_step, not_one, not_other, pairs_step, side_left, side_right}
+use Rattle.bool_cubes.proofs.Tallies.{parts_formulas}
 use Rattle.bool_cubes.proofs.planning.+planning.Goals as goal
+
+-- an answer with the sides of a formula has those of an equal one
+answered_as : {E : Type 0} (a b : List CubeNode) (r : Result NodePair E) (f g : Formula) → f ≡ g → IfOk r (λ s. IsPlanned a b s f) → IfOk r (λ s. IsPlanned a b s g)
+answered_as a b r f g e h = subst (λ x. IfOk r (λ s. IsPlanned a b s x)) e h
 
 pub all_sides-loop-i-preserved : goal.all_sides-loop-i-preserved
 all_sides-loop-i-preserved t c =
@@ -17,26 +25,6 @@ pub any_sides-loop-i-preserved : goal.any_sides-loop-i-preserved
 any_sides-loop-i-preserved t c =
     any_step c.args.plan.now.nodes c.loop-i.plan.nodes c.term_sides.new.plan.nodes c.or.new.self.nodes c.loop-i.any c.in_ok-next.next c.in_ok-any-2.any c.args.terms.now c.loop-i.i c.index-terms-i.result (omega arith) (omega arith) c.index-terms-i.is
     c.loop-i.invariant c.in_ok-next.ensures c.in_ok-any-2.ensures.formula
-
-pub applied_sides-returns-in_ok-all_sides-in-And : goal.applied_sides-returns-in_ok-all_sides-in-And
-applied_sides-returns-in_ok-all_sides-in-And t c =
-    as_op c.args.plan.now.nodes c.all_sides.new.plan.nodes c.in_ok-all_sides-in-And.field-0 (parts_of c.args.terms.now) c.args.term.now op.And c.args.op c.in-And.is
-    (and_applied c.args.plan.now.nodes c.all_sides.new.plan.nodes c.in_ok-all_sides-in-And.field-0 c.args.terms.now c.args.term.now c.in_ok-all_sides-in-And.ensures)
-
-pub applied_sides-returns-in_ok-any_sides-in-Or : goal.applied_sides-returns-in_ok-any_sides-in-Or
-applied_sides-returns-in_ok-any_sides-in-Or t c =
-    as_op c.args.plan.now.nodes c.any_sides.new.plan.nodes c.in_ok-any_sides-in-Or.field-0 (parts_of c.args.terms.now) c.args.term.now op.Or c.args.op c.in-Or.is
-    (or_applied c.args.plan.now.nodes c.any_sides.new.plan.nodes c.in_ok-any_sides-in-Or.field-0 c.args.terms.now c.args.term.now c.in_ok-any_sides-in-Or.ensures)
-
-pub applied_sides-returns-in_ok-exclusive_sides-in-Xor : goal.applied_sides-returns-in_ok-exclusive_sides-in-Xor
-applied_sides-returns-in_ok-exclusive_sides-in-Xor t c =
-    as_op c.args.plan.now.nodes c.exclusive_sides.new.plan.nodes c.in_ok-exclusive_sides-in-Xor.field-0 (parts_of c.args.terms.now) c.args.term.now op.Xor c.args.op c.in-Xor.is
-    (xor_applied c.args.plan.now.nodes c.exclusive_sides.new.plan.nodes c.in_ok-exclusive_sides-in-Xor.field-0 c.args.terms.now c.args.term.now c.in_ok-exclusive_sides-in-Xor.ensures)
-
-pub applied_sides-returns-in_ok-implied_sides-in-Implies : goal.applied_sides-returns-in_ok-implied_sides-in-Implies
-applied_sides-returns-in_ok-implied_sides-in-Implies t c =
-    as_op c.args.plan.now.nodes c.implied_sides.new.plan.nodes c.in_ok-implied_sides-in-Implies.field-0 (parts_of c.args.terms.now) c.args.term.now op.Implies c.args.op c.in-Implies.is
-    (implies_applied c.args.plan.now.nodes c.implied_sides.new.plan.nodes c.in_ok-implied_sides-in-Implies.field-0 c.args.terms.now c.args.term.now c.in_ok-implied_sides-in-Implies.ensures)
 
 pub choice_sides-returns-in_ok-choice : goal.choice_sides-returns-in_ok-choice
 choice_sides-returns-in_ok-choice t c =
@@ -66,6 +54,11 @@ equal_sides-loop-i-preserved t c = record {
       (omega arith) (omega arith) c.index-terms-i.is c.index-terms-i-in-loop-i.is c.loop-i.invariant.planned c.in_ok-next.ensures c.in_ok-all-2.ensures.formula;
   sides = boolean_longer c.loop-i.plan.nodes c.and.new.self.nodes c.args.terms.now c.as_slice-sides.result.now (longer_trans c.loop-i.plan.nodes c.pair_sides.new.plan.nodes c.and.new.self.nodes c.in_ok-next.ensures.longer c.in_ok-all-2.ensures.longer) c.loop-i.invariant.sides;
 }
+
+pub equal_sides-returns : goal.equal_sides-returns
+equal_sides-returns t c =
+    let end : c.loop-i.i - 1 ≡ zero = omega arith in
+    subst (λ n. IsPlanned c.args.plan.now.nodes c.loop-i.plan.nodes c.loop-i.all (conjunction (neighbours equal (parts_of (drop n c.args.terms.now))))) end c.loop-i.invariant.planned
 
 pub exclusive_sides-loop-i-preserved : goal.exclusive_sides-loop-i-preserved
 exclusive_sides-loop-i-preserved t c =
@@ -125,22 +118,6 @@ pub any_sides-returns : goal.any_sides-returns
 any_sides-returns t c =
     let end : c.loop-i.i ≡ zero = omega arith in
     subst (λ n. IsPlanned c.args.plan.now.nodes c.loop-i.plan.nodes c.loop-i.any (disjunction (formulas_of (drop n c.args.terms.now)))) end c.loop-i.invariant
-
-pub applied_sides-returns-in_ok-opposite_sides-in-Not : goal.applied_sides-returns-in_ok-opposite_sides-in-Not
-applied_sides-returns-in_ok-opposite_sides-in-Not t c =
-    as_op c.args.plan.now.nodes c.opposite_sides.new.plan.nodes c.in_ok-opposite_sides-in-Not.field-0 (parts_of c.args.terms.now) c.args.term.now op.Not c.args.op c.in-Not.is c.in_ok-opposite_sides-in-Not.ensures
-
-pub applied_sides-returns-in_ok-equal_sides-in-Equal : goal.applied_sides-returns-in_ok-equal_sides-in-Equal
-applied_sides-returns-in_ok-equal_sides-in-Equal t c =
-    as_op c.args.plan.now.nodes c.equal_sides.new.plan.nodes c.in_ok-equal_sides-in-Equal.field-0 (parts_of c.args.terms.now) c.args.term.now op.Equal c.args.op c.in-Equal.is c.in_ok-equal_sides-in-Equal.ensures
-
-pub applied_sides-returns-in_ok-distinct_sides-in-Distinct : goal.applied_sides-returns-in_ok-distinct_sides-in-Distinct
-applied_sides-returns-in_ok-distinct_sides-in-Distinct t c =
-    as_op c.args.plan.now.nodes c.distinct_sides.new.plan.nodes c.in_ok-distinct_sides-in-Distinct.field-0 (parts_of c.args.terms.now) c.args.term.now op.Distinct c.args.op c.in-Distinct.is c.in_ok-distinct_sides-in-Distinct.ensures
-
-pub applied_sides-returns-in_ok-choice_sides-in-IfThenElse : goal.applied_sides-returns-in_ok-choice_sides-in-IfThenElse
-applied_sides-returns-in_ok-choice_sides-in-IfThenElse t c =
-    as_op c.args.plan.now.nodes c.choice_sides.new.plan.nodes c.in_ok-choice_sides-in-IfThenElse.field-0 (parts_of c.args.terms.now) c.args.term.now op.IfThenElse c.args.op c.in-IfThenElse.is c.in_ok-choice_sides-in-IfThenElse.ensures
 
 pub choice_sides-choice-requires-clause-plan : goal.choice_sides-choice-requires-clause-plan
 choice_sides-choice-requires-clause-plan t c =
@@ -235,10 +212,57 @@ pub opposite_sides-returns-in_ok-term_sides : goal.opposite_sides-returns-in_ok-
 opposite_sides-returns-in_ok-term_sides t c =
     not_one c.args.plan.now.nodes c.term_sides.new.plan.nodes c.in_ok-term_sides.field-0 c.negation.result c.args.terms.now c.args.term.now c.index-terms-0.result c.if-terms-eq1.true c.index-terms-0.is c.in_ok-term_sides.ensures c.negation.ensures.holding c.negation.ensures.failing
 
-pub term_sides-returns-in_ok-settle-in-Truth : goal.term_sides-returns-in_ok-settle-in-Truth
-term_sides-returns-in_ok-settle-in-Truth t c =
-    planned_as c.args.plan.now.nodes c.settle.new.self.nodes c.in_ok-settle-in-Truth.field-0 (fixed c.in-Truth.b) (formula (seen c.args.term.now)) c.in_ok-settle-in-Truth.ensures (formula_truth c.args.term.now c.in-Truth.b c.in-Truth.is)
+pub applied_sides-returns-in-And : goal.applied_sides-returns-in-And
+applied_sides-returns-in-And t c =
+    answered_as c.args.plan.now.nodes c.all_sides.new.plan.nodes c.all_sides.result (conjunction (formulas_of c.args.terms.now)) (applied c.args.op (parts_of c.args.terms.now) c.args.term.now)
+    (ap conjunction (sym (parts_formulas c.args.terms.now)) ∙ ap (λ o. applied o (parts_of c.args.terms.now) c.args.term.now) (sym c.in-And.is)) c.all_sides.ensures
 
-pub term_sides-returns-in_ok-atom-in_default : goal.term_sides-returns-in_ok-atom-in_default
-term_sides-returns-in_ok-atom-in_default t c =
-    planned_as c.args.plan.now.nodes c.atom.new.self.nodes c.in_ok-atom-in_default.field-0 (atom c.args.term.now) (formula (seen c.args.term.now)) c.in_ok-atom-in_default.ensures (formula_other c.args.term.now c.in_default.not-Truth c.in_default.not-Apply)
+pub applied_sides-returns-in-Or : goal.applied_sides-returns-in-Or
+applied_sides-returns-in-Or t c =
+    answered_as c.args.plan.now.nodes c.any_sides.new.plan.nodes c.any_sides.result (disjunction (formulas_of c.args.terms.now)) (applied c.args.op (parts_of c.args.terms.now) c.args.term.now)
+    (ap disjunction (sym (parts_formulas c.args.terms.now)) ∙ ap (λ o. applied o (parts_of c.args.terms.now) c.args.term.now) (sym c.in-Or.is)) c.any_sides.ensures
+
+pub applied_sides-returns-in-Xor : goal.applied_sides-returns-in-Xor
+applied_sides-returns-in-Xor t c =
+    answered_as c.args.plan.now.nodes c.exclusive_sides.new.plan.nodes c.exclusive_sides.result (exclusive (formulas_of c.args.terms.now)) (applied c.args.op (parts_of c.args.terms.now) c.args.term.now)
+    (ap exclusive (sym (parts_formulas c.args.terms.now)) ∙ ap (λ o. applied o (parts_of c.args.terms.now) c.args.term.now) (sym c.in-Xor.is)) c.exclusive_sides.ensures
+
+pub applied_sides-returns-in-Implies : goal.applied_sides-returns-in-Implies
+applied_sides-returns-in-Implies t c =
+    answered_as c.args.plan.now.nodes c.implied_sides.new.plan.nodes c.implied_sides.result (implied (formulas_of c.args.terms.now)) (applied c.args.op (parts_of c.args.terms.now) c.args.term.now)
+    (ap implied (sym (parts_formulas c.args.terms.now)) ∙ ap (λ o. applied o (parts_of c.args.terms.now) c.args.term.now) (sym c.in-Implies.is)) c.implied_sides.ensures
+
+pub applied_sides-returns-in-Not : goal.applied_sides-returns-in-Not
+applied_sides-returns-in-Not t c =
+    answered_as c.args.plan.now.nodes c.opposite_sides.new.plan.nodes c.opposite_sides.result (applied op.Not (parts_of c.args.terms.now) c.args.term.now) (applied c.args.op (parts_of c.args.terms.now) c.args.term.now)
+    (ap (λ o. applied o (parts_of c.args.terms.now) c.args.term.now) (sym c.in-Not.is)) c.opposite_sides.ensures
+
+pub applied_sides-returns-in-Equal : goal.applied_sides-returns-in-Equal
+applied_sides-returns-in-Equal t c =
+    answered_as c.args.plan.now.nodes c.equal_sides.new.plan.nodes c.equal_sides.result (applied op.Equal (parts_of c.args.terms.now) c.args.term.now) (applied c.args.op (parts_of c.args.terms.now) c.args.term.now)
+    (ap (λ o. applied o (parts_of c.args.terms.now) c.args.term.now) (sym c.in-Equal.is)) c.equal_sides.ensures
+
+pub applied_sides-returns-in-Distinct : goal.applied_sides-returns-in-Distinct
+applied_sides-returns-in-Distinct t c =
+    answered_as c.args.plan.now.nodes c.distinct_sides.new.plan.nodes c.distinct_sides.result (applied op.Distinct (parts_of c.args.terms.now) c.args.term.now) (applied c.args.op (parts_of c.args.terms.now) c.args.term.now)
+    (ap (λ o. applied o (parts_of c.args.terms.now) c.args.term.now) (sym c.in-Distinct.is)) c.distinct_sides.ensures
+
+pub applied_sides-returns-in-IfThenElse : goal.applied_sides-returns-in-IfThenElse
+applied_sides-returns-in-IfThenElse t c =
+    answered_as c.args.plan.now.nodes c.choice_sides.new.plan.nodes c.choice_sides.result (applied op.IfThenElse (parts_of c.args.terms.now) c.args.term.now) (applied c.args.op (parts_of c.args.terms.now) c.args.term.now)
+    (ap (λ o. applied o (parts_of c.args.terms.now) c.args.term.now) (sym c.in-IfThenElse.is)) c.choice_sides.ensures
+
+pub term_sides-returns-in-Truth : goal.term_sides-returns-in-Truth
+term_sides-returns-in-Truth t c =
+    answered_as c.args.plan.now.nodes c.settle.new.self.nodes c.settle.result (fixed c.in-Truth.b) (formula (seen c.args.term.now))
+    (formula_truth c.args.term.now c.in-Truth.b c.in-Truth.is) c.settle.ensures
+
+pub term_sides-returns-in-Apply : goal.term_sides-returns-in-Apply
+term_sides-returns-in-Apply t c =
+    answered_as c.args.plan.now.nodes c.applied_sides.new.plan.nodes c.applied_sides.result (applied c.in-Apply.op (parts_of c.as_slice.result.now) c.args.term.now) (formula (seen c.args.term.now))
+    (formula_apply c.args.term.now c.in-Apply.op c.as_slice.result.now (c.in-Apply.is ∙ ap (term.Apply c.in-Apply.op) (sym c.as_slice.ensures))) c.applied_sides.ensures
+
+pub term_sides-returns-in_default : goal.term_sides-returns-in_default
+term_sides-returns-in_default t c =
+    answered_as c.args.plan.now.nodes c.atom.new.self.nodes c.atom.result (atom c.args.term.now) (formula (seen c.args.term.now))
+    (formula_other c.args.term.now c.in_default.not-Truth c.in_default.not-Apply) c.atom.ensures
