@@ -1,4 +1,6 @@
+pub mod Alike
 pub mod Declaring
+pub mod Differing
 pub mod Entries
 pub mod Matching
 pub mod Pairing
