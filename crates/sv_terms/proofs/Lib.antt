@@ -1,4 +1,5 @@
 pub mod Alike
+pub mod AlikeTerms
 pub mod Declaring
 pub mod Differing
 pub mod Entries

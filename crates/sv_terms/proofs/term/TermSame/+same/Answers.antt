@@ -1,3 +1,4 @@
+use Rattle.sv_terms.proofs.AlikeTerms.{same-Text, same-language, other-word}
 use Rattle.sv_terms.proofs.Differing.{differ}
 use Rattle.sv_terms.proofs.term.TermSame.+same.Goals as goal
 
@@ -24,3 +25,12 @@ returns-in_default-other-6 t c = differ c.args.self.now c.args.other.now _ c.in-
 
 pub returns-in_default-other-7 : goal.returns-in_default-other-7
 returns-in_default-other-7 t c = differ c.args.self.now c.args.other.now _ c.in-Opaque.is (c.in_default-other-7.not-Opaque c.in-Opaque.s)
+
+pub returns-in-Text-other : goal.returns-in-Text-other
+returns-in-Text-other t c = same-Text c.same.result c.args.self.now c.args.other.now c.in-Text.a c.in-Text-other.b c.in-Text.is c.in-Text-other.is c.same.ensures
+
+pub returns-then-same : goal.returns-then-same
+returns-then-same t c = same-language c.same-then-same.result c.args.self.now c.args.other.now c.in-InRe.a c.in-InRe-other.b c.in-InRe.r c.in-InRe-other.s c.in-InRe.is c.in-InRe-other.is (c.same-in-InRe-other.ensures.0 c.if-same.true) c.same-then-same.ensures
+
+pub returns-else-same : goal.returns-else-same
+returns-else-same t c = other-word c.same-in-InRe-other.result c.args.self.now c.args.other.now c.in-InRe.a c.in-InRe-other.b c.in-InRe.r c.in-InRe-other.s c.in-InRe.is c.in-InRe-other.is c.if-same.false c.same-in-InRe-other.ensures
