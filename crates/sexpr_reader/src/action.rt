@@ -1,7 +1,7 @@
 use crate::mode::Mode;
 
 /// What a byte does.
-#[derive(Clone, Copy, PartialEq, Eq)]
+#[derive(Clone, Copy)]
 pub enum Action {
     /// It belongs to white space or a comment.
     Skip(Mode),

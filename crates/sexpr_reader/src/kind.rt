@@ -1,5 +1,5 @@
 /// The kind of a token that isn't a parenthesis (SMT-LIB 2.6, section 3.1).
-#[derive(Clone, Copy, PartialEq, Eq)]
+#[derive(Clone, Copy)]
 pub enum TokenKind {
     /// `0`, or digits that don't begin with `0`.
     Numeral,

@@ -5,7 +5,7 @@ use crate::action::Action;
 use crate::bytes::{is_border, is_line_end, is_white};
 
 /// What the bytes behind the last whole token are.
-#[derive(Clone, Copy, PartialEq, Eq)]
+#[derive(Clone, Copy)]
 pub enum Mode {
     /// White space and comments.
     Blank,

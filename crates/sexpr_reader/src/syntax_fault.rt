@@ -7,7 +7,7 @@ use thiserror::Error;
 /// The first syntax fault from the left, or want of memory.
 ///
 /// A place is that of the first byte of the fault's token, counted from 0 over all bytes that were fed.
-#[derive(Clone, Copy, Debug, Error, PartialEq, Eq)]
+#[derive(Clone, Copy, Debug, Error)]
 pub enum SyntaxFault {
     /// Bytes that form no token.
     #[error("the bytes from {0} on form no token")]

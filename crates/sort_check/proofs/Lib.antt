@@ -1,6 +1,7 @@
 mod Answering
 mod Asked
 mod Counted
+mod Declared
 mod WellApplied
 mod WellCommands
 mod WellMeant

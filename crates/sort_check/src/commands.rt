@@ -3,7 +3,7 @@ use sv_list::Items;
 use sv_terms::{Entry, Name, Sort, Term};
 
 /// What a check is asked to make by an option.
-#[derive(Clone, Copy, PartialEq, Eq)]
+#[derive(Clone, Copy)]
 pub enum Product {
     /// `:produce-models`
     Models,

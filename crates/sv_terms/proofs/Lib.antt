@@ -1,4 +1,7 @@
+pub mod Alike
+pub mod AlikeTerms
 pub mod Declaring
+pub mod Differing
 pub mod Entries
 pub mod Matching
 pub mod Pairing

@@ -2,3 +2,4 @@ mod Builds
 mod Calling
 mod Drafting
 mod Shapes
+mod Words

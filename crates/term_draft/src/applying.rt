@@ -21,13 +21,18 @@ pub fn body_sort(body: &Body) -> Sort
     }
 }
 
+// What isn't taken of a body is dropped by one call, and not in place with a way for each form.
+
 /// The term that it is; a regular expression is opaque where a term is wanted.
 pub fn into_term(body: Body) -> Term
     ensures { result ≡ b.term_of body }
 {
     match body {
         Body::Term(term) => term,
-        Body::Language(_) => Term::Opaque(Sort::RegLan),
+        Body::Language(regex) => {
+            drop(regex);
+            Term::Opaque(Sort::RegLan)
+        }
     }
 }
 
@@ -45,7 +50,10 @@ fn into_regex(body: Body) -> Regex
     ensures { result ≡ b.regex_of body }
 {
     match body {
-        Body::Term(_) => Regex::Empty,
+        Body::Term(term) => {
+            drop(term);
+            Regex::Empty
+        }
         Body::Language(regex) => regex,
     }
 }
@@ -107,8 +115,13 @@ fn membership(alloc: Global, bodies: Items<Body>) -> Result<Body, AllocError>
     match two(bodies) {
         Some((word, regex)) => {
             let regex = into_regex(regex);
-            let word = Boxed::new(alloc, into_term(word))?;
-            Ok(Body::Term(Term::InRe(word, regex)))
+            match Boxed::new(alloc, into_term(word)) {
+                Ok(word) => Ok(Body::Term(Term::InRe(word, regex))),
+                Err(error) => {
+                    drop(regex);
+                    Err(error)
+                }
+            }
         }
         None => Ok(opaque_body(Sort::Bool)),
     }
@@ -156,19 +169,15 @@ pub(crate) fn relate(
     }
 }
 
-#[tactic(auto, using(term_weight::specs::LayerLaws::words))]
 fn term_word(term: Term) -> Option<Word>
     ensures { result ≡ b.literal (Body.Term term) }
 {
     match term {
         Term::Text(word) => Some(word),
-        Term::Truth(_) => None,
-        Term::Number(_) => None,
-        Term::Constant(_, _) => None,
-        Term::Apply(_, _) => None,
-        Term::InRe(_, _) => None,
-        Term::Related(_, _, _) => None,
-        Term::Opaque(_) => None,
+        other => {
+            drop(other);
+            None
+        }
     }
 }
 
@@ -178,7 +187,10 @@ fn literal(body: Body) -> Option<Word>
 {
     match body {
         Body::Term(term) => term_word(term),
-        Body::Language(_) => None,
+        Body::Language(regex) => {
+            drop(regex);
+            None
+        }
     }
 }
 

@@ -51,7 +51,7 @@ fn member(alloc: Global, word: Term, regex: &Regex) -> Result<Term, AllocError>
 pub fn build_at(alloc: Global, draft: &TermDraft<'_>, place: usize) -> Result<Body, AllocError>
     ensures { IfOk result (λ x. x ≡ drafts.at_place draft.now place) }
 {
-    Ok(build(alloc, draft.parts(), place)?)
+    build(alloc, draft.parts(), place)
 }
 
 /// What the part at a place among these is.
@@ -108,7 +108,7 @@ fn build_applied(
     ensures { IfOk result (λ x. x ≡ weights.plain sense (drafts.at_places (drafts.senses before.now) places.now)) }
 {
     let bodies = build_all(alloc, before, places)?;
-    Ok(apply(alloc, sense, bodies)?)
+    apply(alloc, sense, bodies)
 }
 
 /// The term of a macro with the parts at these places in the place of its parameters.
@@ -142,7 +142,7 @@ fn build_related(
     ensures { IfOk result (λ x. x ≡ bodies.related transducer.now (drafts.at_places (drafts.senses before.now) places.now)) }
 {
     let bodies = build_all(alloc, before, places)?;
-    Ok(relate(alloc, transducer, bodies)?)
+    relate(alloc, transducer, bodies)
 }
 
 #[cycle(build)]

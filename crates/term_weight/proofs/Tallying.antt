@@ -1,5 +1,5 @@
 -- Terms with parameters, summed up part by part.
-use Rattle.std.proofs.Common.{◌≡◌, refl, sym, ap, subst, ◌∙◌, ℕ, zero, suc, ◌+◌, ◌<◌, ◌≤◌, max, Bool, true, false, not, ◌||◌, List, [], ◌∷◌, length, map, take, get_or, Option, Some, None, arith, add-one}
+use Rattle.std.proofs.Common.{◌≡◌, refl, sym, ap, subst, ◌∙◌, ℤ, ℕ, zero, suc, ◌+◌, ◌<◌, ◌≤◌, max, Bool, true, false, not, ◌||◌, List, [], ◌∷◌, length, map, take, get_or, Option, Some, None, arith, add-one}
 use Rattle.std.specs.List.{list_any}
 use Rattle.std.specs.Prelude.{IfSome, if◌then◌else◌}
 use Rattle.std.specs.Option.{option_map}
@@ -14,17 +14,17 @@ use Rattle.sv_terms.specs.declared.transducer.Transducer.{Transducer}
 use Rattle.term_weight.specs.declared.share.Share.{Share}
 use Rattle.term_weight.specs.declared.share.Uses.{Uses}
 use Rattle.term_weight.specs.declared.tally.MacroSummary.{MacroSummary}
-use Rattle.term_weight.specs.declared.weight.Factor.TheVariants.{Known}
+use Rattle.term_weight.specs.declared.weight.Factor.TheVariants.{Literal, Known, Unknown}
 use Rattle.term_weight.specs.declared.weight.Weight.{Weight}
 use Rattle.smt_names.specs.Signature.{Name}
-use Rattle.term_weight.specs.Bodies.{is_unknown}
+use Rattle.term_weight.specs.Bodies.{is_unknown, holds}
 use Rattle.term_weight.specs.Places.{shown, weight_found}
 use Rattle.term_weight.specs.Sizes.{total, one_deeper}
 use Rattle.term_weight.specs.Weights.{capped, leaf, as_term, op_weight, in_weight, related_weight, regex_weight, weighed, or_leaf, nth_if, opaque_weight, is_literal}
-use Rattle.term_weight.specs.Summaries.{share, nothing, unknown_if, plus, argument, used, used_at, measured, changed, all_used, share_of_call, part, part_named, shares, is_measure, PlacesAreWithin, Gains}
+use Rattle.term_weight.specs.Summaries.{share, nothing, unknown_if, plus, argument, used, used_at, measured, raised, changed, all_used, share_of_call, part, part_named, shares, is_measure, PlacesAreWithin, Gains}
 use Rattle.term_weight.specs.FactorLaws.{or-false, op-factor, unknown-holds}
-use Rattle.term_weight.proofs.Layers.{weighed-Constant, weighed-Apply, weighed-InRe, weighed-Related}
-use Rattle.term_weight.proofs.Sharing.{shares-same, plus-assoc, used-more, used-measured, all-changed, length-changed}
+use Rattle.term_weight.proofs.Layers.{weighed-Truth, weighed-Number, weighed-Text, weighed-Constant, weighed-Apply, weighed-InRe, weighed-Related, weighed-Opaque}
+use Rattle.term_weight.proofs.Sharing.{shares-same, plus-swap, plus-assoc, used-more, used-measured, all-changed, length-changed}
 
 -- one function around parts
 shares-nodes : (d : ℕ) (ws : List Weight) → (shares d ws).nodes ≡ capped (total (map (λ w. w.nodes) ws))
@@ -98,6 +98,55 @@ module _ (places : List (Name × Option ℕ)) where
 
   pub measured-parameter : (t : MacroSummary) (n : Name) (s : Sort) (i : ℕ) → Some i ≡ shown n places → Gains places t (changed measured i t) (λ ws. unknown_if (not (is_literal (part places ws (term.Constant n s)).factor)))
   measured-parameter t n s i e = gains-alike t _ _ _ (gains-changed t n i measured (λ w. unknown_if (not (is_literal w.factor))) used-measured e) (λ ws. ap (λ f. unknown_if (not (is_literal f))) (sym (named-part ws n s)))
+
+  pub gains-raised : (t u : MacroSummary) (s x : Share) → s ≡ x → u ≡ raised s t → Gains places t u (λ ws. x)
+  gains-raised t u s x p q = record {
+    kept = ap (λ m. length m.uses) q;
+    added = λ cover ws. ap (λ m. share_of_call m ws) q ∙ plus-swap t.own s (all_used t.uses ws) ∙ ap (plus (share_of_call t ws)) p;
+  }
+
+  -- a length of what is no literal
+  unknown_added : (t u : MacroSummary) (s : Share) (x y : Term) → x ≡ y → ((ws : List Weight) → is_literal (part places ws y).factor ≡ false) → s ≡ unknown_if true → u ≡ raised s t → Gains places t u (λ ws. unknown_if (not (is_literal (part places ws x).factor)))
+  unknown_added t u s x y e f p q = gains-alike t u _ _ (gains-raised t u s (unknown_if true) p q) (λ ws. ap (λ b. unknown_if (not b)) (sym (ap (λ z. is_literal (part places ws z).factor) e ∙ f ws)))
+
+  no_literal : (b : Bool) → is_literal (holds b) ≡ false
+  no_literal true = refl
+  no_literal false = refl
+
+  module _ (t u : MacroSummary) (s : Share) (x : Term) where
+    pub unknown-Truth : (b : Bool) → x ≡ term.Truth b → s ≡ unknown_if true → u ≡ raised s t → Gains places t u (λ ws. unknown_if (not (is_literal (part places ws x).factor)))
+    unknown-Truth b e = unknown_added t u s x (term.Truth b) e (λ ws. ap (λ w. is_literal (as_term w).factor) (weighed-Truth (found ws) b))
+
+    pub unknown-Number : (n : ℤ) → x ≡ term.Number n → s ≡ unknown_if true → u ≡ raised s t → Gains places t u (λ ws. unknown_if (not (is_literal (part places ws x).factor)))
+    unknown-Number n e = unknown_added t u s x (term.Number n) e (λ ws. ap (λ w. is_literal (as_term w).factor) (weighed-Number (found ws) n))
+
+    pub unknown-Apply : (o : Op) (ts : List Term) → x ≡ term.Apply o ts → s ≡ unknown_if true → u ≡ raised s t → Gains places t u (λ ws. unknown_if (not (is_literal (part places ws x).factor)))
+    unknown-Apply o ts e = unknown_added t u s x (term.Apply o ts) e (λ ws.
+        ap (λ w. is_literal (as_term w).factor) (weighed-Apply (found ws) o ts)
+        ∙ ap is_literal (op-factor o (map (λ w. w.factor) (map as_term (map (weighed (found ws)) ts)))) ∙ no_literal _)
+
+    pub unknown-InRe : (y : Term) (r : Regex) → x ≡ term.InRe y r → s ≡ unknown_if true → u ≡ raised s t → Gains places t u (λ ws. unknown_if (not (is_literal (part places ws x).factor)))
+    unknown-InRe y r e = unknown_added t u s x (term.InRe y r) e (λ ws. ap (λ w. is_literal (as_term w).factor) (weighed-InRe (found ws) y r) ∙ no_literal _)
+
+    pub unknown-Related : (m : Transducer) (y z : Term) → x ≡ term.Related m y z → s ≡ unknown_if true → u ≡ raised s t → Gains places t u (λ ws. unknown_if (not (is_literal (part places ws x).factor)))
+    unknown-Related m y z e = unknown_added t u s x (term.Related m y z) e (λ ws. ap (λ w. is_literal (as_term w).factor) (weighed-Related (found ws) m y z) ∙ no_literal _)
+
+    pub unknown-Opaque : (q : Sort) → x ≡ term.Opaque q → s ≡ unknown_if true → u ≡ raised s t → Gains places t u (λ ws. unknown_if (not (is_literal (part places ws x).factor)))
+    unknown-Opaque q e = unknown_added t u s x (term.Opaque q) e (λ ws. ap (λ w. is_literal (as_term w).factor) (weighed-Opaque (found ws) q))
+
+  -- parts without parts
+  module _ (t u : MacroSummary) (d : ℕ) (x : Term) where
+    pub gains-Truth : (b : Bool) → x ≡ term.Truth b → Gains places t u (λ ws. share d (leaf sort.Bool Known)) → Gains places t u (λ ws. share d (part places ws x))
+    gains-Truth b e p = gains-alike t u _ _ p (λ ws. sym (ap (λ z. share d (part places ws z)) e ∙ ap (λ w. share d (as_term w)) (weighed-Truth (found ws) b)))
+
+    pub gains-Number : (n : ℤ) → x ≡ term.Number n → Gains places t u (λ ws. share d (leaf sort.Bool Known)) → Gains places t u (λ ws. share d (part places ws x))
+    gains-Number n e p = gains-alike t u _ _ p (λ ws. sym (ap (λ z. share d (part places ws z)) e ∙ ap (λ w. share d (as_term w)) (weighed-Number (found ws) n)))
+
+    pub gains-Text : (v : List ℕ) → x ≡ term.Text v → Gains places t u (λ ws. share d (leaf sort.Bool Literal)) → Gains places t u (λ ws. share d (part places ws x))
+    gains-Text v e p = gains-alike t u _ _ p (λ ws. sym (ap (λ z. share d (part places ws z)) e ∙ ap (λ w. share d (as_term w)) (weighed-Text (found ws) v)))
+
+    pub gains-Opaque : (s : Sort) → x ≡ term.Opaque s → Gains places t u (λ ws. share d (leaf sort.Bool Unknown)) → Gains places t u (λ ws. share d (part places ws x))
+    gains-Opaque s e p = gains-alike t u _ _ p (λ ws. sym (ap (λ z. share d (part places ws z)) e ∙ ap (λ w. share d (as_term w)) (weighed-Opaque (found ws) s)))
 
   -- terms, layer by layer
   map-part : (ws : List Weight) (ts : List Term) → map as_term (map (weighed (found ws)) ts) ≡ map (part places ws) ts

@@ -11,9 +11,15 @@ use sv_terms::{Name, Sort};
 /// Places by names: of the parameters of a macro, or of what the names in a scope stand for.
 ///
 /// Contracts see pairs of a name and its place, if it has one.
-#[derive(Drop)]
 pub struct NamePlaces {
     index: IndexMap<Name, Option<usize>>,
+}
+
+// A drop by hand is one call where a derived one is a call for each vector inside.
+impl Drop for NamePlaces {
+    fn drop(self) {
+        let Self { index: _ } = self;
+    }
 }
 
 impl Model for NamePlaces {

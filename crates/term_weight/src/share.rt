@@ -6,7 +6,7 @@ use crate::weight::{Weight, is_literal, is_unknown};
 
 /// What a part adds to the weight of what it stands in: its nodes, the deepest place in it, and
 /// whether it holds an unknown. Numbers end as those of a weight.
-#[derive(Clone, Copy, PartialEq, Eq)]
+#[derive(Clone, Copy)]
 pub struct Share {
     pub nodes: u32,
     pub nesting: u32,
@@ -60,7 +60,7 @@ impl Share {
 
 /// Where a parameter stands: how often, the deepest place if it does, and whether once right under
 /// a length, which is unknown but for a literal.
-#[derive(Clone, Copy, PartialEq, Eq)]
+#[derive(Clone, Copy)]
 pub struct Uses {
     pub count: u32,
     pub deepest: Option<u32>,

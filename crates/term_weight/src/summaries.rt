@@ -54,10 +54,18 @@ impl Summaries {
     {
         match entry {
             Entry::Macro { parameters, body } => {
+                let name = name.copy(alloc)?;
                 let summary = Summary::of(alloc, parameters.as_slice(), body)?;
-                match self.map.insert(name.copy(alloc)?, summary) {
-                    Ok(_) => Ok(()),
-                    Err(_) => Err(AllocError),
+                // what comes back is dropped by a call, and not in place with a branch for each form
+                match self.map.insert(name, summary) {
+                    Ok(replaced) => {
+                        drop(replaced);
+                        Ok(())
+                    }
+                    Err(refused) => {
+                        drop(refused);
+                        Err(AllocError)
+                    }
                 }
             }
             Entry::Constant(_) => Ok(()),

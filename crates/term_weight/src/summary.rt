@@ -13,7 +13,6 @@ use std::alloc::{AllocError, Global};
 use sv_terms::{Body, Name, Sort, Term};
 
 /// What is kept of a macro's body, so that a call of it is weighed in time linear in its arguments.
-#[derive(Drop)]
 pub enum Summary {
     /// The same weight whatever the arguments are.
     Same(Weight),
@@ -21,6 +20,17 @@ pub enum Summary {
     Parameter(usize, Sort),
     /// A function of this sort, of parts that come to this.
     Term(Sort, MacroSummary),
+}
+
+// A drop by hand is one call where a derived one is a call for each vector inside.
+impl Drop for Summary {
+    fn drop(self) {
+        match self {
+            Self::Same(_) => {}
+            Self::Parameter(_, _) => {}
+            Self::Term(_, _) => {}
+        }
+    }
 }
 
 /// A function of parts that come to this.

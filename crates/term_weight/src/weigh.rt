@@ -9,7 +9,6 @@ use sv_terms::Regex;
 
 /// The weight of a regular expression, in time linear in its size.
 #[cycle(weigh_regex)]
-#[tactic(auto, using(crate::specs::LayerLaws::regexes))]
 pub(crate) fn weigh_regex(alloc: Global, regex: &Regex) -> Result<Weight, AllocError>
     ensures { IfOk result (λ x. x ≡ w.regex_weight regex.now) }
 {

@@ -8,7 +8,7 @@ use sv_terms::{MOST_NESTING, MOST_NODES, Op, Sort};
 
 /// What a factor of a product is: a literal word, something without unknowns, or something that
 /// holds an unknown: a constant, the length of a term that is no literal, or an opaque part.
-#[derive(Clone, Copy, PartialEq, Eq)]
+#[derive(Clone, Copy)]
 pub enum Factor {
     Literal,
     Known,
@@ -17,7 +17,7 @@ pub enum Factor {
 
 /// What is known of a term or regular expression before it is built. Numbers end at 2^32 - 1,
 /// which stands for all that are larger.
-#[derive(Clone, Copy, PartialEq, Eq)]
+#[derive(Clone, Copy)]
 pub struct Weight {
     pub sort: Sort,
     pub factor: Factor,

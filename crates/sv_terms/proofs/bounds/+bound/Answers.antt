@@ -1,8 +1,38 @@
 use Rattle.std.proofs.Common.{◌+◌, ◌*◌, ◌^◌, ◌∙◌, min, map, take, sym, ap, arith}
 use Rattle.sv_terms.specs.Bounds.{size, bound_of, from_left, in_turn_size, choice_size, both_size, without_size}
 use Rattle.sv_terms.specs.CutOff.{cut_off, cut-add, cut-suc, cut-mul, cut-power}
-use Rattle.sv_terms.specs.BoundLaws.{size-Comp, size-more}
+use Rattle.sv_terms.specs.BoundLaws.{size-Concat, size-Union, size-Inter, size-Diff, size-Star, size-Plus, size-Opt, size-Comp, size-more}
 use Rattle.sv_terms.proofs.bounds.+bound.Goals as goal
+
+pub bound-returns-in-Concat : goal.bound-returns-in-Concat
+bound-returns-in-Concat t c =
+    c.in_turn.ensures ∙ ap (λ rs. cut_off (from_left in_turn_size (map size rs))) c.as_slice.ensures ∙ ap cut_off (sym (size-Concat c.in-Concat.rs)) ∙ ap bound_of (sym c.in-Concat.is)
+
+pub bound-returns-in-Union : goal.bound-returns-in-Union
+bound-returns-in-Union t c =
+    c.choice.ensures ∙ ap (λ rs. cut_off (from_left choice_size (map size rs))) c.as_slice-in-Union.ensures ∙ ap cut_off (sym (size-Union c.in-Union.rs)) ∙ ap bound_of (sym c.in-Union.is)
+
+pub bound-returns-in-Inter : goal.bound-returns-in-Inter
+bound-returns-in-Inter t c =
+    c.both.ensures ∙ ap (λ rs. cut_off (from_left both_size (map size rs))) c.as_slice-in-Inter.ensures ∙ ap cut_off (sym (size-Inter c.in-Inter.rs)) ∙ ap bound_of (sym c.in-Inter.is)
+
+pub bound-returns-in-Diff : goal.bound-returns-in-Diff
+bound-returns-in-Diff t c =
+    c.without.ensures ∙ ap (λ rs. cut_off (from_left without_size (map size rs))) c.as_slice-in-Diff.ensures ∙ ap cut_off (sym (size-Diff c.in-Diff.rs)) ∙ ap bound_of (sym c.in-Diff.is)
+
+pub bound-returns-in-Star : goal.bound-returns-in-Star
+bound-returns-in-Star t c =
+    c.saturating_add-in-Star.ensures ∙ ap (λ n. min (n + 1) 18446744073709551615) (c.bound.ensures ∙ ap bound_of c.get.ensures)
+    ∙ cut-suc 18446744073709551615 (size c.in-Star.r) 1 ∙ ap cut_off (sym (size-Star c.in-Star.r)) ∙ ap bound_of (sym c.in-Star.is)
+
+pub bound-returns-in-Opt : goal.bound-returns-in-Opt
+bound-returns-in-Opt t c =
+    c.saturating_add-in-Opt.ensures ∙ ap (λ n. min (n + 1) 18446744073709551615) (c.bound-in-Opt.ensures ∙ ap bound_of c.get-in-Opt.ensures)
+    ∙ cut-suc 18446744073709551615 (size c.in-Opt.r) 1 ∙ ap cut_off (sym (size-Opt c.in-Opt.r)) ∙ ap bound_of (sym c.in-Opt.is)
+
+pub bound-returns-in-Plus : goal.bound-returns-in-Plus
+bound-returns-in-Plus t c =
+    c.bound-in-Plus.ensures ∙ ap bound_of c.get-in-Plus.ensures ∙ ap cut_off (sym (size-Plus c.in-Plus.r)) ∙ ap bound_of (sym c.in-Plus.is)
 
 pub bound-returns-in-Comp : goal.bound-returns-in-Comp
 bound-returns-in-Comp t c =

@@ -1,10 +1,11 @@
-use Rattle.std.proofs.Common.{rules, ◌≡◌, IfOk, length, sym, ap, ◌∙◌, subst, ◌+◌, ◌<◌, ◌≤◌, take, map, arith}
+use Rattle.std.proofs.Common.{rules, ◌≡◌, IfOk, length, sym, ap, ◌∙◌, subst, List, ◌+◌, ◌<◌, ◌≤◌, take, map, arith}
 use Rattle.sv_terms.specs.declared.entry.Body.{Body}
 use Rattle.sv_terms.specs.declared.term.Term.{Term}
 use Rattle.term_draft.specs.declared.draft.DraftPart.{DraftPart}
-use Rattle.term_weight.specs.Bodies.{called, put_in}
+use Rattle.term_weight.specs.Bodies.{called, put_in, related}
 use Rattle.term_draft.specs.Drafts.{at_places, sense, senses, term_found}
 use Rattle.term_weight.specs.Sizes.{total}
+use Rattle.term_weight.specs.Weights.{plain}
 use Rattle.term_draft.proofs.Builds.{cost, node_cost, size, cost-before, size-of-one, one-more}
 use Rattle.term_draft.proofs.Calling.{put-index}
 use Rattle.term_draft.proofs.building.+build.Goals as goal
@@ -31,3 +32,9 @@ put_in_applied-put_in-requires t c =
 
 pub put_in_applied-loop-term-preserved : goal.put_in_applied-loop-term-preserved
 put_in_applied-loop-term-preserved t c = one-more (put_in (term_found (senses c.args.parts.now) c.args.index.now c.args.arguments.now)) c.args.terms.now c.loop-term.term-index c.term-item.result c.loop-term.all c.push.new.self c.in_ok-put_in.field-0 c.loop-term-test.true c.term-item.is c.loop-term.invariant c.in_ok-put_in.ensures c.in_ok-push.ensures.ok
+
+pub build_applied-returns : goal.build_applied-returns
+build_applied-returns t c = subst (λ (bs : List Body). IfOk c.apply.result (λ x. x ≡ plain c.args.sense bs)) c.in_ok-bodies.ensures c.apply.ensures
+
+pub build_related-returns : goal.build_related-returns
+build_related-returns t c = subst (λ (bs : List Body). IfOk c.relate.result (λ x. x ≡ related c.args.transducer.now bs)) c.in_ok-bodies.ensures c.relate.ensures

@@ -1,7 +1,7 @@
 use Rattle.std.proofs.Common.{sym, subst}
 use Rattle.sv_terms.specs.declared.term.Term.{Term}
 use Rattle.term_weight.specs.Summaries.{share, part, Gains}
-use Rattle.term_weight.proofs.Tallying.{gains-Apply, gains-InRe, gains-Related, gains-next}
+use Rattle.term_weight.proofs.Tallying.{gains-Truth, gains-Number, gains-Text, gains-Opaque, gains-Apply, gains-InRe, gains-Related, gains-next}
 use Rattle.term_weight.proofs.tally.+tally_term.Goals as goal
 
 pub tally_all-loop-term-preserved : goal.tally_all-loop-term-preserved
@@ -24,3 +24,15 @@ tally_term-returns-in_ok-tally_term-in-Related-2 n c =
     let places = c.args.places.now in
     subst (λ (x : Term). Gains places c.args.tally.now c.tally_term-in-Related-2.new.tally (λ ws. share c.args.depth (part places ws x))) (sym c.in-Related.is)
     (gains-Related places c.args.tally.now c.leaf-in-Related.new.tally c.tally_term-in-Related.new.tally c.tally_term-in-Related-2.new.tally c.args.depth c.saturating_add-below-in-Related.result c.saturating_add-below-in-Related.ensures c.leaf-in-Related.ensures c.in-Related.field-0 c.in-Related.read c.in-Related.written c.get-in-Related.result.now c.get-in-Related-2.result.now c.get-in-Related.ensures c.get-in-Related-2.ensures c.in_ok-tally_term-in-Related.ensures c.in_ok-tally_term-in-Related-2.ensures)
+
+pub tally_term-returns-in-Truth : goal.tally_term-returns-in-Truth
+tally_term-returns-in-Truth n c = gains-Truth c.args.places.now c.args.tally.now c.leaf.new.tally c.args.depth c.args.term.now c.in-Truth.field-0 c.in-Truth.is c.leaf.ensures
+
+pub tally_term-returns-in-Number : goal.tally_term-returns-in-Number
+tally_term-returns-in-Number n c = gains-Number c.args.places.now c.args.tally.now c.leaf-in-Number.new.tally c.args.depth c.args.term.now c.in-Number.field-0 c.in-Number.is c.leaf-in-Number.ensures
+
+pub tally_term-returns-in-Text : goal.tally_term-returns-in-Text
+tally_term-returns-in-Text n c = gains-Text c.args.places.now c.args.tally.now c.leaf-in-Text.new.tally c.args.depth c.args.term.now c.in-Text.field-0 c.in-Text.is c.leaf-in-Text.ensures
+
+pub tally_term-returns-in-Opaque : goal.tally_term-returns-in-Opaque
+tally_term-returns-in-Opaque n c = gains-Opaque c.args.places.now c.args.tally.now c.leaf-in-Opaque.new.tally c.args.depth c.args.term.now c.in-Opaque.field-0 c.in-Opaque.is c.leaf-in-Opaque.ensures
