@@ -27,7 +27,7 @@ pub struct Tableau {
     verdicts: Items<Option<RowVerdict>>,
 }
 
-// By hand, so that a drop is one step of the functions that own a tableau.
+// A drop by hand is one call where a derived one is a call for each vector inside.
 impl Drop for Tableau {
     fn drop(self) {
         let Self {
