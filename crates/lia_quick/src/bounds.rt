@@ -103,7 +103,6 @@ struct Least {
 }
 
 /// The ranges of the unknowns, with the facts by which they stand, and the rows that are still to be looked at.
-#[derive(Drop)]
 pub(crate) struct Bounds {
     ranges: Vec<Range>,
     facts: Vec<Fact>,
@@ -115,6 +114,21 @@ pub(crate) struct Bounds {
     most_facts: usize,
     /// How many terms may still be looked at or written down.
     work: u64,
+}
+
+// A drop by hand is one call where a derived one is a call for each vector inside.
+impl Drop for Bounds {
+    fn drop(self) {
+        let Self {
+            ranges: _,
+            facts: _,
+            holders: _,
+            in_equation: _,
+            queue: _,
+            most_facts: _,
+            work: _,
+        } = self;
+    }
 }
 
 /// How many terms of rows are looked at, and multipliers of leaves written down.

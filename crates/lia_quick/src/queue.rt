@@ -5,12 +5,23 @@ use sv_linear::Row;
 const SHORT: usize = 8;
 
 /// Rows that are to be looked at, each once: the short ones first, and else in the order in which they came.
-#[derive(Drop)]
 pub(crate) struct Queue {
     waits: Vec<bool>,
     is_long: Vec<bool>,
     short: Line,
     long: Line,
+}
+
+// A drop by hand is one call where a derived one is a call for each vector inside.
+impl Drop for Queue {
+    fn drop(self) {
+        let Self {
+            waits: _,
+            is_long: _,
+            short: _,
+            long: _,
+        } = self;
+    }
 }
 
 /// Some rows in their order, of which so many are done.

@@ -22,10 +22,19 @@ use sv_list::{Copied, Items};
 /// A simplex tableau over the unknowns and the slacks of some rows.
 ///
 /// Contracts see a [`Table`]. Memory is linear in the quantities and in the terms of the lines.
-#[derive(Drop)]
 pub struct Tableau {
     table: Table,
     verdicts: Items<Option<RowVerdict>>,
+}
+
+// A drop by hand is one call where a derived one is a call for each vector inside.
+impl Drop for Tableau {
+    fn drop(self) {
+        let Self {
+            table: _,
+            verdicts: _,
+        } = self;
+    }
 }
 
 impl Model for Tableau {
