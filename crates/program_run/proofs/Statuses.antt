@@ -37,6 +37,11 @@ module _ (l0 l t0 t : Option (List ℕ)) (log : List Reply) (s : Status) (h : En
   not_refused is = subst (Ended l0 l t0 t log) is h
 
 module _ (s : Status) where
+  -- where all was answered
+  pub not_failed : (s ≡ Answered) ⊎ (s ≡ ErrorAnswered) → s ≡ WriteFailed → ⊥
+  not_failed (inl is) e = cc
+  not_failed (inr is) e = cc
+
   -- where nothing could be read, or there was no memory
   pub no_answer : (s ≡ ReadFailed) ⊎ (s ≡ NoMemory) → (s ≡ Answered) ⊎ (s ≡ ErrorAnswered) → ⊥
   no_answer (inl is) (inl e) = cc

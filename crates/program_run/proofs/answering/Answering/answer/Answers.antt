@@ -1,7 +1,7 @@
 use Rattle.std.proofs.Common.{◌∷◌, ◌++◌, [], ◌∙◌, sym}
 use Rattle.smt_session.specs.Replies.{text_of}
 use Rattle.program_run.proofs.Progress.{given_here, given_more, given_exit, given_cut, adds_none, adds_one}
-use Rattle.program_run.proofs.Statuses.{cut_stops, done_stops}
+use Rattle.program_run.proofs.Statuses.{cut_stops, done_stops, not_failed}
 use Rattle.program_run.proofs.answering.Answering.answer.Goals as goal
 
 pub returns-in-Err-clause-went : goal.returns-in-Err-clause-went
@@ -36,3 +36,15 @@ returns-then-has_ended-clause-added g c = adds_one c.args.self.now.replies c.and
 
 pub returns-clause-added : goal.returns-clause-added
 returns-clause-added g c = adds_one c.args.self.now.replies c.and-self.result c.in-Ok.reply (text_of c.in-Ok.reply) (g.K.Sink.taken c.args.sink.now) (g.K.Sink.taken c.write_reply-written.new.sink) c.and-self.ensures c.write_reply-written.ensures.front
+
+pub returns-in-Err-written-clause-later : goal.returns-in-Err-written-clause-later
+returns-in-Err-written-clause-later g c = c.write_reply-written.ensures.later
+
+pub returns-then-has_ended-clause-later : goal.returns-then-has_ended-clause-later
+returns-then-has_ended-clause-later g c = c.write_reply-written.ensures.later
+
+pub returns-then-has_ended-clause-failed : goal.returns-then-has_ended-clause-failed
+returns-then-has_ended-clause-failed g c = λ e. absurd (not_failed c.status.result c.status.ensures.either e)
+
+pub returns-clause-later : goal.returns-clause-later
+returns-clause-later g c = c.write_reply-written.ensures.later
