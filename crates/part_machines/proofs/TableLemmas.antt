@@ -55,6 +55,13 @@ leg-added at start stop to states on free old new some among set none is s c cos
       ]),
     )
 
+-- the last character of those below `stop`
+pub last-below : (start stop : ℕ) → start < stop → start ≤ stop - 1
+last-below start stop h = omega arith
+
+pub last-fits : (stop : ℕ) → stop ≤ greatest_character + 1 → stop - 1 ≤ greatest_character
+last-fits stop h = omega arith
+
 -- what a row has left
 pub lead-here : (rest : ℕ) (l : TableLeg) (legs : List TableLeg) (c : ℕ) → c < l.stop → lead rest (l ∷ legs) c ≡ l.to
 lead-here rest l legs c h = ⊎_elim (λ a. ap (λ b. if b then l.to else lead rest legs c) a.1) (λ b. let x = b.0 in absurd (omega (arith, x, h))) (less_or_not c l.stop)
