@@ -37,3 +37,9 @@ replicate-more old new n x y before same made =
     push : {X : Type 0} (n : ℕ) (x : X) → replicate n x ++ x ∷ [] ≡ replicate (suc n) x
     push zero x = refl
     push (suc n) x = ap (λ l. x ∷ l) (push n x)
+
+-- one element more of a list that a loop copies
+pub took-more : {X : Type 0} (xs old new : List X) (i : ℕ) (x y : X) → i < length xs → x ≡ get_or xs i x → old ≡ take i xs → y ≡ x → new ≡ old ++ y ∷ [] → new ≡ take (i + 1) xs
+took-more xs old new i x y lt is before same made =
+    let more : take (i + 1) xs ≡ take i xs ++ x ∷ [] = rw add-one (take-suc xs i x lt ∙ ap (λ q. take i xs ++ q ∷ []) (sym is)) in
+    made ∙ ap (λ l. l ++ y ∷ []) before ∙ ap (λ z. take i xs ++ z ∷ []) same ∙ sym more
