@@ -4,7 +4,7 @@ use Rattle.std.specs.List.{dedup, flat_map}
 use Rattle.std.specs.List.Retain.{IsFiltered, DiffersFromLast}
 use Rattle.std.specs.List.Sorted.{IsPermutation, IsSorted, IsStrictlyIncreasing}
 use Rattle.std.specs.Ordering.{nat_cmp}
-use Rattle.std.proofs.lemmas.List.{flat_map_more, map_push, take_more, take_all}
+use Rattle.std.proofs.lemmas.List.{append_assoc, flat_map_more, map_push, take_more, take_all}
 use Rattle.std.proofs.lemmas.List.Elements.{Contains-append_left, Contains-append_right, Contains-append_cases}
 use Rattle.std.proofs.lemmas.List.Filters.{dedup_is}
 use Rattle.std.proofs.lemmas.List.Kept.{Contains-dedup_nat, Contains-from_dedup}
@@ -37,6 +37,11 @@ pub mapped-more : {X Y : Type 0} (f : X → Y) (xs : List X) (i : ℕ) (d : X) (
 mapped-more f xs i d old new lt before made =
     let x = get_or xs i d in
     made ∙ ap (λ l. l ++ f x ∷ []) before ∙ sym (ap (map f) (one-more xs i x d lt refl) ∙ map_push f (take i xs) x)
+
+pub mapped-behind : {X Y : Type 0} (f : X → Y) (xs : List X) (i : ℕ) (d : X) (start old new : List Y) → i < length xs → old ≡ start ++ map f (take i xs) → new ≡ old ++ f (get_or xs i d) ∷ [] → new ≡ start ++ map f (take (i + 1) xs)
+mapped-behind f xs i d start old new lt before made =
+    let x = get_or xs i d in
+    made ∙ ap (λ l. l ++ f x ∷ []) before ∙ append_assoc start (map f (take i xs)) (f x ∷ []) ∙ ap (λ l. start ++ l) (sym (ap (map f) (one-more xs i x d lt refl) ∙ map_push f (take i xs) x))
 
 pub joined-more : {X Y : Type 0} (f : X → List Y) (xs : List X) (i : ℕ) (d : X) (old part new : List Y) → i < length xs → old ≡ flat_map f (take i xs) → part ≡ f (get_or xs i d) → new ≡ old ++ part → new ≡ flat_map f (take (i + 1) xs)
 joined-more f xs i d old part new lt before same made =
