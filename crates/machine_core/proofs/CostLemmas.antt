@@ -6,20 +6,20 @@ use Rattle.machine_core.specs.CostLaws.{total_of-entry, total_of-length}
 
 pub take-add_costs : (xs ys : List ℕ) (i : ℕ) → length xs ≡ length ys → i < length xs
     → take (suc i) (add_costs xs ys) ≡ take i (add_costs xs ys) ++ (slice_index xs i + slice_index ys i) ∷ []
-take-add_costs [] ys i e h = absurd (omega arith)
-take-add_costs (x ∷ xs) [] i e h = absurd (omega arith)
+take-add_costs [] ys i e h = absurd (omega (arith, h))
+take-add_costs (x ∷ xs) [] i e h = absurd (omega (arith, e))
 take-add_costs (x ∷ xs) (y ∷ ys) zero e h = refl
-take-add_costs (x ∷ xs) (y ∷ ys) (suc i) e h = ap (λ l. (x + y) ∷ l) (take-add_costs xs ys i (omega arith) (omega arith))
+take-add_costs (x ∷ xs) (y ∷ ys) (suc i) e h = ap (λ l. (x + y) ∷ l) (take-add_costs xs ys i (omega (arith, e)) (omega (arith, h)))
 
 pub take-all_costs : (xs ys : List ℕ) → length xs ≡ length ys → take (length xs) (add_costs xs ys) ≡ add_costs xs ys
 take-all_costs [] ys e = refl
-take-all_costs (x ∷ xs) [] e = absurd (omega arith)
-take-all_costs (x ∷ xs) (y ∷ ys) e = ap (λ l. (x + y) ∷ l) (take-all_costs xs ys (omega arith))
+take-all_costs (x ∷ xs) [] e = absurd (omega (arith, e))
+take-all_costs (x ∷ xs) (y ∷ ys) e = ap (λ l. (x + y) ∷ l) (take-all_costs xs ys (omega (arith, e)))
 
 entry_total-push : (register : ℕ) (costs : List (List ℕ)) (k : List ℕ) (last : ℕ)
     → entry_total register (costs ++ k ∷ []) last ≡ entry_total register costs last + slice_index k register
 entry_total-push register [] k last = omega arith
-entry_total-push register (x ∷ costs) k last = let r = entry_total-push register costs k last in omega arith
+entry_total-push register (x ∷ costs) k last = let r = entry_total-push register costs k last in omega (arith, r)
 
 -- one more cost at a register
 pub entry_total-more : (register : ℕ) (costs : List (List ℕ)) (last i : ℕ) (k : List ℕ) → i < length costs → k ≡ get_or costs i k
@@ -32,14 +32,14 @@ entry_total-more register costs last i k lt e =
 entry_total-take : (register : ℕ) (costs : List (List ℕ)) (last i : ℕ) → entry_total register (take i costs) last ≤ entry_total register costs last
 entry_total-take register [] last zero = omega arith
 entry_total-take register [] last (suc i) = omega arith
-entry_total-take register (k ∷ costs) last zero = let r = entry_total-take register costs last zero in omega arith
-entry_total-take register (k ∷ costs) last (suc i) = let r = entry_total-take register costs last i in omega arith
+entry_total-take register (k ∷ costs) last zero = let r = entry_total-take register costs last zero in omega (arith, r)
+entry_total-take register (k ∷ costs) last (suc i) = let r = entry_total-take register costs last i in omega (arith, r)
 
 -- the step of a loop over the costs: the sum so far and one number more
 pub entry-step : (register : ℕ) (costs : List (List ℕ)) (last i : ℕ) (k : List ℕ) (sum entry new : ℕ) → i < length costs → k ≡ get_or costs i k
     → sum ≡ entry_total register (take i costs) last → entry ≡ slice_index k register → new ≡ sum + entry
     → new ≡ entry_total register (take (i + 1) costs) last
-entry-step register costs last i k sum entry new lt e a b d = let m = entry_total-more register costs last i k lt e in omega arith
+entry-step register costs last i k sum entry new lt e a b d = d ∙ ap (λ s. s + entry) a ∙ ap (λ n. entry_total register (take i costs) last + n) b ∙ sym (entry_total-more register costs last i k lt e)
 
 -- a sum past 64 bits on the way is past them in the end
 pub entry-past : (register : ℕ) (costs : List (List ℕ)) (last i : ℕ) (k : List ℕ) (sum entry : ℕ) → i < length costs → k ≡ get_or costs i k
@@ -48,7 +48,14 @@ pub entry-past : (register : ℕ) (costs : List (List ℕ)) (last i : ℕ) (k : 
 entry-past register costs last i k sum entry lt e a b d =
     let m = entry_total-more register costs last i k lt e in
     let t = entry_total-take register costs last (i + 1) in
-    omega arith
+    omega (arith, m, t, a, b, d)
+
+-- where nothing else is in scope
+below-or-last : (k i : ℕ) → k < i + 1 → (k < i) ⊎ (k ≡ i)
+below-or-last k i lt = grind arith
+
+below-or-not : (k i : ℕ) → (k < i) ⊎ (i ≤ k)
+below-or-not k i = grind arith
 
 module _ (costs : List (List ℕ)) (last : List ℕ) (wide : All (λ k. length k ≡ length last) costs) where
   pub total-width : length (total_of costs last) ≡ length last
@@ -59,35 +66,29 @@ module _ (costs : List (List ℕ)) (last : List ℕ) (wide : All (λ k. length k
       → entry ≡ entry_total i costs n → new ≡ sum ++ entry ∷ [] → new ≡ take (i + 1) (total_of costs last)
   total-step sum new i entry n lt at a b d =
       let here : entry ≡ slice_index (total_of costs last) i = b ∙ ap (entry_total i costs) at ∙ sym (total_of-entry costs last i wide) in
-      let inside : i < length (total_of costs last) = (let w = total-width in omega arith) in
+      let inside : i < length (total_of costs last) = subst (λ n. i < n) (sym total-width) lt in
       d ∙ ap (λ l. l ++ entry ∷ []) a ∙ ap (λ m. take i (total_of costs last) ++ m ∷ []) here ∙ sym (take_more (total_of costs last) i 0 inside)
 
   -- and it fits too
   pub fits-step : (i entry n : ℕ) → n ≡ slice_index last i → ((k : ℕ) → k < i → slice_index (total_of costs last) k < 2 ^ 64)
       → entry ≡ entry_total i costs n → entry < 2 ^ 64 → (k : ℕ) → k < i + 1 → slice_index (total_of costs last) k < 2 ^ 64
-  fits-step i entry n at so_far b small k lt = elim (below k i lt) [
+  fits-step i entry n at so_far b small k lt = elim (below-or-last k i lt) [
     | inl h ↦ so_far k h
     | inr h ↦ (
         let here : entry ≡ slice_index (total_of costs last) i = b ∙ ap (entry_total i costs) at ∙ sym (total_of-entry costs last i wide) in
         subst (λ j. slice_index (total_of costs last) j < 2 ^ 64) (sym h) (subst (λ m. m < 2 ^ 64) here small))
   ]
-    where
-      below : (k i : ℕ) → k < i + 1 → (k < i) ⊎ (k ≡ i)
-      below k i lt = grind arith
 
   -- all registers are added up
   pub total-done : (sum : List ℕ) (i : ℕ) → length last ≤ i → sum ≡ take i (total_of costs last) → sum ≡ total_of costs last
-  total-done sum i h a = a ∙ take_all i (total_of costs last) (let w = total-width in omega arith)
+  total-done sum i h a = a ∙ take_all i (total_of costs last) (subst (λ n. n ≤ i) (sym total-width) h)
 
   pub fits-done : (sum : List ℕ) (i : ℕ) → length last ≤ i → sum ≡ take i (total_of costs last)
       → ((k : ℕ) → k < i → slice_index (total_of costs last) k < 2 ^ 64) → Fits sum
-  fits-done sum i h a so_far k = subst (λ l. slice_index l k < 2 ^ 64) (sym (total-done sum i h a)) (elim (cases k i) [
+  fits-done sum i h a so_far k = subst (λ l. slice_index l k < 2 ^ 64) (sym (total-done sum i h a)) (elim (below-or-not k i) [
     | inl lt ↦ so_far k lt
-    | inr ge ↦ (let z : slice_index (total_of costs last) k ≡ 0 = get_or_past (total_of costs last) k 0 (let w = total-width in omega arith) in omega arith)
+    | inr ge ↦ (let w = total-width in let z : slice_index (total_of costs last) k ≡ 0 = get_or_past (total_of costs last) k 0 (omega (arith, w, h, ge)) in omega (arith, z))
   ])
-    where
-      cases : (k i : ℕ) → (k < i) ⊎ (i ≤ k)
-      cases k i = grind arith
 
   -- the first sum past 64 bits
   pub first-past : (i n : ℕ) → n ≡ slice_index last i → ((k : ℕ) → k < i → slice_index (total_of costs last) k < 2 ^ 64)

@@ -1,16 +1,33 @@
 -- Edges and ends stay well formed, and found by their states, where one more is added.
-use Rattle.std.proofs.Common.{◌≡◌, ℕ, ◌≤◌, inl, inr, List, [], ◌∷◌, ◌++◌, length, IsTrue, ◌||◌, ◌&&◌, nat_le, ◌⊎◌, true, ◌+◌, refl, sym, ◌∙◌, subst, arith, Result, Ok, Err, OnOk, OnErr, Bool, false}
+use Rattle.std.proofs.Common.{◌≡◌, ℕ, ◌≤◌, inl, inr, List, [], ◌∷◌, ◌++◌, length, replicate, IsTrue, ◌||◌, ◌&&◌, nat_le, ◌⊎◌, true, ◌+◌, refl, sym, ap, ◌∙◌, subst, arith, Result, Ok, Err, OnOk, OnErr, Bool, false}
 use Rattle.std.specs.Result.{is_err}
 use Rattle.std.proofs.lemmas.Bool.Decides.{nat_tests}
 use Rattle.std.proofs.lemmas.List.Elements.{Contains-push_cases}
+use Rattle.std.proofs.lemmas.List.{length-replicate}
 use Rattle.sv_word.specs.Ranges.{in_ranges, IsApartFrom}
 use Rattle.machine_core.specs.declared.edge.Edge.{Edge}
 use Rattle.machine_core.specs.declared.end.End.{End}
-use Rattle.machine_core.specs.Places.{add_to}
-use Rattle.machine_core.specs.Edges.{IsEdge, IsEnd, AreEdgesAndEnds}
+use Rattle.machine_core.specs.Places.{IsIndex, add_to}
+use Rattle.machine_core.specs.Edges.{IsEdge, IsEnd, AreEdgesAndEnds, from_of, at_of}
 use Rattle.machine_core.specs.Indexed.{AreIndexed}
-use Rattle.machine_core.specs.PlaceLaws.{index-add, length-add_to}
+use Rattle.machine_core.specs.PlaceLaws.{index-add, index-new, length-add_to}
 use Rattle.sv_word.specs.Words.{greatest_character}
+
+-- no edges and no ends
+pub formed-none : (states width : ℕ) (edges : List Edge) (ends : List End) → edges ≡ [] → ends ≡ [] → AreEdgesAndEnds states width edges ends
+formed-none states width edges ends a b = record {
+  edge = λ e i. absurd (let n = ap length a in let x = i.1 in omega (arith, n, x));
+  ending = λ e i. absurd (let n = ap length b in let x = i.1 in omega (arith, n, x));
+}
+
+pub indexed-none : (states : ℕ) (edges : List Edge) (ends : List End) (edge_places end_places : List (List ℕ)) → edges ≡ [] → ends ≡ []
+    → edge_places ≡ replicate states [] → end_places ≡ replicate states [] → AreIndexed states edges ends edge_places end_places
+indexed-none states edges ends edge_places end_places a b c d = record {
+  edge_rows = ap length c ∙ length-replicate states [];
+  end_rows = ap length d ∙ length-replicate states [];
+  edges_found = subst (λ l. IsIndex from_of l edge_places) (sym a) (subst (IsIndex from_of []) (sym c) (index-new from_of states));
+  ends_found = subst (λ l. IsIndex at_of l end_places) (sym b) (subst (IsIndex at_of []) (sym d) (index-new at_of states));
+}
 
 module _ (states width : ℕ) (edges : List Edge) (ends : List End) (formed : AreEdgesAndEnds states width edges ends) where
   formed-edge : (e : Edge) → IsEdge states width e → AreEdgesAndEnds states width (edges ++ e ∷ []) ends

@@ -1,5 +1,5 @@
 -- The edges and ends of one state, found by their places.
-use Rattle.std.proofs.Common.{◌≡◌, ℕ, ◌+◌, ◌<◌, ◌↔◌, ◌⊎◌, inl, inr, nat_eq, cond, Bool, true, false, List, [], ◌∷◌, ◌++◌, length, slice_get, get_or, Some, map, take, Any, All, refl, ap, sym, ◌∙◌, arith}
+use Rattle.std.proofs.Common.{◌≡◌, ℕ, zero, suc, ◌+◌, ◌<◌, ◌↔◌, ◌⊎◌, inl, inr, nat_eq, cond, Bool, true, false, List, [], ◌∷◌, ◌++◌, length, slice_get, get_or, Some, map, take, Any, All, refl, ap, sym, ◌∙◌, arith}
 use Rattle.std.specs.List.{filter}
 use Rattle.std.proofs.lemmas.Bool.Decides.{nat_tests}
 use Rattle.std.proofs.lemmas.List.{map_push}
@@ -22,6 +22,11 @@ pub picked-step : {X Y : Type 0} (f : X → Y) (xs : List X) (ps : List ℕ) (i 
 picked-step f xs ps i x out new y within lt read so_far pushed made =
     pushed ∙ ap (λ v. out ++ v ∷ []) made ∙ ap (λ l. l ++ f x ∷ []) so_far
     ∙ sym (ap (map f) (pick-more xs ps i x within lt read) ∙ map_push f (pick xs (take i ps)) x)
+
+pub place-below : (n : ℕ) (ps : List ℕ) (i : ℕ) → ((j p : ℕ) → slice_get ps j ≡ Some p → p < n) → i < length ps → get_or ps i 0 < n
+place-below n [] i h lt = absurd (omega (arith, lt))
+place-below n (p ∷ ps) zero h lt = h zero p refl
+place-below n (p ∷ ps) (suc i) h lt = place-below n ps i (λ j q e. h (suc j) q e) (omega (arith, lt))
 
 -- what a filter by the state keeps has a fact where an element with this state has it
 module _ {X Y : Type 0} (key : X → ℕ) (f : X → Y) (P : Y → Type 0) (s : ℕ) where

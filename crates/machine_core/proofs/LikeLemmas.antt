@@ -1,5 +1,5 @@
 -- A move whose characters are joined with those of one like it.
-use Rattle.std.proofs.Common.{◌≡◌, ℕ, zero, suc, ◌↔◌, ◌⊎◌, inl, inr, ◌&&◌, ◌||◌, nat_le, Bool, true, false, IsTrue, List, [], ◌∷◌, Any, Contains, Some, slice_get, slice_set, refl, sym, ◌∙◌, subst, arith}
+use Rattle.std.proofs.Common.{◌≡◌, ℕ, zero, suc, ◌<◌, ◌↔◌, ◌⊎◌, inl, inr, ◌&&◌, ◌||◌, nat_le, Bool, true, false, IsTrue, List, [], ◌∷◌, length, Any, Contains, Some, slice_get, slice_set, refl, sym, ◌∙◌, subst, arith}
 use Rattle.std.proofs.lemmas.Bool.{le-leb}
 use Rattle.sv_word.specs.Ranges.{in_ranges, IsInhabited, IsApartFrom, least_of}
 use Rattle.machine_core.specs.declared.machine.Move.{Move}
@@ -21,6 +21,11 @@ or-left false b h = cc
 or-right : (a b : Bool) → IsTrue b → IsTrue (a || b)
 or-right true b h = refl
 or-right false b h = h
+
+pub stands-below : (moves : List (Move ℕ)) (at : ℕ) (m : Move ℕ) → slice_get moves at ≡ Some m → at < length moves
+stands-below [] at m h = cc
+stands-below (x ∷ moves) zero m h = omega arith
+stands-below (x ∷ moves) (suc at) m h = let r = stands-below moves at m h in omega (arith, r)
 
 module _ (lead further : Move ℕ) (on : List (ℕ × ℕ)) (to : lead.to ≡ further.to) (cost : lead.cost ≡ further.cost)
     (both : (c : ℕ) → in_ranges on c ≡ (in_ranges lead.on c || in_ranges further.on c)) where

@@ -1,5 +1,5 @@
 -- What a push that is taken back leaves.
-use Rattle.std.proofs.Common.{◌≡◌, ℕ, ◌+◌, ◌<◌, Bool, true, List, [], ◌∷◌, ◌++◌, length, map, take, get_or, Option, None, Some, MatchOption, Result, Ok, Err, OnErr, refl, ap, sym, ◌∙◌, subst, arith, add-one}
+use Rattle.std.proofs.Common.{◌≡◌, ℕ, zero, suc, ◌+◌, ◌<◌, Bool, true, List, [], ◌∷◌, ◌++◌, length, map, replicate, take, get_or, Option, None, Some, MatchOption, Result, Ok, Err, OnErr, refl, ap, sym, ◌∙◌, subst, arith, add-one}
 use Rattle.std.specs.Result.{is_err}
 use Rattle.std.proofs.Math.Seq.{take-suc}
 use Rattle.std.proofs.lemmas.List.{map-append, length_push}
@@ -27,3 +27,19 @@ mapped-more f xs ys i x e lt is =
     let at : x ≡ get_or xs i x = subst (λ l. x ≡ get_or l i x) e is in
     let more : take (i + 1) xs ≡ take i xs ++ x ∷ [] = rw add-one (take-suc xs i x below ∙ ap (λ q. take i xs ++ q ∷ []) (sym at)) in
     sym (ap (map f) more ∙ map-append f (take i xs) (x ∷ []))
+
+-- one element more of a list of the same ones
+pub replicate-more : {X : Type 0} (old new : List X) (n : ℕ) (x y : X) → old ≡ replicate n x → y ≡ x → new ≡ old ++ y ∷ [] → new ≡ replicate (n + 1) x
+replicate-more old new n x y before same made =
+    let more : replicate n x ++ x ∷ [] ≡ replicate (n + 1) x = rw add-one (push n x) in
+    made ∙ ap (λ l. l ++ y ∷ []) before ∙ ap (λ z. replicate n x ++ z ∷ []) same ∙ more
+  where
+    push : {X : Type 0} (n : ℕ) (x : X) → replicate n x ++ x ∷ [] ≡ replicate (suc n) x
+    push zero x = refl
+    push (suc n) x = ap (λ l. x ∷ l) (push n x)
+
+-- one element more of a list that a loop copies
+pub took-more : {X : Type 0} (xs old new : List X) (i : ℕ) (x y : X) → i < length xs → x ≡ get_or xs i x → old ≡ take i xs → y ≡ x → new ≡ old ++ y ∷ [] → new ≡ take (i + 1) xs
+took-more xs old new i x y lt is before same made =
+    let more : take (i + 1) xs ≡ take i xs ++ x ∷ [] = rw add-one (take-suc xs i x lt ∙ ap (λ q. take i xs ++ q ∷ []) (sym is)) in
+    made ∙ ap (λ l. l ++ y ∷ []) before ∙ ap (λ z. take i xs ++ z ∷ []) same ∙ sym more

@@ -1,7 +1,8 @@
 -- The words of a chain.
-use Rattle.std.proofs.Common.{◌≡◌, ℕ, zero, suc, ◌+◌, ◌<◌, ◌≤◌, ◌↔◌, ◌⊎◌, inl, inr, ⊎_elim, Bool, true, false, ◌&&◌, if◌then◌else◌, List, [], ◌∷◌, length, drop, slice_get, get_or, Some, None, refl, sym, ap, ◌∙◌, subst, arith}
+use Rattle.std.proofs.Common.{◌≡◌, ℕ, zero, suc, ◌+◌, ◌<◌, ◌≤◌, ◌↔◌, ◌⊎◌, inl, inr, ⊎_elim, Bool, true, false, ◌&&◌, if◌then◌else◌, List, [], ◌∷◌, ◌++◌, length, drop, slice_get, get_or, Some, None, refl, sym, ap, ◌∙◌, subst, arith}
 use Rattle.std.specs.Prelude.{nat_lt}
 use Rattle.std.proofs.lemmas.Bool.Decides.{nat_tests}
+use Rattle.std.proofs.lemmas.List.{append_assoc, drop_more}
 use Rattle.sv_word.specs.Words.{IsWord, greatest_character}
 use Rattle.sv_terms.specs.Language.{Word}
 use Rattle.machine_core.specs.declared.graph.Graph.{Graph}
@@ -20,6 +21,13 @@ pub range-at : (ranges : List (ℕ × ℕ)) (i : ℕ) (d : ℕ × ℕ) → i < l
 range-at [] i d lt h = absurd (omega (arith, lt))
 range-at (r ∷ ranges) zero d lt h = h.0
 range-at (r ∷ ranges) (suc i) d lt h = range-at ranges i d (omega (arith, lt)) h.1
+
+-- the rows of one range more
+pub chained-more : (longer : Bool) (lost i : ℕ) (ranges : List (ℕ × ℕ)) (old new all : List TableRow) (row : TableRow) → i < length ranges → row ≡ chain_row lost i (get_or ranges i (0, 0))
+    → all ≡ old ++ chain_rows longer lost i (drop i ranges) → new ≡ old ++ row ∷ [] → all ≡ new ++ chain_rows longer lost (i + 1) (drop (i + 1) ranges)
+chained-more longer lost i ranges old new all row lt is before made =
+    let rest = chain_rows longer lost (i + 1) (drop (i + 1) ranges) in
+    before ∙ ap (λ l. old ++ chain_rows longer lost i l) (drop_more ranges i (0, 0) lt) ∙ ap (λ (r : TableRow). old ++ r ∷ rest) (sym is) ∙ sym (append_assoc old (row ∷ []) rest) ∙ ap (λ l. l ++ rest) (sym made)
 
 -- the rows
 chain-along : (ranges : List (ℕ × ℕ)) (longer : Bool) (lost from i : ℕ) (r : ℕ × ℕ) → slice_get ranges i ≡ Some r → slice_get (chain_rows longer lost from ranges) i ≡ Some (chain_row lost (from + i) r)

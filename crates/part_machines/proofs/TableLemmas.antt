@@ -1,7 +1,9 @@
 -- The edges of rows, and the words of a machine by a table.
 use Rattle.std.proofs.Common.{◌≡◌, ℕ, zero, suc, ◌+◌, ◌-◌, ◌<◌, ◌≤◌, ◌↔◌, ◌⊎◌, inl, inr, ⊎_elim, max, Bool, true, false, ◌&&◌, nat_le, if◌then◌else◌, IsTrue, List, [], ◌∷◌, ◌++◌, length, drop, get_or, slice_get, Some, Any, refl, sym, ap, ◌∙◌, subst, arith, rules}
-use Rattle.std.specs.Prelude.{nat_lt}
+use Rattle.std.specs.Prelude.{nat_eq, nat_lt, not}
+use Rattle.std.proofs.Math.Bool.{beq}
 use Rattle.std.specs.List.{AllByRecursion}
+use Rattle.std.proofs.lemmas.Bool.{eqb-true, eq-eqb}
 use Rattle.std.proofs.lemmas.Bool.Decides.{nat_tests}
 use Rattle.std.proofs.lemmas.List.{drop_more}
 use Rattle.sv_word.specs.Ranges.{in_ranges}
@@ -54,6 +56,13 @@ leg-added at start stop to states on free old new some among set none is s c cos
         | inr b ↦ Any-append_right P old (added ∷ []) (Any-here P added [] (b.0, (inside b.1 b.2, none ∙ b.3, b.4)))
       ]),
     )
+
+-- the last character of those below `stop`
+pub last-below : (start stop : ℕ) → start < stop → start ≤ stop - 1
+last-below start stop h = omega arith
+
+pub last-fits : (stop : ℕ) → stop ≤ greatest_character + 1 → stop - 1 ≤ greatest_character
+last-fits stop h = omega arith
 
 -- what a row has left
 pub lead-here : (rest : ℕ) (l : TableLeg) (legs : List TableLeg) (c : ℕ) → c < l.stop → lead rest (l ∷ legs) c ≡ l.to
@@ -149,6 +158,24 @@ led-end old m n at row start states i legs same past size h added =
     (λ s c cost t. subst (λ x. StepsBy n.edges s c cost t ↔ (StepsBy m.edges s c cost t ⊎ StepsAlong at start (greatest_character + 1) row.rest x s c cost t)) size (added s c cost t))
 
 -- the ends
+unlike : (b holds : Bool) → not (beq b holds) ≡ true → (b ≡ true → holds ≡ false) × (b ≡ false → holds ≡ true)
+unlike true true h = cc
+unlike true false h = (λ e. refl, λ e. sym e)
+unlike false true h = (λ e. sym e, λ e. refl)
+unlike false false h = cc
+
+alike : (b holds : Bool) → not (beq b holds) ≡ false → (b ≡ true → holds ≡ true) × (b ≡ false → holds ≡ false)
+alike true true h = (λ e. refl, λ e. e)
+alike true false h = cc
+alike false true h = cc
+alike false false h = (λ e. e, λ e. refl)
+
+pub left-out : (at last : ℕ) (holds : Bool) → not (beq (nat_eq at last) holds) ≡ true → (at ≡ last → holds ≡ false) × ((at ≡ last → ⊥) → holds ≡ true)
+left-out at last holds h = let b = unlike (nat_eq at last) holds h in (λ e. b.0 (eq-eqb at last e), λ n. b.1 (refuted (nat_eq at last) (λ t. n (eqb-true at last t))))
+
+pub taken : (at last : ℕ) (holds : Bool) → not (beq (nat_eq at last) holds) ≡ false → (at ≡ last → holds ≡ true) × ((at ≡ last → ⊥) → holds ≡ false)
+taken at last holds h = let b = alike (nat_eq at last) holds h in (λ e. b.0 (eq-eqb at last e), λ n. b.1 (refuted (nat_eq at last) (λ t. n (eqb-true at last t))))
+
 pub end-left-out : (E : List End) (at last : ℕ) (holds : Bool) → ((at ≡ last → holds ≡ false) × ((at ≡ last → ⊥) → holds ≡ true)) → (s : ℕ) (cost : List ℕ) → EndsAt E s cost ↔ (EndsAt E s cost ⊎ ((at ≡ s) × ([] ≡ cost) × IsEndState holds last s))
 end-left-out E at last true h s cost = or-none (λ b. let e = h.0 (b.0 ∙ b.2) in cc)
 end-left-out E at last false h s cost = or-none (λ b. let e = h.1 (λ f. b.2 (sym b.0 ∙ f)) in cc)

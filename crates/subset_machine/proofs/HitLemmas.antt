@@ -1,10 +1,10 @@
 -- Which states follow on the first characters of intervals.
-use Rattle.std.proofs.Common.{◌≡◌, ℕ, ◌+◌, ◌<◌, ◌≤◌, inl, inr, ◌↔◌, nat_eq, List, [], ◌∷◌, ◌++◌, length, map, take, get_or, Any, Contains, sym, ap, ◌∙◌, subst, arith}
-use Rattle.std.specs.List.{dedup}
+use Rattle.std.proofs.Common.{◌≡◌, ℕ, ◌+◌, ◌<◌, ◌≤◌, inl, inr, ◌↔◌, nat_eq, List, [], ◌∷◌, ◌++◌, length, map, take, get_or, Any, Contains, refl, sym, ap, ◌∙◌, subst, arith}
+use Rattle.std.specs.List.{dedup, flat_map}
 use Rattle.std.specs.List.Retain.{IsFiltered, DiffersFromLast}
 use Rattle.std.specs.List.Sorted.{IsPermutation, IsSorted, IsStrictlyIncreasing}
 use Rattle.std.specs.Ordering.{nat_cmp}
-use Rattle.std.proofs.lemmas.List.{take_more, take_all}
+use Rattle.std.proofs.lemmas.List.{append_assoc, flat_map_more, map_push, take_more, take_all}
 use Rattle.std.proofs.lemmas.List.Elements.{Contains-append_left, Contains-append_right, Contains-append_cases}
 use Rattle.std.proofs.lemmas.List.Filters.{dedup_is}
 use Rattle.std.proofs.lemmas.List.Kept.{Contains-dedup_nat, Contains-from_dedup}
@@ -31,6 +31,22 @@ hits-none marks c t = (λ i. absurd (nothing (c, t) i), λ a. absurd (Any-none (
 
 pub one-more : {X : Type 0} (xs : List X) (i : ℕ) (x d : X) → i < length xs → x ≡ get_or xs i d → take (i + 1) xs ≡ take i xs ++ x ∷ []
 one-more xs i x d lt is = take_more xs i d lt ∙ ap (λ y. take i xs ++ y ∷ []) (sym is)
+
+-- what a loop makes of one element more
+pub mapped-more : {X Y : Type 0} (f : X → Y) (xs : List X) (i : ℕ) (d : X) (old new : List Y) → i < length xs → old ≡ map f (take i xs) → new ≡ old ++ f (get_or xs i d) ∷ [] → new ≡ map f (take (i + 1) xs)
+mapped-more f xs i d old new lt before made =
+    let x = get_or xs i d in
+    made ∙ ap (λ l. l ++ f x ∷ []) before ∙ sym (ap (map f) (one-more xs i x d lt refl) ∙ map_push f (take i xs) x)
+
+pub mapped-behind : {X Y : Type 0} (f : X → Y) (xs : List X) (i : ℕ) (d : X) (start old new : List Y) → i < length xs → old ≡ start ++ map f (take i xs) → new ≡ old ++ f (get_or xs i d) ∷ [] → new ≡ start ++ map f (take (i + 1) xs)
+mapped-behind f xs i d start old new lt before made =
+    let x = get_or xs i d in
+    made ∙ ap (λ l. l ++ f x ∷ []) before ∙ append_assoc start (map f (take i xs)) (f x ∷ []) ∙ ap (λ l. start ++ l) (sym (ap (map f) (one-more xs i x d lt refl) ∙ map_push f (take i xs) x))
+
+pub joined-more : {X Y : Type 0} (f : X → List Y) (xs : List X) (i : ℕ) (d : X) (old part new : List Y) → i < length xs → old ≡ flat_map f (take i xs) → part ≡ f (get_or xs i d) → new ≡ old ++ part → new ≡ flat_map f (take (i + 1) xs)
+joined-more f xs i d old part new lt before same made =
+    let x = get_or xs i d in
+    made ∙ ap (λ l. l ++ part) before ∙ ap (λ l. flat_map f (take i xs) ++ l) same ∙ flat_map_more f [] (take i xs) x ∙ ap (flat_map f) (sym (one-more xs i x d lt refl))
 
 pub hits-more : (legs : List EdgeRange) (marks part hits new : List (ℕ × ℕ)) (i : ℕ) (s d : EdgeRange) → i < length legs → s ≡ get_or legs i d
     → ((p : ℕ × ℕ) → Contains part p ↔ (Contains marks p × (s.low ≤ p.0) × (p.0 ≤ s.high)))

@@ -1,6 +1,8 @@
-use Rattle.std.proofs.Common.{refl}
+use Rattle.std.proofs.Common.{◌∙◌, ap, refl, length, map}
+use Rattle.std.proofs.lemmas.List.{take_all}
+use Rattle.machine_core.specs.Places.{pick}
 use Rattle.machine_core.specs.Edges.{move_of}
-use Rattle.machine_core.proofs.FoundLemmas.{picked-step}
+use Rattle.machine_core.proofs.FoundLemmas.{picked-step, place-below}
 use Rattle.machine_core.proofs.explicit.moves_of.Goals as goal
 
 pub loop-place-preserved : goal.loop-place-preserved
@@ -8,3 +10,9 @@ loop-place-preserved c =
     picked-step move_of c.args.edges.now c.args.places.now c.loop-place.place-index c.index-edges-place.result c.loop-place.moves c.push.new.self
     (record { on = c.in_ok-copy.field-0; cost = c.in_ok-copy-2.field-0; to = c.index-edges-place.result.to })
     c.requires c.loop-place-test.true c.index-edges-place.is c.loop-place.invariant c.in_ok-push.ensures.ok (rw (c.in_ok-copy.ensures, c.in_ok-copy-2.ensures) refl)
+
+pub bounds-edges-place : goal.bounds-edges-place
+bounds-edges-place c = place-below (length c.args.edges.now) c.args.places.now c.loop-place.place-index c.requires c.loop-place-test.true
+
+pub returns : goal.returns
+returns c = c.loop-place.invariant ∙ ap (λ l. map move_of (pick c.args.edges.now l)) (take_all c.loop-place.place-index c.args.places.now c.loop-place-test.false)

@@ -1,9 +1,9 @@
-use Rattle.std.proofs.Common.{◌≡◌, ℕ, List, Any, Contains, get_or, slice_set, ◌||◌, ◌⊎◌, ◌↔◌, sym, ap, ◌∙◌, subst}
+use Rattle.std.proofs.Common.{◌≡◌, ◌<◌, ℕ, List, length, Any, Contains, get_or, slice_set, ◌||◌, ◌⊎◌, ◌↔◌, sym, ap, ◌∙◌, subst}
 use Rattle.sv_word.specs.Ranges.{in_ranges}
 use Rattle.machine_core.specs.Lists.{read-at}
 use Rattle.machine_core.specs.declared.machine.Move.{Move}
 use Rattle.machine_core.specs.Moves.{Moves}
-use Rattle.machine_core.proofs.LikeLemmas.{joined-moves, joined-some}
+use Rattle.machine_core.proofs.LikeLemmas.{joined-moves, joined-some, stands-below}
 use Rattle.machine_core.proofs.joined.join_move.Goals as goal
 
 pub returns-clause-exact : goal.returns-clause-exact
@@ -26,3 +26,7 @@ returns-clause-inhabited c x i =
     let both : (e : ℕ) → in_ranges on e ≡ (in_ranges l.on e || in_ranges f.on e) = λ e. c.in_ok-on.ensures e ∙ ap (λ (m : Move ℕ). in_ranges m.on e || in_ranges f.on e) read in
     let new : c.set.new.self ≡ slice_set c.args.moves.now c.args.at (record { on = on; cost = f.cost; to = f.to }) = c.set.ensures in
     joined-some c.args.moves.now c.args.at l f on c.requires.like.stands both c.requires.old c.as_slice-2.ensures.apart x (subst (λ (ms : List (Move ℕ)). Contains ms x) new i)
+
+pub bounds-as_slice-at : goal.bounds-as_slice-at
+bounds-as_slice-at c =
+    subst (λ (l : List (Move ℕ)). c.args.at < length l) (sym c.as_slice.ensures) (stands-below c.args.moves.now c.args.at c.requires.like.earlier c.requires.like.stands)

@@ -1,6 +1,6 @@
-use Rattle.std.proofs.Common.{◌∙◌}
+use Rattle.std.proofs.Common.{◌<◌, refl, sym, ◌∙◌, subst}
 use Rattle.part_machines.specs.Tables.{leg}
-use Rattle.part_machines.proofs.TableLemmas.{led-end, led-loop}
+use Rattle.part_machines.proofs.TableLemmas.{led-end, led-first, led-loop}
 use Rattle.part_machines.proofs.table.add_row.Goals as goal
 
 pub loop-leg-preserved : goal.loop-leg-preserved
@@ -16,3 +16,23 @@ pub returns-clause-steps : goal.returns-clause-steps
 returns-clause-steps c =
     led-end c.args.machine.now.edges c.loop-leg.machine c.add_leg-2.new.machine c.args.at c.args.row.now c.loop-leg.start c.args.machine.now.states c.loop-leg.leg-index c.as_slice-leg-items.result.now
     c.as_slice-leg-items.ensures c.loop-leg-test.false c.loop-leg.invariant.states c.loop-leg.invariant.led c.in_ok-add_leg-2.ensures.steps
+
+pub loop-leg-init : goal.loop-leg-init
+loop-leg-init c = record {
+  states = refl;
+  registers = refl;
+  ends = refl;
+  led = led-first c.args.machine.now.edges c.args.at c.args.row.now c.args.machine.now.states;
+}
+
+pub add_leg-requires-clause-at : goal.add_leg-requires-clause-at
+add_leg-requires-clause-at c = subst (λ n. c.args.at < n) (sym c.loop-leg.invariant.states) c.requires.at
+
+pub add_leg-requires-clause-plain : goal.add_leg-requires-clause-plain
+add_leg-requires-clause-plain c = c.loop-leg.invariant.registers ∙ c.requires.plain
+
+pub add_leg-requires-2-clause-at : goal.add_leg-requires-2-clause-at
+add_leg-requires-2-clause-at c = subst (λ n. c.args.at < n) (sym c.loop-leg.invariant.states) c.requires.at
+
+pub add_leg-requires-2-clause-plain : goal.add_leg-requires-2-clause-plain
+add_leg-requires-2-clause-plain c = c.loop-leg.invariant.registers ∙ c.requires.plain
