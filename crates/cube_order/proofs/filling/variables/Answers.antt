@@ -1,4 +1,4 @@
-use Rattle.std.proofs.Common.{◌∙◌, ap, subst, sym, length, replicate}
+use Rattle.std.proofs.Common.{◌∙◌, ap, subst, sym, length}
 use Rattle.std.proofs.lemmas.List.{length-replicate}
 use Rattle.cube_order.specs.Filling.{AreNumbersBelow, free_variable, named_all, parted_all}
 use Rattle.cube_order.proofs.filling.variables.Goals as goal
