@@ -135,6 +135,14 @@ pub record IsTraced (ds : List Definition) (ahead : List Bool) (path : List ℕ)
   pub leads : LeadTo ds path at
   pub on : (v k : ℕ) → get_or seen v None ≡ Some k → (k < length path) × (get_or path k 0 ≡ v)
 
+pub traced_none : (ds : List Definition) (ahead : List Bool) (seen : List (Option ℕ)) (at : ℕ) → seen ≡ replicate (length ahead) None → IsAhead ahead at → IsTraced ds ahead [] seen at
+traced_none ds ahead seen at e a = record {
+  count = ap length e ∙ length-replicate (length ahead) None;
+  is_ahead = a;
+  leads = tt;
+  on = λ v k q. absurd (no_place (length ahead) v k (sym (ap (λ z. get_or z v None) e) ∙ q));
+}
+
 abbrev pub unseen : List (Option ℕ) → ℕ
 unseen [] = 0
 unseen (None ∷ ks) = suc (unseen ks)

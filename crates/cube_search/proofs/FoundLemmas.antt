@@ -1,5 +1,5 @@
 -- What was found, taken back over a step, and spread from the runs of a leaf.
-use Rattle.std.proofs.Common.{◌≡◌, ℕ, zero, suc, ◌<◌, ◌≤◌, ◌+◌, ℤ, pos, ◌≤ℤ◌, Bool, true, false, not, ◌||◌, List, [], ◌∷◌, length, map, filter, take, All, Some, None, nat_eq, cond, slice_get, refl, sym, ap, ◌∙◌, subst, arith, eq-eqb}
+use Rattle.std.proofs.Common.{◌≡◌, ℕ, zero, suc, ◌<◌, ◌≤◌, ◌+◌, pos, ◌≤ℤ◌, Bool, true, false, not, ◌||◌, List, [], ◌∷◌, length, map, filter, take, Some, None, nat_eq, cond, slice_get, refl, sym, ap, ◌∙◌, subst, arith, eq-eqb}
 use Rattle.std.specs.List.{AllByRecursion, AllZip, range_with_len}
 use Rattle.std.proofs.lemmas.Bool.{false≢true}
 use Rattle.sv_terms.specs.Language.{Word}

@@ -8,7 +8,7 @@ use part_machines::MOST_STATES;
 const MOST_EFFORT: u64 = 1_048_576;
 
 /// How much a search may take.
-#[derive(Clone, Copy, PartialEq, Eq)]
+#[derive(Clone, Copy)]
 pub enum Allowance {
     /// Whatever it takes, which the limits on the text bound.
     Whole,

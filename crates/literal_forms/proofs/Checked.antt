@@ -1,6 +1,6 @@
 -- The steps of atoms.
 use Rattle.std.proofs.Common.{◌≡◌, refl, sym, ap, ◌∙◌, subst, ℤ, pos, List, [], ◌∷◌, ◌++◌, map, length, get_or, arith}
-use Rattle.std.specs.Prelude.{Err}
+use Rattle.std.specs.Prelude.{Result, Err}
 use Rattle.sv_terms.specs.declared.op.Op.{Op}
 use Rattle.sv_terms.specs.declared.sort.Sort.{Sort}
 use Rattle.sv_terms.specs.declared.sort.Sort.TheVariants as sort
@@ -121,20 +121,14 @@ module _ (t : Term) (o : Op) (ts : List Term) (x y : Term) (k : Relation) (e : t
   here : (r : Relation) → k ≡ r → atom_steps (seen t) ≡ relation_steps r (seen x) (seen y)
   here r w = two_of t o ts x y e l f g ∙ ap (λ z. relation_steps z (seen x) (seen y)) (sym q ∙ w)
 
-  pub order_atom_plain : k ≡ relation.Order → ArePlain (comparison_steps (seen x) (seen y)) → ArePlain (atom_steps (seen t))
-  order_atom_plain w h = subst ArePlain (sym (here relation.Order w)) h
-
-  pub order_atom_past : (i j : ℤ) → k ≡ relation.Order → SomeOf (IsPast i j) (comparison_steps (seen x) (seen y)) → SomeOf (IsPast i j) (atom_steps (seen t))
-  order_atom_past i j w h = subst (λ z. SomeOf (IsPast i j) z) (sym (here relation.Order w)) h
+  pub order_atom : (r : Result (Unit {0}) FormFault) → k ≡ relation.Order → IsPlainExactly (comparison_steps (seen x) (seen y)) r → IsPlainExactly (atom_steps (seen t)) r
+  order_atom r w h = subst (λ z. IsPlainExactly z r) (sym (here relation.Order w)) h
 
   pub neither_atom_plain : k ≡ relation.Neither → ArePlain (atom_steps (seen t))
   neither_atom_plain w = subst ArePlain (sym (here relation.Neither w)) plain_none
 
-  pub equality_atom_plain : k ≡ relation.Equality → head_sort (seen x) ≡ sort.Int → ArePlain (equality_steps (seen x) (seen y)) → ArePlain (atom_steps (seen t))
-  equality_atom_plain w d h = subst ArePlain (sym (here relation.Equality w ∙ ap (λ z. equal_steps z (seen x) (seen y)) d)) h
-
-  pub equality_atom_past : (i j : ℤ) → k ≡ relation.Equality → head_sort (seen x) ≡ sort.Int → SomeOf (IsPast i j) (equality_steps (seen x) (seen y)) → SomeOf (IsPast i j) (atom_steps (seen t))
-  equality_atom_past i j w d h = subst (λ z. SomeOf (IsPast i j) z) (sym (here relation.Equality w ∙ ap (λ z. equal_steps z (seen x) (seen y)) d)) h
+  pub equality_atom : (r : Result (Unit {0}) FormFault) → k ≡ relation.Equality → head_sort (seen x) ≡ sort.Int → IsPlainExactly (equality_steps (seen x) (seen y)) r → IsPlainExactly (atom_steps (seen t)) r
+  equality_atom r w d h = subst (λ z. IsPlainExactly z r) (sym (here relation.Equality w ∙ ap (λ z. equal_steps z (seen x) (seen y)) d)) h
 
   pub other_atom_plain : (z : Sort) → k ≡ relation.Equality → z ≡ head_sort (seen x) → (z ≡ sort.Int → ⊥) → ArePlain (atom_steps (seen t))
   other_atom_plain z w d n = subst ArePlain (sym (here relation.Equality w ∙ ap (λ z. equal_steps z (seen x) (seen y)) (sym d) ∙ none z n)) plain_none
@@ -144,6 +138,15 @@ module _ (t : Term) (o : Op) (ts : List Term) (x y : Term) (k : Relation) (e : t
       none sort.Bool n = refl
       none sort.String n = refl
       none sort.RegLan n = refl
+
+pub bool_apart : (z : Sort) → z ≡ sort.Bool → z ≡ sort.Int → ⊥
+bool_apart z e f = cc
+
+pub string_apart : (z : Sort) → z ≡ sort.String → z ≡ sort.Int → ⊥
+string_apart z e f = cc
+
+pub language_apart : (z : Sort) → z ≡ sort.RegLan → z ≡ sort.Int → ⊥
+language_apart z e f = cc
 
 -- a fault goes on where its steps are among others
 pub err_plain : (X : Type 0) (us : List (List ℤ)) (a : Linear) (ss ts : List Step) (e : FormFault) → ((l r : ℤ) → SomeOf (IsPast l r) ss → SomeOf (IsPast l r) ts) → IsFormOrPast us a ss (Err e) → IsPlainExactly {X = X} ts (Err e)

@@ -242,11 +242,8 @@ whole_read old us t o ts r f e q w h =
     let a = apply_seen t o ts reading.Whole e (sym w ∙ q) in
     (subst ArePlain (sym a.1) plain_none, subst (λ z. IsNumbered us z f) (sym a.0) (subst (λ z. IsNumbered us (of_unknown (other z)) f) s h.form))
 
-pub joined_read : (us : List (List ℤ)) (t : Term) (o : Op) (ts : List Term) (r : Reading) (j : Joint) (f : TermForm) → t ≡ term.Apply o ts → r ≡ reading_of o → r ≡ reading.Joined j → ArePlain (steps_of ts ++ joined_steps j (linears_of ts)) × IsNumbered us (joined_of j (linears_of ts)) f → ArePlain (steps (seen t)) × IsNumbered us (linear (seen t)) f
-joined_read us t o ts r j f e q w h = let a = apply_seen t o ts (reading.Joined j) e (sym w ∙ q) in (subst ArePlain (sym a.1) h.0, subst (λ z. IsNumbered us z f) (sym a.0) h.1)
-
-pub joined_past : (t : Term) (o : Op) (ts : List Term) (r : Reading) (j : Joint) (x y : ℤ) → t ≡ term.Apply o ts → r ≡ reading_of o → r ≡ reading.Joined j → SomeOf (IsPast x y) (steps_of ts ++ joined_steps j (linears_of ts)) → SomeOf (IsPast x y) (steps (seen t))
-joined_past t o ts r j x y e q w h = let a = apply_seen t o ts (reading.Joined j) e (sym w ∙ q) in subst (λ z. SomeOf (IsPast x y) z) (sym a.1) h
+pub joined_read : (us : List (List ℤ)) (t : Term) (o : Op) (ts : List Term) (r : Reading) (j : Joint) (a : Result TermForm FormFault) → t ≡ term.Apply o ts → r ≡ reading_of o → r ≡ reading.Joined j → IsFormOrPast us (joined_of j (linears_of ts)) (steps_of ts ++ joined_steps j (linears_of ts)) a → IsFormOrPast us (linear (seen t)) (steps (seen t)) a
+joined_read us t o ts r j a e q w h = let s = apply_seen t o ts (reading.Joined j) e (sym w ∙ q) in subst (λ z. IsFormOrPast us z (steps (seen t)) a) (sym s.0) (subst (λ z. IsFormOrPast us (joined_of j (linears_of ts)) z a) (sym s.1) h)
 
 -- lengths
 pub literal_length : (us : List (List ℤ)) (t : Term) (w : List ℕ) (n : ℕ) (f : TermForm) → t ≡ term.Text w → n ≡ length w → IsNumbered us (of_number (pos n)) f → ArePlain [] × IsNumbered us (length_form (seen t ⨾ end)) f
@@ -270,11 +267,8 @@ length_one t o [] r x e q w l f = absurd (omega arith)
 length_one t o (u ∷ []) r x e q w l f = let a = apply_seen t o (u ∷ []) reading.Length e (sym w ∙ q) in (a.0 ∙ ap (λ z. length_form (seen z ⨾ end)) (sym f), a.1)
 length_one t o (u ∷ v ∷ ts) r x e q w l f = absurd (omega arith)
 
-pub length_read : (us : List (List ℤ)) (t : Term) (o : Op) (ts : List Term) (r : Reading) (x : Term) (f : TermForm) → t ≡ term.Apply o ts → r ≡ reading_of o → r ≡ reading.Length → length ts ≡ 1 → x ≡ get_or ts 0 x → ArePlain [] × IsNumbered us (length_form (seen x ⨾ end)) f → ArePlain (steps (seen t)) × IsNumbered us (linear (seen t)) f
-length_read us t o ts r x f e q w l g h = let a = length_one t o ts r x e q w l g in (subst ArePlain (sym a.1) h.0, subst (λ z. IsNumbered us z f) (sym a.0) h.1)
-
-pub length_past : (t : Term) (o : Op) (ts : List Term) (r : Reading) (x : Term) (i j : ℤ) → t ≡ term.Apply o ts → r ≡ reading_of o → r ≡ reading.Length → length ts ≡ 1 → x ≡ get_or ts 0 x → SomeOf (IsPast i j) [] → SomeOf (IsPast i j) (steps (seen t))
-length_past t o ts r x i j e q w l g h = absurd h
+pub length_read : (us : List (List ℤ)) (t : Term) (o : Op) (ts : List Term) (r : Reading) (x : Term) (a : Result TermForm FormFault) → t ≡ term.Apply o ts → r ≡ reading_of o → r ≡ reading.Length → length ts ≡ 1 → x ≡ get_or ts 0 x → IsFormOrPast us (length_form (seen x ⨾ end)) [] a → IsFormOrPast us (linear (seen t)) (steps (seen t)) a
+length_read us t o ts r x a e q w l g h = let s = length_one t o ts r x e q w l g in subst (λ z. IsFormOrPast us z (steps (seen t)) a) (sym s.0) (subst (λ z. IsFormOrPast us (length_form (seen x ⨾ end)) z a) (sym s.1) h)
 
 pub length_other : (old us : List (List ℤ)) (t : Term) (o : Op) (ts : List Term) (r : Reading) (f : TermForm) → t ≡ term.Apply o ts → r ≡ reading_of o → r ≡ reading.Length → (length ts ≡ 1 → ⊥) → IsUnknownForm old us (other (seen t)) f → ArePlain (steps (seen t)) × IsNumbered us (linear (seen t)) f
 length_other old us t o ts r f e q w l h =

@@ -1,5 +1,5 @@
 -- Codes of terms as lists of numbers that are made from the front.
-use Rattle.std.proofs.Common.{◌≡◌, refl, sym, ap, ◌∙◌, ℕ, zero, suc, ◌+◌, ◌<◌, ◌≤◌, ℤ, pos, Bool, List, [], ◌∷◌, ◌++◌, ◌⊎◌, inl, inr, map, length, take, drop, get_or, drop-cons, append_assoc, arith, append-nil}
+use Rattle.std.proofs.Common.{◌≡◌, refl, sym, ap, ◌∙◌, ℕ, zero, suc, ◌+◌, ◌<◌, ◌≤◌, ℤ, pos, Bool, true, false, List, [], ◌∷◌, ◌++◌, ◌⊎◌, inl, inr, map, length, take, drop, get_or, drop-cons, append_assoc, arith, append-nil}
 use Rattle.std.proofs.lemmas.List.{drop_all, take_more, map-append}
 use Rattle.sv_terms.specs.declared.op.Op.{Op}
 use Rattle.sv_terms.specs.declared.op.Op.TheVariants as op
@@ -16,6 +16,9 @@ use Rattle.literal_forms.specs.Shapes.{Shape, Shapes, truth, number, text, const
 
 next : (k : ℕ) → suc k ≡ k + 1
 next k = omega arith
+
+pub refuted : {P : Type 0} (b : Bool) → (P → b ≡ true) → b ≡ false → P → ⊥
+refuted b f e p = let h = f p in cc
 
 chain_two : (a b c x y : List ℤ) → b ≡ a ++ x → c ≡ b ++ y → c ≡ a ++ (x ++ y)
 chain_two a b c x y e f = f ∙ ap (λ z. z ++ y) e ∙ append_assoc a x y

@@ -73,7 +73,7 @@ fn order(alloc: Global, left: &Term, right: &Term) -> Result<(), FormFault>
 }
 
 /// Whether no step of an atom's forms leaves 128 bits.
-#[tactic(auto, using(crate::proofs::Checked::few_plain, crate::proofs::Checked::leaf_plain, crate::proofs::Checked::order_atom_plain, crate::proofs::Checked::order_atom_past, crate::proofs::Checked::neither_atom_plain, crate::proofs::Checked::equality_atom_plain, crate::proofs::Checked::equality_atom_past, crate::proofs::Checked::other_atom_plain))]
+#[tactic(auto, using(crate::proofs::Checked::leaf_plain, crate::proofs::Checked::neither_atom_plain))]
 pub fn check_atom(alloc: Global, atom: &Term) -> Result<(), FormFault>
     ensures { IsPlainExactly (atom_steps (seen atom.now)) result }
 {
@@ -87,12 +87,12 @@ pub fn check_atom(alloc: Global, atom: &Term) -> Result<(), FormFault>
     let (left, right) = (&terms[0], &terms[1]);
     match relate(*op) {
         Relation::Equality => match head_sort(left) {
-            Sort::Int => Ok(equality(alloc, left, right)?),
+            Sort::Int => equality(alloc, left, right),
             Sort::Bool => Ok(()),
             Sort::String => Ok(()),
             Sort::RegLan => Ok(()),
         },
-        Relation::Order => Ok(order(alloc, left, right)?),
+        Relation::Order => order(alloc, left, right),
         Relation::Neither => Ok(()),
     }
 }

@@ -18,7 +18,7 @@ use sv_terms::{Name, Term};
 
 /// The form of a term of sort Int. Its unknowns are numbered.
 #[cycle(forms)]
-#[tactic(auto, using(crate::proofs::Combined::number_read, crate::proofs::Combined::constant_read, crate::proofs::Combined::truth_read, crate::proofs::Combined::text_read, crate::proofs::Combined::member_read, crate::proofs::Combined::related_read, crate::proofs::Combined::opaque_read, crate::proofs::Combined::whole_read, crate::proofs::Combined::joined_read, crate::proofs::Combined::joined_past, crate::proofs::Combined::length_read, crate::proofs::Combined::length_past, crate::proofs::Combined::length_other, crate::proofs::Combined::unknown_more))]
+#[tactic(auto, using(crate::proofs::Combined::number_read, crate::proofs::Combined::constant_read, crate::proofs::Combined::truth_read, crate::proofs::Combined::text_read, crate::proofs::Combined::member_read, crate::proofs::Combined::related_read, crate::proofs::Combined::opaque_read, crate::proofs::Combined::whole_read, crate::proofs::Combined::length_other, crate::proofs::Combined::unknown_more))]
 pub fn term_form(unknowns: &mut Unknowns, alloc: Global, term: &Term) -> Result<TermForm, FormFault>
     requires { AreNumbered unknowns.old.codes }
     ensures more { IfOk result (λ f. IsMore unknowns.old.codes unknowns.new.codes) }
@@ -28,10 +28,10 @@ pub fn term_form(unknowns: &mut Unknowns, alloc: Global, term: &Term) -> Result<
         Term::Number(n) => Ok(TermForm::number(alloc, *n)),
         Term::Constant(name, _) => Ok(integer_form(unknowns, alloc, name)?),
         Term::Apply(op, terms) => match read(*op) {
-            Reading::Joined(joint) => Ok(joined_form(unknowns, alloc, joint, terms.as_slice())?),
+            Reading::Joined(joint) => joined_form(unknowns, alloc, joint, terms.as_slice()),
             Reading::Length => {
                 if terms.len() == 1 {
-                    Ok(length_form(unknowns, alloc, &terms.as_slice()[0])?)
+                    length_form(unknowns, alloc, &terms.as_slice()[0])
                 } else {
                     Ok(whole_form(unknowns, alloc, term)?)
                 }
@@ -120,9 +120,9 @@ fn joined_form(
         return Ok(TermForm::number(alloc, 0));
     }
     if terms.len() == 1 {
-        return Ok(single_form(unknowns, alloc, joint, terms)?);
+        return single_form(unknowns, alloc, joint, terms);
     }
-    Ok(several_form(unknowns, alloc, joint, terms)?)
+    several_form(unknowns, alloc, joint, terms)
 }
 
 // One term alone: of a difference its negative.

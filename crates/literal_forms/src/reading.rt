@@ -7,7 +7,7 @@ use crate::roles::{Joint, Role, role_of};
 use sv_terms::Op;
 
 /// The form of a function: joined of those of its arguments, a length, or an unknown as a whole.
-#[derive(Clone, Copy, PartialEq, Eq)]
+#[derive(Clone, Copy)]
 pub enum Reading {
     Joined(Joint),
     Length,
@@ -15,7 +15,7 @@ pub enum Reading {
 }
 
 /// Whether a function compares two terms.
-#[derive(Clone, Copy, PartialEq, Eq)]
+#[derive(Clone, Copy)]
 pub enum Relation {
     Equality,
     Order,

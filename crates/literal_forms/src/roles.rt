@@ -5,7 +5,7 @@ ghost use Rattle.literal_forms.specs.Roles.{role_of};
 use sv_terms::Op;
 
 /// How two terms of sort Int are ordered.
-#[derive(Clone, Copy, PartialEq, Eq)]
+#[derive(Clone, Copy)]
 pub enum IntOrder {
     AtMost,
     Below,
@@ -14,7 +14,7 @@ pub enum IntOrder {
 }
 
 /// What joins the forms of a function's arguments, from the left.
-#[derive(Clone, Copy, PartialEq, Eq)]
+#[derive(Clone, Copy)]
 pub enum Joint {
     Sum,
     Difference,
@@ -22,7 +22,7 @@ pub enum Joint {
 }
 
 /// What a function builds a string term of.
-#[derive(Clone, Copy, PartialEq, Eq)]
+#[derive(Clone, Copy)]
 pub enum Build {
     /// Pieces.
     Concat,
@@ -33,7 +33,7 @@ pub enum Build {
 }
 
 /// What a function tells of one string term, or of one by another.
-#[derive(Clone, Copy, PartialEq, Eq)]
+#[derive(Clone, Copy)]
 pub enum Test {
     Prefix,
     Suffix,
@@ -42,7 +42,7 @@ pub enum Test {
 }
 
 /// What a function does.
-#[derive(Clone, Copy, PartialEq, Eq)]
+#[derive(Clone, Copy)]
 pub enum Role {
     /// It makes a formula of formulas, whatever their sort.
     Connective,

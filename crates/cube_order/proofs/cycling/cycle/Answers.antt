@@ -2,7 +2,7 @@ use Rattle.std.proofs.Common.{◌≡◌, ◌∙◌, ap, subst, sym, length, ◌<
 use Rattle.std.proofs.lemmas.Result.{IfOk-weaker}
 use Rattle.std.specs.Prelude.{slice_set}
 use Rattle.flat_cubes.specs.Flattening.{IsCycle}
-use Rattle.cube_order.proofs.Traced.{ahead_within, traced_cycle, traced_on, unseen, unseen_less}
+use Rattle.cube_order.proofs.Traced.{IsTraced, ahead_within, traced_cycle, traced_none, traced_on, unseen, unseen_less}
 use Rattle.cube_order.proofs.cycling.cycle.Goals as goal
 
 pub copy_from-requires : goal.copy_from-requires
@@ -47,3 +47,6 @@ next-at-requires-clause-ahead c = c.loop-at.invariant.is_ahead
 
 pub bounds-as_slice-at : goal.bounds-as_slice-at
 bounds-as_slice-at c = subst (λ z. c.loop-at.at < length z) (sym c.as_slice.ensures) (subst (λ n. c.loop-at.at < n) (sym c.loop-at.invariant.count) (ahead_within c.args.ahead.now c.loop-at.at c.loop-at.invariant.is_ahead))
+
+pub loop-at-init : goal.loop-at-init
+loop-at-init c = subst (λ z. IsTraced c.args.definitions.now c.args.ahead.now z c.in_ok-seen.seen c.args.start) (sym c.new-path.ensures) (traced_none c.args.definitions.now c.args.ahead.now c.in_ok-seen.seen c.args.start c.in_ok-seen.ensures c.requires.start)

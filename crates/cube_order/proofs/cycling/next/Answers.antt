@@ -3,7 +3,7 @@ use Rattle.std.proofs.lemmas.Option.{slice_get_within}
 use Rattle.std.specs.Prelude.{slice_get}
 use Rattle.flat_cubes.specs.Straight.{AreBelow}
 use Rattle.cube_order.proofs.Sorted.{same_item}
-use Rattle.cube_order.proofs.Traced.{found_uses, found_within, has_next}
+use Rattle.cube_order.proofs.Traced.{ahead_within, found_uses, found_within, has_next}
 use Rattle.cube_order.proofs.cycling.next.Goals as goal
 
 pub uses_at-used-requires : goal.uses_at-used-requires
@@ -39,3 +39,6 @@ returns-clause-uses c =
     let e = same_item _ c.in-Some.place h.place c.in-Some.is h.at in
     let u = c.uses_at-used.ensures h.definition (ap (slice_get c.args.definitions.now) e ∙ h.is) in
     found_uses c.args.definitions.now c.args.places.now c.args.ahead.now c.args.variable h c.uses_at-used.result.now c.next_ahead.result u c.next_ahead.ensures.within c.next_ahead.ensures.before
+
+pub bounds-places-variable : goal.bounds-places-variable
+bounds-places-variable c = subst (λ n. c.args.variable < n) (sym c.requires.count) (ahead_within c.args.ahead.now c.args.variable c.requires.ahead)

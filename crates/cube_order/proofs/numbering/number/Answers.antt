@@ -1,6 +1,6 @@
-use Rattle.std.proofs.Common.{◌≡◌, refl, get_or, arith, inl, inr}
+use Rattle.std.proofs.Common.{◌≡◌, refl, sym, subst, get_or, arith, inl, inr}
 use Rattle.std.proofs.lemmas.Bool.{cases_lt}
-use Rattle.cube_order.proofs.Ranked.{ranked_first, ranked_other, ranked_small}
+use Rattle.cube_order.proofs.Ranked.{IsRanked, ranked_first, ranked_none, ranked_other, ranked_small}
 use Rattle.cube_order.proofs.numbering.number.Goals as goal
 
 pub add-requires-clause-few : goal.add-requires-clause-few
@@ -17,3 +17,12 @@ loop-i-preserved c =
       | inl l ↦ ranked_other c.args.firsts.now c.loop-i.i (get_or c.args.firsts.now c.loop-i.i 0) c.loop-i.numbering.of.items c.add.new.self.of.items c.loop-i.numbering.count c.add.new.self.count c.loop-i-test.true refl c.loop-i.invariant l (c.requires.rooted c.loop-i.i c.loop-i-test.true) (c.in_ok-add.ensures.other l)
       | inr l ↦ let e : get_or c.args.firsts.now c.loop-i.i 0 ≡ c.loop-i.i = omega arith in ranked_first c.args.firsts.now c.loop-i.i (get_or c.args.firsts.now c.loop-i.i 0) c.loop-i.numbering.of.items c.add.new.self.of.items c.loop-i.numbering.count c.add.new.self.count c.loop-i-test.true refl c.loop-i.invariant e (c.in_ok-add.ensures.first e)
     ]
+
+pub add-requires-clause-next : goal.add-requires-clause-next
+add-requires-clause-next c = c.loop-i.invariant.long
+
+pub add-requires-clause-lower : goal.add-requires-clause-lower
+add-requires-clause-lower c = c.requires.lower c.loop-i.i c.loop-i-test.true
+
+pub loop-i-init : goal.loop-i-init
+loop-i-init c = subst (λ z. IsRanked c.args.firsts.now 0 z 0) (sym c.new.ensures.items) (ranked_none c.args.firsts.now)

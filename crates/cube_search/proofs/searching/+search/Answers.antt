@@ -4,10 +4,10 @@ use Rattle.backward.specs.States.{IsState}
 use Rattle.backward.specs.Steps.{CanPassAt}
 use Rattle.cube_search.specs.Searches.{AreFoundRuns}
 use Rattle.cube_search.specs.Steps.{IsCutting}
-use Rattle.cube_search.specs.Tallies.{AreCoveredFrom, IsTally, Keeps}
+use Rattle.cube_search.specs.Tallies.{AreCoveredFrom, IsCovered, IsTally, Keeps}
 use Rattle.cube_search.proofs.CoverLemmas.{keeps-same, keeps-more}
 use Rattle.cube_search.proofs.Measures.{weight}
-use Rattle.cube_search.proofs.SearchLemmas.{all-arm, concat-arm, covered-next, cutting-below, cutting-machine, more-cuts, none-of, step-below, through-arm, weight-next, weight-pieces, whole-arm}
+use Rattle.cube_search.proofs.SearchLemmas.{all-arm, concat-arm, covered-next, cutting-below, cutting-machine, more-cuts, none-of, step-below, through-arm, weight-next, weight-pieces, whole-arm, whole-can}
 use Rattle.cube_search.proofs.searching.+search.Goals as goal
 
 pub descend-try_cuts-requires : goal.descend-try_cuts-requires
@@ -169,3 +169,101 @@ try_cuts-returns-clause-refused t c = λ n e. cc
 
 pub carry_definition-returns-clause-refused : goal.carry_definition-returns-clause-refused
 carry_definition-returns-clause-refused t c = λ n e. cc
+
+pub descend-answer_leaf-requires-clause-search : goal.descend-answer_leaf-requires-clause-search
+descend-answer_leaf-requires-clause-search t c = c.requires.search
+
+pub descend-answer_leaf-requires-clause-state : goal.descend-answer_leaf-requires-clause-state
+descend-answer_leaf-requires-clause-state t c = subst (λ n. IsState c.args.search.now.flat.now n c.args.state.now) c.if-left-eq0.true c.requires.state
+
+pub descend-answer_leaf-requires-clause-tally : goal.descend-answer_leaf-requires-clause-tally
+descend-answer_leaf-requires-clause-tally t c = c.requires.tally
+
+pub descend-pieces_at-requires-clause-search : goal.descend-pieces_at-requires-clause-search
+descend-pieces_at-requires-clause-search t c = c.requires.search
+
+pub descend-pieces_at-requires-clause-state : goal.descend-pieces_at-requires-clause-state
+descend-pieces_at-requires-clause-state t c =
+    let ne = c.if-left-eq0.false in
+    let back : c.args.left ≡ c.args.left - 1 + 1 = omega arith in
+    subst (λ n. IsState c.args.search.now.flat.now n c.args.state.now) back c.requires.state
+
+pub descend-returns-in-None-clause-kept : goal.descend-returns-in-None-clause-kept
+descend-returns-in-None-clause-kept t c = c.carry_definition.ensures.kept
+
+pub descend-returns-in-None-clause-tally : goal.descend-returns-in-None-clause-tally
+descend-returns-in-None-clause-tally t c = c.carry_definition.ensures.tally
+
+pub descend-returns-in-Some-clause-kept : goal.descend-returns-in-Some-clause-kept
+descend-returns-in-Some-clause-kept t c = c.try_cuts.ensures.kept
+
+pub descend-returns-in-Some-clause-tally : goal.descend-returns-in-Some-clause-tally
+descend-returns-in-Some-clause-tally t c = c.try_cuts.ensures.tally
+
+pub descend-returns-in-Some-clause-found : goal.descend-returns-in-Some-clause-found
+descend-returns-in-Some-clause-found t c =
+    let ne = c.if-left-eq0.false in
+    let back : c.args.left - 1 + 1 ≡ c.args.left = omega arith in
+    subst (λ n. IfOk c.try_cuts.result (λ o. IfSome o (AreFoundRuns c.args.search.now.flat.now n c.args.state.now.machines))) back c.try_cuts.ensures.found
+
+pub descend-returns-then-left-eq0-clause-covered : goal.descend-returns-then-left-eq0-clause-covered
+descend-returns-then-left-eq0-clause-covered t c = λ none. subst (λ n. IsCovered c.args.search.now.flat.now c.args.search.now.region n c.args.state.now.machines c.answer_leaf.new.tally) (sym c.if-left-eq0.true) (c.answer_leaf.ensures.covered none)
+
+pub descend-returns-then-left-eq0-clause-found : goal.descend-returns-then-left-eq0-clause-found
+descend-returns-then-left-eq0-clause-found t c = subst (λ n. IfOk c.answer_leaf.result (λ o. IfSome o (AreFoundRuns c.args.search.now.flat.now n c.args.state.now.machines))) (sym c.if-left-eq0.true) c.answer_leaf.ensures.found
+
+pub descend-returns-then-left-eq0-clause-kept : goal.descend-returns-then-left-eq0-clause-kept
+descend-returns-then-left-eq0-clause-kept t c = c.answer_leaf.ensures.kept
+
+pub descend-returns-then-left-eq0-clause-tally : goal.descend-returns-then-left-eq0-clause-tally
+descend-returns-then-left-eq0-clause-tally t c = c.answer_leaf.ensures.tally
+
+pub descend-returns-then-left-eq0-clause-refused : goal.descend-returns-then-left-eq0-clause-refused
+descend-returns-then-left-eq0-clause-refused t c = λ n e. absurd (c.answer_leaf.ensures.allowed n e)
+
+pub try_cuts-loop-s-init : goal.try_cuts-loop-s-init
+try_cuts-loop-s-init t c = record {
+  tally = c.requires.tally;
+  kept = keeps-same c.args.tally.now;
+  covered = λ s l. absurd (omega arith);
+}
+
+pub try_cuts-returns-clause-kept : goal.try_cuts-returns-clause-kept
+try_cuts-returns-clause-kept t c = c.loop-s.invariant.kept
+
+pub try_cuts-returns-clause-tally : goal.try_cuts-returns-clause-tally
+try_cuts-returns-clause-tally t c = c.loop-s.invariant.tally
+
+pub try_cuts-returns-then-cuts-pieces-clause-found : goal.try_cuts-returns-then-cuts-pieces-clause-found
+try_cuts-returns-then-cuts-pieces-clause-found t c = c.carry_definition.ensures.found
+
+pub try_cuts-returns-then-cuts-pieces-clause-kept : goal.try_cuts-returns-then-cuts-pieces-clause-kept
+try_cuts-returns-then-cuts-pieces-clause-kept t c = c.carry_definition.ensures.kept
+
+pub try_cuts-returns-then-cuts-pieces-clause-tally : goal.try_cuts-returns-then-cuts-pieces-clause-tally
+try_cuts-returns-then-cuts-pieces-clause-tally t c = c.carry_definition.ensures.tally
+
+pub try_cuts-returns-in-Some-clause-kept : goal.try_cuts-returns-in-Some-clause-kept
+try_cuts-returns-in-Some-clause-kept t c = keeps-more c.args.tally.now c.loop-s.tally c.try_cuts.new.tally c.loop-s.invariant.kept c.in_ok-found.ensures.kept
+
+pub try_cuts-returns-in-Some-clause-tally : goal.try_cuts-returns-in-Some-clause-tally
+try_cuts-returns-in-Some-clause-tally t c = c.in_ok-found.ensures.tally
+
+pub try_cuts-returns-in-Some-clause-found : goal.try_cuts-returns-in-Some-clause-found
+try_cuts-returns-in-Some-clause-found t c = subst (λ o. IfSome o (AreFoundRuns c.args.search.now.flat.now (c.args.at + 1) c.args.state.now.machines)) c.in-Some.is c.in_ok-found.ensures.found
+
+pub carry_definition-leave-requires-clause-straight : goal.carry_definition-leave-requires-clause-straight
+carry_definition-leave-requires-clause-straight t c = c.requires.search.straight
+
+pub carry_definition-leave-requires-clause-found : goal.carry_definition-leave-requires-clause-found
+carry_definition-leave-requires-clause-found t c = c.descend-found.ensures.found
+
+pub carry_definition-returns-clause-found : goal.carry_definition-returns-clause-found
+carry_definition-returns-clause-found t c = c.in_ok-lifted.ensures.found
+
+pub try_cuts-carry_definition-requires : goal.try_cuts-carry_definition-requires
+try_cuts-carry_definition-requires t c =
+    let dec = c.decreases in
+    let few = c.requires.cuts.fewer in
+    let lt : suc (weight c.args.search.now.flat.now.definitions c.args.at) < t = omega arith in
+    (lt, (c.requires.search, (c.requires.state, (whole-can c.args.search.now.flat.now c.args.at c.args.pieces.now c.args.state.now.machines c.args.cuts.now c.requires.cuts c.if-cuts-pieces.true, c.requires.tally))))

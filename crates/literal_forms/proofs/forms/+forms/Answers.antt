@@ -6,7 +6,6 @@ use mir.Val.{SFits}
 use Rattle.literal_forms.specs.Formed.{linears_of, steps_of}
 use Rattle.literal_forms.specs.Linear.{joined_of, joined_steps, linear, of_number, steps}
 use Rattle.literal_forms.specs.Numbered.{IsFormOrPast, IsNumbered}
-use Rattle.literal_forms.specs.Past.{ArePlain}
 use Rattle.literal_forms.specs.Shapes.{seen}
 use Rattle.literal_forms.specs.declared.roles.Joint.TheVariants as joint
 use Rattle.literal_forms.proofs.Combined.{all_combined, argument_past, err_made, first_combined, joined_as, joined_read, joint_err, length_other, length_read, more_both, next_combined, none_joined, number_read, one_difference, one_err, one_product, one_sum}
@@ -14,6 +13,18 @@ use Rattle.literal_forms.proofs.forms.+forms.Goals as goal
 
 pub joined_form-returns-then-is_empty-clause-form : goal.joined_form-returns-then-is_empty-clause-form
 joined_form-returns-then-is_empty-clause-form t c = none_joined c.args.unknowns.now.codes c.args.joint c.args.terms.now c.number.result ((Decides-eqb (length c.args.terms.now) 0).0 (sym c.is_empty.ensures ∙ c.if-is_empty.true)) (c.number.ensures c.args.unknowns.now.codes)
+
+pub joined_form-returns-then-terms-eq1-clause-form : goal.joined_form-returns-then-terms-eq1-clause-form
+joined_form-returns-then-terms-eq1-clause-form t c = c.single_form.ensures.form
+
+pub joined_form-returns-then-terms-eq1-clause-more : goal.joined_form-returns-then-terms-eq1-clause-more
+joined_form-returns-then-terms-eq1-clause-more t c = c.single_form.ensures.more
+
+pub joined_form-returns-clause-form : goal.joined_form-returns-clause-form
+joined_form-returns-clause-form t c = c.several_form.ensures.form
+
+pub joined_form-returns-clause-more : goal.joined_form-returns-clause-more
+joined_form-returns-clause-more t c = c.several_form.ensures.more
 
 pub several_form-returns-in_err-all-clause-form : goal.several_form-returns-in_err-all-clause-form
 several_form-returns-in_err-all-clause-form t c =
@@ -83,15 +94,21 @@ term_form-returns-in-Number-clause-form t c =
     let f : SFits w128 c.in-Number.n = search rules in
     number_read c.args.unknowns.now.codes c.args.term.now c.in-Number.n c.number.result c.in-Number.is (subst (λ z. IsNumbered c.args.unknowns.now.codes (of_number z) c.number.result) (to_z-of_z w128 c.in-Number.n f) (c.number.ensures c.args.unknowns.now.codes))
 
-pub term_form-returns-in_ok-joined_form-in-Joined-clause-form : goal.term_form-returns-in_ok-joined_form-in-Joined-clause-form
-term_form-returns-in_ok-joined_form-in-Joined-clause-form t c =
-    joined_read c.joined_form.new.unknowns.codes c.args.term.now c.in-Apply.op c.in-Apply.terms c.read.result c.in-Joined.joint c.in_ok-joined_form-in-Joined.field-0 c.in-Apply.is c.read.ensures c.in-Joined.is
-    (subst (λ us. ArePlain (steps_of us ++ joined_steps c.in-Joined.joint (linears_of us)) × IsNumbered c.joined_form.new.unknowns.codes (joined_of c.in-Joined.joint (linears_of us)) c.in_ok-joined_form-in-Joined.field-0) c.as_slice.ensures c.in_ok-joined_form-in-Joined.ensures.form)
+pub term_form-returns-in-Joined-clause-form : goal.term_form-returns-in-Joined-clause-form
+term_form-returns-in-Joined-clause-form t c =
+    joined_read c.joined_form.new.unknowns.codes c.args.term.now c.in-Apply.op c.in-Apply.terms c.read.result c.in-Joined.joint c.joined_form.result c.in-Apply.is c.read.ensures c.in-Joined.is
+    (subst (λ us. IsFormOrPast c.joined_form.new.unknowns.codes (joined_of c.in-Joined.joint (linears_of us)) (steps_of us ++ joined_steps c.in-Joined.joint (linears_of us)) c.joined_form.result) c.as_slice.ensures c.joined_form.ensures.form)
 
-pub term_form-returns-in_ok-length_form-in-Length-clause-form : goal.term_form-returns-in_ok-length_form-in-Length-clause-form
-term_form-returns-in_ok-length_form-in-Length-clause-form t c =
-    length_read c.length_form.new.unknowns.codes c.args.term.now c.in-Apply.op c.in-Apply.terms c.read.result c.index-as_slice-0.result c.in_ok-length_form-in-Length.field-0 c.in-Apply.is c.read.ensures c.in-Length.is (sym c.len.ensures ∙ c.if-len-eq1.true)
-    (subst (λ us. c.index-as_slice-0.result ≡ get_or us 0 c.index-as_slice-0.result) c.as_slice-then-len-eq1.ensures c.index-as_slice-0.is) c.in_ok-length_form-in-Length.ensures.form
+pub term_form-returns-in-Joined-clause-more : goal.term_form-returns-in-Joined-clause-more
+term_form-returns-in-Joined-clause-more t c = c.joined_form.ensures.more
+
+pub term_form-returns-then-len-eq1-clause-form : goal.term_form-returns-then-len-eq1-clause-form
+term_form-returns-then-len-eq1-clause-form t c =
+    length_read c.length_form.new.unknowns.codes c.args.term.now c.in-Apply.op c.in-Apply.terms c.read.result c.index-as_slice-0.result c.length_form.result c.in-Apply.is c.read.ensures c.in-Length.is (sym c.len.ensures ∙ c.if-len-eq1.true)
+    (subst (λ us. c.index-as_slice-0.result ≡ get_or us 0 c.index-as_slice-0.result) c.as_slice-then-len-eq1.ensures c.index-as_slice-0.is) c.length_form.ensures.form
+
+pub term_form-returns-then-len-eq1-clause-more : goal.term_form-returns-then-len-eq1-clause-more
+term_form-returns-then-len-eq1-clause-more t c = c.length_form.ensures.more
 
 pub term_form-returns-in_ok-whole_form-in-Length-clause-form : goal.term_form-returns-in_ok-whole_form-in-Length-clause-form
 term_form-returns-in_ok-whole_form-in-Length-clause-form t c =

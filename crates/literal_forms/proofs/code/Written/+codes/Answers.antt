@@ -1,9 +1,12 @@
-use Rattle.std.proofs.Common.{[], ap, ◌++◌, ◌∙◌, arith, drop}
+use Rattle.std.proofs.Common.{[], ap, pos, rules, ◌++◌, ◌∷◌, ◌∙◌, arith, drop}
+use Rattle.std.proofs.lemmas.Int.{to_z-of_z}
 use Rattle.std.proofs.lemmas.Result.{on_ok_weaker}
+use Rattle.std.specs.Int.{w128}
+use mir.Val.{SFits}
 use Rattle.literal_forms.specs.Codes.{code, word}
 use Rattle.literal_forms.specs.Flats.{flat}
 use Rattle.literal_forms.specs.Shapes.{seen}
-use Rattle.literal_forms.proofs.Spelled.{apply_arm, constant_arm, each_all, each_of, member_arm, opaque_arm, related_arm}
+use Rattle.literal_forms.proofs.Spelled.{apply_arm, constant_arm, each_all, each_of, each_step, member_arm, number_arm, opaque_arm, related_arm, text_arm, truth_arm}
 use Rattle.literal_forms.proofs.code.Written.+codes.Goals as goal
 
 pub each-returns : goal.each-returns
@@ -36,3 +39,21 @@ term-returns-in_ok-term-in-Related t c =
 pub term-returns-in_ok-open-in-Opaque : goal.term-returns-in_ok-open-in-Opaque
 term-returns-in_ok-open-in-Opaque t c =
     on_ok_weaker c.put_small-in-Opaque.result (opaque_arm c.args.self.now.numbers c.open-in-Opaque.new.self.numbers c.put_small-in-Opaque.new.self.numbers [] [] c.args.term.now c.in-Opaque.sort c.sort_number-in-Opaque.result c.in-Opaque.is c.in_ok-open-in-Opaque.ensures c.sort_number-in-Opaque.ensures) c.put_small-in-Opaque.ensures
+
+pub term-returns-in_ok-open-in-Truth : goal.term-returns-in_ok-open-in-Truth
+term-returns-in_ok-open-in-Truth t c =
+    on_ok_weaker c.put_small.result (truth_arm c.args.self.now.numbers c.open.new.self.numbers c.put_small.new.self.numbers [] [] c.args.term.now c.in-Truth.b c.truth_number.result c.in-Truth.is c.in_ok-open-in-Truth.ensures c.truth_number.ensures) c.put_small.ensures
+
+pub term-returns-in_ok-open-in-Number : goal.term-returns-in_ok-open-in-Number
+term-returns-in_ok-open-in-Number t c =
+    let f : SFits w128 c.in-Number.n = search rules in
+    on_ok_weaker c.put_signed.result (λ e. number_arm c.args.self.now.numbers c.open-in-Number.new.self.numbers c.put_signed.new.self.numbers [] [] c.args.term.now c.in-Number.n c.in-Number.is c.in_ok-open-in-Number.ensures
+    (e ∙ ap (λ z. c.open-in-Number.new.self.numbers ++ pos 0 ∷ z ∷ []) (to_z-of_z w128 c.in-Number.n f))) c.put_signed.ensures
+
+pub term-returns-in_ok-open-in-Text : goal.term-returns-in_ok-open-in-Text
+term-returns-in_ok-open-in-Text t c =
+    on_ok_weaker c.text.result (λ e. text_arm c.args.self.now.numbers c.open-in-Text.new.self.numbers c.text.new.self.numbers [] [] c.args.term.now c.in-Text.w c.in-Text.is c.in_ok-open-in-Text.ensures
+    (e ∙ ap (λ w. c.open-in-Text.new.self.numbers ++ flat (word w)) c.as_slice.ensures)) c.text.ensures
+
+pub each-loop-i-preserved : goal.each-loop-i-preserved
+each-loop-i-preserved t c = each_step (c.args.self.now.numbers ++ each_of (drop c.args.from c.args.terms.now)) c.loop-i.self.numbers c.pair.new.self.numbers c.term.new.self.numbers c.args.terms.now c.loop-i.i c.index-terms-i.result c.loop-i-test.true c.index-terms-i.is c.loop-i.invariant c.in_ok-pair.ensures c.in_ok-term.ensures
