@@ -1,0 +1,7 @@
+use Rattle.std.proofs.Common.{length, ap, ◌∙◌}
+use Rattle.box_layers.proofs.SideLemmas.{spent-length}
+use Rattle.box_layers.proofs.layers.LayersMachine.ends.Goals as goal
+
+pub has_numbers-requires : goal.has_numbers-requires
+has_numbers-requires c =
+    ap length c.as_slice.ensures ∙ spent-length c.args.self.now.machines.now c.args.self.now.region.now c.args.self.now.rows.now c.args.at.now c.requires
