@@ -1,4 +1,4 @@
-use Rattle.std.proofs.Common.{rules, ℤ, pos, FitsSigned, get_or}
+use Rattle.std.proofs.Common.{rules, pos, FitsSigned, get_or}
 use Rattle.std.specs.Int.{w128}
 use Rattle.std.proofs.lemmas.Int.{to_z-of_z}
 use Rattle.std.proofs.lemmas.Option.{slice_get-get_or}
