@@ -17,7 +17,7 @@ use Rattle.search_hits.specs.declared.region.Region.{Region}
 use Rattle.search_hits.specs.Hits.{HaveRegisters, AreRunsOf, runs_total, characters}
 use Rattle.box_layers.specs.declared.layer.Layer.{Layer}
 use Rattle.box_layers.specs.Layers.{layer, uppers_of, AreGoodTotals, LayerStep, Turns}
-use Rattle.box_layers.specs.LayerLaws.{layer-step_cost, get-some}
+use Rattle.box_layers.specs.LayerLaws.{layer-step_cost, get-some, same-graph}
 use Rattle.box_layers.specs.Cuts.{IsRunOfAll, IsCutInto, IsOpened, AddsStep, BeginsNext, CutsBy}
 use Rattle.box_layers.specs.PathLaws.{path-last}
 
@@ -94,8 +94,7 @@ module _ (machines : List Graph) (uppers : List ℕ) (good : List ℕ → Type 0
       states = g.states ∙ ap (λ l. l ++ q.state ∷ []) cut.states;
       path = λ m at.
           let at' = subst (λ i. slice_get machines i ≡ Some m) e at in
-          let w = step.at_work in
-          let eq : step.graph ≡ m = cc in
+          let eq = same-graph machines p.machine step.graph m step.at_work at' in
           let s' = subst (λ (x : Graph). StepsBy x.edges p.state c k q.state) eq s in
           let whole = path_push (StepsBy m.edges) 0 cut.after before.word before.costs p.state c k q.state (cut.path m at') s' in
           subst (λ l. IsPath (StepsBy m.edges) 0 (cut.after ++ q.state ∷ []) now.word l q.state) (sym g.costs)
@@ -149,8 +148,7 @@ module _ (machines : List Graph) (uppers : List ℕ) (good : List ℕ → Type 0
           | inl old ↦ cut.each i m r at old
           | inr new ↦
               let at' = subst (λ n. slice_get machines n ≡ Some m) (new.0 ∙ sym cut.turn) at in
-              let w = step.at_work in
-              let eq : step.graph ≡ m = cc in
+              let eq = same-graph machines p.machine step.graph m step.at_work at' in
               subst (IsRunOf m) new.1 (subst (λ (x : Graph). IsRunOf x b.ended) eq own)
         ]
 

@@ -12,6 +12,7 @@ use Rattle.machine_core.specs.Lists.{Any-none, Any-here, Any-there, Any-cases, A
 use Rattle.machine_core.specs.Moves.{Moves}
 use Rattle.box_layers.specs.declared.layer.Layer.{Layer}
 use Rattle.box_layers.specs.Layers.{layer, AreWithinGreatest, LayerStep, Turns}
+use Rattle.box_layers.specs.LayerLaws.{same-graph}
 use Rattle.box_layers.specs.Moving.{is_below, step_move, end_move, step_moves, end_moves, AreLayerSteps, AreLayerEnds}
 use Rattle.box_layers.proofs.MoveLemmas.{below-true}
 
@@ -103,6 +104,13 @@ module _ (us : List ℕ) (at : Layer) (c : ℕ) (k : List ℕ) (q : Layer) where
         there true r = Any-there (Moves c k q) (end_move on at e) (end_moves us on at ks) r
         there false r = r
 
+-- a set of the character 0 alone
+zero-there : (on : List (ℕ × ℕ)) (c : ℕ) → in_ranges on c ≡ (nat_le 0 c && nat_le c 0) → c ≡ 0 → IsTrue (in_ranges on c)
+zero-there on c e z = grind (arith, nat_tests)
+
+there-zero : (on : List (ℕ × ℕ)) (c : ℕ) → in_ranges on c ≡ (nat_le 0 c && nat_le c 0) → IsTrue (in_ranges on c) → c ≡ 0
+there-zero on c e t = grind (arith, nat_tests)
+
 module _ (machines : List Graph) (us : List ℕ) (good : List ℕ → Type 0) (at : Layer) (m : Graph) (work : slice_get machines at.machine ≡ Some m)
     (inner : List (Move ℕ)) (last : List (List ℕ)) (on : List (ℕ × ℕ))
     (moves : (c : ℕ) (k : List ℕ) (t : ℕ) → StepsBy m.edges at.state c k t ↔ Any (Moves c k t) inner)
@@ -113,15 +121,13 @@ module _ (machines : List Graph) (us : List ℕ) (good : List ℕ → Type 0) (a
     where
       to : LayerStep machines us good at c k q → Any (Moves c k q) (step_moves us at inner ++ end_moves us on at last)
       to step =
-          let w = step.at_work in
-          let same : step.graph ≡ m = cc in
-          by_turn (subst (λ (g : Graph). Turns machines us good g at c k q) same step.turn)
+          by_turn (subst (λ (g : Graph). Turns machines us good g at c k q) (same-graph machines at.machine step.graph m step.at_work work) step.turn)
         where
           by_turn : Turns machines us good m at c k q → Any (Moves c k q) (step_moves us at inner ++ end_moves us on at last)
           by_turn (inl inside) = Any-append_left (Moves c k q) (step_moves us at inner) (end_moves us on at last)
               (steps-to us at c k q inner ((moves c k q.state).0 inside.1) inside.0 (step.paid, step.below))
           by_turn (inr next) = Any-append_right (Moves c k q) (step_moves us at inner) (end_moves us on at last)
-              (ends-to us at c k q on last ((ends k).0 next.3) ((let e = single c in let z = next.2 in let t : in_ranges on c ≡ true = grind (arith, nat_tests) in t), next.0, next.1) (step.paid, step.below))
+              (ends-to us at c k q on last ((ends k).0 next.3) (zero-there on c (single c) next.2, next.0, next.1) (step.paid, step.below))
 
       from : Any (Moves c k q) (step_moves us at inner ++ end_moves us on at last) → LayerStep machines us good at c k q
       from a = elim (Any-append_cases (Moves c k q) (step_moves us at inner) (end_moves us on at last) a) [
@@ -130,10 +136,7 @@ module _ (machines : List Graph) (us : List ℕ) (good : List ℕ → Type 0) (a
             record { graph = m; at_work = work; paid = r.2.0; below = r.2.1; turn = inl (r.1, (moves c k q.state).1 r.0) }
         | inr h ↦
             let r = ends-from us at c k q on last h in
-            let e = single c in
-            let t : in_ranges on c ≡ true = r.1.0 in
-            let z : c ≡ 0 = grind (arith, nat_tests) in
-            record { graph = m; at_work = work; paid = r.2.0; below = r.2.1; turn = inr (r.1.1, r.1.2, z, (ends k).1 r.0) }
+            record { graph = m; at_work = work; paid = r.2.0; below = r.2.1; turn = inr (r.1.1, r.1.2, there-zero on c (single c) r.1.0, (ends k).1 r.0) }
       ]
 
 -- the costs of the machine at work

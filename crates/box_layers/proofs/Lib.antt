@@ -6,3 +6,4 @@ mod MoveLemmas
 mod ExactLemmas
 mod CutLemmas
 mod HitLemmas
+mod SideLoops

@@ -2,7 +2,7 @@
 use Rattle.std.specs.Prelude.{◌≡◌, ℕ, pos, zero, suc, ◌+◌, ◌*◌, ◌<◌, ◌≤◌, ◌⊎◌, List, [], ◌∷◌, length, map, slice_get, Some, Contains}
 use Rattle.std.proofs.Common.{refl, sym, ap, ◌∙◌, subst, arith, inl, inr}
 use Rattle.std.proofs.lemmas.List.Elements.{All-contains}
-use Rattle.std.proofs.lemmas.Option.{slice_get_within}
+use Rattle.std.proofs.lemmas.Option.{same_Some, slice_get_within}
 use Rattle.machine_core.specs.declared.graph.Graph.{Graph}
 use Rattle.machine_core.specs.Costs.{zeros, IsCost}
 use Rattle.machine_core.specs.CostLaws.{top_by-at, IsCost-zeros, IsCost-weaker}
@@ -47,6 +47,25 @@ first-layer machines region good = record {
   below = zeros-below region.registers;
 }
 
+-- the machine at a place, and how places follow on each other
+pub same-graph : (machines : List Graph) (i : ℕ) (g m : Graph) → slice_get machines i ≡ Some g → slice_get machines i ≡ Some m → g ≡ m
+same-graph machines i g m e f = same_Some g m (sym e ∙ f)
+
+stays-within : (i j n : ℕ) → j ≡ i → i < n → j ≤ n
+stays-within i j n e lt = omega arith
+
+stays-before : {C : Type 0} (i j n : ℕ) → j ≡ i → i < n → j ≡ n → C
+stays-before i j n e lt f = absurd (omega arith)
+
+next-within : (i j n : ℕ) → j ≡ suc i → i < n → j ≤ n
+next-within i j n e lt = omega arith
+
+zero-within : (c n : ℕ) → c ≡ 0 → c ≤ n
+zero-within c n e = omega arith
+
+less-than : (i j n : ℕ) → i < j → j ≤ n → i < n
+less-than i j n a b = omega arith
+
 module _ (machines : List Graph) (uppers : List ℕ) (good : List ℕ → Type 0) where
   pub next-layer : (s t : Layer) (c : ℕ) (cost : List ℕ) → IsLayerOf machines uppers good s → LayerStep machines uppers good s c cost t → IsLayerOf machines uppers good t
   next-layer s t c cost h step = by_turn step.turn
@@ -56,18 +75,15 @@ module _ (machines : List Graph) (uppers : List ℕ) (good : List ℕ → Type 0
 
       by_turn : Turns machines uppers good step.graph s c cost t → IsLayerOf machines uppers good t
       by_turn (inl same) = record {
-        inside = (let e = same.0 in let lt = inside in omega arith);
+        inside = stays-within s.machine t.machine (length machines) same.0 inside;
         state = λ m g.
-            let g' = subst (λ n. slice_get machines n ≡ Some m) same.0 g in
-            let w = step.at_work in
-            let eq : step.graph ≡ m = cc in
-            subst (λ (x : Graph). t.state < x.states) eq
+            subst (λ (x : Graph). t.state < x.states) (same-graph machines s.machine step.graph m step.at_work (subst (λ n. slice_get machines n ≡ Some m) same.0 g))
             (step_target step.graph.states step.graph.registers step.graph.edges step.graph.ends step.graph.formed s.state t.state c cost same.1);
-        last = λ over. absurd (let e = same.0 in let lt = inside in omega arith);
+        last = stays-before s.machine t.machine (length machines) same.0 inside;
         below = step.below;
       }
       by_turn (inr next) = record {
-        inside = (let e = next.0 in let lt = inside in omega arith);
+        inside = next-within s.machine t.machine (length machines) next.0 inside;
         state = λ m g. subst (λ n. n < m.states) (sym next.1) m.started;
         last = λ over. next.1;
         below = step.below;
@@ -78,7 +94,7 @@ module _ (machines : List Graph) (uppers : List ℕ) (good : List ℕ → Type 0
     where
       by_turn : Turns machines uppers good step.graph s c cost t → c ≤ greatest_character
       by_turn (inl same) = step_character step.graph.states step.graph.registers step.graph.edges step.graph.ends step.graph.formed s.state t.state c cost same.1
-      by_turn (inr next) = (let e = next.2 in omega arith)
+      by_turn (inr next) = zero-within c greatest_character next.2
 
   pub layer-step_cost : (registers : ℕ) → HaveRegisters registers machines → (s t : Layer) (c : ℕ) (cost : List ℕ) → LayerStep machines uppers good s c cost t → IsCost registers (layers_top machines) cost
   layer-step_cost registers same s t c cost step = by_turn step.turn
@@ -144,7 +160,7 @@ module _ (machines : List Graph) where
         let m = get-some machines t.machine lt in
         let own = h.state m.0 m.1 in
         let most = top_by-at (λ (g : Graph). g.states) machines m.0 (slice_get-contains machines t.machine m.0 m.1) in
-        inl (omega arith, lt)
+        inl (less-than t.state m.0.states (greatest_states machines) own most, lt)
     | inr e ↦ inr (ap (λ n. (n, length machines)) (sym (h.last e)) ∙ ap (λ n. (t.state, n)) (sym e))
   ]
 

@@ -1,5 +1,5 @@
 -- Nodes as the states of a machine.
-use Rattle.std.proofs.Common.{◌≡◌, refl, sym, ap, ◌∙◌, subst, true, false, IsTrue, ℕ, zero, suc, ◌+◌, ◌<◌, ◌⊎◌, inl, inr, ⊎_elim, ◌↔◌, List, [], ◌∷◌, ◌++◌, length, get_or, take, Contains, Some, arith}
+use Rattle.std.proofs.Common.{◌≡◌, refl, sym, ap, ◌∙◌, subst, Bool, true, false, IsTrue, ℕ, zero, suc, ◌+◌, ◌<◌, ◌⊎◌, inl, inr, ⊎_elim, ◌↔◌, List, [], ◌∷◌, ◌++◌, length, get_or, take, Contains, Some, arith}
 use Rattle.std.specs.Prelude.{slice_get, nat_le, ◌&&◌}
 use Rattle.std.proofs.lemmas.List.{get_or_default, take_more}
 use Rattle.std.proofs.lemmas.Option.{get_or_from_slice_get, slice_get-get_or}
@@ -18,7 +18,7 @@ use Rattle.sv_word.specs.Ranges.{in_ranges}
 use Rattle.transducer_core.specs.Built.{IsAnyStep, IsBuilt, IsStep}
 use Rattle.transducer_core.specs.Nodes.{NodeSpells, Spells}
 use Rattle.transducer_core.specs.declared.node.OutputNode.{OutputNode}
-use Rattle.transducer_core.proofs.NodeLemmas.{only_one}
+use Rattle.transducer_core.proofs.NodeLemmas.{not_both, only_one}
 
 some_same : {X : Type 0} (a b : X) → Some a ≡ Some b → a ≡ b
 some_same a b e = cc
@@ -60,6 +60,14 @@ end_added old new cost0 state z e s cost = (
   λ k. subst (λ es. EndsAt es s cost) (sym e) (⊎_elim (Any-append_left (λ (x : End). (x.at ≡ s) × (x.cost ≡ cost)) old (ending state cost0 ∷ []))
       (λ h. Any-push (λ (x : End). (x.at ≡ s) × (x.cost ≡ cost)) old (ending state cost0) (h.0, z ∙ sym h.2)) k),
 )
+
+-- the end of a node that may have one
+pub stop_none : (old : List End) (state : ℕ) (b : Bool) → b ≡ false → (s : ℕ) (cost : List ℕ) → EndsAt old s cost ↔ (EndsAt old s cost ⊎ ((state ≡ s) × IsTrue b × (cost ≡ [])))
+stop_none old state b e s cost = (inl, λ k. ⊎_elim (λ a. a) (λ x. not_both b x.1 e) k)
+
+pub stop_some : (old new : List End) (cost0 : List ℕ) (state : ℕ) (b : Bool) → b ≡ true → cost0 ≡ [] → new ≡ old ++ ending state cost0 ∷ []
+    → (s : ℕ) (cost : List ℕ) → EndsAt new s cost ↔ (EndsAt old s cost ⊎ ((state ≡ s) × IsTrue b × (cost ≡ [])))
+stop_some old new cost0 state b t z e s cost = subst (λ x. EndsAt new s cost ↔ (EndsAt old s cost ⊎ ((state ≡ s) × IsTrue x × (cost ≡ [])))) (sym t) (end_added old new cost0 state z e s cost)
 
 -- the node that is at a place of one more
 which : (ns : List OutputNode) (n m : OutputNode) (s : ℕ) → slice_get (ns ++ n ∷ []) s ≡ Some m → (slice_get ns s ≡ Some m) ⊎ ((length ns ≡ s) × (n ≡ m))

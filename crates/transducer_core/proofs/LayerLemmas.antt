@@ -1,6 +1,6 @@
 -- Layers of the search of a run.
-use Rattle.std.proofs.Common.{◌≡◌, refl, sym, ap, ◌∙◌, subst, ℕ, zero, suc, ◌+◌, ◌-◌, ◌≤◌, ◌<◌, ◌⊎◌, inl, inr, ⊎_elim, arith, List, [], ◌∷◌, ◌++◌, length, drop, take, reverse, slice_get, Some, Contains}
-use Rattle.std.proofs.lemmas.List.{append_assoc, take-append-drop, drop-drop, length-append, length-drop, length-take-le, reverse-append, take_more}
+use Rattle.std.proofs.Common.{◌≡◌, refl, sym, ap, ◌∙◌, subst, ℕ, zero, suc, ◌+◌, ◌-◌, ◌≤◌, ◌<◌, ◌⊎◌, inl, inr, ⊎_elim, arith, List, [], ◌∷◌, ◌++◌, length, drop, take, reverse, slice_get, Some, Contains, Bool, true, false, IsTrue, ◌↔◌}
+use Rattle.std.proofs.lemmas.List.{append_assoc, take-append-drop, drop-drop, length-append, length-drop, length-take-le, reverse-append, take_all, take_more}
 use Rattle.std.proofs.lemmas.List.Elements.{Contains-append_left, Contains-append_right, Contains-append_cases}
 use Rattle.std.proofs.lemmas.Option.{slice_get_within, get_or_from_slice_get, slice_get_read}
 use Rattle.std.proofs.Math.Seq.{drop-append_seam, take-append_seam, drop-length}
@@ -136,6 +136,34 @@ part_whole t w c layer next part = record {
   total = λ p e has edge. part.past has.0 p e has.1 (place_of layer p has) edge;
 }
 
+-- the loops over edges and entries, as far as they have come
+pub part_begun : (t : Transducer) (w : List ℕ) (c : ℕ) (layer next : List Reached) → next ≡ [] → IsPartLayer t w c layer 0 0 next
+part_begun t w c layer next e = subst (IsPartLayer t w c layer 0 0) (sym e) (part_none t w c layer)
+
+pub part_next : (t : Transducer) (w : List ℕ) (c : ℕ) (layer : List Reached) (i k : ℕ) (next : List Reached) → IsPartLayer t w c layer i (suc k) next → IsPartLayer t w c layer i (k + 1) next
+part_next t w c layer i k next part = subst (λ n. IsPartLayer t w c layer i n next) (let e : suc k ≡ k + 1 = omega arith in e) part
+
+pub part_over : (t : Transducer) (w : List ℕ) (c : ℕ) (layer : List Reached) (i : ℕ) (next : List Reached) → IsPartLayer t w c layer (suc i) 0 next → IsPartLayer t w c layer (i + 1) 0 next
+part_over t w c layer i next part = subst (λ n. IsPartLayer t w c layer n 0 next) (let e : suc i ≡ i + 1 = omega arith in e) part
+
+pub part_end : (t : Transducer) (w : List ℕ) (c : ℕ) (layer : List Reached) (i k n : ℕ) (next : List Reached) → i < length layer → n ≡ length t.edges → k ≤ n → n ≤ k → IsPartLayer t w c layer i k next → IsPartLayer t w c layer (suc i) 0 next
+part_end t w c layer i k n next lt e le ge part = part_entry t w c layer i next lt (subst (λ m. IsPartLayer t w c layer i m next) (same k n (length t.edges) e le ge) part)
+  where
+    same : (a b m : ℕ) → b ≡ m → a ≤ b → b ≤ a → a ≡ m
+    same a b m e l g = omega arith
+
+pub part_all : (t : Transducer) (w : List ℕ) (c : ℕ) (layer : List Reached) (i : ℕ) (next : List Reached) → i ≤ length layer → length layer ≤ i → IsPartLayer t w c layer i 0 next → IsLayer t w c layer next
+part_all t w c layer i next le ge part = part_whole t w c layer next (subst (λ m. IsPartLayer t w c layer m 0 next) (same i (length layer) le ge) part)
+  where
+    same : (a b : ℕ) → a ≤ b → b ≤ a → a ≡ b
+    same a b l g = omega arith
+
+pub fits_places : (n m : ℕ) → n ≡ m → n ≤ 4294967295 → m < 4294967296
+fits_places n m e h = omega arith
+
+pub below_same : (i n m : ℕ) → i < n → n ≡ m → i < m
+below_same i n m h e = omega arith
+
 -- what a path reaches is in the last layer
 pub reach_total : (t : Transducer) (w : List ℕ) (layer : List Reached) (read : List ℕ) (layers : List (List Reached)) → AreLayers t w layer read layers
     → (p : Reached) → Contains layer p → (path rest : List ℕ) (to : ℕ) → Leads t p.state read path to → drop p.done w ≡ path ++ rest
@@ -239,6 +267,10 @@ walking_first t w read layers n at layer r e g h ends = record {
   ending = ends;
   walk = record { layer = layer; entry = r; path = []; is_layer = g; is_entry = h; follows = subst (λ v. Follows t r.state [] v [] r.state) (sym (ap (λ k. drop k read) e ∙ drop-length read)) (refl, refl); rest = refl };
 }
+
+pub walking_begun : (t : Transducer) (w read : List ℕ) (layers : List (List Reached)) (i at : ℕ) (back : List ℕ) → i ≡ length read → back ≡ [] → IsWalking t w read layers (length read) at []
+    → (i ≤ length read) × IsWalking t w read layers i at back
+walking_begun t w read layers i at back e f k = (omega (arith, e), subst (λ n. IsWalking t w read layers n at back) (sym e) (subst (IsWalking t w read layers (length read) at) (sym f) k))
 
 pub walking_entry : (t : Transducer) (w read : List ℕ) (layers : List (List Reached)) (i at : ℕ) (back : List ℕ) → IsWalking t w read layers i at back → HasEntry layers i at
 walking_entry t w read layers i at back k = record { layer = k.walk.layer; is_layer = k.walk.is_layer; within = slice_get_within k.walk.layer at k.walk.entry k.walk.is_entry }
@@ -354,3 +386,38 @@ taken_length xs i h = sym (length-take-le i xs h)
 
 pub searched_within : (t : Transducer) (read w : List ℕ) (layers : List (List Reached)) (n : ℕ) → AreSearchLayers t read w layers → n ≡ length read → n < length layers
 searched_within t read w layers n s e = let k = searched_length t read w layers s in omega (arith, k, e)
+
+pub walking_done : (t : Transducer) (w read : List ℕ) (layers : List (List Reached)) (i at : ℕ) (back list : List ℕ) → AreSearchLayers t read w layers → i ≤ 0 → IsWalking t w read layers i at back → list ≡ reverse back → IsTransduction t list read w
+walking_done t w read layers i at back list s z k e = subst (λ l. IsTransduction t l read w) (sym e) (walking_last t w read layers i at back s (omega (arith, z)) k)
+
+pub less_one : (i : ℕ) → 0 < i → i - 1 < i
+less_one i h = omega (arith, h)
+
+-- what is left of a word has its length
+rest_whole : (w : List ℕ) (n : ℕ) → n ≤ length w → take (length w - n) (drop n w) ≡ drop n w
+rest_whole w n h = ap (λ k. take k (drop n w)) (sym (length-drop n w)) ∙ take_all (length (drop n w)) (drop n w) (omega arith)
+
+pub ends_rest : (es fs : List (ℕ × List ℕ)) (s n : ℕ) (w : List ℕ) (b : Bool) → n ≤ length w → es ≡ fs → IsTrue b ↔ Contains es (s, take (length w - n) (drop n w)) → IsTrue b ↔ Contains fs (s, drop n w)
+ends_rest es fs s n w b h e i =
+    subst (λ (xs : List (ℕ × List ℕ)). IsTrue b ↔ Contains {X = ℕ × List ℕ} xs (s, drop n w)) e
+    (subst (λ (v : List ℕ). IsTrue b ↔ Contains {X = ℕ × List ℕ} es (s, v)) (rest_whole w n h) i)
+
+-- an item that is met at no place before
+item_before : {X : Type 0} (xs : List X) (y : X) (at : ℕ) → length xs ≤ at → ((i : ℕ) (x : X) → i < at → slice_get xs i ≡ Some x → x ≡ y → ⊥) → Contains xs y → ⊥
+item_before xs y at l none c = none c.0 y (less_than c.0 (length xs) at c.1 l) (place_of xs y c) refl
+  where
+    less_than : (i j n : ℕ) → i < j → j ≤ n → i < n
+    less_than i j n a b = omega arith
+
+pub item_more : {X : Type 0} (xs : List X) (y : X) (at : ℕ) (x : X) → slice_get xs at ≡ Some x → (x ≡ y → ⊥) → ((i : ℕ) (x : X) → i < at → slice_get xs i ≡ Some x → x ≡ y → ⊥)
+    → (i : ℕ) (x : X) → i < at + 1 → slice_get xs i ≡ Some x → x ≡ y → ⊥
+item_more xs y at x e n before i r l g h = ⊎_elim
+    (λ m. before i r m g h)
+    (λ m. n (some_same x r (sym e ∙ ap (slice_get xs) (sym m) ∙ g) ∙ h))
+    (below_or_last i at (omega (arith, l)))
+
+pub item_found : {X : Type 0} (xs : List X) (y : X) (at : ℕ) (x : X) → slice_get xs at ≡ Some x → x ≡ y → IsTrue true ↔ Contains xs y
+item_found xs y at x e f = (λ h. subst (Contains xs) f (contains_of xs at x e), λ h. refl)
+
+pub item_missing : {X : Type 0} (xs : List X) (y : X) (at : ℕ) → length xs ≤ at → ((i : ℕ) (x : X) → i < at → slice_get xs i ≡ Some x → x ≡ y → ⊥) → IsTrue false ↔ Contains xs y
+item_missing xs y at l none = (λ h. absurd cc, λ c. absurd (item_before xs y at l none c))

@@ -20,6 +20,18 @@ only_one x y (suc k, h, e) = absurd (omega (arith, h))
 pub one_there : {X : Type 0} (x : X) → Contains (x ∷ []) x
 one_there x = (0, omega arith, refl)
 
+pub not_both : {C : Type 0} (b : Bool) → b ≡ true → b ≡ false → C
+not_both b e f = absurd (cc)
+
+next_below : (k n m : ℕ) → m ≡ n + 1 → k ≡ n → k < m
+next_below k n m e f = omega arith
+
+at_least : (n m k : ℕ) → m ≡ n + k → n ≤ m
+at_least n m k e = omega arith
+
+below_more : (k n m : ℕ) → k < n → n ≤ m → k < m
+below_more k n m h l = omega arith
+
 -- what stands at a place of the old nodes stands there still, and nothing else does
 front_back : (ns more : List OutputNode) (k : ℕ) (n : OutputNode) → k < length ns → slice_get (ns ++ more) k ≡ Some n → slice_get ns k ≡ Some n
 front_back [] more k n h e = absurd (omega arith)
@@ -46,12 +58,12 @@ at_back ns more closed k w h s =
 
 -- one more node that leads to those before it
 leads_more : (n m : ℕ) (x : OutputNode) → n ≤ m → LeadsWithin n x → LeadsWithin m x
-leads_more n m x h l c to has = let k = l c to has in let a = k.0 in (omega (arith, a, h), k.1)
+leads_more n m x h l c to has = let k = l c to has in (below_more to n m k.0 h, k.1)
 
 pub closed_push : (ns : List OutputNode) (n : OutputNode) → LeadToNodes ns → LeadsWithin (length ns) n → LeadToNodes (ns ++ n ∷ [])
 closed_push ns n closed l x has =
     let long : length (ns ++ n ∷ []) ≡ length ns + 1 = length-append ns (n ∷ []) in
-    let more : length ns ≤ length (ns ++ n ∷ []) = omega (arith, long) in
+    let more = at_least (length ns) (length (ns ++ n ∷ [])) 1 long in
     ⊎_elim (λ old. leads_more (length ns) (length (ns ++ n ∷ [])) x more (closed x old))
     (λ new. leads_more (length ns) (length (ns ++ n ∷ [])) x more (subst (LeadsWithin (length ns)) (only_one n x new) l))
     (Contains-append_cases ns (n ∷ []) x has)
@@ -92,7 +104,7 @@ module _ (ns ms new : List OutputNode) (text : List ℕ) (c target place : ℕ) 
       (subst (Spells (ms ++ n ∷ []) (length ms)) (sym k.1) (n, slice_get-end ms n, (place, t.0, first_there, t.1, t.2)))
 
   back : (w : List ℕ) (m : OutputNode) → n ≡ m → NodeSpells (ms ++ n ∷ []) w m → (r : List ℕ) × (w ≡ (c ∷ text) ++ r) × Spells ns target r
-  back [] m q s = absurd (let f = sym s ∙ ap (λ (x : OutputNode). x.ends) (sym q) ∙ ends in cc (f))
+  back [] m q s = not_both m.ends s (ap (λ (x : OutputNode). x.ends) (sym q) ∙ ends)
   back (d ∷ w) m q s =
       let has : Contains {X = ℕ × ℕ} ((c, place) ∷ []) (d, s.0) = subst (λ fs. Contains {X = ℕ × ℕ} fs (d, s.0)) (ap (λ (x : OutputNode). x.firsts) (sym q) ∙ firsts) s.2 in
       let same : (c, place) ≡ (d, s.0) = only_one (c, place) (d, s.0) has in
@@ -109,7 +121,7 @@ module _ (ns ms new : List OutputNode) (text : List ℕ) (c target place : ℕ) 
   pub chain_more : (k : ℕ) → k ≡ length ms → IsChain ns new (c ∷ text) target k
   chain_more k q = record {
     grown = grown_push ns ms n new chain.grown one_within e;
-    within = (let l = ap length e ∙ length-append ms (n ∷ []) in omega (arith, l, q));
+    within = next_below k (length ms) (length new) (ap length e ∙ length-append ms (n ∷ [])) q;
     spells = λ w. subst (λ j. Spells new j w ↔ ((r : List ℕ) × (w ≡ (c ∷ text) ++ r) × Spells ns target r)) (sym q) (from_there w, there w);
   }
 
@@ -170,10 +182,10 @@ module _ (ns : List OutputNode) (closed : LeadToNodes ns) (old new other : Outpu
 module _ (ns ms : List OutputNode) (closed : LeadToNodes ns) (old new : OutputNode) (c : ℕ) (text : List ℕ) (target k : ℕ) (l : LeadsWithin (length ns) old) (chain : IsChain ns ms text target k)
     (firsts : (f : ℕ × ℕ) → Contains new.firsts f ↔ (Contains old.firsts f ⊎ ((c, k) ≡ f))) (ends : new.ends ≡ old.ends) (low : c ≤ greatest_character) where
   longer : length ns ≤ length ms
-  longer = let e = ap length chain.grown.are ∙ length-append ns chain.grown.more in omega (arith, e)
+  longer = at_least (length ns) (length ms) (length chain.grown.more) (ap length chain.grown.are ∙ length-append ns chain.grown.more)
 
   added_within : LeadsWithin (length ms) new
-  added_within d to has = ⊎_elim (λ a. let h = l d to a in let x = h.0 in let m = longer in (omega (arith, x, m), h.1))
+  added_within d to has = ⊎_elim (λ a. let h = l d to a in (below_more to (length ns) (length ms) h.0 longer, h.1))
       (λ b. (subst (λ n. n < length ms) (ap (λ (p : ℕ × ℕ). p.1) b) chain.within, subst (λ x. x ≤ greatest_character) (ap (λ (p : ℕ × ℕ). p.0) b) low)) ((firsts (d, to)).0 has)
 
   old_back : (w : List ℕ) → NodeSpells ms w old → NodeSpells ns w old
@@ -237,7 +249,7 @@ grown_again ns ms ls g h = record {
 }
 
 pub grown_long : (ns ms : List OutputNode) → AreGrown ns ms → length ns ≤ length ms
-grown_long ns ms g = let e = ap length g.are ∙ length-append ns g.more in omega (arith, e)
+grown_long ns ms g = at_least (length ns) (length ms) (length g.more) (ap length g.are ∙ length-append ns g.more)
 
 pub grown_at : (ns ms : List OutputNode) → LeadToNodes ns → AreGrown ns ms → (k : ℕ) (w : List ℕ) → k < length ns → Spells ms k w ↔ Spells ns k w
 grown_at ns ms closed g k w h = (

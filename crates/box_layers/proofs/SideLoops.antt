@@ -1,0 +1,42 @@
+-- Loops over the sides of a box, as far as they have come.
+use Rattle.std.proofs.Common.{◌≡◌, ℕ, zero, suc, ◌+◌, ◌<◌, ◌≤◌, ◌⊎◌, inl, inr, ℤ, ◌≤ℤ◌, ◌<ℤ◌, int_lt, true, false, List, [], ◌∷◌, ◌++◌, length, map, take, get_or, refl, ap, sym, ◌∙◌, subst, append-nil, arith}
+use Rattle.std.proofs.lemmas.Int.{ints}
+use Rattle.std.proofs.lemmas.List.{get_or_default, map_more, take_all}
+
+pub below : (a b : ℤ) → int_lt a b ≡ true → a <ℤ b
+below a b e = grind (arith, ints)
+
+pub not-below : (a b : ℤ) → int_lt a b ≡ false → b ≤ℤ a
+not-below a b e = grind (arith, ints)
+
+pub same-ends : (a b : ℤ) → a ≤ℤ b → b ≤ℤ a → a ≡ b
+same-ends a b h g = omega (arith, ints)
+
+below-or-at : (k i : ℕ) → k < suc i → (k < i) ⊎ (k ≡ i)
+below-or-at zero zero h = inr refl
+below-or-at zero (suc i) h = inl (omega arith)
+below-or-at (suc k) zero h = absurd (omega arith)
+below-or-at (suc k) (suc i) h = elim (below-or-at k i (omega arith)) [ inl l ↦ inl (omega arith) | inr e ↦ inr (ap suc e) ]
+
+module _ {X : Type 0} (P : X → Type 0) (xs : List X) (i : ℕ) where
+  pub holds-next : (e : X) → i < length xs → P (get_or xs i e) → ((k : ℕ) (d : X) → k < i → P (get_or xs k d)) → (k : ℕ) (d : X) → k < i + 1 → P (get_or xs k d)
+  holds-next e lt p before k d h = elim (below-or-at k i (omega arith)) [
+    | inl l ↦ before k d l
+    | inr q ↦ subst (λ n. P (get_or xs n d)) (sym q) (subst P (get_or_default xs i e d lt) p)
+  ]
+
+  pub holds-all : length xs ≤ i → ((k : ℕ) (d : X) → k < i → P (get_or xs k d)) → (k : ℕ) (d : X) → k < length xs → P (get_or xs k d)
+  holds-all le before k d h = before k d (omega arith)
+
+module _ {X Y : Type 0} (f : X → Y) (xs : List X) (i : ℕ) where
+  pub mapped-next : (old new : List Y) (d : X) → i < length xs → old ≡ map f (take i xs) → new ≡ old ++ f (get_or xs i d) ∷ [] → new ≡ map f (take (i + 1) xs)
+  mapped-next old new d lt before made = made ∙ ap (λ l. l ++ f (get_or xs i d) ∷ []) before ∙ sym (map_more f xs i d lt)
+
+  pub mapped-all : (new : List Y) → length xs ≤ i → new ≡ map f (take i xs) → new ≡ map f xs
+  mapped-all new le made = made ∙ ap (map f) (take_all i xs le)
+
+  pub joined-all : (start new : List Y) → length xs ≤ i → new ≡ start ++ map f (take i xs) → new ≡ start ++ map f xs
+  joined-all start new le made = made ∙ ap (λ l. start ++ map f l) (take_all i xs le)
+
+pub joined-none : {Y : Type 0} (start new : List Y) → new ≡ start → new ≡ start ++ []
+joined-none start new e = e ∙ sym (append-nil start)
