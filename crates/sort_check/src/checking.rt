@@ -502,7 +502,7 @@ fn term_of(body: Body) -> Result<Term, CheckFault>
 /// the one that `get-value` of it alone has.
 ///
 /// Time is linear in the item and the term that it answers. Stack is linear in the nesting.
-#[tactic(auto, using(crate::proofs::Answering::asserting))]
+#[tactic(auto, using(crate::proofs::Answering::answering))]
 pub fn asked_term(alloc: Global, symbols: &Declarations, item: &Sexpr) -> Result<Term, CheckFault>
     ensures { Answers (commands.asked_term symbols.now (seen item.now)) result }
 {
