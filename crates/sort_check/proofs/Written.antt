@@ -1,5 +1,5 @@
 -- What commands make of parts in the number that they take.
-use Rattle.std.proofs.Common.{◌≡◌, sym, ap, ◌∙◌, ◌-◌, ◌<◌, ◌≤◌, Bool, true, false, ◌&&◌, List, [], ◌∷◌, length, map, get_or, drop, take, Option, Some, None, Result, Ok, Err, arith}
+use Rattle.std.proofs.Common.{◌≡◌, sym, ap, ◌∙◌, ◌<◌, ◌≤◌, Bool, true, false, ◌&&◌, List, [], ◌∷◌, length, map, get_or, Some, None, Result, Err, arith}
 use Rattle.sexpr_reader.specs.declared.sexpr.Sexpr.{Sexpr}
 use Rattle.smt_names.specs.declared.check_fault.CheckFault.{CheckFault}
 use Rattle.smt_names.specs.declared.check_fault.CheckFault.TheVariants as fault
@@ -9,7 +9,7 @@ use Rattle.item_passes.specs.Binders.{is_variable}
 use Rattle.smt_names.specs.Answering.{answers-same}
 use Rattle.smt_names.specs.Faults.{Answers, and_then, need, or_fault, ◌>>◌}
 use Rattle.smt_names.specs.Form.{Form, Forms, forms, seen, end, ◌⨾◌, are_all}
-use Rattle.smt_names.specs.Shapes.{one-seen, two-seen}
+use Rattle.smt_names.specs.Shapes.{two-seen}
 use Rattle.smt_names.specs.Signature.{Name}
 use Rattle.smt_names.specs.Tokens.{is_sort_form, listed, symbol}
 use Rattle.term_walk.specs.Meant.{Names}

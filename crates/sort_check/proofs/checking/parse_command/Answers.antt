@@ -1,4 +1,4 @@
-use Rattle.std.proofs.Common.{ap, refl, true, false, Some, None, List, ℕ, map}
+use Rattle.std.proofs.Common.{ap, refl, true, false, Some, None, List, ℕ}
 use Rattle.std.specs.Borrow.{Bor}
 use Rattle.sv_terms.specs.Names.{symbol_name}
 use Rattle.smt_names.specs.Form.{seen}
