@@ -1,5 +1,5 @@
 -- What stands behind `_`, by the first part.
-use Rattle.std.proofs.Common.{◌≡◌, sym, ap, ◌∙◌, ◌-◌, ◌≤◌, List, length, map, get_or, drop, take, Option, Some, None, Result, Err}
+use Rattle.std.proofs.Common.{◌≡◌, sym, ap, ◌∙◌, ◌-◌, ◌≤◌, List, length, map, get_or, drop, take, Option, None, Result, Err}
 use Rattle.sexpr_reader.specs.declared.sexpr.Sexpr.{Sexpr}
 use Rattle.smt_names.specs.declared.check_fault.CheckFault.{CheckFault}
 use Rattle.smt_names.specs.declared.check_fault.CheckFault.TheVariants as fault
