@@ -14,8 +14,7 @@ use Rattle.sv_terms.specs.declared.sort.Sort.{Sort}
 use Rattle.smt_names.specs.Faults.{Answers, and_then, ◌>>◌, or_fault}
 use Rattle.smt_names.specs.Form.{Form, Forms, forms, seen, raw, raws, group}
 use Rattle.smt_names.specs.Answering.{answers-same, fault-passes}
-use Rattle.smt_names.specs.Shapes.{seen-Atom, seen-List, none-seen, one-seen}
-use Rattle.sort_check.proofs.Counted.{assertion-few, assertion-many}
+use Rattle.smt_names.specs.Shapes.{seen-Atom, seen-List, none-seen}
 use Rattle.item_passes.specs.Passes.{passed}
 use Rattle.term_walk.specs.Meant.{Names, settled_sorts}
 
@@ -68,8 +67,6 @@ values-is symbols (x ∷ xs) h = refl
 pub ruleset answering = (first-fault, first-passes, then-fault, then-passes)
 
 pub ruleset reading = (raws-all)
-
-pub ruleset asserting = (one-seen, assertion-few, assertion-many, first-fault, first-passes, then-fault, then-passes)
 
 pub ruleset valuing = (none-seen, values-is, first-fault, first-passes, then-fault, then-passes)
 

@@ -130,4 +130,4 @@ get_value-many symbols [] h = absurd (omega arith)
 get_value-many symbols (a ∷ []) h = absurd (omega arith)
 get_value-many symbols (a ∷ b ∷ xs) h = refl
 
-pub ruleset commands = (none-seen, one-seen, two-seen, first-seen, seen-Atom, seen-List, without_parts-many, set_logic-few, set_logic-many, get_info-few, get_info-many, echo-few, echo-many, set_option-few, set_option-many, stepped-many, declare_const-few, declare_const-many, declare_fun-few, declare_fun-many, define_fun-few, define_fun-many, define_transducer-few, define_transducer-many, assertion-few, assertion-many, get_value-few, get_value-many)
+pub ruleset commands = (none-seen, one-seen, two-seen, first-seen, seen-Atom, seen-List, without_parts-many, set_logic-few, set_logic-many, get_info-few, get_info-many, echo-few, echo-many, stepped-many)

@@ -1,5 +1,6 @@
 mod Answering
 mod Asked
+mod Begun
 mod Counted
 mod Declared
 mod WellApplied
@@ -8,3 +9,4 @@ mod WellMeant
 mod WellNames
 mod WellSteps
 mod WellTerms
+mod Written

@@ -104,7 +104,6 @@ fn option_command(first: &Sexpr, second: &Sexpr) -> Command
     }
 }
 
-#[tactic(auto, using(crate::proofs::Counted::commands))]
 fn set_option(parts: &[Sexpr]) -> Result<Command, CheckFault>
     ensures { result ≡ commands.set_option (forms (map seen parts.now)) }
 {
@@ -176,7 +175,6 @@ fn declaration(
     }
 }
 
-#[tactic(auto, using(crate::proofs::Counted::commands))]
 fn declare_const(
     alloc: Global,
     symbols: &Declarations,
@@ -203,7 +201,6 @@ fn is_empty_list(item: &Sexpr) -> bool
     }
 }
 
-#[tactic(auto, using(crate::proofs::Counted::commands))]
 fn declare_fun(
     alloc: Global,
     symbols: &Declarations,
@@ -322,7 +319,6 @@ fn definition(
     }
 }
 
-#[tactic(auto, using(crate::proofs::Counted::commands))]
 fn define_fun(alloc: Global, symbols: &Declarations, parts: &[Sexpr]) -> Result<Command, CheckFault>
     ensures { Answers (commands.define_fun symbols.now (forms (map seen parts.now))) result }
 {
@@ -362,7 +358,6 @@ fn machine(
     }
 }
 
-#[tactic(auto, using(crate::proofs::Counted::commands))]
 fn define_transducer(
     alloc: Global,
     symbols: &Declarations,
@@ -396,7 +391,6 @@ fn assert_body(body: Body) -> Result<Command, CheckFault>
     }
 }
 
-#[tactic(auto, using(crate::proofs::Answering::asserting))]
 fn assertion(alloc: Global, symbols: &Declarations, parts: &[Sexpr]) -> Result<Command, CheckFault>
     ensures { Answers (commands.assertion symbols.now (forms (map seen parts.now))) result }
 {
@@ -508,7 +502,7 @@ fn term_of(body: Body) -> Result<Term, CheckFault>
 /// the one that `get-value` of it alone has.
 ///
 /// Time is linear in the item and the term that it answers. Stack is linear in the nesting.
-#[tactic(auto, using(crate::proofs::Answering::asserting))]
+#[tactic(auto, using(crate::proofs::Answering::answering))]
 pub fn asked_term(alloc: Global, symbols: &Declarations, item: &Sexpr) -> Result<Term, CheckFault>
     ensures { Answers (commands.asked_term symbols.now (seen item.now)) result }
 {
@@ -521,7 +515,6 @@ pub fn asked_term(alloc: Global, symbols: &Declarations, item: &Sexpr) -> Result
     }
 }
 
-#[tactic(auto, using(crate::proofs::Counted::commands))]
 fn get_value(alloc: Global, symbols: &Declarations, parts: &[Sexpr]) -> Result<Command, CheckFault>
     ensures { Answers (commands.get_value symbols.now (forms (map seen parts.now))) result }
 {
@@ -590,7 +583,6 @@ fn command_of(
     }
 }
 
-#[tactic(auto, using(crate::proofs::Counted::commands))]
 fn parse_command(
     alloc: Global,
     symbols: &Declarations,

@@ -1,3 +1,4 @@
+mod Identified
 mod Reading
 mod Scoping
 mod Shapes

@@ -115,7 +115,6 @@ fn character_function(indices: &[Sexpr]) -> Result<Function, CheckFault>
 }
 
 /// The function that stands behind `_`. An index that the symbol doesn't take is Index.
-#[tactic(auto, using(crate::proofs::Shapes::indices))]
 pub(crate) fn find_function(
     alloc: Global,
     symbols: &Declarations,
