@@ -59,7 +59,7 @@ pub fn lift_through(
     let run = run_at(runs.as_slice(), v);
     let lifted = lift_read(alloc, through, target, reader, pre, meeting, run)?;
     let ReadRun { read, written } = lifted;
-    Ok(put_runs(runs, v, read, x, written)?)
+    put_runs(runs, v, read, x, written)
 }
 
 // What the run of the meeting came of: a run of the reader, and one of the target on what is written.

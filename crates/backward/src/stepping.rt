@@ -47,14 +47,14 @@ pub fn step_concat(
     let By::Concat(pieces) = &definition.by else {
         unreachable!();
     };
-    Ok(carry_concat(
+    carry_concat(
         alloc,
         state,
         definition.variable,
         pieces.as_slice(),
         cuts,
         limit,
-    )?)
+    )
 }
 
 /// The family in which the definition at the place `at`, no concatenation, is carried: the pre-image
@@ -79,7 +79,7 @@ pub fn step_through(
     let definition = definition_at(flat, at);
     let read = read_by(&definition.by);
     let through = transducer_for(alloc, &definition.by)?;
-    Ok(carry_through(alloc, state, definition.variable, read, through, limit)?)
+    carry_through(alloc, state, definition.variable, read, through, limit)
 }
 
 /// Runs of the family before a step, of runs of the family after it: they cost the same together, and
@@ -100,7 +100,7 @@ pub fn lift_step(
     ensures { IfOk result (AreBackAt flat.now at before.now.machines runs) }
 {
     let definition = definition_at(flat, at);
-    Ok(lift_by(
+    lift_by(
         alloc,
         before,
         definition.variable,
@@ -108,7 +108,7 @@ pub fn lift_step(
         cuts,
         after,
         runs,
-    )?)
+    )
 }
 
 // Runs of the family before a step, by the definition of `x`.
@@ -127,10 +127,10 @@ fn lift_by(
     ensures defined { IfOk result (λ rs. ComesBy (run_words rs) (run_words rs x) by.now) }
 {
     if let By::Concat(pieces) = by {
-        return Ok(lift_cut(alloc, before, x, pieces.as_slice(), cuts, after, runs)?);
+        return lift_cut(alloc, before, x, pieces.as_slice(), cuts, after, runs);
     }
     let read = read_by(by);
-    Ok(lift_through(alloc, before, x, read, after, runs)?)
+    lift_through(alloc, before, x, read, after, runs)
 }
 
 // The definition at this place, which there is.
@@ -162,8 +162,8 @@ fn transducer_for(alloc: Global, by: &By) -> Result<Transducer, AllocError>
 {
     match by {
         By::Concat(_) => unreachable!(),
-        By::First(pattern, other, _) => Ok(replace_first(alloc, pattern, other)?),
-        By::All(pattern, other, _) => Ok(replace_all(alloc, pattern, other)?),
-        By::Through(through, _) => Ok(through.copy(alloc)?),
+        By::First(pattern, other, _) => replace_first(alloc, pattern, other),
+        By::All(pattern, other, _) => replace_all(alloc, pattern, other),
+        By::Through(through, _) => through.copy(alloc),
     }
 }

@@ -49,7 +49,7 @@ fn node(alloc: Global, kind: &NodeKind) -> Result<(), FormFault>
     ensures { IsPlainExactly (own_steps kind.now) result }
 {
     match kind {
-        NodeKind::One(literal) => Ok(check_atom(alloc, &literal.atom)?),
+        NodeKind::One(literal) => check_atom(alloc, &literal.atom),
         NodeKind::Always | NodeKind::Never => Ok(()),
         NodeKind::Both(_, _) | NodeKind::Either(_, _) => Ok(()),
     }

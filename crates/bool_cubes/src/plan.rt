@@ -35,21 +35,21 @@ impl Plan {
         requires { IsPlan self.old.nodes }
         ensures { IfOk result (λ k. IsAddedNode self.old.nodes self.new.nodes k always) }
     {
-        Ok(self.push(NodeKind::Always, 1)?)
+        self.push(NodeKind::Always, 1)
     }
 
     fn push_never(&mut self) -> Result<usize, AllocError>
         requires { IsPlan self.old.nodes }
         ensures { IfOk result (λ k. IsAddedNode self.old.nodes self.new.nodes k never) }
     {
-        Ok(self.push(NodeKind::Never, 0)?)
+        self.push(NodeKind::Never, 0)
     }
 
     fn one(&mut self, literal: Literal) -> Result<usize, AllocError>
         requires { IsPlan self.old.nodes }
         ensures { IfOk result (λ k. IsAddedNode self.old.nodes self.new.nodes k (one literal)) }
     {
-        Ok(self.push(NodeKind::One(literal), 1)?)
+        self.push(NodeKind::One(literal), 1)
     }
 
     #[tactic(auto, using(crate::proofs::Plans::both_cubes))]
@@ -63,7 +63,7 @@ impl Plan {
             let nodes = self.nodes.as_slice();
             nodes[left].cubes.saturating_mul(nodes[right].cubes)
         };
-        Ok(self.push(NodeKind::Both(left, right), cubes)?)
+        self.push(NodeKind::Both(left, right), cubes)
     }
 
     #[tactic(auto, using(crate::proofs::Plans::either_cubes))]
@@ -77,7 +77,7 @@ impl Plan {
             let nodes = self.nodes.as_slice();
             nodes[left].cubes.saturating_add(nodes[right].cubes)
         };
-        Ok(self.push(NodeKind::Either(left, right), cubes)?)
+        self.push(NodeKind::Either(left, right), cubes)
     }
 
     // The first two, or the last two.
@@ -92,7 +92,7 @@ impl Plan {
     {
         let first = self.both(a, b)?;
         let second = self.both(c, d)?;
-        Ok(self.either(first, second)?)
+        self.either(first, second)
     }
 
     /// The nodes of `true` or of `false`.
@@ -118,7 +118,7 @@ impl Plan {
         ensures { IfOk result (λ k. IsAddedNode self.old.nodes self.new.nodes k (atom term.now positive)) }
     {
         let atom = term.copy(alloc)?;
-        Ok(self.one(Literal { atom, positive })?)
+        self.one(Literal { atom, positive })
     }
 
     /// The nodes of a term that is a literal.
@@ -144,7 +144,7 @@ impl Plan {
         ensures { IfOk result (λ k. IsAddedNode self.old.nodes self.new.nodes k (comparison op left.now right.now positive)) }
     {
         let atom = comparison_of(alloc, op, left, right)?;
-        Ok(self.one(Literal { atom, positive })?)
+        self.one(Literal { atom, positive })
     }
 
     /// The nodes of a function of two terms as a literal.
@@ -221,7 +221,7 @@ impl Plan {
     {
         let never = self.settle(false)?;
         let last = self.or(right, never)?;
-        Ok(self.or(left.negation(), last)?)
+        self.or(left.negation(), last)
     }
 
     /// The nodes of an equality of two formulas.

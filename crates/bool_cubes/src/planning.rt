@@ -51,7 +51,7 @@ fn applied_sides(
         Op::Distinct => distinct_sides(plan, alloc, terms),
         Op::IfThenElse => choice_sides(plan, alloc, terms, term),
         Op::LessEqual | Op::Less | Op::GreaterEqual | Op::Greater => {
-            Ok(chain_sides(plan, alloc, op, terms)?)
+            chain_sides(plan, alloc, op, terms)
         }
         Op::Add
         | Op::Subtract
@@ -63,7 +63,7 @@ fn applied_sides(
         | Op::PrefixOf
         | Op::SuffixOf
         | Op::Contains
-        | Op::IsDigit => Ok(plan.atom(alloc, term)?),
+        | Op::IsDigit => plan.atom(alloc, term),
     }
 }
 
@@ -81,7 +81,7 @@ fn opposite_sides(
     if terms.len() == 1 {
         Ok(term_sides(plan, alloc, &terms[0])?.negation())
     } else {
-        Ok(plan.atom(alloc, term)?)
+        plan.atom(alloc, term)
     }
 }
 
@@ -100,9 +100,9 @@ fn choice_sides(
         let test = term_sides(plan, alloc, &terms[0])?;
         let first = term_sides(plan, alloc, &terms[1])?;
         let second = term_sides(plan, alloc, &terms[2])?;
-        Ok(plan.choice(test, first, second)?)
+        plan.choice(test, first, second)
     } else {
-        Ok(plan.atom(alloc, term)?)
+        plan.atom(alloc, term)
     }
 }
 
@@ -143,7 +143,7 @@ fn exclusive_sides(plan: &mut Plan, alloc: Global, terms: &[Term]) -> Result<Nod
     ensures { IfOk result (λ s. IsPlanned plan.old.nodes plan.new.nodes s (exclusive (formulas_of terms.now))) }
 {
     if terms.is_empty() {
-        return Ok(plan.settle(false)?);
+        return plan.settle(false);
     }
     let mut odd = term_sides(plan, alloc, &terms[0])?;
     for i in 1..terms.len() {
@@ -161,7 +161,7 @@ fn implied_sides(plan: &mut Plan, alloc: Global, terms: &[Term]) -> Result<NodeP
     ensures { IfOk result (λ s. IsPlanned plan.old.nodes plan.new.nodes s (implied (formulas_of terms.now))) }
 {
     if terms.is_empty() {
-        return Ok(plan.settle(true)?);
+        return plan.settle(true);
     }
     let last = terms.len() - 1;
     let mut any = term_sides(plan, alloc, &terms[last])?;
@@ -223,9 +223,9 @@ fn pair_sides(
     ensures { IfOk result (λ s. IsPlanned plan.old.nodes plan.new.nodes s (equal (part_of left.now) (part_of right.now))) }
 {
     match head_sort(left) {
-        Sort::Bool => Ok(plan.agreement(sides[i], sides[j])?),
-        Sort::Int => Ok(plan.equal_numbers(alloc, left, right)?),
-        Sort::String | Sort::RegLan => Ok(plan.comparison(alloc, Op::Equal, left, right)?),
+        Sort::Bool => plan.agreement(sides[i], sides[j]),
+        Sort::Int => plan.equal_numbers(alloc, left, right),
+        Sort::String | Sort::RegLan => plan.comparison(alloc, Op::Equal, left, right),
     }
 }
 

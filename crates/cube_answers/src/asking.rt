@@ -49,7 +49,7 @@ pub fn answer_machines(
         characters(reach),
     )?;
     if reach < 0 {
-        return Ok(past_words(alloc, answer)?);
+        return past_words(alloc, answer);
     }
     Ok(answer)
 }

@@ -28,7 +28,7 @@ fn word_at(alloc: Global, runs: &[Option<Run<u32>>], place: usize) -> Result<Wor
     ensures { IfOk result (λ word. word ≡ word_by runs.now place) }
 {
     if place < runs.len() {
-        Ok(word_of(alloc, &runs[place])?)
+        word_of(alloc, &runs[place])
     } else {
         Ok(Word::new(alloc))
     }

@@ -81,12 +81,12 @@ impl DraftBuilder {
     {
         let positive = literal.positive;
         match &literal.atom {
-            Term::Constant(name, sort) => Ok(self.add_constant(alloc, name, *sort, positive)?),
-            Term::InRe(tested, regex) => Ok(self.add_member(alloc, tested.get(), regex, positive)?),
+            Term::Constant(name, sort) => self.add_constant(alloc, name, *sort, positive),
+            Term::InRe(tested, regex) => self.add_member(alloc, tested.get(), regex, positive),
             Term::Related(transducer, read, written) => {
-                Ok(self.add_pair(alloc, transducer.get(), read.get(), written.get(), positive)?)
+                self.add_pair(alloc, transducer.get(), read.get(), written.get(), positive)
             }
-            Term::Apply(op, terms) => Ok(self.add_applied(alloc, *op, terms.as_slice(), positive)?),
+            Term::Apply(op, terms) => self.add_applied(alloc, *op, terms.as_slice(), positive),
             _ => Ok(LiteralReading::Outside),
         }
     }
@@ -117,7 +117,7 @@ impl DraftBuilder {
     ) -> Result<LiteralReading, AllocError>
         ensures { IfOk result (λ k. IsLiteralAdded self.old self.new (part_said (seen tested.now) (any_own.InRe regex.now) positive) k) }
     {
-        Ok(self.add_part(alloc, tested, Own::InRe(regex.copy(alloc)?), positive)?)
+        self.add_part(alloc, tested, Own::InRe(regex.copy(alloc)?), positive)
     }
 
     // The transducer reads the first term and may write the second.
@@ -160,10 +160,10 @@ impl DraftBuilder {
         ensures { IfOk result (λ k. IsLiteralAdded self.old self.new (atom_said (apply op (shapes (map seen terms.now))) positive) k) }
     {
         if terms.len() == 1 {
-            return Ok(self.add_single(alloc, op, &terms[0], positive)?);
+            return self.add_single(alloc, op, &terms[0], positive);
         }
         if terms.len() == 2 {
-            return Ok(self.add_double(alloc, op, &terms[0], &terms[1], positive)?);
+            return self.add_double(alloc, op, &terms[0], &terms[1], positive);
         }
         Ok(LiteralReading::Outside)
     }
@@ -179,7 +179,7 @@ impl DraftBuilder {
         ensures { IfOk result (λ k. IsLiteralAdded self.old self.new (atom_said (apply op (seen term.now ⨾ end)) positive) k) }
     {
         match head_of(op) {
-            AtomHead::Digit => Ok(self.add_part(alloc, term, Own::Digit, positive)?),
+            AtomHead::Digit => self.add_part(alloc, term, Own::Digit, positive),
             _ => Ok(LiteralReading::Outside),
         }
     }
@@ -198,11 +198,11 @@ impl DraftBuilder {
         ensures { IfOk result (λ k. IsLiteralAdded self.old self.new (atom_said (apply op (seen left.now ⨾ seen right.now ⨾ end)) positive) k) }
     {
         match head_of(op) {
-            AtomHead::Equality => Ok(self.add_equality(alloc, left, right, positive)?),
-            AtomHead::Order => Ok(self.add_comparison(alloc, op, left, right, positive)?),
-            AtomHead::Prefix => Ok(self.add_affix(alloc, Affix::Prefix, left, right, positive)?),
-            AtomHead::Suffix => Ok(self.add_affix(alloc, Affix::Suffix, left, right, positive)?),
-            AtomHead::Contains => Ok(self.add_affix(alloc, Affix::Infix, right, left, positive)?),
+            AtomHead::Equality => self.add_equality(alloc, left, right, positive),
+            AtomHead::Order => self.add_comparison(alloc, op, left, right, positive),
+            AtomHead::Prefix => self.add_affix(alloc, Affix::Prefix, left, right, positive),
+            AtomHead::Suffix => self.add_affix(alloc, Affix::Suffix, left, right, positive),
+            AtomHead::Contains => self.add_affix(alloc, Affix::Infix, right, left, positive),
             AtomHead::Digit => Ok(LiteralReading::Outside),
             AtomHead::Other => Ok(LiteralReading::Outside),
         }
@@ -224,7 +224,7 @@ impl DraftBuilder {
             return Ok(LiteralReading::Outside);
         };
         let own = own_by(affix, word.copy(alloc)?);
-        Ok(self.add_part(alloc, term, own, positive)?)
+        self.add_part(alloc, term, own, positive)
     }
 
     // What is said of a string term.
@@ -259,10 +259,10 @@ impl DraftBuilder {
         ensures { IfOk result (λ k. IsLiteralAdded self.old self.new (atom_said (apply any_op.Equal (seen left.now ⨾ seen right.now ⨾ end)) positive) k) }
     {
         match head_sort(left) {
-            Sort::String => Ok(self.add_strings(alloc, left, right, positive)?),
+            Sort::String => self.add_strings(alloc, left, right, positive),
             Sort::Int => {
                 if positive {
-                    Ok(self.add_comparison(alloc, Op::Equal, left, right, true)?)
+                    self.add_comparison(alloc, Op::Equal, left, right, true)
                 } else {
                     Ok(LiteralReading::Outside)
                 }
@@ -284,12 +284,12 @@ impl DraftBuilder {
         ensures { IfOk result (λ k. IsLiteralAdded self.old self.new (string_said (seen left.now) (seen right.now) positive) k) }
     {
         if let Term::Text(word) = left {
-            return Ok(self.add_literal(alloc, word, right, positive)?);
+            return self.add_literal(alloc, word, right, positive);
         }
         if let Term::Text(word) = right {
-            return Ok(self.add_part(alloc, left, Own::Word(word.copy(alloc)?), positive)?);
+            return self.add_part(alloc, left, Own::Word(word.copy(alloc)?), positive);
         }
-        Ok(self.add_identity(alloc, left, right, positive)?)
+        self.add_identity(alloc, left, right, positive)
     }
 
     // A term is a literal.
@@ -312,7 +312,7 @@ impl DraftBuilder {
             self.hold(!same);
             return Ok(LiteralReading::Written);
         }
-        Ok(self.add_part(alloc, term, Own::Word(word.copy(alloc)?), positive)?)
+        self.add_part(alloc, term, Own::Word(word.copy(alloc)?), positive)
     }
 
     // Two terms that aren't literals are equal; there is no written kind for two that differ.

@@ -28,16 +28,16 @@ impl DraftBuilder {
         ensures numbers { OnOk result (self.new.numbers ≡ self.old.numbers) }
     {
         match term {
-            Term::Text(word) => Ok(self.literal(word.copy(alloc)?)?),
-            Term::Constant(name, _) => Ok(self.constant(alloc, term, name)?),
+            Term::Text(word) => self.literal(word.copy(alloc)?),
+            Term::Constant(name, _) => self.constant(alloc, term, name),
             Term::Apply(op, terms) => match build_of(*op) {
-                PlaceBuild::Concat => Ok(self.concat(alloc, term, terms.as_slice())?),
+                PlaceBuild::Concat => self.concat(alloc, term, terms.as_slice()),
                 PlaceBuild::Replace(occurrences) => {
-                    Ok(self.replace(alloc, occurrences, term, terms.as_slice())?)
+                    self.replace(alloc, occurrences, term, terms.as_slice())
                 }
-                PlaceBuild::Nothing => Ok(self.next_place()?),
+                PlaceBuild::Nothing => self.next_place(),
             },
-            _ => Ok(self.next_place()?),
+            _ => self.next_place(),
         }
     }
 
@@ -137,7 +137,7 @@ impl DraftBuilder {
         ensures numbers { OnOk result (self.new.numbers ≡ self.old.numbers) }
     {
         let Some((pattern, replacement)) = literals(terms) else {
-            return Ok(self.next_place()?);
+            return self.next_place();
         };
         match self.seek(alloc, term, None)? {
             TermPlace::Known(place) => Ok(place),

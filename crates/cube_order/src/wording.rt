@@ -70,7 +70,7 @@ fn number_places(
 {
     let places = count(places)?;
     let firsts = firsts(alloc, places, equalities)?;
-    Ok(number(alloc, firsts.as_slice())?)
+    number(alloc, firsts.as_slice())
 }
 
 /// The number of places. More would take more than 64 GB.

@@ -21,7 +21,7 @@ pub fn region_of(alloc: Global, flat: &Flat, numbers: &Numbers) -> Result<Region
     ensures { IfOk result (IsRegionFor flat.now) }
 {
     if numbers.small {
-        return Ok(box_of(alloc, flat, numbers.sides.as_slice())?);
+        return box_of(alloc, flat, numbers.sides.as_slice());
     }
-    Ok(near_region(alloc, flat, numbers)?)
+    near_region(alloc, flat, numbers)
 }

@@ -48,5 +48,5 @@ pub fn answers<R: Threads + Sync, G: Gate + Sync>(
 {
     answer_crosses();
     machines_cross();
-    Ok(run_jobs(rt, alloc, jobs, workers, gate)?)
+    run_jobs(rt, alloc, jobs, workers, gate)
 }

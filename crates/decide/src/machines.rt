@@ -36,5 +36,5 @@ fn collect_all(digests: &mut Vec<u64>, terms: &[Term]) -> Result<(), AllocError>
 pub fn machines_for(alloc: Global, terms: &[Term]) -> Result<Machines, AllocError> {
     let mut digests = Vec::new(alloc);
     collect_all(&mut digests, terms)?;
-    Ok(Machines::new(alloc, digests)?)
+    Machines::new(alloc, digests)
 }

@@ -46,8 +46,8 @@ pub fn leaf(
         reach,
     };
     if rows.is_empty() {
-        Ok(by_words(alloc, &question, runs)?)
+        by_words(alloc, &question, runs)
     } else {
-        Ok(by_rows(alloc, &question)?)
+        by_rows(alloc, &question)
     }
 }

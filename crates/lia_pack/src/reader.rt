@@ -87,7 +87,7 @@ fn next_row(alloc: Global, reader: &mut ByteReader<'_>) -> Result<Row, AllocErro
     ensures { (r : AnyRow) (ns : List ℕ) → Say reader.old.left.now (row_numbers r ++ ns) → IfOk result (λ row. (row ≡ r) × Say reader.new.left.now ns) }
 {
     let kind = kind_of_number(next_number(reader));
-    Ok(next_form(alloc, reader, kind)?)
+    next_form(alloc, reader, kind)
 }
 
 /// The next rows, so many.

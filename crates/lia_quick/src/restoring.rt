@@ -38,7 +38,7 @@ pub fn restore_tree(
     };
     match lift(alloc, reduction, tree)? {
         None => Ok(None),
-        Some(tree) => Ok(accept(alloc, system, tree)?),
+        Some(tree) => accept(alloc, system, tree),
     }
 }
 

@@ -56,7 +56,7 @@ fn coded_form(
     ensures { (u : Unknown) → code ≡ flat (unknown_code u) → IfOk result (λ f. IsUnknownForm unknowns.old.codes unknowns.new.codes u f) }
 {
     let number = unknowns.number(code)?;
-    Ok(TermForm::unknown(alloc, number)?)
+    TermForm::unknown(alloc, number)
 }
 
 #[tactic(auto, using(crate::proofs::Combined::integer_coded))]
@@ -69,7 +69,7 @@ fn integer_form(unknowns: &mut Unknowns, alloc: Global, name: &Name) -> Result<T
     };
     code.open(0)?;
     code.name(name.as_bytes())?;
-    Ok(coded_form(unknowns, alloc, code.numbers)?)
+    coded_form(unknowns, alloc, code.numbers)
 }
 
 #[tactic(auto, using(crate::proofs::Combined::other_coded))]
@@ -82,7 +82,7 @@ fn whole_form(unknowns: &mut Unknowns, alloc: Global, term: &Term) -> Result<Ter
     };
     code.open(2)?;
     code.term(term)?;
-    Ok(coded_form(unknowns, alloc, code.numbers)?)
+    coded_form(unknowns, alloc, code.numbers)
 }
 
 /// The form of the length of a string term; that of a literal is a number.
@@ -142,7 +142,7 @@ fn single_form(
     let form = term_form(unknowns, alloc, &terms[0])?;
     match joint {
         Joint::Sum => Ok(form),
-        Joint::Difference => Ok(form.scale(alloc, -1)?),
+        Joint::Difference => form.scale(alloc, -1),
         Joint::Product => Ok(form),
     }
 }

@@ -78,5 +78,5 @@ pub fn chain(
     let rows = chain_rows(alloc, ranges, longer)?;
     let count = ranges.len() as u32;
     let states = if holds { count + 1 } else { count + 2 };
-    Ok(table_machine(alloc, rows.as_slice(), states, count, holds)?)
+    table_machine(alloc, rows.as_slice(), states, count, holds)
 }

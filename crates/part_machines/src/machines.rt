@@ -59,5 +59,5 @@ fn make(alloc: Global, regex: &Regex) -> Result<Box<Keep>, AllocError>
     ensures { IfOk result (λ keep. keep.value.0 ≡ regex.now) }
 {
     let keep = Keep::of(alloc, regex)?;
-    Ok(Box::new(alloc, keep)?)
+    Box::new(alloc, keep)
 }

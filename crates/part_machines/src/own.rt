@@ -104,14 +104,14 @@ fn joint_machine(
     ensures refused { (n : ℕ) → result ≡ Err (States n) → MOST_STATES < product_by part_bound parts.now }
 {
     if parts.len() == 1 {
-        return Ok(part_machine(alloc, &parts[0], kept)?);
+        return part_machine(alloc, &parts[0], kept);
     }
     let PartSides { within, outside } = sides_of(alloc, parts, kept)?;
     let met = all_of(alloc, within.as_slice(), MOST_STATES)?;
     if outside.is_empty() {
         return Ok(met);
     }
-    Ok(exclude(alloc, met, outside)?)
+    exclude(alloc, met, outside)
 }
 
 /// The machine of a variable's own parts: it reads exactly the words that meet all of them, each character

@@ -71,7 +71,7 @@ fn language(
     ensures refused { (n : ℕ) → result ≡ Err (States n) → MOST_STATES < part_bound (InRe regex.now, holds) }
 {
     if holds {
-        return Ok(kept_machine(alloc, regex, machines)?);
+        return kept_machine(alloc, regex, machines);
     }
     languages_are_words();
     let others = others_of(alloc, regex)?;
@@ -121,11 +121,11 @@ pub fn part_machine(
 {
     let holds = part.1;
     match &part.0 {
-        Own::Word(word) => Ok(word_chain(alloc, word, false, holds)?),
-        Own::Prefix(word) => Ok(word_chain(alloc, word, true, holds)?),
+        Own::Word(word) => word_chain(alloc, word, false, holds),
+        Own::Prefix(word) => word_chain(alloc, word, true, holds),
         Own::Digit => Ok(chain(alloc, &[(0x30, 0x39)], false, holds)?),
-        Own::Contains(word) => Ok(word_pattern(alloc, word, true, holds)?),
-        Own::Suffix(word) => Ok(word_pattern(alloc, word, false, holds)?),
-        Own::InRe(regex) => Ok(language(alloc, regex, holds, machines)?),
+        Own::Contains(word) => word_pattern(alloc, word, true, holds),
+        Own::Suffix(word) => word_pattern(alloc, word, false, holds),
+        Own::InRe(regex) => language(alloc, regex, holds, machines),
     }
 }

@@ -54,7 +54,7 @@ fn whole_row(
     if rows.is_empty() {
         return Ok(plain_row(alloc, 0));
     }
-    Ok(spread_row(alloc, row_at(rows, automaton.border as usize))?)
+    spread_row(alloc, row_at(rows, automaton.border as usize))
 }
 
 // The table of a pattern: one row for each of its beginnings.
@@ -87,5 +87,5 @@ pub fn pattern_machine(
 {
     let rows = pattern_rows(alloc, pattern, stays)?;
     let count = pattern.len() as u32;
-    Ok(table_machine(alloc, rows.as_slice(), count + 1, count, holds)?)
+    table_machine(alloc, rows.as_slice(), count + 1, count, holds)
 }

@@ -71,12 +71,12 @@ fn move_back(alloc: Global, pair: (u32, u32), by: i32) -> Result<Ranges, AllocEr
     if by < 0 {
         let least = pair.0.saturating_add(steps);
         let greatest = pair.1.saturating_add(steps).min(GREATEST_CHARACTER);
-        return Ok(Ranges::of(alloc, least, greatest)?);
+        return Ranges::of(alloc, least, greatest);
     }
     if pair.1 < steps {
         return Ok(Ranges::none(alloc));
     }
-    Ok(Ranges::of(alloc, pair.0.saturating_sub(steps), pair.1 - steps)?)
+    Ranges::of(alloc, pair.0.saturating_sub(steps), pair.1 - steps)
 }
 
 // The characters of a lead that are read by a move once they are moved by this number.
@@ -105,12 +105,12 @@ fn characters(
     match next {
         Letter::Moved(0) => {
             let _lead = lead.as_slice();
-            Ok(lead.meet(alloc, step)?)
+            lead.meet(alloc, step)
         }
-        Letter::Moved(by) => Ok(meet_moved(alloc, lead, step, by)?),
+        Letter::Moved(by) => meet_moved(alloc, lead, step, by),
         Letter::Fixed(d) => {
             if step.holds(d) {
-                return Ok(lead.copy(alloc)?);
+                return lead.copy(alloc);
             }
             Ok(Ranges::none(alloc))
         }

@@ -188,7 +188,7 @@ fn closing_part(
     if end.0 != at.0 {
         return Ok(None);
     }
-    Ok(end_part(alloc, target, at.1, &end.1, cost)?)
+    end_part(alloc, target, at.1, &end.1, cost)
 }
 
 /// What the transducer wrote at the end, with the target's way.

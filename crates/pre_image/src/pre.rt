@@ -105,12 +105,12 @@ impl<'a> Machine for Pre<'a> {
 
     fn ends(&self, alloc: Global, at: &(u32, u32)) -> Result<Items<Cost>, AllocError> {
         let ends = self.through.ends.as_slice();
-        Ok(costs_of(alloc, self.target, at, ends, self.end_places.row(at.0))?)
+        costs_of(alloc, self.target, at, ends, self.end_places.row(at.0))
     }
 
     fn moves(&self, alloc: Global, at: &(u32, u32)) -> Result<Items<Move<(u32, u32)>>, AllocError> {
         let edges = self.through.edges.as_slice();
-        Ok(moves_of(alloc, self.target, at, edges, self.edge_places.row(at.0))?)
+        moves_of(alloc, self.target, at, edges, self.edge_places.row(at.0))
     }
 }
 

@@ -72,8 +72,8 @@ impl<'a> Machine for Slice<'a> {
 
     fn ends(&self, alloc: Global, at: &u32) -> Result<Items<Cost>, AllocError> {
         match self.to {
-            None => Ok(self.target.ends(alloc, at)?),
-            Some(to) => Ok(stops(alloc, self.target.registers(), *at == to)?),
+            None => self.target.ends(alloc, at),
+            Some(to) => stops(alloc, self.target.registers(), *at == to),
         }
     }
 

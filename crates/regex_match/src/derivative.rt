@@ -134,7 +134,7 @@ fn rest_in_turn(alloc: Global, rs: &[Regex]) -> Result<Regex, AllocError>
 {
     match rs {
         [] => Ok(empty_word(alloc)),
-        [r] => Ok(r.copy(alloc)?),
+        [r] => r.copy(alloc),
         _ => Ok(Regex::Concat(copy_regexes(alloc, rs)?)),
     }
 }

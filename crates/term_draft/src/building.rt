@@ -64,7 +64,7 @@ fn build(alloc: Global, parts: &[DraftPart<'_>], place: usize) -> Result<Body, A
         return Ok(opaque_body(Sort::Bool));
     }
     let node = &parts[place].node;
-    Ok(build_node(alloc, &parts[..place], node)?)
+    build_node(alloc, &parts[..place], node)
 }
 
 /// What a part behind these is.
@@ -253,7 +253,7 @@ fn put_in_member(
     ensures { IfOk result (λ x. x ≡ Term.InRe (bodies.put_in (drafts.term_found (drafts.senses parts.now) index.now arguments.now) word.now) regex.now) }
 {
     let word = put_in(alloc, parts, arguments, index, word)?;
-    Ok(member(alloc, word, regex)?)
+    member(alloc, word, regex)
 }
 
 #[cycle(build)]
@@ -272,7 +272,7 @@ fn put_in_related(
 {
     let read = Boxed::new(alloc, put_in(alloc, parts, arguments, index, read)?)?;
     let written = Boxed::new(alloc, put_in(alloc, parts, arguments, index, written)?)?;
-    Ok(relate_terms(alloc, transducer, read, written)?)
+    relate_terms(alloc, transducer, read, written)
 }
 
 /// The place of the argument of a parameter of this name.

@@ -41,7 +41,7 @@ pub fn eval(alloc: Global, term: &Term, model: &Model) -> Result<Value, EvalFaul
     if has_opaque(term) {
         return Err(EvalFault::Opaque);
     }
-    Ok(value_of(alloc, term, model)?)
+    value_of(alloc, term, model)
 }
 
 /// Whether an opaque part stands in the term. Time is linear in it, the stack grows with the nesting.

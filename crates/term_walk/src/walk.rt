@@ -64,7 +64,7 @@ impl<'a> Walk<'a> {
 fn put_opaque(walk: &mut Walk<'_>, sort: Sort) -> Result<usize, CheckFault>
     ensures { ReadsMeaning Here (λ t. Ok (bodies.opaque sort)) walk.old walk.new result }
 {
-    Ok(walk.draft.put_opaque(sort)?)
+    walk.draft.put_opaque(sort)
 }
 
 fn constant(walk: &mut Walk<'_>, name: Name, sort: Sort) -> Result<usize, CheckFault>
@@ -496,9 +496,9 @@ fn constant_name(alloc: Global, name: &Name, is_parameter: bool) -> Result<Name,
     ensures { IfOk result (λ n. n ≡ meaning.renamed is_parameter name.now) }
 {
     if is_parameter {
-        Ok(parameter_name(alloc, name)?)
+        parameter_name(alloc, name)
     } else {
-        Ok(name.copy(alloc)?)
+        name.copy(alloc)
     }
 }
 

@@ -78,9 +78,9 @@ fn of_term(
             Some(place) => Ok(Summary::Parameter(place, *sort)),
             None => Ok(Summary::Same(Weight::leaf(*sort, Factor::Unknown))),
         },
-        Term::Apply(op, _) => Ok(function(alloc, parameters, places, op.sort(), term)?),
-        Term::InRe(_, _) => Ok(function(alloc, parameters, places, Sort::Bool, term)?),
-        Term::Related(_, _, _) => Ok(function(alloc, parameters, places, Sort::Bool, term)?),
+        Term::Apply(op, _) => function(alloc, parameters, places, op.sort(), term),
+        Term::InRe(_, _) => function(alloc, parameters, places, Sort::Bool, term),
+        Term::Related(_, _, _) => function(alloc, parameters, places, Sort::Bool, term),
         Term::Opaque(sort) => Ok(Summary::Same(Weight::opaque(*sort))),
     }
 }
@@ -98,7 +98,7 @@ impl Summary {
         match body {
             Body::Term(term) => {
                 let places = NamePlaces::of(alloc, parameters)?;
-                Ok(of_term(alloc, parameters.len(), &places, term)?)
+                of_term(alloc, parameters.len(), &places, term)
             }
             Body::Language(regex) => Ok(Summary::Same(weigh_regex(alloc, regex)?)),
         }

@@ -186,13 +186,13 @@ fn tally_term(
             let below = depth.saturating_add(1);
             leaf(tally, places, depth, Factor::Known);
             tally_term(alloc, tally, places, below, word.get())?;
-            Ok(tally_regex(alloc, tally, places, below, regex)?)
+            tally_regex(alloc, tally, places, below, regex)
         }
         Term::Related(_, read, written) => {
             let below = depth.saturating_add(1);
             leaf(tally, places, depth, Factor::Known);
             tally_term(alloc, tally, places, below, read.get())?;
-            Ok(tally_term(alloc, tally, places, below, written.get())?)
+            tally_term(alloc, tally, places, below, written.get())
         }
         Term::Opaque(_) => Ok(leaf(tally, places, depth, Factor::Unknown)),
     }

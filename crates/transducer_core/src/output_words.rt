@@ -429,5 +429,5 @@ pub fn outputs(alloc: Global, transducer: &Transducer, read: &Word) -> Result<Ex
 {
     let mut nodes = nothing(alloc)?;
     let first = all_nodes(alloc, transducer, read.as_slice(), &mut nodes)?;
-    Ok(machine_of(alloc, nodes.as_slice(), first)?)
+    machine_of(alloc, nodes.as_slice(), first)
 }
