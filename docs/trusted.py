@@ -1,7 +1,7 @@
 #!/usr/bin/env python3
 """Lists the definitions that the contract of the top call rests on.
 
-It begins with the definitions that the clauses of `run` name (crates/program_run/src/top.rt), follows
+It begins with the definitions that the clauses of `run` name (crates/smt_session/src/top.rt), follows
 what each definition of a specs/ folder names, and what the public ghost fields of the types that it
 names say, and those of the types in their fields. It prints one row a file: how many lines of it are
 reached, and what it restates, which is the first comment of the file.
@@ -17,7 +17,7 @@ import sys
 
 ROOT = pathlib.Path(__file__).resolve().parent.parent
 TRUST = ROOT / "docs" / "TRUST.md"
-TOP = ROOT / "crates" / "program_run" / "src" / "top.rt"
+TOP = ROOT / "crates" / "smt_session" / "src" / "top.rt"
 BEGIN, END = "<!-- trusted.py begins -->", "<!-- trusted.py ends -->"
 USE = re.compile(r"^\s*(?:ghost )?use Rattle\.([A-Za-z0-9_]+)\.specs\.([A-Za-z0-9_.]+?)(?:\.\{([^}]*)\}| as .*)?;?\s*$")
 HEAD = re.compile(

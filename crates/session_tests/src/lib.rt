@@ -8,4 +8,4 @@
 #[cfg(test)]
 mod decide_calls;
 #[cfg(test)]
-mod program_run_calls;
+mod run_calls;

@@ -1,5 +1,11 @@
+pub mod Awaiting
+pub mod Codes
+pub mod CommandLine
+pub mod Generated
 pub mod Models
 pub mod Replies
+pub mod Runs
+pub mod Scripts
 pub mod Standing
 pub mod Steps
 pub mod Verdicts

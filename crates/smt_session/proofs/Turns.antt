@@ -1,0 +1,95 @@
+-- What one reply more makes of what was answered and written.
+use Rattle.std.proofs.Common.{◌≡◌, ◌||◌, ℕ, ◌+◌, List, [], ◌∷◌, ◌++◌, Bool, true, false, Some, refl, sym, ap, ◌∙◌, subst, length, take, append-nil, append_assoc, arith}
+use Rattle.std.proofs.Math.Seq.{take-length, take-append-add}
+use Rattle.std.proofs.KnownBytes.{Appends-nil, Appends-trans}
+use Rattle.std.specs.declared.option.Option.{Option}
+use Rattle.std.specs.Io.KnownBytes.{Appends}
+use Rattle.sexpr_reader.specs.Reads.{Begins, FaultAfter, Ends}
+use Rattle.sexpr_reader.specs.declared.sexpr.Sexpr.{Sexpr}
+use Rattle.sexpr_reader.specs.declared.syntax_fault.SyntaxFault.{SyntaxFault}
+use Rattle.reply_text.specs.Refusals.{of_syntax}
+use Rattle.smt_session.specs.Replies.{text_of, is_error}
+use Rattle.smt_session.specs.Steps.{State, opened, Steps}
+use Rattle.reply_text.specs.declared.error_kind.ErrorKind.{ErrorKind}
+use Rattle.smt_session.specs.declared.reply.Reply.{Reply}
+use Rattle.smt_session.specs.declared.reply.Reply.TheVariants.{Error}
+use Rattle.smt_session.specs.Runs.{IsDone, IsLogCut}
+use Rattle.smt_session.specs.Scripts.{FollowsScript, none, next, AnswersBytes, to_end, to_exit, to_fault, so_far, all, texts_of, has_error}
+use Rattle.smt_session.specs.Awaiting.{IsWritten}
+
+follows_more : (s t u : State) (items : List Sexpr) (log : List Reply) (item : Sexpr) (r : Reply) → FollowsScript s items log t → t.ended ≡ false → Steps t item r u → FollowsScript s (items ++ item ∷ []) (log ++ r ∷ []) u
+follows_more s t u items log item r (none a) e h = next s u u item r [] [] e h (none u)
+follows_more s t u items log item r (next a b c i q is l goes step rest) e h = next s b u i q (is ++ item ∷ []) (l ++ r ∷ []) goes step (follows_more b t u is l item r rest e h)
+
+texts_more : (log : List Reply) (r : Reply) → texts_of (log ++ r ∷ []) ≡ texts_of log ++ text_of r
+texts_more [] r = append-nil (text_of r)
+texts_more (x ∷ log) r = ap (λ (l : List ℕ). text_of x ++ l) (texts_more log r) ∙ sym (append_assoc (text_of x) (texts_of log) (text_of r))
+
+module _ (a b c : Option (List ℕ)) (log : List Reply) (r : Reply) (before : Appends a b (texts_of log)) where
+  took_more : Appends b c (text_of r) → Appends a c (texts_of (log ++ r ∷ []))
+  took_more h = subst (Appends a c) (sym (texts_more log r)) (Appends-trans a b c _ _ before h)
+
+  took_front : (k : ℕ) → Appends b c (take k (text_of r)) → Appends a c (take (length (texts_of log) + k) (texts_of (log ++ r ∷ [])))
+  took_front k h = subst (Appends a c) (sym (ap (λ (l : List ℕ). take (length (texts_of log) + k) l) (texts_more log r) ∙ take-append-add (texts_of log) (text_of r) k)) (Appends-trans a b c _ _ before h)
+
+start : (t : Option (List ℕ)) → IsWritten false [] [] opened [] t t
+start t = record { rest = []; begins = record { lexed = refl; nested = refl }; follows = none opened; goes_on = refl; took = Appends-nil t }
+
+pub nothing_written : (s : State) (log : List Reply) (t : Option (List ℕ)) → s ≡ opened → log ≡ [] → IsWritten false [] [] s log t t
+nothing_written s log t new empty = subst (λ (x : State). IsWritten false [] [] x log t t) (sym new) (subst (λ (l : List Reply). IsWritten false [] [] opened l t t) (sym empty) (start t))
+
+-- all that was answered is written
+pub cut_here : (ended : Bool) (bytes : List ℕ) (items : List Sexpr) (s : State) (log : List Reply) (a b : Option (List ℕ)) → IsWritten ended bytes items s log a b → IsLogCut ended bytes a b log
+cut_here ended bytes items s log a b h = record { right = so_far items h.rest s h.begins h.follows; count = length (texts_of log); took = subst (Appends a b) (sym (take-length (texts_of log))) h.took }
+
+-- more bytes come, or the end is told
+pub written_on : (ended later : Bool) (bytes more rest : List ℕ) (items : List Sexpr) (s : State) (log : List Reply) (a b : Option (List ℕ)) → IsWritten ended bytes items s log a b → Begins later more items rest → IsWritten later more items s log a b
+written_on ended later bytes more rest items s log a b h begins = record { rest = rest; begins = begins; follows = h.follows; goes_on = h.goes_on; took = h.took }
+
+-- one item more is answered
+module _ (ended : Bool) (bytes rest : List ℕ) (items : List Sexpr) (item : Sexpr) (s t : State) (log : List Reply) (r : Reply) (a b c : Option (List ℕ))
+    (h : IsWritten ended bytes items s log a b) (begins : Begins ended bytes (items ++ item ∷ []) rest) (step : Steps s item r t) where
+  pub one_more : Appends b c (text_of r) → t.ended ≡ false → IsWritten ended bytes (items ++ item ∷ []) t (log ++ r ∷ []) a c
+  one_more took goes = record { rest = rest; begins = begins; follows = follows_more opened s t items log item r h.follows h.goes_on step; goes_on = goes; took = took_more a b c log r h.took took }
+
+  pub exit_done : Appends b c (text_of r) → t.ended ≡ true → IsDone ended bytes a c (log ++ r ∷ [])
+  exit_done took is = record { right = to_exit (items ++ item ∷ []) rest t begins (follows_more opened s t items log item r h.follows h.goes_on step) is; took = took_more a b c log r h.took took }
+
+  pub step_cut : (k : ℕ) → Appends b c (take k (text_of r)) → IsLogCut ended bytes a c (log ++ r ∷ [])
+  step_cut k took = record { right = so_far (items ++ item ∷ []) rest t begins (follows_more opened s t items log item r h.follows h.goes_on step); count = length (texts_of log) + k; took = took_front a b c log r h.took k took }
+
+-- a syntax fault is answered
+module _ (ended : Bool) (bytes : List ℕ) (items : List Sexpr) (s : State) (log : List Reply) (fault : SyntaxFault) (kind : ErrorKind) (a b c : Option (List ℕ))
+    (h : IsWritten ended bytes items s log a b) (faulty : FaultAfter ended bytes items fault) (is : of_syntax fault ≡ Some kind) where
+  fault_right : AnswersBytes ended bytes (log ++ Error kind ∷ [])
+  fault_right = to_fault items log s fault kind faulty h.follows h.goes_on is refl
+
+  pub fault_done : Appends b c (text_of (Error kind)) → IsDone ended bytes a c (log ++ Error kind ∷ [])
+  fault_done took = record { right = fault_right; took = took_more a b c log (Error kind) h.took took }
+
+  pub fault_cut : (k : ℕ) → Appends b c (take k (text_of (Error kind))) → IsLogCut ended bytes a c (log ++ Error kind ∷ [])
+  fault_cut k took = record { right = all fault_right; count = length (texts_of log) + k; took = took_front a b c log (Error kind) h.took k took }
+
+pub end_done : (ended : Bool) (bytes : List ℕ) (items : List Sexpr) (s : State) (log : List Reply) (a b : Option (List ℕ)) → IsWritten ended bytes items s log a b → Ends bytes items → IsDone true bytes a b log
+end_done ended bytes items s log a b h ends = record { right = to_end items s refl ends h.follows; took = h.took }
+
+-- there is a reply to each item
+pub replies_count : (s t : State) (items : List Sexpr) (log : List Reply) → FollowsScript s items log t → length log ≡ length items
+replies_count s t items log (none a) = refl
+replies_count s t items log (next a b c i q is l goes step rest) = omega (arith, replies_count b t is l rest)
+
+or_none : (a : Bool) → (a || false) ≡ a
+or_none true = refl
+or_none false = refl
+
+or_assoc : (a b c : Bool) → (a || (b || c)) ≡ ((a || b) || c)
+or_assoc true b c = refl
+or_assoc false b c = refl
+
+one_error : (log : List Reply) (r : Reply) → has_error (log ++ r ∷ []) ≡ (has_error log || is_error r)
+one_error [] r = or_none (is_error r)
+one_error (x ∷ log) r = ap (λ (b : Bool). is_error x || b) (one_error log r) ∙ or_assoc (is_error x) (has_error log) (is_error r)
+
+-- whether there is an error once there is one reply more
+pub error_more : (log new : List Reply) (r : Reply) → new ≡ log ++ r ∷ [] → has_error new ≡ (has_error log || is_error r)
+error_more log new r is = ap has_error is ∙ one_error log r
