@@ -12,4 +12,4 @@ next_form-requires c =
 pub returns : goal.returns
 returns c = λ r ns say.
     let k = c.next_number.ensures (kind_number r.kind) (form_numbers r ++ ns) say in
-    c.in_ok-next_form.ensures r ns (sym (c.kind_of_number-kind.ensures r.kind k.0)) k.1
+    c.next_form.ensures r ns (sym (c.kind_of_number-kind.ensures r.kind k.0)) k.1
