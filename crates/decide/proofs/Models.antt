@@ -1,5 +1,5 @@
 -- Values of a flat cube as values of its cube, and the other way round.
-use Rattle.std.proofs.Common.{◌≡◌, refl, sym, ap, ◌∙◌, subst, ℕ, ℤ, cond, map, filter, Bool, true, IsTrue, List, [], ◌∷◌, Option, Some, None, Err}
+use Rattle.std.proofs.Common.{◌≡◌, refl, sym, ap, ◌∙◌, subst, ℕ, ℤ, cond, map, filter, Bool, true, IsTrue, List, [], ◌∷◌, Option, Some, None, Err, IfOk}
 use Rattle.std.specs.List.{AllByRecursion, AllZip}
 use Rattle.sv_terms.specs.Language.{Word}
 use Rattle.sv_terms.specs.Meaning.{Named}
@@ -24,6 +24,7 @@ use Rattle.straight_line.specs.Laws.{FlatIsExact, FlatIsOne, IsGood, IsRefusal, 
 use Rattle.flat_cubes.specs.Satisfying.{Extends, HasValue, AreModelValues, NamesHave}
 use Rattle.flat_cubes.specs.Straight.{string_names}
 use Rattle.flat_cubes.specs.declared.fault.FlatFault.{FlatFault}
+use Rattle.flat_cubes.specs.declared.fault.FlatFault.TheVariants as fault
 use Rattle.flat_cubes.specs.declared.flat.Flat.{Flat}
 use Rattle.flat_cubes.specs.declared.variable.Variable.{Variable}
 use Rattle.cube_search.specs.Answers.{IsModelOf}
@@ -35,7 +36,7 @@ use Rattle.verdict_tally.specs.CubeValues.{CubeHasNoValues}
 use Rattle.verdict_tally.proofs.Listed.{first-part}
 use Rattle.decide.specs.Causes.{IsCause}
 use Rattle.decide.specs.Completeness.{MustDecideCube}
-use Rattle.decide.specs.Jobs.{IsAskedCube, IsSatOf}
+use Rattle.decide.specs.Jobs.{IsAskedCube, IsOutcome, IsSatOf, refused_answer}
 use Rattle.decide.proofs.Sorts.{sort_at, sorted-by, sorts_by}
 
 abbrev Name : Type 0
@@ -135,6 +136,14 @@ must-of one cube flat f m = subst MustDecideFlat (one cube.literals m.0 flat m.1
 -- a cube that is refused need not be decided
 pub refused-of : RefusedHasNone → (cube : Cube) (f : FlatFault) → IsRefusal f → IsFlattened cube.literals (Err f) → MustDecideCube cube → ⊥
 refused-of none cube f r refused must = none cube.literals f r refused record { flat = must.0; flattening = must.1 }
+
+-- and its answer is the refusal
+pub refused-outcome : RefusedHasNone → (terms : List Term) (cube : Cube) (f : FlatFault) → IsFlattened cube.literals (Err f) → IfOk (refused_answer f) (IsOutcome terms cube)
+refused-outcome none terms cube (fault.Outside l) refused = record { right = refused; decided = λ must. absurd (refused-of none cube (fault.Outside l) tt refused must) }
+refused-outcome none terms cube (fault.Twice v) refused = record { right = refused; decided = λ must. absurd (refused-of none cube (fault.Twice v) tt refused must) }
+refused-outcome none terms cube (fault.Cycle vs) refused = record { right = refused; decided = λ must. absurd (refused-of none cube (fault.Cycle vs) tt refused must) }
+refused-outcome none terms cube (fault.Wide n) refused = record { right = refused; decided = λ must. absurd (refused-of none cube (fault.Wide n) tt refused must) }
+refused-outcome none terms cube (fault.Memory e) refused = tt
 
 -- without rows there are no registers
 no-columns : (rs : List (Shape × ℕ)) (bs : List Bounded) → bs ≡ [] → filter (λ (r : Shape × ℕ). has_column bs (length_of r.0)) rs ≡ []

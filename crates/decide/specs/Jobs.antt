@@ -1,6 +1,7 @@
 -- What the answer for one cube of some assertions is, and what the answers for all come to.
-use Rattle.std.specs.Prelude.{◌≡◌, ◌≢◌, ℕ, ◌*◌, ◌≤◌, List, [], ◌++◌, length, None, ◌⊎◌, ⊤}
+use Rattle.std.specs.Prelude.{◌≡◌, ◌≢◌, ℕ, ◌*◌, ◌≤◌, List, [], ◌++◌, length, None, Result, Ok, Err, ◌⊎◌, ⊤}
 use Rattle.std.specs.List.{AllByRecursion, AllZip}
+use Rattle.std.specs.declared.alloc.AllocError.{AllocError}
 use Rattle.sv_terms.specs.Meaning.{Named}
 use Rattle.sv_terms.specs.Truth.{AreValued, clear_of, opaque_of}
 use Rattle.sv_terms.specs.declared.term.Term.{Term}
@@ -12,10 +13,14 @@ use Rattle.literal_forms.specs.declared.literal.Literal.{Literal}
 use Rattle.literal_forms.specs.declared.literal.Cube.{Cube}
 use Rattle.flat_cubes.specs.Flattening.{IsFlattening}
 use Rattle.straight_line.specs.Laws.{IsSpelled}
+use Rattle.flat_cubes.specs.declared.fault.FlatFault.{FlatFault}
+use Rattle.flat_cubes.specs.declared.fault.FlatFault.TheVariants as fault
 use Rattle.flat_cubes.specs.declared.flat.Flat.{Flat}
 use Rattle.cube_search.specs.Answers.{IsDecidedCube, IsModelOf}
 use Rattle.cube_answers.specs.declared.answer.CubeAnswer.{CubeAnswer}
 use Rattle.cube_answers.specs.declared.answer.CubeAnswer.TheVariants as answer
+use Rattle.cube_answers.specs.declared.reason.OpenReason.TheVariants.{Fragment, Wide}
+use Rattle.cube_answers.specs.declared.reason.Shown.TheVariants.{Outside, Twice, Cycle}
 use Rattle.decide.specs.Causes.{IsCause}
 use Rattle.decide.specs.Completeness.{MustDecideCube}
 use Rattle.verdict_tally.specs.CubeValues.{AreTrueAtCube, CubeHasNoValues}
@@ -53,6 +58,14 @@ IsRightAnswer terms cube (answer.Open reason) = IsCause terms cube reason
 pub record IsOutcome (terms : List Term) (cube : Cube) (answer : CubeAnswer) : Type 0 where
   pub right : IsRightAnswer terms cube answer
   pub decided : MustDecideCube cube → IsDecidedCube answer
+
+-- the answer where a cube has no flat cube
+abbrev pub refused_answer : FlatFault → Result CubeAnswer AllocError
+refused_answer (fault.Outside l) = Ok (answer.Open (Fragment (Outside l)))
+refused_answer (fault.Twice v) = Ok (answer.Open (Fragment (Twice v)))
+refused_answer (fault.Cycle vs) = Ok (answer.Open (Fragment (Cycle vs)))
+refused_answer (fault.Wide n) = Ok (answer.Open (Wide n))
+refused_answer (fault.Memory e) = Err e
 
 -- whole batches without a model that ends the search
 pub record AreWhole (opaque : List Term) (answers : List CubeAnswer) : Type 0 where

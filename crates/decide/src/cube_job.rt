@@ -4,7 +4,7 @@ ghost use Rattle.flat_cubes.specs.Flattening.{IsFlattening};
 ghost use Rattle.flat_cubes.specs.Straight.{AreNamesApart};
 ghost use Rattle.cube_answers.specs.declared.answer.CubeAnswer.TheVariants.{Open};
 ghost use Rattle.cube_answers.specs.declared.reason.OpenReason.TheVariants.{Fragment};
-ghost use Rattle.decide.specs.Jobs.{IsAskedCube, IsOutcome};
+ghost use Rattle.decide.specs.Jobs.{IsAskedCube, IsOutcome, refused_answer};
 
 use assertion_parts::complete;
 use cube_answers::{CubeAnswer, OpenReason, Shown};
@@ -79,11 +79,20 @@ pub fn answer_for(shared: &Shared<'_>, cube: &Cube) -> Result<CubeAnswer, AllocE
     refusals_have_no_flat_cube();
     match flatten(shared.alloc, cube) {
         Ok(flat) => flat_answer(shared, cube, &flat),
-        Err(FlatFault::Outside(literal)) => Ok(fragment(Shown::Outside(literal))),
-        Err(FlatFault::Twice(variable)) => Ok(fragment(Shown::Twice(variable))),
-        Err(FlatFault::Cycle(variables)) => Ok(fragment(Shown::Cycle(variables))),
-        Err(FlatFault::Wide(number)) => Ok(CubeAnswer::Open(OpenReason::Wide(number))),
-        Err(FlatFault::Memory(error)) => Err(error),
+        Err(fault) => refused(fault),
+    }
+}
+
+/// The answer for a cube that has no flat cube.
+fn refused(fault: FlatFault) -> Result<CubeAnswer, AllocError>
+    ensures { result ≡ refused_answer fault }
+{
+    match fault {
+        FlatFault::Outside(literal) => Ok(fragment(Shown::Outside(literal))),
+        FlatFault::Twice(variable) => Ok(fragment(Shown::Twice(variable))),
+        FlatFault::Cycle(variables) => Ok(fragment(Shown::Cycle(variables))),
+        FlatFault::Wide(number) => Ok(CubeAnswer::Open(OpenReason::Wide(number))),
+        FlatFault::Memory(error) => Err(error),
     }
 }
 
