@@ -12,8 +12,8 @@ use Rattle.literal_forms.specs.Shapes.{seen}
 use Rattle.literal_forms.specs.declared.literal.Cube.{Cube}
 use Rattle.literal_forms.specs.declared.literal.Literal.{Literal}
 use Rattle.straight_line.specs.Laws.{IsSpelled}
-use Rattle.verdict_tally.specs.Passing.{shared_of}
-use Rattle.verdict_tally.proofs.Sharing.{all-at, of-block, shared-at, some-of-block}
+use Rattle.decide.specs.Passing.{shared_of}
+use Rattle.decide.proofs.Sharing.{all-at, of-block, shared-at, some-of-block}
 use Rattle.decide.specs.Jobs.{IsAskedCube}
 
 module _ (counted : CubesAreCounted) (picked : CubesArePicked) where

@@ -12,9 +12,9 @@ use Rattle.cube_answers.specs.declared.reason.OpenReason.TheVariants.{Fragment}
 use Rattle.cube_answers.specs.declared.reason.Shown.TheVariants.{Opaque}
 use Rattle.sv_terms.specs.Truth.{AreValued, clear_of, opaque_of}
 use Rattle.assertion_parts.specs.Constants.{AreValuesOf}
-use Rattle.verdict_tally.specs.CubeValues.{CubeHasNoValues, AreTrueAtCube}
-use Rattle.verdict_tally.specs.Folds.{first_sat, opens_from}
-use Rattle.verdict_tally.proofs.Listed.{contains-here, contains-there, contains-cases, contains-none}
+use Rattle.decide.specs.CubeValues.{CubeHasNoValues, AreTrueAtCube}
+use Rattle.decide.specs.Folds.{first_sat, opens_from}
+use Rattle.decide.proofs.Listed.{contains-here, contains-there, contains-cases, contains-none}
 use Rattle.decide.specs.Causes.{IsCause}
 use Rattle.decide.specs.Completeness.{MustDecideCube}
 use Rattle.decide.specs.Jobs.{IsOutcome}

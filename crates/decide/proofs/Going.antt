@@ -12,13 +12,13 @@ use Rattle.bool_cubes.specs.Cubes.{cubes_of}
 use Rattle.literal_forms.specs.declared.literal.Cube.{Cube}
 use Rattle.cube_answers.specs.declared.answer.CubeAnswer.{CubeAnswer}
 use Rattle.sv_terms.specs.Truth.{opaque_of}
-use Rattle.verdict_tally.specs.CubeValues.{CubeHasNoValues}
-use Rattle.verdict_tally.specs.Folds.{found, with_first, without_sat}
-use Rattle.verdict_tally.specs.Passing.{PassesCubes, passed}
-use Rattle.verdict_tally.specs.Tallies.{IsTallyOf, batch, verdict_of}
-use Rattle.verdict_tally.specs.declared.tally.CubeTally.{CubeTally}
-use Rattle.verdict_tally.proofs.Sharing.{LeftBy}
-use Rattle.verdict_tally.proofs.Tallying.{found-over, passed-length}
+use Rattle.decide.specs.CubeValues.{CubeHasNoValues}
+use Rattle.decide.specs.Folds.{found, with_first, without_sat}
+use Rattle.decide.specs.Passing.{PassesCubes, passed}
+use Rattle.decide.specs.Tallies.{IsTallyOf, batch, verdict_of}
+use Rattle.decide.specs.declared.tally.CubeTally.{CubeTally}
+use Rattle.decide.proofs.Sharing.{LeftBy}
+use Rattle.decide.proofs.Tallying.{found-over, passed-length}
 use Rattle.decide.specs.Jobs.{IsAskedCube, IsOutcome, IsFoldOf, IsUnderWay}
 use Rattle.decide.specs.Batches.{AreJobsOf, Yields}
 

@@ -1,8 +1,11 @@
-pub mod Asking
-pub mod Assertions
-pub mod Crossing
-pub mod Folding
-pub mod Going
-pub mod Models
-pub mod Rightness
-pub mod Sorts
+mod Asking
+mod Assertions
+mod Crossing
+mod Folding
+mod Going
+mod Listed
+mod Models
+mod Rightness
+mod Sharing
+mod Sorts
+mod Tallying

@@ -32,8 +32,8 @@ use Rattle.cube_search.specs.Causes.{EachSolution, IsCauseOf}
 use Rattle.cube_answers.specs.Limits.{MustDecideFlat}
 use Rattle.cube_answers.specs.declared.reason.OpenReason.{OpenReason}
 use Rattle.cube_answers.specs.declared.reason.OpenReason.TheVariants as reason
-use Rattle.verdict_tally.specs.CubeValues.{CubeHasNoValues}
-use Rattle.verdict_tally.proofs.Listed.{first-part}
+use Rattle.decide.specs.CubeValues.{CubeHasNoValues}
+use Rattle.decide.proofs.Listed.{first-part}
 use Rattle.decide.specs.Causes.{IsCause}
 use Rattle.decide.specs.Completeness.{MustDecideCube}
 use Rattle.decide.specs.Jobs.{IsAskedCube, IsOutcome, IsSatOf, refused_answer}

@@ -15,12 +15,12 @@ use Rattle.cube_answers.specs.declared.answer.CubeAnswer.{CubeAnswer}
 use Rattle.cube_answers.specs.declared.answer.Refutation.{Refutation}
 use Rattle.cube_answers.specs.declared.reason.OpenReason.{OpenReason}
 use Rattle.assertion_parts.specs.Constants.{AreOnly}
-use Rattle.verdict_tally.specs.CubeValues.{CubeHasNoValues, AreTrueAtCube}
-use Rattle.verdict_tally.specs.Folds.{first_sat, opens_from, refuted_from, refutation, with_first, without_sat, found, fold}
-use Rattle.verdict_tally.specs.declared.verdict.Open.TheVariants.{TooManyCubes, PastForm, Cubes}
-use Rattle.verdict_tally.specs.declared.verdict.Verdict.{Verdict}
-use Rattle.verdict_tally.specs.declared.verdict.Verdict.TheVariants.{Sat, Unsat, Unknown}
-use Rattle.verdict_tally.proofs.Listed.{get-left, contains-here}
+use Rattle.decide.specs.CubeValues.{CubeHasNoValues, AreTrueAtCube}
+use Rattle.decide.specs.Folds.{first_sat, opens_from, refuted_from, refutation, with_first, without_sat, found, fold}
+use Rattle.decide.specs.declared.verdict.Open.TheVariants.{TooManyCubes, PastForm, Cubes}
+use Rattle.decide.specs.declared.verdict.Verdict.{Verdict}
+use Rattle.decide.specs.declared.verdict.Verdict.TheVariants.{Sat, Unsat, Unknown}
+use Rattle.decide.proofs.Listed.{get-left, contains-here}
 use Rattle.decide.specs.Completeness.{MustDecideCube, MustDecide, IsComplete, IsUnsat, IsUnknown}
 use Rattle.decide.specs.Jobs.{IsOutcome, IsFoldOf, IsFolded}
 use Rattle.decide.specs.Verdicts.{RightVerdict, HasOnly}

@@ -12,7 +12,7 @@ use Rattle.cube_answers.specs.declared.reason.OpenReason.{OpenReason}
 use Rattle.cube_answers.specs.declared.reason.OpenReason.TheVariants.{Fragment, Wide, States, Splits, Growth, Length, Arithmetic}
 use Rattle.cube_answers.specs.declared.reason.Shown.{Shown}
 use Rattle.cube_answers.specs.declared.reason.Shown.TheVariants.{Outside, Twice, Cycle, Opaque}
-use Rattle.verdict_tally.specs.CubeValues.{CubeHasValues}
+use Rattle.decide.specs.CubeValues.{CubeHasValues}
 
 -- the first thing for which the cube isn't straight
 abbrev pub IsRefusedBy : Cube → FlatFault → Type 0

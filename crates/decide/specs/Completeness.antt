@@ -9,8 +9,8 @@ use Rattle.literal_forms.specs.declared.literal.Cube.{Cube}
 use Rattle.flat_cubes.specs.Flattening.{IsFlattening}
 use Rattle.flat_cubes.specs.declared.flat.Flat.{Flat}
 use Rattle.cube_answers.specs.Limits.{MustDecideFlat}
-use Rattle.verdict_tally.specs.declared.verdict.Verdict.{Verdict}
-use Rattle.verdict_tally.specs.declared.verdict.Verdict.TheVariants.{Sat, Unsat, Unknown}
+use Rattle.decide.specs.declared.verdict.Verdict.{Verdict}
+use Rattle.decide.specs.declared.verdict.Verdict.TheVariants.{Sat, Unsat, Unknown}
 
 -- the cube is straight, and must be decided by the numbers of its text
 abbrev pub MustDecideCube : Cube → Type 0

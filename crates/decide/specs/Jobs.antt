@@ -23,13 +23,13 @@ use Rattle.cube_answers.specs.declared.reason.OpenReason.TheVariants.{Fragment, 
 use Rattle.cube_answers.specs.declared.reason.Shown.TheVariants.{Outside, Twice, Cycle}
 use Rattle.decide.specs.Causes.{IsCause}
 use Rattle.decide.specs.Completeness.{MustDecideCube}
-use Rattle.verdict_tally.specs.CubeValues.{AreTrueAtCube, CubeHasNoValues}
-use Rattle.verdict_tally.specs.Folds.{found, fold}
-use Rattle.verdict_tally.specs.Tallies.{IsTallyOf, batch}
-use Rattle.verdict_tally.specs.declared.tally.CubeTally.{CubeTally}
-use Rattle.verdict_tally.specs.declared.verdict.Open.TheVariants.{TooManyCubes, PastForm, Cubes}
-use Rattle.verdict_tally.specs.declared.verdict.Verdict.{Verdict}
-use Rattle.verdict_tally.specs.declared.verdict.Verdict.TheVariants.{Sat, Unsat, Unknown}
+use Rattle.decide.specs.CubeValues.{AreTrueAtCube, CubeHasNoValues}
+use Rattle.decide.specs.Folds.{found, fold}
+use Rattle.decide.specs.Tallies.{IsTallyOf, batch}
+use Rattle.decide.specs.declared.tally.CubeTally.{CubeTally}
+use Rattle.decide.specs.declared.verdict.Open.TheVariants.{TooManyCubes, PastForm, Cubes}
+use Rattle.decide.specs.declared.verdict.Verdict.{Verdict}
+use Rattle.decide.specs.declared.verdict.Verdict.TheVariants.{Sat, Unsat, Unknown}
 
 -- a cube of assertions that may be asked: no step of its literals leaves 128 bits, their words are words and their transducers formed, and values of the assertions' constants, of which some are, are values of its own
 pub record IsAskedCube (terms : List Term) (cube : Cube) : Type 0 where

@@ -1,6 +1,10 @@
 pub mod Batches
 pub mod Causes
 pub mod Completeness
+pub mod CubeValues
+pub mod Folds
 pub mod Jobs
+pub mod Passing
 pub mod Samples
+pub mod Tallies
 pub mod Verdicts

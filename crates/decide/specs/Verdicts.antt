@@ -13,12 +13,12 @@ use Rattle.bool_cubes.specs.declared.fault.CubeFault.TheVariants as fault
 use Rattle.literal_forms.specs.declared.literal.Cube.{Cube}
 use Rattle.cube_answers.specs.declared.reason.OpenReason.{OpenReason}
 use Rattle.decide.specs.Causes.{IsCause}
-use Rattle.verdict_tally.specs.CubeValues.{CubeHasNoValues}
+use Rattle.decide.specs.CubeValues.{CubeHasNoValues}
 use Rattle.assertion_parts.specs.Constants.{AreOnly}
-use Rattle.verdict_tally.specs.declared.verdict.Open.{Open}
-use Rattle.verdict_tally.specs.declared.verdict.Open.TheVariants.{TooManyCubes, PastForm, Cubes}
-use Rattle.verdict_tally.specs.declared.verdict.Verdict.{Verdict}
-use Rattle.verdict_tally.specs.declared.verdict.Verdict.TheVariants.{Sat, Unsat, Unknown}
+use Rattle.decide.specs.declared.verdict.Open.{Open}
+use Rattle.decide.specs.declared.verdict.Open.TheVariants.{TooManyCubes, PastForm, Cubes}
+use Rattle.decide.specs.declared.verdict.Verdict.{Verdict}
+use Rattle.decide.specs.declared.verdict.Verdict.TheVariants.{Sat, Unsat, Unknown}
 
 -- each listed cube has its reason
 abbrev pub EachIsCause : List Term → List (ℕ × OpenReason) → Type 0

@@ -1,11 +1,12 @@
 //! The jobs of a batch.
 ghost use Rattle.std.specs.Prelude.{◌≡◌, ◌≤◌, [], ◌⊎◌, length, IfOk};
 ghost use Rattle.std.specs.List.{AllByRecursion};
-ghost use Rattle.verdict_tally.specs.Tallies.{batch};
+ghost use Rattle.decide.specs.Tallies.{batch};
 ghost use Rattle.decide.specs.Batches.{AreAnswersOf, AreJobsOf};
 ghost use Rattle.decide.specs.Jobs.{IsAskedCube};
 
 use crate::cube_job::{CubeJob, Shared};
+use crate::tally::BATCH;
 use bool_cubes::Cubes;
 use cube_answers::{CubeAnswer, answer_crosses};
 use par_phase::{Gate, run_jobs};
@@ -13,7 +14,6 @@ use part_machines::machines_cross;
 use std::alloc::{AllocError, Global};
 use std::thread::Threads;
 use sv_list::Items;
-use verdict_tally::BATCH;
 
 /// Jobs for the next cubes, as many as a batch has; fewer only where no more are left.
 pub fn next_batch<'a>(

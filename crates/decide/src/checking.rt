@@ -8,15 +8,18 @@ ghost use Rattle.sv_terms.specs.TransducerSizes.{has_formed};
 ghost use Rattle.bool_cubes.specs.Cubes.{cubes_of};
 ghost use Rattle.bool_cubes.specs.Laws.{IsClearBool};
 ghost use Rattle.bool_cubes.specs.Refusing.{most_cubes};
-ghost use Rattle.verdict_tally.specs.Passing.{PassesCubes};
+ghost use Rattle.decide.specs.Passing.{PassesCubes};
 ghost use Rattle.decide.specs.Completeness.{MustDecide, IsComplete};
 ghost use Rattle.decide.specs.Jobs.{IsAskedCube, IsFolded, IsFoldOf};
 ghost use Rattle.decide.specs.Verdicts.{HasOnly, RightVerdict, refused_as};
 
 use crate::batch::{answers, next_batch};
+use crate::blocks::Pace;
 use crate::cube_job::Shared;
 use crate::machines::machines_for;
 use crate::passing::count_refuted_ahead;
+use crate::tally::{CubeTally, tally_all};
+use crate::verdict::{Open, Verdict};
 use assertion_parts::{clear_terms, first_opaque, string_literals_are_words};
 use bool_cubes::{
     CubeFault, Cubes, cubes_are_counted, cubes_are_exact, literals_fit, literals_have_values,
@@ -26,7 +29,6 @@ use par_phase::Gate;
 use std::alloc::{AllocError, Global};
 use std::thread::Threads;
 use sv_terms::{Term, transducers_are_bounded};
-use verdict_tally::{CubeTally, Open, Pace, Verdict, tally_all};
 
 /// The verdict on assertions: terms of sort Bool whose transducers are formed, and in which each name has
 /// one sort, as `sort_check` answers them.

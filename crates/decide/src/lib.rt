@@ -8,6 +8,15 @@
 //! ends the search. The cubes of a batch are jobs that several threads do at once; the machines of the
 //! regular expressions in the assertions are built once, in a pool that all jobs share.
 //!
+//! What the answers come to is the tally's: a [`CubeTally`](tally::CubeTally) is that of the answers which it was given,
+//! in their order, and the verdict that it comes to is their fold: the first model, where no assertion has an opaque part;
+//! else all open cubes by their numbers; else the counts of the leaves closed. An answer costs the tally the same,
+//! whatever it is, but for a copy of the opaque assertion where its model is set aside.
+//!
+//! Cubes come in blocks, each of one choice for the first terms: what the cubes of a block share is a cube of fewer
+//! terms, and where that has no values none of them has. The literals that a block shares cost a copy of their terms,
+//! and the cubes of these as a tree.
+//!
 //! ```text
 //! match check(&rt, alloc, terms, 4, &Free)? {
 //!     Verdict::Sat(model) => ..,      // a value for each constant of the terms
@@ -18,9 +27,13 @@
 #![tactic(auto)]
 
 mod batch;
+mod blocks;
 mod checking;
 mod cube_job;
 mod machines;
 mod passing;
+mod tally;
+mod verdict;
 
 pub use checking::check;
+pub use verdict::{Open, Verdict};

@@ -3,17 +3,17 @@ ghost use Rattle.std.specs.Prelude.{◌≤◌, IfOk, IsTrue, length};
 ghost use Rattle.std.specs.List.{AllByRecursion};
 ghost use Rattle.bool_cubes.specs.Cubes.{cubes_of};
 ghost use Rattle.bool_cubes.specs.Laws.{IsClearBool};
-ghost use Rattle.verdict_tally.specs.CubeValues.{CubeHasNoValues};
-ghost use Rattle.verdict_tally.specs.Passing.{AreKnown};
+ghost use Rattle.decide.specs.CubeValues.{CubeHasNoValues};
+ghost use Rattle.decide.specs.Passing.{AreKnown};
 ghost use Rattle.decide.specs.Jobs.{IsAskedCube};
 
+use crate::blocks::{block_of, count_ahead, longest_choice, shared_literals};
 use crate::cube_job::{Shared, answer_for};
 use bool_cubes::{cubes_are_counted, cubes_are_picked};
 use cube_answers::CubeAnswer;
 use literal_forms::Cube;
 use std::alloc::AllocError;
 use sv_terms::Term;
-use verdict_tally::{block_of, count_ahead, longest_choice, shared_literals};
 
 /// Whether no values make the literals true, as far as is found.
 fn has_no_values(shared: &Shared<'_>, cube: &Cube) -> Result<bool, AllocError>

@@ -3,7 +3,7 @@ ghost use Rattle.std.specs.Prelude.{◌≡◌, ◌≤◌, ◌∷◌, [], IfOk};
 ghost use Rattle.sv_terms.specs.declared.sort.Sort.TheVariants as sort;
 ghost use Rattle.decide.specs.Samples.{IsSample};
 
-use decide::check;
+use decide::{Verdict, check};
 use par_phase::Gate;
 use std::alloc::{AllocError, Global};
 use std::sync::atomic::{AtomicBool, Ordering};
@@ -12,7 +12,6 @@ use std::thread::Threads;
 use sv_list::{Boxed, Items};
 use sv_terms::{Name, Op, Regex, Sort, Term};
 use sv_word::Word;
-use verdict_tally::Verdict;
 
 // The one constant, x.
 fn constant(alloc: Global) -> Result<Term, AllocError>

@@ -3,7 +3,7 @@ use Rattle.std.proofs.Common.{◌≡◌, ℕ, ◌≤◌, List, [], ◌∷◌, �
 use Rattle.std.proofs.lemmas.Bool.{cases_lt}
 use Rattle.std.specs.declared.option.Option.{Option}
 use Rattle.assert_stack.specs.Levels.{symbols_of}
-use Rattle.verdict_tally.specs.declared.verdict.Verdict.{Verdict}
+use Rattle.decide.specs.declared.verdict.Verdict.{Verdict}
 use Rattle.sexpr_reader.specs.Items.{tokens_of, tokens_of_all, levels}
 use Rattle.sexpr_reader.specs.Lexes.{Lexes}
 use Rattle.sexpr_reader.specs.Reads.{Begins, Reads}

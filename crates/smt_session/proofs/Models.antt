@@ -10,7 +10,7 @@ use Rattle.assertion_parts.specs.Constants.{AreOnly, ConstantsHaveOneSort}
 use Rattle.assertion_parts.specs.Filling.{default, or_default}
 use Rattle.decide.specs.Completeness.{IsComplete}
 use Rattle.decide.specs.Verdicts.{RightVerdict}
-use Rattle.verdict_tally.specs.declared.verdict.Verdict.TheVariants.{Sat}
+use Rattle.decide.specs.declared.verdict.Verdict.TheVariants.{Sat}
 use Rattle.term_weight.specs.Bodies.{is_escaped}
 use Rattle.sort_check.specs.WellFormed.{is_constant_of, is_declared, constants_known, is_entry, is_new, follow, is_well_formed, is_given, AreGiven}
 use Rattle.sv_terms.specs.Meaning.{Named}

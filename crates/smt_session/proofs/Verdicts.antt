@@ -4,8 +4,8 @@ use Rattle.std.specs.Prelude.{codes}
 use Rattle.assert_stack.specs.Levels.{Symbol, symbols_of, live}
 use Rattle.decide.specs.Completeness.{IsComplete, MustDecide}
 use Rattle.decide.specs.Verdicts.{RightVerdict}
-use Rattle.verdict_tally.specs.declared.verdict.Open.{Open}
-use Rattle.verdict_tally.specs.declared.verdict.Verdict.TheVariants as verdict
+use Rattle.decide.specs.declared.verdict.Open.{Open}
+use Rattle.decide.specs.declared.verdict.Verdict.TheVariants as verdict
 use Rattle.sexpr_reader.specs.declared.sexpr.Sexpr.{Sexpr}
 use Rattle.sort_check.specs.Checking.{checked}
 use Rattle.smt_names.specs.Form.{seen}

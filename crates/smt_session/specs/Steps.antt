@@ -27,8 +27,8 @@ use Rattle.smt_session.specs.declared.session.LastVerdict.TheVariants as kept
 use Rattle.cube_answers.specs.declared.answer.Refutation.{Refutation}
 use Rattle.decide.specs.Completeness.{MustDecide, IsComplete}
 use Rattle.decide.specs.Verdicts.{RightVerdict}
-use Rattle.verdict_tally.specs.declared.verdict.Verdict.{Verdict}
-use Rattle.verdict_tally.specs.declared.verdict.Verdict.TheVariants as verdict_by
+use Rattle.decide.specs.declared.verdict.Verdict.{Verdict}
+use Rattle.decide.specs.declared.verdict.Verdict.TheVariants as verdict_by
 use Rattle.reply_text.specs.Refusals.{of_check, of_value}
 use Rattle.smt_session.specs.Verdicts.{IsVerdictFor, cause_of}
 

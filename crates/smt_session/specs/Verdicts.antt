@@ -8,10 +8,10 @@ use Rattle.cube_answers.specs.declared.reason.OpenReason.{OpenReason}
 use Rattle.cube_answers.specs.declared.reason.OpenReason.TheVariants as reason
 use Rattle.assertion_parts.specs.Constants.{is_mentioned}
 use Rattle.assertion_parts.specs.Filling.{default}
-use Rattle.verdict_tally.specs.declared.verdict.Open.{Open}
-use Rattle.verdict_tally.specs.declared.verdict.Open.TheVariants as open_by
-use Rattle.verdict_tally.specs.declared.verdict.Verdict.{Verdict}
-use Rattle.verdict_tally.specs.declared.verdict.Verdict.TheVariants as verdict
+use Rattle.decide.specs.declared.verdict.Open.{Open}
+use Rattle.decide.specs.declared.verdict.Open.TheVariants as open_by
+use Rattle.decide.specs.declared.verdict.Verdict.{Verdict}
+use Rattle.decide.specs.declared.verdict.Verdict.TheVariants as verdict
 use Rattle.lia_branch.specs.declared.evidence.Evidence.{Evidence}
 use Rattle.lia_branch.specs.declared.evidence.Evidence.TheVariants as evidence
 use Rattle.sv_terms.specs.Meaning.{Named}

@@ -5,7 +5,7 @@ ghost use Rattle.smt_session.specs.Verdicts.{cause_of, of_evidence, of_reason};
 use cube_answers::OpenReason;
 use lia_branch::Evidence;
 use reply_text::{Cause, CubeCause};
-use verdict_tally::Open;
+use decide::Open;
 
 fn of_evidence(evidence: &Evidence) -> CubeCause
     ensures { result ≡ of_evidence evidence.now }

@@ -11,14 +11,13 @@ ghost use Rattle.smt_session.specs.Models.{model_of};
 ghost use Rattle.smt_session.specs.Verdicts.{IsVerdictFor};
 
 use assertion_parts::value_for;
-use decide::check;
+use decide::{Verdict, check};
 use par_phase::Free;
 use sort_check::{constants_have_values, entries_are_well_formed};
 use std::alloc::{AllocError, Global};
 use std::thread::Threads;
 use sv_terms::{Entry, Model, Name, Term};
 use term_weight::Declarations;
-use verdict_tally::Verdict;
 
 // One more symbol: its value, where it is a constant.
 fn add(

@@ -23,7 +23,7 @@ use std::alloc::{AllocError, Global};
 use std::thread::Threads;
 use sv_list::Items;
 use sv_terms::{Entry, Model, Name, Term};
-use verdict_tally::Verdict;
+use decide::Verdict;
 
 /// The verdict of the last `check-sat`, until something changes what it was on.
 #[derive(Drop)]

@@ -2,7 +2,7 @@ use Rattle.std.proofs.Common.{◌||◌, nat_lt, sym, ap, ◌∙◌, subst, arith
 use Rattle.std.specs.List.{AllByRecursion}
 use Rattle.std.specs.Option.{is_some}
 use Rattle.sv_terms.specs.Truth.{opaque_of}
-use Rattle.verdict_tally.specs.Tallies.{batch}
+use Rattle.decide.specs.Tallies.{batch}
 use Rattle.decide.specs.Batches.{AreAnswersOf}
 use Rattle.decide.specs.Jobs.{IsAskedCube, IsFoldOf}
 use Rattle.decide.proofs.Going.{asked-left, asked-over, start, step, finish, room, fewer, go-over, goes-on, no-more-over, pass-room, stops-of}

@@ -1,5 +1,5 @@
 use Rattle.std.proofs.Common.{arith}
-use Rattle.verdict_tally.proofs.Sharing.{passes-none}
+use Rattle.decide.proofs.Sharing.{passes-none}
 use Rattle.decide.proofs.checking.pass_over.Goals as goal
 
 pub returns-then-not-is_due : goal.returns-then-not-is_due

@@ -1,5 +1,5 @@
 use Rattle.std.proofs.Common.{◌≤◌, ◌-◌, length}
-use Rattle.verdict_tally.specs.Passing.{AreKnown}
+use Rattle.decide.specs.Passing.{AreKnown}
 use Rattle.decide.proofs.passing.count_refuted_ahead.Given as goal
 
 abbrev pub invariant-loop-least : goal.invariant-loop-least

@@ -1,5 +1,5 @@
 use Rattle.std.proofs.Common.{◌<◌, arith}
-use Rattle.verdict_tally.proofs.Sharing.{known-block}
+use Rattle.decide.proofs.Sharing.{known-block}
 use Rattle.decide.proofs.Asking.{asked-block}
 use Rattle.decide.proofs.passing.count_refuted_by.Goals as goal
 

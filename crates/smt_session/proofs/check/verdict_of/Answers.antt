@@ -1,7 +1,7 @@
 use Rattle.std.proofs.Common.{sym, subst}
 use Rattle.decide.specs.Completeness.{IsComplete}
 use Rattle.decide.specs.Verdicts.{RightVerdict, HasOnly}
-use Rattle.verdict_tally.specs.declared.verdict.Verdict.TheVariants.{Sat}
+use Rattle.decide.specs.declared.verdict.Verdict.TheVariants.{Sat}
 use Rattle.smt_session.specs.Verdicts.{IsModelFor}
 use Rattle.smt_session.proofs.Models.{one-sort, right-model, complete-model, model-for}
 use Rattle.smt_session.proofs.Soundness.{formed-all, known, sorted-all}

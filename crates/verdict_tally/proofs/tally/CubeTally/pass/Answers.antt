@@ -1,6 +1,0 @@
-use Rattle.std.proofs.Common.{refl}
-use Rattle.verdict_tally.proofs.Tallying.{tally-over}
-use Rattle.verdict_tally.proofs.tally.CubeTally.pass.Goals as goal
-
-pub returns : goal.returns
-returns c = λ terms before h. tally-over terms before c.args.cubes c.args.self.now _ refl refl refl refl refl h

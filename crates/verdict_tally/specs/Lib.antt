@@ -1,4 +1,0 @@
-pub mod CubeValues
-pub mod Folds
-pub mod Passing
-pub mod Tallies
