@@ -1,6 +1,6 @@
 -- Forms that are joined from the left.
 use Rattle.std.proofs.Common.{◌≡◌, refl, sym, ap, ◌∙◌, subst, ℕ, zero, suc, ◌+◌, ◌<◌, ◌≤◌, ℤ, pos, Bool, List, [], ◌∷◌, ◌++◌, map, length, take, drop, get_or, append_assoc, arith, inl, inr, append-nil}
-use Rattle.std.specs.Prelude.{Result, Err}
+use Rattle.std.specs.Prelude.{Result, Ok, Err, IfOk}
 use Rattle.std.proofs.lemmas.List.{take_more, length-take}
 use Rattle.sv_terms.specs.declared.op.Op.{Op}
 use Rattle.sv_terms.specs.declared.op.Op.TheVariants as op
@@ -15,7 +15,7 @@ use Rattle.literal_forms.specs.Flats.{flat, opening}
 use Rattle.literal_forms.specs.Formed.{IsUnknownForm, combined_by, combining_steps, linears_of, steps_of}
 use Rattle.literal_forms.specs.Linear.{Linear, Unknown, integer, length_of, other, Step, scaling, from_left, joined_of, joined_steps, length_form, linear, minus_one, of_number, of_unknown, read, read_steps, reading_of, scaled, steps, steps_from, unknown_code, whole, written}
 use Rattle.literal_forms.specs.Mirrors.{raw-seen, seen-Truth, seen-Number, seen-Text, seen-Constant, seen-Apply, seen-InRe, seen-Related, seen-Opaque}
-use Rattle.literal_forms.specs.Numbered.{AreNumbered, HasNumber, IsFormOrPast, IsMore, IsNumbered, joint_of, joint_steps}
+use Rattle.literal_forms.specs.Numbered.{AreNumbered, IsFormOrPast, IsMore, IsNumbered, joint_of, joint_steps}
 use Rattle.literal_forms.specs.Past.{ArePlain, IsPast}
 use Rattle.literal_forms.specs.Shapes.{Shape, Shapes, truth, number, text, constant, apply, member, related, opaque, end, ◌⨾◌, shapes, seen, raw}
 use Rattle.sv_linear.specs.declared.fault.FormFault.{FormFault}
@@ -27,7 +27,6 @@ use Rattle.literal_forms.specs.declared.reading.Reading.TheVariants as reading
 use Rattle.literal_forms.specs.declared.term_form.TermForm.{TermForm}
 use Rattle.literal_forms.specs.PastLaws.{some_left, some_right, some_cases}
 use Rattle.literal_forms.proofs.Formed.{formed_more}
-use Rattle.literal_forms.proofs.Numbers.{more_trans}
 
 -- plain steps, one list behind another
 pub plain_join : (ss ts : List Step) → ArePlain ss → ArePlain ts → ArePlain (ss ++ ts)
@@ -184,14 +183,14 @@ one_product us [] t f l e p n = absurd (omega arith)
 one_product us (u ∷ []) t f l e p n = subst (λ x. ArePlain (steps_of (x ∷ []) ++ []) × IsNumbered us (linear (seen x)) f) e (plain_join (steps_of (t ∷ [])) [] (one_steps t p) plain_none, n)
 one_product us (u ∷ v ∷ ts) t f l e p n = absurd (omega arith)
 
-pub one_difference : (us : List (List ℤ)) (ts : List Term) (t : Term) (f g : TermForm) → length ts ≡ 1 → t ≡ get_or ts 0 t → AreNumbered us → ArePlain (steps (seen t)) → IsNumbered us (linear (seen t)) f → ((us : List (List ℤ)) (a : Linear) → AreNumbered us → IsNumbered us a f → ArePlain (scaling a minus_one ∷ []) × IsNumbered us (scaled a minus_one) g) → ArePlain (steps_of ts ++ joined_steps joint.Difference (linears_of ts)) × IsNumbered us (joined_of joint.Difference (linears_of ts)) g
+one_difference : (us : List (List ℤ)) (ts : List Term) (t : Term) (f g : TermForm) → length ts ≡ 1 → t ≡ get_or ts 0 t → AreNumbered us → ArePlain (steps (seen t)) → IsNumbered us (linear (seen t)) f → ((us : List (List ℤ)) (a : Linear) → AreNumbered us → IsNumbered us a f → ArePlain (scaling a minus_one ∷ []) × IsNumbered us (scaled a minus_one) g) → ArePlain (steps_of ts ++ joined_steps joint.Difference (linears_of ts)) × IsNumbered us (joined_of joint.Difference (linears_of ts)) g
 one_difference us [] t f g l e m p n h = absurd (omega arith)
 one_difference us (u ∷ []) t f g l e m p n h =
     let r = h us (linear (seen t)) m n in
     subst (λ x. ArePlain (steps_of (x ∷ []) ++ (scaling (linear (seen x)) minus_one ∷ [])) × IsNumbered us (scaled (linear (seen x)) minus_one) g) e (plain_join (steps_of (t ∷ [])) (scaling (linear (seen t)) minus_one ∷ []) (one_steps t p) r.0, r.1)
 one_difference us (u ∷ v ∷ ts) t f g l e m p n h = absurd (omega arith)
 
-pub one_past : (us : List (List ℤ)) (ts : List Term) (t : Term) (f : TermForm) (l r : ℤ) → length ts ≡ 1 → t ≡ get_or ts 0 t → AreNumbered us → IsNumbered us (linear (seen t)) f → ((us : List (List ℤ)) (a : Linear) → AreNumbered us → IsNumbered us a f → SomeOf (IsPast l r) (scaling a minus_one ∷ [])) → SomeOf (IsPast l r) (steps_of ts ++ joined_steps joint.Difference (linears_of ts))
+one_past : (us : List (List ℤ)) (ts : List Term) (t : Term) (f : TermForm) (l r : ℤ) → length ts ≡ 1 → t ≡ get_or ts 0 t → AreNumbered us → IsNumbered us (linear (seen t)) f → ((us : List (List ℤ)) (a : Linear) → AreNumbered us → IsNumbered us a f → SomeOf (IsPast l r) (scaling a minus_one ∷ [])) → SomeOf (IsPast l r) (steps_of ts ++ joined_steps joint.Difference (linears_of ts))
 one_past us [] t f l r k e m n h = absurd (omega arith)
 one_past us (u ∷ []) t f l r k e m n h = subst (λ x. SomeOf (IsPast l r) (steps_of (x ∷ []) ++ (scaling (linear (seen x)) minus_one ∷ []))) e (some_right (IsPast l r) (steps_of (t ∷ [])) (scaling (linear (seen t)) minus_one ∷ []) (h us (linear (seen t)) m n))
 one_past us (u ∷ v ∷ ts) t f l r k e m n h = absurd (omega arith)
@@ -205,9 +204,6 @@ length_coded a b c s e f g = g ∙ ap (λ x. x ++ flat (code s)) (f ∙ ap (λ x
 
 pub other_coded : (a b c : List ℤ) (s : Shape) → a ≡ [] → b ≡ a ++ opening 2 → c ≡ b ++ flat (code s) → c ≡ flat (unknown_code (other s))
 other_coded a b c s e f g = g ∙ ap (λ x. x ++ flat (code s)) (f ∙ ap (λ x. x ++ opening 2) e)
-
-pub unknown_form : (old new : List (List ℤ)) (u : Unknown) (k : ℕ) (f : TermForm) → HasNumber old new u k → IsNumbered new (of_unknown u) f → IsUnknownForm old new u f
-unknown_form old new u k f h n = record { more = h.more; form = n }
 
 -- the form of a term by its head
 pub number_read : (us : List (List ℤ)) (t : Term) (n : ℤ) (f : TermForm) → t ≡ term.Number n → IsNumbered us (of_number n) f → ArePlain (steps (seen t)) × IsNumbered us (linear (seen t)) f
@@ -298,8 +294,10 @@ unknown_more old us u f h = h.more
 pub none_more : (us : List (List ℤ)) → AreNumbered us → IsMore us us
 none_more us n = record { behind = []; whole = sym (append-nil us); numbered = n }
 
-pub combined_more : (a b c : List (List ℤ)) → IsMore a b → IsMore b c → IsMore a c
-combined_more a b c p q = more_trans a b c p q
+-- what holds whatever an answer is holds where there is one
+pub at_any : {X E : Type 0} (r : Result X E) (P : Type 0) → P → IfOk r (λ _. P)
+at_any (Ok x) P p = p
+at_any (Err e) P p = tt
 
 -- a fault goes on where its steps are among others
 pub err_made : (us vs : List (List ℤ)) (a b : Linear) (ss ts : List Step) (e : FormFault) → ((l r : ℤ) → SomeOf (IsPast l r) ss → SomeOf (IsPast l r) ts) → IsFormOrPast us a ss (Err e) → IsFormOrPast vs b ts (Err e)
@@ -311,15 +309,14 @@ pub joint_err : (us vs : List (List ℤ)) (j : Joint) (ts : List Term) (i : ℕ)
 joint_err us vs j ts i t f g (Past l r) o k two d m c n made = joint_past us vs j ts i t f g l r o k two d m c n made
 joint_err us vs j ts i t f g (Memory x) o k two d m c n made = tt
 
-pub one_err : (us : List (List ℤ)) (ts : List Term) (t : Term) (f : TermForm) (e : FormFault) → length ts ≡ 1 → t ≡ get_or ts 0 t → AreNumbered us → IsNumbered us (linear (seen t)) f → ((us : List (List ℤ)) (a : Linear) → AreNumbered us → IsNumbered us a f → IsFormOrPast us (scaled a minus_one) (scaling a minus_one ∷ []) (Err e)) → IsFormOrPast us (joined_of joint.Difference (linears_of ts)) (steps_of ts ++ joined_steps joint.Difference (linears_of ts)) (Err e)
-one_err us ts t f (Past l r) k d m n h = one_past us ts t f l r k d m n h
-one_err us ts t f (Memory x) k d m n h = tt
-
 abbrev pub IsJoined : List (List ℤ) → List Term → Result TermForm FormFault → Joint → Type 0
 IsJoined us ts q j = IsFormOrPast us (joined_of j (linears_of ts)) (steps_of ts ++ joined_steps j (linears_of ts)) q
 
 pub joined_as : (us : List (List ℤ)) (ts : List Term) (q : Result TermForm FormFault) (j k : Joint) → j ≡ k → IsJoined us ts q k → IsJoined us ts q j
 joined_as us ts q j k e h = subst (IsJoined us ts q) (sym e) h
 
-pub more_both : (a b c : List (List ℤ)) → IsMore a b → IsMore b c → IsMore a c
-more_both a b c p q = more_trans a b c p q
+-- the negative of one term, made or past
+pub one_negated : (us : List (List ℤ)) (ts : List Term) (t : Term) (f : TermForm) (q : Result TermForm FormFault) → length ts ≡ 1 → t ≡ get_or ts 0 t → AreNumbered us → ArePlain (steps (seen t)) → IsNumbered us (linear (seen t)) f → ((us : List (List ℤ)) (a : Linear) → AreNumbered us → IsNumbered us a f → IsFormOrPast us (scaled a minus_one) (scaling a minus_one ∷ []) q) → IsJoined us ts q joint.Difference
+one_negated us ts t f (Ok g) l e m p n h = one_difference us ts t f g l e m p n h
+one_negated us ts t f (Err (Past l r)) k e m p n h = one_past us ts t f l r k e m n h
+one_negated us ts t f (Err (Memory x)) k e m p n h = tt

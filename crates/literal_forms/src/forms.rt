@@ -18,7 +18,7 @@ use sv_terms::{Name, Term};
 
 /// The form of a term of sort Int. Its unknowns are numbered.
 #[cycle(forms)]
-#[tactic(auto, using(crate::proofs::Combined::number_read, crate::proofs::Combined::constant_read, crate::proofs::Combined::truth_read, crate::proofs::Combined::text_read, crate::proofs::Combined::member_read, crate::proofs::Combined::related_read, crate::proofs::Combined::opaque_read, crate::proofs::Combined::whole_read, crate::proofs::Combined::length_other, crate::proofs::Combined::unknown_more))]
+#[tactic(auto, using(crate::proofs::Combined::constant_read, crate::proofs::Combined::truth_read, crate::proofs::Combined::text_read, crate::proofs::Combined::member_read, crate::proofs::Combined::related_read, crate::proofs::Combined::opaque_read, crate::proofs::Combined::whole_read, crate::proofs::Combined::unknown_more))]
 pub fn term_form(unknowns: &mut Unknowns, alloc: Global, term: &Term) -> Result<TermForm, FormFault>
     requires { AreNumbered unknowns.old.codes }
     ensures more { IfOk result (λ f. IsMore unknowns.old.codes unknowns.new.codes) }
@@ -46,7 +46,6 @@ pub fn term_form(unknowns: &mut Unknowns, alloc: Global, term: &Term) -> Result<
 }
 
 /// The form of the unknown of a code.
-#[tactic(auto, using(crate::proofs::Combined::unknown_form))]
 fn coded_form(
     unknowns: &mut Unknowns,
     alloc: Global,
@@ -59,7 +58,6 @@ fn coded_form(
     TermForm::unknown(alloc, number)
 }
 
-#[tactic(auto, using(crate::proofs::Combined::integer_coded))]
 fn integer_form(unknowns: &mut Unknowns, alloc: Global, name: &Name) -> Result<TermForm, AllocError>
     requires { AreNumbered unknowns.old.codes }
     ensures { IfOk result (λ f. IsUnknownForm unknowns.old.codes unknowns.new.codes (integer name.now) f) }
@@ -72,7 +70,6 @@ fn integer_form(unknowns: &mut Unknowns, alloc: Global, name: &Name) -> Result<T
     coded_form(unknowns, alloc, code.numbers)
 }
 
-#[tactic(auto, using(crate::proofs::Combined::other_coded))]
 fn whole_form(unknowns: &mut Unknowns, alloc: Global, term: &Term) -> Result<TermForm, AllocError>
     requires { AreNumbered unknowns.old.codes }
     ensures { IfOk result (λ f. IsUnknownForm unknowns.old.codes unknowns.new.codes (other (seen term.now)) f) }
@@ -86,7 +83,7 @@ fn whole_form(unknowns: &mut Unknowns, alloc: Global, term: &Term) -> Result<Ter
 }
 
 /// The form of the length of a string term; that of a literal is a number.
-#[tactic(auto, using(crate::proofs::Combined::length_coded, crate::proofs::Combined::literal_length, crate::proofs::Combined::other_length, crate::proofs::Combined::unknown_more, crate::proofs::Combined::none_more))]
+#[tactic(auto, using(crate::proofs::Combined::none_more))]
 fn length_form(unknowns: &mut Unknowns, alloc: Global, term: &Term) -> Result<TermForm, FormFault>
     requires { AreNumbered unknowns.old.codes }
     ensures more { IfOk result (λ f. IsMore unknowns.old.codes unknowns.new.codes) }
@@ -105,7 +102,7 @@ fn length_form(unknowns: &mut Unknowns, alloc: Global, term: &Term) -> Result<Te
 
 /// The form joined of those of terms, from the left.
 #[cycle(forms)]
-#[tactic(auto, using(crate::proofs::Combined::none_joined, crate::proofs::Combined::none_more))]
+#[tactic(auto, using(crate::proofs::Combined::none_more))]
 fn joined_form(
     unknowns: &mut Unknowns,
     alloc: Global,
@@ -127,7 +124,6 @@ fn joined_form(
 
 // One term alone: of a difference its negative.
 #[cycle(forms)]
-#[tactic(auto, using(crate::proofs::Combined::one_sum, crate::proofs::Combined::one_product, crate::proofs::Combined::one_difference, crate::proofs::Combined::one_past, crate::proofs::Combined::argument_past))]
 fn single_form(
     unknowns: &mut Unknowns,
     alloc: Global,
@@ -148,7 +144,6 @@ fn single_form(
 }
 
 #[cycle(forms)]
-#[tactic(auto, using(crate::proofs::Combined::first_combined, crate::proofs::Combined::next_combined, crate::proofs::Combined::argument_past, crate::proofs::Combined::joint_past, crate::proofs::Combined::all_combined, crate::proofs::Combined::combined_more))]
 fn several_form(
     unknowns: &mut Unknowns,
     alloc: Global,

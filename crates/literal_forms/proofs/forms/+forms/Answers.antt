@@ -8,7 +8,8 @@ use Rattle.literal_forms.specs.Linear.{joined_of, joined_steps, linear, of_numbe
 use Rattle.literal_forms.specs.Numbered.{IsFormOrPast, IsNumbered}
 use Rattle.literal_forms.specs.Shapes.{seen}
 use Rattle.literal_forms.specs.declared.roles.Joint.TheVariants as joint
-use Rattle.literal_forms.proofs.Combined.{all_combined, argument_past, err_made, first_combined, joined_as, joined_read, joint_err, length_other, length_read, more_both, next_combined, none_joined, number_read, one_difference, one_err, one_product, one_sum}
+use Rattle.literal_forms.proofs.Combined.{all_combined, argument_past, at_any, err_made, first_combined, joined_as, joined_read, joint_err, length_other, length_read, next_combined, none_joined, number_read, one_negated, one_product, one_sum}
+use Rattle.literal_forms.proofs.Numbers.{more_trans}
 use Rattle.literal_forms.proofs.forms.+forms.Goals as goal
 
 pub joined_form-returns-then-is_empty-clause-form : goal.joined_form-returns-then-is_empty-clause-form
@@ -53,7 +54,7 @@ several_form-returns-in_err-all-2-clause-form t c =
 
 pub several_form-loop-i-preserved : goal.several_form-loop-i-preserved
 several_form-loop-i-preserved t c = record {
-  more = more_both c.args.unknowns.now.codes c.loop-i.unknowns.codes c.term_form-in-loop-i.new.unknowns.codes c.loop-i.invariant.more c.in_ok-next.ensures.more;
+  more = more_trans c.args.unknowns.now.codes c.loop-i.unknowns.codes c.term_form-in-loop-i.new.unknowns.codes c.loop-i.invariant.more c.in_ok-next.ensures.more;
   all =
       next_combined c.loop-i.unknowns.codes c.term_form-in-loop-i.new.unknowns.codes c.args.joint c.args.terms.now c.loop-i.i c.index-terms-i.result c.loop-i.all c.in_ok-next.next c.in_ok-all-2.all (omega arith) (omega arith) c.index-terms-i.is c.in_ok-next.ensures.more c.loop-i.invariant.all
       c.in_ok-next.ensures.form.0 c.in_ok-next.ensures.form.1 c.in_ok-all-2.ensures;
@@ -69,21 +70,17 @@ single_form-returns-in_err-form-clause-form t c =
     subst (IsFormOrPast c.term_form.new.unknowns.codes (joined_of c.args.joint (linears_of c.args.terms.now)) (steps_of c.args.terms.now ++ joined_steps c.args.joint (linears_of c.args.terms.now))) (sym e)
     (err_made c.term_form.new.unknowns.codes c.term_form.new.unknowns.codes (linear (seen c.index-terms-0.result)) (joined_of c.args.joint (linears_of c.args.terms.now)) (steps (seen c.index-terms-0.result)) (steps_of c.args.terms.now ++ joined_steps c.args.joint (linears_of c.args.terms.now)) c.in_err-form.field-0.0 (λ l r h. argument_past c.args.terms.now 0 c.index-terms-0.result (joined_steps c.args.joint (linears_of c.args.terms.now)) l r (omega arith) c.index-terms-0.is h) c.in_err-form.ensures.form)
 
-pub single_form-returns-in_err-scale-in-Difference-clause-form : goal.single_form-returns-in_err-scale-in-Difference-clause-form
-single_form-returns-in_err-scale-in-Difference-clause-form t c =
-    let e : c.from_residual-in_err-scale-in-Difference.result ≡ Err c.in_err-scale-in-Difference.field-0.0 = search rules in
-    subst (IsFormOrPast c.term_form.new.unknowns.codes (joined_of c.args.joint (linears_of c.args.terms.now)) (steps_of c.args.terms.now ++ joined_steps c.args.joint (linears_of c.args.terms.now))) (sym e)
-    (joined_as c.term_form.new.unknowns.codes c.args.terms.now (Err c.in_err-scale-in-Difference.field-0.0) c.args.joint joint.Difference c.in-Difference.is
-    (one_err c.term_form.new.unknowns.codes c.args.terms.now c.index-terms-0.result c.in_ok-form.form c.in_err-scale-in-Difference.field-0.0 c.requires.single c.index-terms-0.is c.in_ok-form.ensures.more.numbered c.in_ok-form.ensures.form.1 c.in_err-scale-in-Difference.ensures))
-
 pub single_form-returns-in-Sum-clause-form : goal.single_form-returns-in-Sum-clause-form
 single_form-returns-in-Sum-clause-form t c =
     joined_as c.term_form.new.unknowns.codes c.args.terms.now (Ok c.in_ok-form.form) c.args.joint joint.Sum c.in-Sum.is (one_sum c.term_form.new.unknowns.codes c.args.terms.now c.index-terms-0.result c.in_ok-form.form c.requires.single c.index-terms-0.is c.in_ok-form.ensures.form.0 c.in_ok-form.ensures.form.1)
 
-pub single_form-returns-in_ok-scale-in-Difference-clause-form : goal.single_form-returns-in_ok-scale-in-Difference-clause-form
-single_form-returns-in_ok-scale-in-Difference-clause-form t c =
-    joined_as c.term_form.new.unknowns.codes c.args.terms.now (Ok c.in_ok-scale-in-Difference.field-0) c.args.joint joint.Difference c.in-Difference.is
-    (one_difference c.term_form.new.unknowns.codes c.args.terms.now c.index-terms-0.result c.in_ok-form.form c.in_ok-scale-in-Difference.field-0 c.requires.single c.index-terms-0.is c.in_ok-form.ensures.more.numbered c.in_ok-form.ensures.form.0 c.in_ok-form.ensures.form.1 c.in_ok-scale-in-Difference.ensures)
+pub single_form-returns-in-Difference-clause-form : goal.single_form-returns-in-Difference-clause-form
+single_form-returns-in-Difference-clause-form t c =
+    joined_as c.term_form.new.unknowns.codes c.args.terms.now c.scale.result c.args.joint joint.Difference c.in-Difference.is
+    (one_negated c.term_form.new.unknowns.codes c.args.terms.now c.index-terms-0.result c.in_ok-form.form c.scale.result c.requires.single c.index-terms-0.is c.in_ok-form.ensures.more.numbered c.in_ok-form.ensures.form.0 c.in_ok-form.ensures.form.1 c.scale.ensures)
+
+pub single_form-returns-in-Difference-clause-more : goal.single_form-returns-in-Difference-clause-more
+single_form-returns-in-Difference-clause-more t c = at_any c.scale.result _ c.in_ok-form.ensures.more
 
 pub single_form-returns-in-Product-clause-form : goal.single_form-returns-in-Product-clause-form
 single_form-returns-in-Product-clause-form t c =
