@@ -91,8 +91,6 @@ pairs_step (u ∷ us) i a c d o l f e k =
     let same : get_or (u ∷ us) (i - 1) u ≡ get_or (u ∷ us) (i - 1) (get_or (u ∷ us) (i - 1) u) = cc in
     pairs_more (u ∷ us) (i - 1) (get_or (u ∷ us) (i - 1) u) a c d lt same (f (get_or (u ∷ us) (i - 1) u) found) (e ∙ ap (λ n. counts_of (conjunction (pairs (λ p q. negated (equal p q)) (parts_of (drop n (u ∷ us)))))) up) k
 
-pub ruleset arms = (not_one, not_atom, choice_three, choice_atom)
-
 -- the assertions, joined by and
 trees_seen : (ts : List Term) → tree.trees true (formulas_of ts) ≡ map (λ (t : Term). formula (seen t) true) ts
 trees_seen [] = refl

@@ -1,6 +1,7 @@
 -- Nodes behind others, and the trees of nodes.
-use Rattle.std.proofs.Common.{◌≡◌, refl, sym, ap, ◌∙◌, subst, ℕ, zero, suc, ◌+◌, ◌*◌, ◌<◌, ◌≤◌, true, false, List, [], ◌∷◌, ◌++◌, length, get_or, length-append, arith, ⊎_elim}
+use Rattle.std.proofs.Common.{◌≡◌, refl, sym, ap, ◌∙◌, subst, ℕ, zero, suc, ◌+◌, ◌*◌, ◌<◌, ◌≤◌, true, false, List, [], ◌∷◌, ◌++◌, length, get_or, length-append, arith, ⊎_elim, IfOk, Result}
 use Rattle.std.proofs.lemmas.Bool.{cases_lt}
+use Rattle.std.proofs.lemmas.Result.{IfOk-weaker}
 use Rattle.bool_cubes.specs.Cubes.{count}
 use Rattle.bool_cubes.specs.Nodes.{AreOf, IsAddedNode, IsLonger, IsMade, IsOfEarlier, IsPlan, IsPlanned, HasBothTrees, listed_at, made, tree_at, trees_from, trees_of}
 use Rattle.sv_terms.specs.CutOff.{cut_off}
@@ -206,14 +207,13 @@ plan_of a b p = p.plan
 pub or_within : (a b c : List CubeNode) (h k : ℕ) (t u : Tree) → IsAddedNode a b h t → IsAddedNode b c k u → AreOf c (record { holding = h; failing = k })
 or_within a b c h k t u p q = ((let x = p.within in let y = q.longer.more in omega arith), q.within)
 
-pub implication_added : (a b c d : List CubeNode) (l r n m o t : NodePair) (f g : Formula) → HasBothTrees a l f → HasBothTrees a r g → IsPlanned a b n (fixed false) → ((f g : Formula) → HasBothTrees b r f → HasBothTrees b n g → IsPlanned b c m (disjoined f g)) → t.holding ≡ l.failing → t.failing ≡ l.holding → ((f g : Formula) → HasBothTrees c t f → HasBothTrees c m g → IsPlanned c d o (disjoined f g)) → IsPlanned a d o (implication f g)
-implication_added a b c d l r n m o t f g x y p h i j k =
+pub implication_added : {E : Type 0} (a b c d : List CubeNode) (l r n m t : NodePair) (o : Result NodePair E) (f g : Formula) → HasBothTrees a l f → HasBothTrees a r g → IsPlanned a b n (fixed false) → ((f g : Formula) → HasBothTrees b r f → HasBothTrees b n g → IsPlanned b c m (disjoined f g)) → t.holding ≡ l.failing → t.failing ≡ l.holding → ((f g : Formula) → HasBothTrees c t f → HasBothTrees c m g → IfOk o (λ s. IsPlanned c d s (disjoined f g))) → IfOk o (λ s. IsPlanned a d s (implication f g))
+implication_added a b c d l r n m t o f g x y p h i j k =
     let q = h g (fixed false) (stands_longer a b r g p.longer y) p.stands in
     let ac = longer_trans a b c p.longer q.longer in
     let z = stands_longer a c l f ac x in
     let z' = turned_trees c l t f i j z in
-    let w = k (negated f) (disjoined g (fixed false)) z' q.stands in
-    relabelled a d o (disjoined (negated f) (disjoined g (fixed false))) (implication f g) (planned_trans a c d o _ ac w) refl refl
+    IfOk-weaker o (λ s. IsPlanned c d s (disjoined (negated f) (disjoined g (fixed false)))) (λ s. IsPlanned a d s (implication f g)) (λ s w. relabelled a d s (disjoined (negated f) (disjoined g (fixed false))) (implication f g) (planned_trans a c d s _ ac w) refl refl) (k (negated f) (disjoined g (fixed false)) z' q.stands)
 
 pub within_longer : (a b : List CubeNode) (s : NodePair) → IsLonger a b → AreOf a s → AreOf b s
 within_longer a b s p h = ((let x = p.more in omega arith), (let x = p.more in omega arith))

@@ -1,6 +1,7 @@
 -- The nodes of formulas of lists of terms, one term more at a time.
-use Rattle.std.proofs.Common.{◌≡◌, refl, sym, ap, ◌∙◌, subst, ℕ, zero, suc, ◌+◌, ◌-◌, ◌<◌, ◌≤◌, Bool, true, false, List, [], ◌∷◌, ◌++◌, map, length, take, drop, get_or, drop-cons, arith}
+use Rattle.std.proofs.Common.{◌≡◌, refl, sym, ap, ap₂, ◌∙◌, subst, ℕ, zero, suc, ◌+◌, ◌-◌, ◌<◌, ◌≤◌, Bool, true, false, List, [], ◌∷◌, ◌++◌, map, length, take, drop, get_or, drop-cons, arith, IfOk, Result}
 use Rattle.std.proofs.lemmas.List.{drop_all, length-drop, length-take}
+use Rattle.std.proofs.lemmas.Result.{IfOk-weaker}
 use Rattle.sv_terms.specs.declared.op.Op.{Op}
 use Rattle.sv_terms.specs.declared.op.Op.TheVariants as op
 use Rattle.sv_terms.specs.declared.sort.Sort.TheVariants as sort
@@ -19,6 +20,10 @@ use Rattle.bool_cubes.proofs.Tallies.{exclusive_push, formulas_more}
 
 pub planned_as : (a b : List CubeNode) (s : NodePair) (f g : Formula) → IsPlanned a b s f → f ≡ g → IsPlanned a b s g
 planned_as a b s f g p e = subst (λ h. IsPlanned a b s h) e p
+
+-- an answer with the sides of a formula has those of an equal one
+pub answered_as : {E : Type 0} (a b : List CubeNode) (r : Result NodePair E) (f g : Formula) → f ≡ g → IfOk r (λ s. IsPlanned a b s f) → IfOk r (λ s. IsPlanned a b s g)
+answered_as a b r f g e h = subst (λ x. IfOk r (λ s. IsPlanned a b s x)) e h
 
 -- the formula of a term, by its head
 pub formula_truth : (t : Term) (b : Bool) → t ≡ term.Truth b → fixed b ≡ formula (seen t)
@@ -83,13 +88,13 @@ all_none a b s ts k l p = at_end a b s ts k (λ us. conjunction (formulas_of us)
 pub any_none : (a b : List CubeNode) (s : NodePair) (ts : List Term) (k : ℕ) → length ts ≤ k → IsPlanned a b s (fixed false) → IsPlanned a b s (disjunction (formulas_of (drop k ts)))
 any_none a b s ts k l p = at_end a b s ts k (λ us. disjunction (formulas_of us)) l (relabelled a b s (fixed false) (disjunction []) p refl refl)
 
-pub exclusive_none : (a b : List CubeNode) (s : NodePair) (ts : List Term) → length ts ≡ 0 → IsPlanned a b s (fixed false) → IsPlanned a b s (exclusive (formulas_of ts))
-exclusive_none a b s [] l p = p
-exclusive_none a b s (t ∷ ts) l p = absurd (omega arith)
+pub exclusive_none : (ts : List Term) → length ts ≡ 0 → fixed false ≡ exclusive (formulas_of ts)
+exclusive_none [] l = refl
+exclusive_none (t ∷ ts) l = absurd (omega arith)
 
-pub implied_none : (a b : List CubeNode) (s : NodePair) (ts : List Term) → length ts ≡ 0 → IsPlanned a b s (fixed true) → IsPlanned a b s (implied (formulas_of ts))
-implied_none a b s [] l p = p
-implied_none a b s (t ∷ ts) l p = absurd (omega arith)
+pub implied_none : (ts : List Term) → length ts ≡ 0 → fixed true ≡ implied (formulas_of ts)
+implied_none [] l = refl
+implied_none (t ∷ ts) l = absurd (omega arith)
 
 -- the first term of xor, and the last of =>
 pub exclusive_first : (a b : List CubeNode) (s : NodePair) (ts : List Term) (t : Term) → 0 < length ts → t ≡ get_or ts 0 t → IsPlanned a b s (formula (seen t)) → IsPlanned a b s (exclusive (formulas_of (take 1 ts)))
@@ -223,23 +228,24 @@ not_one a b s r [] t u l e p m n = absurd (omega arith)
 not_one a b s r (v ∷ []) t u l e p m n = planned_as a b r _ _ (turned a b s r _ p m n) (ap (λ (x : Term). negated (formula (seen x))) e)
 not_one a b s r (v ∷ w ∷ ts) t u l e p m n = absurd (omega arith)
 
-pub not_other : (a b : List CubeNode) (s : NodePair) (ts : List Term) (t : Term) → (length ts ≡ 1 → ⊥) → IsPlanned a b s (atom t) → IsPlanned a b s (applied op.Not (parts_of ts) t)
-not_other a b s [] t l p = p
-not_other a b s (v ∷ []) t l p = absurd (l refl)
-not_other a b s (v ∷ w ∷ ts) t l p = p
+pub not_other : (ts : List Term) (t : Term) → (length ts ≡ 1 → ⊥) → atom t ≡ applied op.Not (parts_of ts) t
+not_other [] t l = refl
+not_other (v ∷ []) t l = absurd (l refl)
+not_other (v ∷ w ∷ ts) t l = refl
 
-pub choice_other : (a b : List CubeNode) (s : NodePair) (ts : List Term) (t : Term) → (length ts ≡ 3 → ⊥) → IsPlanned a b s (atom t) → IsPlanned a b s (applied op.IfThenElse (parts_of ts) t)
-choice_other a b s [] t l p = p
-choice_other a b s (u ∷ []) t l p = p
-choice_other a b s (u ∷ v ∷ []) t l p = p
-choice_other a b s (u ∷ v ∷ w ∷ []) t l p = absurd (l refl)
-choice_other a b s (u ∷ v ∷ w ∷ x ∷ ts) t l p = p
+pub choice_other : (ts : List Term) (t : Term) → (length ts ≡ 3 → ⊥) → atom t ≡ applied op.IfThenElse (parts_of ts) t
+choice_other [] t l = refl
+choice_other (u ∷ []) t l = refl
+choice_other (u ∷ v ∷ []) t l = refl
+choice_other (u ∷ v ∷ w ∷ []) t l = absurd (l refl)
+choice_other (u ∷ v ∷ w ∷ x ∷ ts) t l = refl
 
-pub choice_three : (a b c d e : List CubeNode) (p q r s : NodePair) (ts : List Term) (t x y z : Term) → length ts ≡ 3 → x ≡ get_or ts 0 x → y ≡ get_or ts 1 y → z ≡ get_or ts 2 z → IsPlanned a b p (formula (seen x)) → IsPlanned b c q (formula (seen y)) → IsPlanned c d r (formula (seen z)) → ((f g h : Formula) → HasBothTrees d p f → HasBothTrees d q g → HasBothTrees d r h → IsPlanned d e s (choice f g h)) → IsPlanned a e s (applied op.IfThenElse (parts_of ts) t)
+pub choice_three : {E : Type 0} (a b c d e : List CubeNode) (p q r : NodePair) (s : Result NodePair E) (ts : List Term) (t x y z : Term) → length ts ≡ 3 → x ≡ get_or ts 0 x → y ≡ get_or ts 1 y → z ≡ get_or ts 2 z → IsPlanned a b p (formula (seen x)) → IsPlanned b c q (formula (seen y)) → IsPlanned c d r (formula (seen z)) → ((f g h : Formula) → HasBothTrees d p f → HasBothTrees d q g → HasBothTrees d r h → IfOk s (λ o. IsPlanned d e o (choice f g h))) → IfOk s (λ o. IsPlanned a e o (applied op.IfThenElse (parts_of ts) t))
 choice_three a b c d e p q r s (u ∷ v ∷ w ∷ []) t x y z l i j k f g h m =
     let cd = longer_trans b c d g.longer h.longer in
     let chosen = m (formula (seen x)) (formula (seen y)) (formula (seen z)) (stands_longer b d p _ cd f.stands) (stands_longer c d q _ h.longer g.stands) h.stands in
-    planned_as a e s _ _ (planned_trans a d e s _ (longer_trans a b d f.longer cd) chosen) (λ n. choice (formula (seen (i n))) (formula (seen (j n))) (formula (seen (k n))))
+    let same : choice (formula (seen x)) (formula (seen y)) (formula (seen z)) ≡ choice (formula (seen u)) (formula (seen v)) (formula (seen w)) = λ n. choice (formula (seen (i n))) (formula (seen (j n))) (formula (seen (k n))) in
+    IfOk-weaker s (λ o. IsPlanned d e o (choice (formula (seen x)) (formula (seen y)) (formula (seen z)))) (λ o. IsPlanned a e o (choice (formula (seen u)) (formula (seen v)) (formula (seen w)))) (λ o q. planned_as a e o _ _ (planned_trans a d e o _ (longer_trans a b d f.longer cd) q) same) chosen
 choice_three a b c d e p q r s [] t x y z l i j k f g h m = absurd (omega arith)
 choice_three a b c d e p q r s (u ∷ []) t x y z l i j k f g h m = absurd (omega arith)
 choice_three a b c d e p q r s (u ∷ v ∷ []) t x y z l i j k f g h m = absurd (omega arith)
@@ -253,17 +259,17 @@ pub side_right : (a : List CubeNode) (ts : List Term) (ss : List NodePair) (i j 
 side_right a ts ss i j t u h l e m f b = sides_at a ts ss j u (h.all i t l e b) m f
 
 -- the equality of two terms, by the sort of the first
-pub equal_boolean : (a b : List CubeNode) (s : NodePair) (t u : Term) → head_sort (seen t) ≡ sort.Bool → IsPlanned a b s (agreement (formula (seen t)) (formula (seen u))) → IsPlanned a b s (equal (part_of t) (part_of u))
-equal_boolean a b s t u k p = subst (λ z. IsPlanned a b s (equal_at z (part_of t) (part_of u))) (sym k) p
+pub equal_boolean : (t u : Term) → head_sort (seen t) ≡ sort.Bool → agreement (formula (seen t)) (formula (seen u)) ≡ equal (part_of t) (part_of u)
+equal_boolean t u k = ap (λ z. equal_at z (part_of t) (part_of u)) (sym k)
 
-pub equal_whole : (a b : List CubeNode) (s : NodePair) (t u : Term) → head_sort (seen t) ≡ sort.Int → IsPlanned a b s (equal_numbers t u) → IsPlanned a b s (equal (part_of t) (part_of u))
-equal_whole a b s t u k p = subst (λ z. IsPlanned a b s (equal_at z (part_of t) (part_of u))) (sym k) (planned_as a b s _ _ p (λ i. equal_numbers (sym (raw-seen t) i) (sym (raw-seen u) i)))
+pub equal_whole : (t u : Term) → head_sort (seen t) ≡ sort.Int → equal_numbers t u ≡ equal (part_of t) (part_of u)
+equal_whole t u k = ap₂ equal_numbers (sym (raw-seen t)) (sym (raw-seen u)) ∙ ap (λ z. equal_at z (part_of t) (part_of u)) (sym k)
 
-pub equal_text : (a b : List CubeNode) (s : NodePair) (t u : Term) → head_sort (seen t) ≡ sort.String → IsPlanned a b s (comparison op.Equal t u) → IsPlanned a b s (equal (part_of t) (part_of u))
-equal_text a b s t u k p = subst (λ z. IsPlanned a b s (equal_at z (part_of t) (part_of u))) (sym k) (planned_as a b s _ _ p (λ i. comparison op.Equal (sym (raw-seen t) i) (sym (raw-seen u) i)))
+pub equal_text : (t u : Term) → head_sort (seen t) ≡ sort.String → comparison op.Equal t u ≡ equal (part_of t) (part_of u)
+equal_text t u k = ap₂ (comparison op.Equal) (sym (raw-seen t)) (sym (raw-seen u)) ∙ ap (λ z. equal_at z (part_of t) (part_of u)) (sym k)
 
-pub equal_language : (a b : List CubeNode) (s : NodePair) (t u : Term) → head_sort (seen t) ≡ sort.RegLan → IsPlanned a b s (comparison op.Equal t u) → IsPlanned a b s (equal (part_of t) (part_of u))
-equal_language a b s t u k p = subst (λ z. IsPlanned a b s (equal_at z (part_of t) (part_of u))) (sym k) (planned_as a b s _ _ p (λ i. comparison op.Equal (sym (raw-seen t) i) (sym (raw-seen u) i)))
+pub equal_language : (t u : Term) → head_sort (seen t) ≡ sort.RegLan → comparison op.Equal t u ≡ equal (part_of t) (part_of u)
+equal_language t u k = ap₂ (comparison op.Equal) (sym (raw-seen t)) (sym (raw-seen u)) ∙ ap (λ z. equal_at z (part_of t) (part_of u)) (sym k)
 
 pub same_got : (ts : List Term) (i : ℕ) (t x : Term) → i < length ts → t ≡ get_or ts i t → x ≡ get_or ts i x → x ≡ t
 same_got ts i t x l e f = f ∙ got_any ts i x t l ∙ sym e

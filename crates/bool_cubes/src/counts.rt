@@ -48,7 +48,6 @@ impl Counts {
         }
     }
 
-    #[tactic(auto, using(crate::proofs::Tallies::negated_counted))]
     fn not(self) -> Counts
         ensures { (f : Formula) → self ≡ counts_of f → result ≡ counts_of (negated f) }
     {
@@ -58,7 +57,6 @@ impl Counts {
         }
     }
 
-    #[tactic(auto, using(crate::proofs::Tallies::conjoined_counted))]
     fn and(self, other: Counts) -> Counts
         ensures { (f g : Formula) → self ≡ counts_of f → other ≡ counts_of g → result ≡ counts_of (conjoined f g) }
     {
@@ -68,7 +66,6 @@ impl Counts {
         }
     }
 
-    #[tactic(auto, using(crate::proofs::Tallies::disjoined_counted))]
     fn or(self, other: Counts) -> Counts
         ensures { (f g : Formula) → self ≡ counts_of f → other ≡ counts_of g → result ≡ counts_of (disjoined f g) }
     {
@@ -78,7 +75,6 @@ impl Counts {
         }
     }
 
-    #[tactic(auto, using(crate::proofs::Tallies::agreement_counted))]
     fn agree(self, other: Counts) -> Counts
         ensures { (f g : Formula) → self ≡ counts_of f → other ≡ counts_of g → result ≡ counts_of (agreement f g) }
     {
@@ -92,7 +88,6 @@ impl Counts {
         }
     }
 
-    #[tactic(auto, using(crate::proofs::Tallies::choice_counted))]
     fn choose(self, first: Counts, second: Counts) -> Counts
         ensures { (c f g : Formula) → self ≡ counts_of c → first ≡ counts_of f → second ≡ counts_of g → result ≡ counts_of (choice c f g) }
     {
@@ -124,7 +119,6 @@ fn equal_counts(sort: Sort, left: Counts, right: Counts) -> Counts
 
 /// The numbers of cubes of a term, and of its negation.
 #[cycle(counts)]
-#[tactic(auto, using(literal_forms::specs::Mirrors::mirrors))]
 pub fn count_both(term: &Term) -> Counts
     ensures { result ≡ counts_of (formula (seen term.now)) }
 {
@@ -165,7 +159,6 @@ fn applied_counts(op: Op, terms: &[Term]) -> Counts
 }
 
 #[cycle(counts)]
-#[tactic(auto, using(crate::proofs::Arms::arms))]
 fn negated_counts(terms: &[Term]) -> Counts
     ensures { (t : AnyTerm) → result ≡ counts_of (applied op.Not (parts_of terms.now) t) }
 {
@@ -177,7 +170,6 @@ fn negated_counts(terms: &[Term]) -> Counts
 }
 
 #[cycle(counts)]
-#[tactic(auto, using(crate::proofs::Arms::arms))]
 fn choice_counts(terms: &[Term]) -> Counts
     ensures { (t : AnyTerm) → result ≡ counts_of (applied op.IfThenElse (parts_of terms.now) t) }
 {

@@ -12,7 +12,7 @@ use sv_linear::FormFault;
 use sv_list::Items;
 
 /// Whether no step of the atoms of a node's tree leaves 128 bits. Each node is looked at once.
-#[tactic(auto, using(crate::proofs::Walked::walk_init, crate::proofs::Walked::walk_skip, crate::proofs::Walked::walk_step, crate::proofs::Walked::walk_past, crate::proofs::Walked::walk_end, crate::proofs::Walked::earlier))]
+#[tactic(auto, using(crate::proofs::Walked::walk_init, crate::proofs::Walked::earlier))]
 pub fn tree(alloc: Global, nodes: &[CubeNode], root: usize) -> Result<(), FormFault>
     requires plan { IsPlan nodes.now }
     requires root { root < length nodes.now }

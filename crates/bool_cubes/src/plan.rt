@@ -81,7 +81,7 @@ impl Plan {
     }
 
     // The first two, or the last two.
-    #[tactic(auto, using(crate::proofs::Plans::ways_added, crate::proofs::Plans::longer_trans))]
+    #[tactic(auto, using(crate::proofs::Plans::longer_trans))]
     fn two_ways(&mut self, a: usize, b: usize, c: usize, d: usize) -> Result<usize, AllocError>
         requires plan { IsPlan self.old.nodes }
         requires a { a < length self.old.nodes }
@@ -198,7 +198,7 @@ impl Plan {
     }
 
     /// The nodes of an or of two: its negation is the and of their negations.
-    #[tactic(auto, using(crate::proofs::Plans::or_by_and, crate::proofs::Plans::turned_within))]
+    #[tactic(auto, using(crate::proofs::Plans::turned_within))]
     pub fn or(&mut self, left: NodePair, right: NodePair) -> Result<NodePair, AllocError>
         requires plan { IsPlan self.old.nodes }
         requires left { AreOf self.old.nodes left }
@@ -212,7 +212,7 @@ impl Plan {
     }
 
     /// The nodes of this: the first fails or the second holds.
-    #[tactic(auto, using(crate::proofs::Plans::implication_added, crate::proofs::Plans::stands_of, crate::proofs::Plans::stands_longer, crate::proofs::Plans::longer_trans, crate::proofs::Plans::turned_within, crate::proofs::Plans::within_longer))]
+    #[tactic(auto, using(crate::proofs::Plans::stands_of, crate::proofs::Plans::stands_longer, crate::proofs::Plans::longer_trans, crate::proofs::Plans::turned_within, crate::proofs::Plans::within_longer))]
     pub fn implication(&mut self, left: NodePair, right: NodePair) -> Result<NodePair, AllocError>
         requires plan { IsPlan self.old.nodes }
         requires left { AreOf self.old.nodes left }

@@ -68,7 +68,6 @@ fn applied_sides(
 }
 
 #[cycle(planning)]
-#[tactic(auto, using(crate::proofs::Steps::not_one, crate::proofs::Steps::not_other))]
 fn opposite_sides(
     plan: &mut Plan,
     alloc: Global,
@@ -86,7 +85,6 @@ fn opposite_sides(
 }
 
 #[cycle(planning)]
-#[tactic(auto, using(crate::proofs::Steps::choice_three, crate::proofs::Steps::choice_other, crate::proofs::Plans::stands_of, crate::proofs::Plans::stands_longer))]
 fn choice_sides(
     plan: &mut Plan,
     alloc: Global,
@@ -108,7 +106,7 @@ fn choice_sides(
 
 /// The nodes of the and of terms.
 #[cycle(planning)]
-#[tactic(auto, using(crate::proofs::Steps::all_none, crate::proofs::Steps::all_step, crate::proofs::Plans::stands_of, crate::proofs::Plans::stands_longer, crate::proofs::Plans::plan_of))]
+#[tactic(auto, using(crate::proofs::Plans::stands_of, crate::proofs::Plans::stands_longer, crate::proofs::Plans::plan_of))]
 pub fn all_sides(plan: &mut Plan, alloc: Global, terms: &[Term]) -> Result<NodePair, AllocError>
     requires { IsPlan plan.old.nodes }
     ensures { IfOk result (λ s. IsPlanned plan.old.nodes plan.new.nodes s (conjunction (formulas_of terms.now))) }
@@ -122,7 +120,7 @@ pub fn all_sides(plan: &mut Plan, alloc: Global, terms: &[Term]) -> Result<NodeP
 }
 
 #[cycle(planning)]
-#[tactic(auto, using(crate::proofs::Steps::any_none, crate::proofs::Steps::any_step, crate::proofs::Plans::stands_of, crate::proofs::Plans::stands_longer, crate::proofs::Plans::plan_of))]
+#[tactic(auto, using(crate::proofs::Plans::stands_of, crate::proofs::Plans::stands_longer, crate::proofs::Plans::plan_of))]
 fn any_sides(plan: &mut Plan, alloc: Global, terms: &[Term]) -> Result<NodePair, AllocError>
     requires { IsPlan plan.old.nodes }
     ensures { IfOk result (λ s. IsPlanned plan.old.nodes plan.new.nodes s (disjunction (formulas_of terms.now))) }
@@ -137,7 +135,7 @@ fn any_sides(plan: &mut Plan, alloc: Global, terms: &[Term]) -> Result<NodePair,
 
 // From the left: `xor` is the negation of an agreement.
 #[cycle(planning)]
-#[tactic(auto, using(crate::proofs::Steps::exclusive_none, crate::proofs::Steps::exclusive_first, crate::proofs::Steps::exclusive_step, crate::proofs::Steps::exclusive_all, crate::proofs::Plans::stands_of, crate::proofs::Plans::stands_longer, crate::proofs::Plans::plan_of))]
+#[tactic(auto, using(crate::proofs::Steps::exclusive_first, crate::proofs::Plans::stands_of, crate::proofs::Plans::stands_longer, crate::proofs::Plans::plan_of))]
 fn exclusive_sides(plan: &mut Plan, alloc: Global, terms: &[Term]) -> Result<NodePair, AllocError>
     requires { IsPlan plan.old.nodes }
     ensures { IfOk result (λ s. IsPlanned plan.old.nodes plan.new.nodes s (exclusive (formulas_of terms.now))) }
@@ -155,7 +153,7 @@ fn exclusive_sides(plan: &mut Plan, alloc: Global, terms: &[Term]) -> Result<Nod
 
 // From the right: the negation of one, or what the terms behind it give.
 #[cycle(planning)]
-#[tactic(auto, using(crate::proofs::Steps::implied_none, crate::proofs::Steps::implied_last_one, crate::proofs::Steps::implied_step, crate::proofs::Plans::stands_of, crate::proofs::Plans::stands_longer, crate::proofs::Plans::plan_of))]
+#[tactic(auto, using(crate::proofs::Steps::implied_last_one, crate::proofs::Plans::stands_of, crate::proofs::Plans::stands_longer, crate::proofs::Plans::plan_of))]
 fn implied_sides(plan: &mut Plan, alloc: Global, terms: &[Term]) -> Result<NodePair, AllocError>
     requires { IsPlan plan.old.nodes }
     ensures { IfOk result (λ s. IsPlanned plan.old.nodes plan.new.nodes s (implied (formulas_of terms.now))) }
@@ -207,7 +205,7 @@ fn boolean_sides(
 }
 
 /// The nodes of the equality of two terms, whose own sides are at these places where the first has sort Bool.
-#[tactic(auto, using(crate::proofs::Steps::equal_boolean, crate::proofs::Steps::equal_whole, crate::proofs::Steps::equal_text, crate::proofs::Steps::equal_language, crate::proofs::Plans::stands_of))]
+#[tactic(auto, using(crate::proofs::Plans::stands_of))]
 fn pair_sides(
     plan: &mut Plan,
     alloc: Global,
@@ -230,7 +228,7 @@ fn pair_sides(
 }
 
 #[cycle(planning)]
-#[tactic(auto, using(crate::proofs::Steps::equal_none, crate::proofs::Steps::equal_step, crate::proofs::Steps::boolean_longer, crate::proofs::Steps::side_left, crate::proofs::Steps::side_right, crate::proofs::Plans::stands_of, crate::proofs::Plans::stands_longer, crate::proofs::Plans::plan_of))]
+#[tactic(auto, using(crate::proofs::Steps::equal_none, crate::proofs::Steps::boolean_longer, crate::proofs::Plans::stands_of, crate::proofs::Plans::stands_longer, crate::proofs::Plans::plan_of))]
 fn equal_sides(plan: &mut Plan, alloc: Global, terms: &[Term]) -> Result<NodePair, AllocError>
     requires { IsPlan plan.old.nodes }
     ensures { IfOk result (λ s. IsPlanned plan.old.nodes plan.new.nodes s (conjunction (neighbours equal (parts_of terms.now)))) }
@@ -247,7 +245,7 @@ fn equal_sides(plan: &mut Plan, alloc: Global, terms: &[Term]) -> Result<NodePai
 }
 
 #[cycle(planning)]
-#[tactic(auto, using(crate::proofs::Steps::pairs_none, crate::proofs::Steps::pairs_step, crate::proofs::Steps::boolean_longer, crate::proofs::Plans::stands_of, crate::proofs::Plans::stands_longer, crate::proofs::Plans::plan_of))]
+#[tactic(auto, using(crate::proofs::Steps::pairs_none, crate::proofs::Steps::boolean_longer, crate::proofs::Plans::stands_of, crate::proofs::Plans::stands_longer, crate::proofs::Plans::plan_of))]
 fn distinct_sides(plan: &mut Plan, alloc: Global, terms: &[Term]) -> Result<NodePair, AllocError>
     requires { IsPlan plan.old.nodes }
     ensures { IfOk result (λ s. IsPlanned plan.old.nodes plan.new.nodes s (conjunction (pairs (λ p q. negated (equal p q)) (parts_of terms.now)))) }
@@ -262,7 +260,7 @@ fn distinct_sides(plan: &mut Plan, alloc: Global, terms: &[Term]) -> Result<Node
 }
 
 /// The nodes of the and of what is given and of this: the term at `i` differs from each behind it.
-#[tactic(auto, using(crate::proofs::Steps::pair_step, crate::proofs::Steps::boolean_longer, crate::proofs::Steps::side_left, crate::proofs::Steps::side_right, crate::proofs::Plans::stands_of, crate::proofs::Plans::stands_longer, crate::proofs::Plans::plan_of))]
+#[tactic(auto, using(crate::proofs::Plans::stands_of, crate::proofs::Plans::stands_longer, crate::proofs::Plans::plan_of))]
 fn first_sides(
     plan: &mut Plan,
     alloc: Global,
@@ -288,7 +286,7 @@ fn first_sides(
 }
 
 /// The nodes of the comparisons of neighbouring terms.
-#[tactic(auto, using(crate::proofs::Steps::chain_none, crate::proofs::Steps::chain_step, crate::proofs::Plans::stands_of, crate::proofs::Plans::stands_longer, crate::proofs::Plans::plan_of))]
+#[tactic(auto, using(crate::proofs::Plans::stands_of, crate::proofs::Plans::stands_longer, crate::proofs::Plans::plan_of))]
 fn chain_sides(
     plan: &mut Plan,
     alloc: Global,

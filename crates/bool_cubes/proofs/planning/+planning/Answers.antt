@@ -1,20 +1,15 @@
-use Rattle.std.proofs.Common.{◌≡◌, ◌∙◌, ◌-◌, IfOk, List, Result, ap, arith, drop, length, subst, sym, zero}
+use Rattle.std.proofs.Common.{◌≡◌, ◌∙◌, ◌-◌, ap, arith, drop, length, subst, sym, zero}
+use Rattle.std.proofs.lemmas.Bool.Decides.{Decides-eqb}
 use Rattle.sv_terms.specs.declared.op.Op.TheVariants as op
 use Rattle.sv_terms.specs.declared.term.Term.TheVariants as term
 use Rattle.bool_cubes.specs.Counting.{formulas_of, parts_of}
 use Rattle.bool_cubes.specs.Nodes.{IsPlanned}
-use Rattle.bool_cubes.specs.Trees.{Formula, applied, atom, conjunction, disjunction, equal, exclusive, fixed, formula, implied, negated, neighbours, pairs}
+use Rattle.bool_cubes.specs.Trees.{applied, atom, conjunction, disjunction, equal, exclusive, fixed, formula, implied, negated, neighbours, pairs}
 use Rattle.literal_forms.specs.Shapes.{seen}
-use Rattle.bool_cubes.specs.declared.node.CubeNode.{CubeNode}
-use Rattle.bool_cubes.specs.declared.node.NodePair.{NodePair}
 use Rattle.bool_cubes.proofs.Plans.{longer_trans, within_longer}
-use Rattle.bool_cubes.proofs.Steps.{all_none, all_step, any_none, any_step, boolean_longer, choice_other, choice_three, equal_step, exclusive_all, exclusive_step, formula_apply, formula_other, formula_truth, implied_step, not_one, not_other, pairs_step, side_left, side_right}
+use Rattle.bool_cubes.proofs.Steps.{all_none, all_step, answered_as, any_none, any_step, boolean_longer, choice_other, choice_three, equal_step, exclusive_all, exclusive_none, exclusive_step, formula_apply, formula_other, formula_truth, implied_none, implied_step, not_one, not_other, pairs_step, side_left, side_right}
 use Rattle.bool_cubes.proofs.Tallies.{parts_formulas}
 use Rattle.bool_cubes.proofs.planning.+planning.Goals as goal
-
--- an answer with the sides of a formula has those of an equal one
-answered_as : {E : Type 0} (a b : List CubeNode) (r : Result NodePair E) (f g : Formula) → f ≡ g → IfOk r (λ s. IsPlanned a b s f) → IfOk r (λ s. IsPlanned a b s g)
-answered_as a b r f g e h = subst (λ x. IfOk r (λ s. IsPlanned a b s x)) e h
 
 pub all_sides-loop-i-preserved : goal.all_sides-loop-i-preserved
 all_sides-loop-i-preserved t c =
@@ -26,14 +21,14 @@ any_sides-loop-i-preserved t c =
     any_step c.args.plan.now.nodes c.loop-i.plan.nodes c.term_sides.new.plan.nodes c.or.new.self.nodes c.loop-i.any c.in_ok-next.next c.in_ok-any-2.any c.args.terms.now c.loop-i.i c.index-terms-i.result (omega arith) (omega arith) c.index-terms-i.is
     c.loop-i.invariant c.in_ok-next.ensures c.in_ok-any-2.ensures.formula
 
-pub choice_sides-returns-in_ok-choice : goal.choice_sides-returns-in_ok-choice
-choice_sides-returns-in_ok-choice t c =
-    choice_three c.args.plan.now.nodes c.term_sides.new.plan.nodes c.term_sides-then-terms-eq3.new.plan.nodes c.term_sides-then-terms-eq3-2.new.plan.nodes c.choice.new.self.nodes c.in_ok-test.test c.in_ok-first.first c.in_ok-second.second c.in_ok-choice.field-0
-    c.args.terms.now c.args.term.now c.index-terms-0.result c.index-terms-1.result c.index-terms-2.result c.if-terms-eq3.true c.index-terms-0.is c.index-terms-1.is c.index-terms-2.is c.in_ok-test.ensures c.in_ok-first.ensures c.in_ok-second.ensures c.in_ok-choice.ensures
+pub choice_sides-returns-in_ok-second : goal.choice_sides-returns-in_ok-second
+choice_sides-returns-in_ok-second t c =
+    choice_three c.args.plan.now.nodes c.term_sides.new.plan.nodes c.term_sides-then-terms-eq3.new.plan.nodes c.term_sides-then-terms-eq3-2.new.plan.nodes c.choice.new.self.nodes c.in_ok-test.test c.in_ok-first.first c.in_ok-second.second c.choice.result
+    c.args.terms.now c.args.term.now c.index-terms-0.result c.index-terms-1.result c.index-terms-2.result c.if-terms-eq3.true c.index-terms-0.is c.index-terms-1.is c.index-terms-2.is c.in_ok-test.ensures c.in_ok-first.ensures c.in_ok-second.ensures c.choice.ensures
 
-pub choice_sides-returns-in_ok-atom : goal.choice_sides-returns-in_ok-atom
-choice_sides-returns-in_ok-atom t c =
-    choice_other c.args.plan.now.nodes c.atom.new.self.nodes c.in_ok-atom.field-0 c.args.terms.now c.args.term.now c.if-terms-eq3.false c.in_ok-atom.ensures
+pub choice_sides-returns-else-terms-eq3 : goal.choice_sides-returns-else-terms-eq3
+choice_sides-returns-else-terms-eq3 t c =
+    answered_as c.args.plan.now.nodes c.atom.new.self.nodes c.atom.result _ _ (choice_other c.args.terms.now c.args.term.now c.if-terms-eq3.false) c.atom.ensures
 
 pub distinct_sides-loop-i-preserved : goal.distinct_sides-loop-i-preserved
 distinct_sides-loop-i-preserved t c = record {
@@ -73,9 +68,9 @@ implied_sides-loop-i-preserved t c = record {
       (omega arith) (omega arith) c.index-terms-i.is c.loop-i.invariant.bound c.loop-i.invariant.planned c.in_ok-next.ensures c.in_ok-any-2.ensures;
 }
 
-pub opposite_sides-returns-in_ok-atom : goal.opposite_sides-returns-in_ok-atom
-opposite_sides-returns-in_ok-atom t c =
-    not_other c.args.plan.now.nodes c.atom.new.self.nodes c.in_ok-atom.field-0 c.args.terms.now c.args.term.now c.if-terms-eq1.false c.in_ok-atom.ensures
+pub opposite_sides-returns-else-terms-eq1 : goal.opposite_sides-returns-else-terms-eq1
+opposite_sides-returns-else-terms-eq1 t c =
+    answered_as c.args.plan.now.nodes c.atom.new.self.nodes c.atom.result _ _ (not_other c.args.terms.now c.args.term.now c.if-terms-eq1.false) c.atom.ensures
 
 pub all_sides-loop-i-init : goal.all_sides-loop-i-init
 all_sides-loop-i-init t c =
@@ -190,6 +185,16 @@ exclusive_sides-agreement-requires-clause-right t c =
 pub exclusive_sides-returns : goal.exclusive_sides-returns
 exclusive_sides-returns t c =
     exclusive_all c.args.plan.now.nodes c.loop-i.plan.nodes c.loop-i.odd c.args.terms.now c.loop-i.i c.loop-i-test.false c.loop-i.invariant
+
+pub exclusive_sides-returns-then-is_empty : goal.exclusive_sides-returns-then-is_empty
+exclusive_sides-returns-then-is_empty t c =
+    let none = (Decides-eqb (length c.args.terms.now) 0).0 (sym c.is_empty.ensures ∙ c.if-is_empty.true) in
+    answered_as c.args.plan.now.nodes c.settle.new.self.nodes c.settle.result _ _ (exclusive_none c.args.terms.now none) c.settle.ensures
+
+pub implied_sides-returns-then-is_empty : goal.implied_sides-returns-then-is_empty
+implied_sides-returns-then-is_empty t c =
+    let none = (Decides-eqb (length c.args.terms.now) 0).0 (sym c.is_empty.ensures ∙ c.if-is_empty.true) in
+    answered_as c.args.plan.now.nodes c.settle.new.self.nodes c.settle.result _ _ (implied_none c.args.terms.now none) c.settle.ensures
 
 pub implied_sides-implication-requires-clause-plan : goal.implied_sides-implication-requires-clause-plan
 implied_sides-implication-requires-clause-plan t c =
