@@ -1,5 +1,6 @@
 use Rattle.std.proofs.Common.{◌≡◌, pos, ◌≤ℤ◌, ◌<ℤ◌, sym, subst, rules, w64}
 use Rattle.std.proofs.lemmas.Int.{to_z-of_z}
+use Rattle.std.proofs.lemmas.Result.{IfOk-weaker}
 use mir.Val.{SFits}
 use Rattle.cube_answers.specs.Leaves.{IsAnswerFor}
 use Rattle.cube_answers.proofs.AskLemmas.{answered-at, answered-past-at, asked-at, decided-at, lt-so, not-lt, reach-of}
@@ -28,8 +29,9 @@ returns-then-reach-lt0-clause-answer c =
     let read = to_z-of_z w64 c.args.reach f in
     let is = reach-of flat c.args.reach r c.requires.reach (subst (λ z. pos 0 ≤ℤ z → z ≡ pos r) read c.characters.ensures.exact) (subst (λ z. z <ℤ pos 0 → r ≡ 0) read c.characters.ensures.nothing) in
     let negative = subst (λ z. z <ℤ pos 0) c.requires.reach (subst (λ z. z <ℤ pos 0) read (lt-so _ c.if-reach-lt0.true)) in
-    subst (IsAnswerFor flat region machines) (sym c.in_ok-past_words.ensures)
-    (answered-past-at flat region machines r c.requires.region c.requires.machines is small c.requires.small c.len.result c.as_slice.result.now c.len.ensures c.as_slice.ensures c.requires.reachable c.in_ok-answer.answer negative c.in_ok-answer.ensures.answer)
+    IfOk-weaker c.past_words.result _ _ (λ answer past.
+    subst (IsAnswerFor flat region machines) (sym past)
+    (answered-past-at flat region machines r c.requires.region c.requires.machines is small c.requires.small c.len.result c.as_slice.result.now c.len.ensures c.as_slice.ensures c.requires.reachable c.in_ok-answer.answer negative c.in_ok-answer.ensures.answer)) c.past_words.ensures
 
 pub returns-clause-answer : goal.returns-clause-answer
 returns-clause-answer c =
