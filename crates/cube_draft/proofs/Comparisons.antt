@@ -7,7 +7,6 @@ use Rattle.std.specs.Int.{w128}
 use Rattle.std.specs.Option.{option_map}
 use Rattle.std.proofs.lemmas.Bool.{cases_lt, eq-eqb, eqb-true}
 use Rattle.std.proofs.lemmas.Int.{ints}
-use Rattle.literal_forms.specs.Literals.{SomeOf}
 use Rattle.literal_forms.specs.CodeLaws.{place_got}
 use Rattle.literal_forms.specs.Alike.{code_is}
 use Rattle.literal_forms.specs.Flats.{flat}
@@ -15,6 +14,7 @@ use Rattle.literal_forms.specs.Linear.{Linear, Place, Step, Unknown, addition, a
 use Rattle.literal_forms.specs.Numbered.{AreDifferences}
 use Rattle.literal_forms.specs.Numbered.{AreNumbered, IsFormOrPast, IsNumbered, place_in, place_of}
 use Rattle.literal_forms.specs.Past.{ArePlain, IsPast, IsPlainExactly, equality_steps}
+use Rattle.literal_forms.specs.PastLaws.{some_left, some_right}
 use Rattle.literal_forms.specs.Shapes.{Shape}
 use Rattle.literal_forms.specs.declared.differences.Differences.{Differences}
 use Rattle.literal_forms.specs.declared.term_form.TermForm.{TermForm}
@@ -47,15 +47,6 @@ fault_memory us a steps (fault.Memory e) p h = (e, refl)
 pub plain_memory : (X : Type 0) (all : List Step) (f : FormFault) → ArePlain all → IsPlainExactly {X = X} all (Err f) → (e : AllocError) × (f ≡ fault.Memory e)
 plain_memory X all (fault.Past l r) p h = absurd (p l r h)
 plain_memory X all (fault.Memory e) p h = (e, refl)
-
-some_left : {X : Type 0} (P : X → Type 0) (xs ys : List X) → SomeOf P xs → SomeOf P (xs ++ ys)
-some_left P [] ys h = absurd h
-some_left P (x ∷ xs) ys (inl h) = inl h
-some_left P (x ∷ xs) ys (inr h) = inr (some_left P xs ys h)
-
-some_right : {X : Type 0} (P : X → Type 0) (xs ys : List X) → SomeOf P ys → SomeOf P (xs ++ ys)
-some_right P [] ys h = h
-some_right P (x ∷ xs) ys h = inr (some_right P xs ys h)
 
 plain_left : (ss ts : List Step) → ArePlain (ss ++ ts) → ArePlain ss
 plain_left ss ts p l r h = p l r (some_left (IsPast l r) ss ts h)

@@ -1,6 +1,8 @@
 -- String terms are met: literals, constants, concatenations and replacements.
-use Rattle.std.proofs.Common.{◌≡◌, refl, sym, ap, ◌∙◌, subst, true, false, ℕ, zero, suc, ◌+◌, ◌<◌, ◌≤◌, ℤ, List, [], ◌∷◌, ◌++◌, length, take, get_or, Option, Some, None, append_assoc, arith, append-nil}
+use Rattle.std.proofs.Common.{◌≡◌, refl, sym, ap, ◌∙◌, subst, true, false, ℕ, zero, suc, ◌+◌, ◌<◌, ◌≤◌, ℤ, List, [], ◌∷◌, ◌++◌, length, take, get_or, Option, Some, None, IfOk, Result, append_assoc, arith, append-nil}
+use Rattle.std.specs.declared.alloc.AllocError.{AllocError}
 use Rattle.std.proofs.lemmas.List.{take_more}
+use Rattle.std.proofs.lemmas.Result.{IfOk-weaker}
 use Rattle.sv_terms.specs.declared.op.Op.{Op}
 use Rattle.sv_terms.specs.declared.op.Op.TheVariants as op
 use Rattle.sv_terms.specs.declared.sort.Sort.{Sort}
@@ -127,8 +129,8 @@ pub replaces_as : (t : Term) (o : Op) (r : Occurrences) (b : PlaceBuild) (ts us 
 replaces_as t o r b ts us i f k e = i ∙ (λ j. term.Apply (replacer_op o r (sym k ∙ e) j) (sym f j))
 
 -- terms of no written form have a place that isn't there
-pub nothing_met_of : (m : DraftBuilder) (s : Shape) (i : ℕ) → i ≡ length m.names → ((d : DraftView) → meet s d ≡ (length d.terms, d)) → IsTermMet m m s i
-nothing_met_of m s i l e = record { gathers = λ d g. subst (Gathers m) (sym (ap (λ r. r.1) (e d))) g; place = λ d g. l ∙ names_long m d g ∙ sym (ap (λ r. r.0) (e d)) }
+nothing_met_of : (m : DraftBuilder) (s : Shape) (k : Result ℕ AllocError) → IfOk k (λ i. i ≡ length m.names) → ((d : DraftView) → meet s d ≡ (length d.terms, d)) → IfOk k (IsTermMet m m s)
+nothing_met_of m s k l e = IfOk-weaker k (λ i. i ≡ length m.names) (IsTermMet m m s) (λ i p. record { gathers = λ d g. subst (Gathers m) (sym (ap (λ r. r.1) (e d))) g; place = λ d g. p ∙ names_long m d g ∙ sym (ap (λ r. r.0) (e d)) }) l
 
 none_built : (o : Op) (ss : Shapes) (d : DraftView) → build_of o ≡ build.Nothing → meet (written (apply o ss)) d ≡ (length d.terms, d)
 none_built op.Concat ss d e = absurd (cc)
@@ -136,10 +138,10 @@ none_built op.Replace ss d e = absurd (cc)
 none_built op.ReplaceAll ss d e = absurd (cc)
 none_built _ ss d e = refl
 
-pub built_nothing : (m : DraftBuilder) (t : Term) (o : Op) (ts : List Term) (k : ℕ) → t ≡ term.Apply o ts → build_of o ≡ build.Nothing → k ≡ length m.names → IsTermMet m m (written (seen t)) k
+pub built_nothing : (m : DraftBuilder) (t : Term) (o : Op) (ts : List Term) (k : Result ℕ AllocError) → t ≡ term.Apply o ts → build_of o ≡ build.Nothing → IfOk k (λ i. i ≡ length m.names) → IfOk k (IsTermMet m m (written (seen t)))
 built_nothing m t o ts k i b l = nothing_met_of m (written (seen t)) k l (λ d. ap (λ s. meet (written s) d) (seen_apply t o o ts i refl) ∙ none_built o (seen_all ts) d b)
 
-pub leaf_nothing : (m : DraftBuilder) (t : Term) (k : ℕ) → ((w : List ℕ) → t ≡ term.Text w → ⊥) → ((n : List ℕ) (k : Sort) → t ≡ term.Constant n k → ⊥) → ((o : Op) (ts : List Term) → t ≡ term.Apply o ts → ⊥) → k ≡ length m.names → IsTermMet m m (written (seen t)) k
+pub leaf_nothing : (m : DraftBuilder) (t : Term) (k : Result ℕ AllocError) → ((w : List ℕ) → t ≡ term.Text w → ⊥) → ((n : List ℕ) (k : Sort) → t ≡ term.Constant n k → ⊥) → ((o : Op) (ts : List Term) → t ≡ term.Apply o ts → ⊥) → IfOk k (λ i. i ≡ length m.names) → IfOk k (IsTermMet m m (written (seen t)))
 leaf_nothing m t k f g h l = nothing_met_of m (written (seen t)) k l (λ d. by_shape d (seen t) (raw-seen t))
   where
     by_shape : (d : DraftView) (s : Shape) → raw s ≡ t → meet (written s) d ≡ (length d.terms, d)
@@ -175,7 +177,7 @@ replaced_none : (r : Occurrences) (ss : Shapes) (d : DraftView) → literals_of 
 replaced_none occurrences.First ss d e = first_none ss d e
 replaced_none occurrences.All ss d e = all_none ss d e
 
-pub replaced_nothing : (m : DraftBuilder) (t : Term) (r : Occurrences) (ts : List Term) (k : ℕ) → t ≡ term.Apply (replacer r) ts → literals_of (seen_all ts) ≡ None → k ≡ length m.names → IsTermMet m m (written (seen t)) k
+pub replaced_nothing : (m : DraftBuilder) (t : Term) (r : Occurrences) (ts : List Term) (k : Result ℕ AllocError) → t ≡ term.Apply (replacer r) ts → literals_of (seen_all ts) ≡ None → IfOk k (λ i. i ≡ length m.names) → IfOk k (IsTermMet m m (written (seen t)))
 replaced_nothing m t r ts k i n l = nothing_met_of m (written (seen t)) k l (λ d. ap (λ s. meet (written s) d) (seen_apply t (replacer r) (replacer r) ts i refl) ∙ replaced_none r (seen_all ts) d n)
 
 -- pieces one after another
@@ -297,8 +299,8 @@ constant_is_new m n t a k p i e h q =
     let s : written (seen t) ≡ constant a k = ap written (ap seen e ∙ seen-Constant a k) in
     subst (λ x. IsTermMet m n x i) (sym s) (constant_new m n a k i (subst (λ x. IsSought m n x (New i)) s (subst (IsSought m n (written (seen t))) q h)))
 
-pub text_is_met : (m n : DraftBuilder) (t : Term) (w v : List ℕ) (i : ℕ) → t ≡ term.Text w → v ≡ w → IsTermMet m n (text v) i → IsTermMet m n (written (seen t)) i
-text_is_met m n t w v i e f h = subst (λ x. IsTermMet m n x i) (ap text f ∙ sym (ap written (ap seen e ∙ seen-Text w))) h
+pub text_is_met : (m n : DraftBuilder) (t : Term) (w v : List ℕ) (k : Result ℕ AllocError) → t ≡ term.Text w → v ≡ w → IfOk k (IsTermMet m n (text v)) → IfOk k (IsTermMet m n (written (seen t)))
+text_is_met m n t w v k e f h = subst (λ x. IfOk k (IsTermMet m n x)) (ap text f ∙ sym (ap written (ap seen e ∙ seen-Text w))) h
 
 concat_written : (t : Term) (ts : List Term) → t ≡ term.Apply op.Concat ts → written (seen t) ≡ apply op.Concat (pieces (seen_all ts))
 concat_written t ts e = ap written (seen_apply t op.Concat op.Concat ts e refl)

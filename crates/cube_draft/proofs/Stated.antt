@@ -1,5 +1,6 @@
 -- What a literal says is added.
-use Rattle.std.proofs.Common.{◌≡◌, refl, sym, ap, ◌∙◌, subst, Bool, true, false, not, ◌&&◌, ◌||◌, ◌↔◌, IsTrue, ℕ, List, [], ◌∷◌, ◌++◌, length, get_or, nat_eq, arith}
+use Rattle.std.proofs.Common.{◌≡◌, refl, sym, ap, ◌∙◌, subst, Bool, true, false, not, ◌&&◌, ◌||◌, ◌↔◌, IsTrue, IfOk, Result, ℕ, List, [], ◌∷◌, ◌++◌, length, get_or, nat_eq, arith}
+use Rattle.std.specs.declared.alloc.AllocError.{AllocError}
 use Rattle.std.specs.Cmp.Lexicographic.{pointwise, same_text}
 use Rattle.sv_terms.specs.declared.op.Op.{Op}
 use Rattle.sv_terms.specs.declared.op.Op.TheVariants as op
@@ -42,6 +43,16 @@ left_out m x e = record { each = λ d g. e }
 pub added_as : (m n : DraftBuilder) (x y : Said) (k : LiteralReading) → x ≡ y → IsLiteralAdded m n y k → IsLiteralAdded m n x k
 added_as m n x y k e h = subst (λ z. IsLiteralAdded m n z k) (sym e) h
 
+-- what the answer of a call adds, and the same said
+abbrev pub Answer : Type 0
+Answer = Result LiteralReading AllocError
+
+abbrev pub Adds : DraftBuilder → DraftBuilder → Said → Answer → Type 0
+Adds m n x k = IfOk k (IsLiteralAdded m n x)
+
+adds_as : (m n : DraftBuilder) (x y : Said) (k : Answer) → x ≡ y → Adds m n y k → Adds m n x k
+adds_as m n x y k e h = subst (λ z. Adds m n z k) (sym e) h
+
 -- parts
 part_outside : (s : Shape) (o : Own) (b c : Bool) → is_string s ≡ c → c ≡ false → is_outside (part_said s o b) ≡ true
 part_outside s o b true e f = absurd (cc)
@@ -72,8 +83,8 @@ seen_text t w e = ap seen e ∙ seen-Text w
 pub affix_not : (m : DraftBuilder) (a : Affix) (p t : Term) (b : Bool) → ((w : List ℕ) → p ≡ term.Text w → ⊥) → IsLiteralAdded m m (affix_said a (seen p) (seen t) b) kind.Outside
 affix_not m a p t b h = left_out m _ (affix_outside a (seen p) (seen t) b (no_text p h))
 
-pub affix_added : (m n : DraftBuilder) (a : Affix) (p t : Term) (b : Bool) (w v : List ℕ) (o : Own) (k : LiteralReading) → p ≡ term.Text w → v ≡ w → o ≡ own_by a v → IsLiteralAdded m n (part_said (seen t) o b) k → IsLiteralAdded m n (affix_said a (seen p) (seen t) b) k
-affix_added m n a p t b w v o k e f g h = added_as m n _ _ k (ap (λ s. affix_said a s (seen t) b) (seen_text p w e) ∙ ap (λ x. part_said (seen t) x b) (sym (g ∙ ap (own_by a) f))) h
+pub affix_added : (m n : DraftBuilder) (a : Affix) (p t : Term) (b : Bool) (w v : List ℕ) (o : Own) (k : Answer) → p ≡ term.Text w → v ≡ w → o ≡ own_by a v → Adds m n (part_said (seen t) o b) k → Adds m n (affix_said a (seen p) (seen t) b) k
+affix_added m n a p t b w v o k e f g h = adds_as m n _ _ k (ap (λ s. affix_said a s (seen t) b) (seen_text p w e) ∙ ap (λ x. part_said (seen t) x b) (sym (g ∙ ap (own_by a) f))) h
 
 prefix_said : (s t : Shape) (b : Bool) → atom_said (apply op.PrefixOf (s ⨾ t ⨾ end)) b ≡ affix_said affix.Prefix s t b
 prefix_said (text w) t b = refl
@@ -87,8 +98,8 @@ infix_said : (s t : Shape) (b : Bool) → atom_said (apply op.Contains (s ⨾ t 
 infix_said s (text w) b = refl
 infix_said s _ b = refl
 
-pub member_added : (m n : DraftBuilder) (t : Term) (b : Bool) (r q : Regex) (k : LiteralReading) → q ≡ r → IsLiteralAdded m n (part_said (seen t) (own.InRe q) b) k → IsLiteralAdded m n (part_said (seen t) (own.InRe r) b) k
-member_added m n t b r q k e h = subst (λ x. IsLiteralAdded m n (part_said (seen t) (own.InRe x) b) k) e h
+pub member_added : (m n : DraftBuilder) (t : Term) (b : Bool) (r q : Regex) (k : Answer) → q ≡ r → Adds m n (part_said (seen t) (own.InRe q) b) k → Adds m n (part_said (seen t) (own.InRe r) b) k
+member_added m n t b r q k e h = subst (λ x. Adds m n (part_said (seen t) (own.InRe x) b) k) e h
 
 -- equalities of string terms
 literal_part : (w : List ℕ) (t : Shape) (b : Bool) → is_text t ≡ false → string_said (text w) t b ≡ part_said t (own.Word w) b
@@ -110,17 +121,17 @@ neither (related x y z) (text w) b e f = absurd (cc)
 neither (opaque x) (text w) b e f = absurd (cc)
 neither _ _ b e f = refl
 
-pub literal_added : (m n : DraftBuilder) (t : Term) (b : Bool) (w v : List ℕ) (k : LiteralReading) → ((u : List ℕ) → t ≡ term.Text u → ⊥) → v ≡ w → IsLiteralAdded m n (part_said (seen t) (own.Word v) b) k → IsLiteralAdded m n (string_said (text w) (seen t) b) k
-literal_added m n t b w v k h f p = added_as m n _ _ k (literal_part w (seen t) b (no_text t h) ∙ ap (λ x. part_said (seen t) (own.Word x) b) (sym f)) p
+pub literal_added : (m n : DraftBuilder) (t : Term) (b : Bool) (w v : List ℕ) (k : Answer) → ((u : List ℕ) → t ≡ term.Text u → ⊥) → v ≡ w → Adds m n (part_said (seen t) (own.Word v) b) k → Adds m n (string_said (text w) (seen t) b) k
+literal_added m n t b w v k h f p = adds_as m n _ _ k (literal_part w (seen t) b (no_text t h) ∙ ap (λ x. part_said (seen t) (own.Word x) b) (sym f)) p
 
-pub strings_left : (m n : DraftBuilder) (s t : Term) (b : Bool) (w : List ℕ) (k : LiteralReading) → s ≡ term.Text w → IsLiteralAdded m n (string_said (text w) (seen t) b) k → IsLiteralAdded m n (string_said (seen s) (seen t) b) k
-strings_left m n s t b w k e p = added_as m n _ _ k (ap (λ x. string_said x (seen t) b) (seen_text s w e)) p
+pub strings_left : (m n : DraftBuilder) (s t : Term) (b : Bool) (w : List ℕ) (k : Answer) → s ≡ term.Text w → Adds m n (string_said (text w) (seen t) b) k → Adds m n (string_said (seen s) (seen t) b) k
+strings_left m n s t b w k e p = adds_as m n _ _ k (ap (λ x. string_said x (seen t) b) (seen_text s w e)) p
 
-pub strings_right : (m n : DraftBuilder) (s t : Term) (b : Bool) (w v : List ℕ) (k : LiteralReading) → ((u : List ℕ) → s ≡ term.Text u → ⊥) → t ≡ term.Text w → v ≡ w → IsLiteralAdded m n (part_said (seen s) (own.Word v) b) k → IsLiteralAdded m n (string_said (seen s) (seen t) b) k
-strings_right m n s t b w v k h e f p = added_as m n _ _ k (ap (λ x. string_said (seen s) x b) (seen_text t w e) ∙ term_part (seen s) w b (no_text s h) ∙ ap (λ x. part_said (seen s) (own.Word x) b) (sym f)) p
+pub strings_right : (m n : DraftBuilder) (s t : Term) (b : Bool) (w v : List ℕ) (k : Answer) → ((u : List ℕ) → s ≡ term.Text u → ⊥) → t ≡ term.Text w → v ≡ w → Adds m n (part_said (seen s) (own.Word v) b) k → Adds m n (string_said (seen s) (seen t) b) k
+strings_right m n s t b w v k h e f p = adds_as m n _ _ k (ap (λ x. string_said (seen s) x b) (seen_text t w e) ∙ term_part (seen s) w b (no_text s h) ∙ ap (λ x. part_said (seen s) (own.Word x) b) (sym f)) p
 
-pub strings_neither : (m n : DraftBuilder) (s t : Term) (b : Bool) (k : LiteralReading) → ((u : List ℕ) → s ≡ term.Text u → ⊥) → ((u : List ℕ) → t ≡ term.Text u → ⊥) → IsLiteralAdded m n (one_said (seen s) (seen t) b) k → IsLiteralAdded m n (string_said (seen s) (seen t) b) k
-strings_neither m n s t b k h i p = added_as m n _ _ k (neither (seen s) (seen t) b (no_text s h) (no_text t i)) p
+pub strings_neither : (m n : DraftBuilder) (s t : Term) (b : Bool) (k : Answer) → ((u : List ℕ) → s ≡ term.Text u → ⊥) → ((u : List ℕ) → t ≡ term.Text u → ⊥) → Adds m n (one_said (seen s) (seen t) b) k → Adds m n (string_said (seen s) (seen t) b) k
+strings_neither m n s t b k h i p = adds_as m n _ _ k (neither (seen s) (seen t) b (no_text s h) (no_text t i)) p
 
 same_words : (q c : Bool) (v w : List ℕ) → IsTrue q ↔ (v ≡ w) → pointwise nat_eq v w ≡ c → q ≡ c
 same_words true true v w h e = refl
@@ -237,8 +248,8 @@ digit_op : (o : Op) → head_of o ≡ head.Digit → o ≡ op.IsDigit
 digit_op op.IsDigit e = refl
 digit_op _ e = absurd (cc)
 
-pub digit_added : (m n : DraftBuilder) (o : Op) (h : AtomHead) (s : Shape) (b : Bool) (k : LiteralReading) → h ≡ head_of o → h ≡ head.Digit → IsLiteralAdded m n (part_said s own.Digit b) k → IsLiteralAdded m n (atom_said (apply o (s ⨾ end)) b) k
-digit_added m n o h s b k e f p = added_as m n _ _ k (ap (λ x. atom_said (apply x (s ⨾ end)) b) (digit_op o (sym e ∙ f))) p
+pub digit_added : (m n : DraftBuilder) (o : Op) (h : AtomHead) (s : Shape) (b : Bool) (k : Answer) → h ≡ head_of o → h ≡ head.Digit → Adds m n (part_said s own.Digit b) k → Adds m n (atom_said (apply o (s ⨾ end)) b) k
+digit_added m n o h s b k e f p = adds_as m n _ _ k (ap (λ x. atom_said (apply x (s ⨾ end)) b) (digit_op o (sym e ∙ f))) p
 
 -- two arguments
 equality_op : (o : Op) → head_of o ≡ head.Equality → o ≡ op.Equal
@@ -260,17 +271,17 @@ contains_op _ e = absurd (cc)
 abbrev double : Op → Shape → Shape → Bool → Said
 double o s t b = atom_said (apply o (s ⨾ t ⨾ end)) b
 
-pub double_equality : (m n : DraftBuilder) (o : Op) (h : AtomHead) (s t : Shape) (b : Bool) (k : LiteralReading) → h ≡ head_of o → h ≡ head.Equality → IsLiteralAdded m n (atom_said (apply op.Equal (s ⨾ t ⨾ end)) b) k → IsLiteralAdded m n (atom_said (apply o (s ⨾ t ⨾ end)) b) k
-double_equality m n o h s t b k e f p = added_as m n _ _ k (ap (λ x. double x s t b) (equality_op o (sym e ∙ f))) p
+pub double_equality : (m n : DraftBuilder) (o : Op) (h : AtomHead) (s t : Shape) (b : Bool) (k : Answer) → h ≡ head_of o → h ≡ head.Equality → Adds m n (atom_said (apply op.Equal (s ⨾ t ⨾ end)) b) k → Adds m n (atom_said (apply o (s ⨾ t ⨾ end)) b) k
+double_equality m n o h s t b k e f p = adds_as m n _ _ k (ap (λ x. double x s t b) (equality_op o (sym e ∙ f))) p
 
-pub double_prefix : (m n : DraftBuilder) (o : Op) (h : AtomHead) (s t : Shape) (b : Bool) (k : LiteralReading) → h ≡ head_of o → h ≡ head.Prefix → IsLiteralAdded m n (affix_said affix.Prefix s t b) k → IsLiteralAdded m n (atom_said (apply o (s ⨾ t ⨾ end)) b) k
-double_prefix m n o h s t b k e f p = added_as m n _ _ k (ap (λ x. double x s t b) (prefix_op o (sym e ∙ f)) ∙ prefix_said s t b) p
+pub double_prefix : (m n : DraftBuilder) (o : Op) (h : AtomHead) (s t : Shape) (b : Bool) (k : Answer) → h ≡ head_of o → h ≡ head.Prefix → Adds m n (affix_said affix.Prefix s t b) k → Adds m n (atom_said (apply o (s ⨾ t ⨾ end)) b) k
+double_prefix m n o h s t b k e f p = adds_as m n _ _ k (ap (λ x. double x s t b) (prefix_op o (sym e ∙ f)) ∙ prefix_said s t b) p
 
-pub double_suffix : (m n : DraftBuilder) (o : Op) (h : AtomHead) (s t : Shape) (b : Bool) (k : LiteralReading) → h ≡ head_of o → h ≡ head.Suffix → IsLiteralAdded m n (affix_said affix.Suffix s t b) k → IsLiteralAdded m n (atom_said (apply o (s ⨾ t ⨾ end)) b) k
-double_suffix m n o h s t b k e f p = added_as m n _ _ k (ap (λ x. double x s t b) (suffix_op o (sym e ∙ f)) ∙ suffix_said s t b) p
+pub double_suffix : (m n : DraftBuilder) (o : Op) (h : AtomHead) (s t : Shape) (b : Bool) (k : Answer) → h ≡ head_of o → h ≡ head.Suffix → Adds m n (affix_said affix.Suffix s t b) k → Adds m n (atom_said (apply o (s ⨾ t ⨾ end)) b) k
+double_suffix m n o h s t b k e f p = adds_as m n _ _ k (ap (λ x. double x s t b) (suffix_op o (sym e ∙ f)) ∙ suffix_said s t b) p
 
-pub double_infix : (m n : DraftBuilder) (o : Op) (h : AtomHead) (s t : Shape) (b : Bool) (k : LiteralReading) → h ≡ head_of o → h ≡ head.Contains → IsLiteralAdded m n (affix_said affix.Infix t s b) k → IsLiteralAdded m n (atom_said (apply o (s ⨾ t ⨾ end)) b) k
-double_infix m n o h s t b k e f p = added_as m n _ _ k (ap (λ x. double x s t b) (contains_op o (sym e ∙ f)) ∙ infix_said s t b) p
+pub double_infix : (m n : DraftBuilder) (o : Op) (h : AtomHead) (s t : Shape) (b : Bool) (k : Answer) → h ≡ head_of o → h ≡ head.Contains → Adds m n (affix_said affix.Infix t s b) k → Adds m n (atom_said (apply o (s ⨾ t ⨾ end)) b) k
+double_infix m n o h s t b k e f p = adds_as m n _ _ k (ap (λ x. double x s t b) (contains_op o (sym e ∙ f)) ∙ infix_said s t b) p
 
 order_said : (o : Op) (s t : Shape) (b : Bool) → head_of o ≡ head.Order → double o s t b ≡ row_said o s t b
 order_said op.LessEqual s t b e = refl
@@ -279,8 +290,8 @@ order_said op.GreaterEqual s t b e = refl
 order_said op.Greater s t b e = refl
 order_said _ s t b e = absurd (cc)
 
-pub double_order : (m n : DraftBuilder) (o : Op) (h : AtomHead) (s t : Shape) (b : Bool) (k : LiteralReading) → h ≡ head_of o → h ≡ head.Order → IsLiteralAdded m n (row_said o s t b) k → IsLiteralAdded m n (atom_said (apply o (s ⨾ t ⨾ end)) b) k
-double_order m n o h s t b k e f p = added_as m n _ _ k (order_said o s t b (sym e ∙ f)) p
+pub double_order : (m n : DraftBuilder) (o : Op) (h : AtomHead) (s t : Shape) (b : Bool) (k : Answer) → h ≡ head_of o → h ≡ head.Order → Adds m n (row_said o s t b) k → Adds m n (atom_said (apply o (s ⨾ t ⨾ end)) b) k
+double_order m n o h s t b k e f p = adds_as m n _ _ k (order_said o s t b (sym e ∙ f)) p
 
 order_fits : (o : Op) (s t : Shape) (b : Bool) → head_of o ≡ head.Order → AtomFits (apply o (s ⨾ t ⨾ end)) → ComparisonFits o s t b
 order_fits op.LessEqual s t true e f = record { plain = f.plain }
@@ -318,11 +329,11 @@ pub double_not : (m : DraftBuilder) (o : Op) (h : AtomHead) (s t : Shape) (b : B
 double_not m o h s t b e f = left_out m _ (double_other o s t b (sym e ∙ f))
 
 -- equalities, by the sort of the first side
-pub equal_strings : (m n : DraftBuilder) (s t : Shape) (b : Bool) (q : Sort) (k : LiteralReading) → q ≡ head_sort s → q ≡ sort.String → IsLiteralAdded m n (string_said s t b) k → IsLiteralAdded m n (atom_said (apply op.Equal (s ⨾ t ⨾ end)) b) k
-equal_strings m n s t b q k e f p = added_as m n _ _ k (ap (λ x. equality_said x s t b) (sym e ∙ f)) p
+pub equal_strings : (m n : DraftBuilder) (s t : Shape) (b : Bool) (q : Sort) (k : Answer) → q ≡ head_sort s → q ≡ sort.String → Adds m n (string_said s t b) k → Adds m n (atom_said (apply op.Equal (s ⨾ t ⨾ end)) b) k
+equal_strings m n s t b q k e f p = adds_as m n _ _ k (ap (λ x. equality_said x s t b) (sym e ∙ f)) p
 
-pub equal_numbers : (m n : DraftBuilder) (s t : Shape) (b : Bool) (q : Sort) (k : LiteralReading) → q ≡ head_sort s → q ≡ sort.Int → b ≡ true → IsLiteralAdded m n (row_said op.Equal s t true) k → IsLiteralAdded m n (atom_said (apply op.Equal (s ⨾ t ⨾ end)) b) k
-equal_numbers m n s t b q k e f g p = added_as m n _ _ k (λ i. equality_said ((sym e ∙ f) i) s t (g i)) p
+pub equal_numbers : (m n : DraftBuilder) (s t : Shape) (b : Bool) (q : Sort) (k : Answer) → q ≡ head_sort s → q ≡ sort.Int → b ≡ true → Adds m n (row_said op.Equal s t true) k → Adds m n (atom_said (apply op.Equal (s ⨾ t ⨾ end)) b) k
+equal_numbers m n s t b q k e f g p = adds_as m n _ _ k (λ i. equality_said ((sym e ∙ f) i) s t (g i)) p
 
 pub equal_numbers_fit : (s t : Shape) (q : Sort) → q ≡ head_sort s → q ≡ sort.Int → AtomFits (apply op.Equal (s ⨾ t ⨾ end)) → ComparisonFits op.Equal s t true
 equal_numbers_fit s t q e f p = record { plain = subst (λ x. ArePlain (equal_steps x s t)) (sym e ∙ f) p.plain }
@@ -337,15 +348,15 @@ pub equal_languages : (m : DraftBuilder) (s t : Shape) (b : Bool) (q : Sort) →
 equal_languages m s t b q e f = left_out m _ (ap (λ x. is_outside (equality_said x s t b)) (sym e ∙ f))
 
 -- by the number of arguments
-pub applied_one : (m n : DraftBuilder) (o : Op) (ts : List Term) (t : Term) (b : Bool) (k : LiteralReading) → length ts ≡ 1 → t ≡ get_or ts 0 t → IsLiteralAdded m n (atom_said (apply o (seen t ⨾ end)) b) k → IsLiteralAdded m n (atom_said (apply o (seen_all ts)) b) k
+pub applied_one : (m n : DraftBuilder) (o : Op) (ts : List Term) (t : Term) (b : Bool) (k : Answer) → length ts ≡ 1 → t ≡ get_or ts 0 t → Adds m n (atom_said (apply o (seen t ⨾ end)) b) k → Adds m n (atom_said (apply o (seen_all ts)) b) k
 applied_one m n o [] t b k l e p = absurd (omega arith)
-applied_one m n o (u ∷ []) t b k l e p = subst (λ x. IsLiteralAdded m n (atom_said (apply o (seen x ⨾ end)) b) k) e p
+applied_one m n o (u ∷ []) t b k l e p = subst (λ x. Adds m n (atom_said (apply o (seen x ⨾ end)) b) k) e p
 applied_one m n o (u ∷ v ∷ ts) t b k l e p = absurd (omega arith)
 
-pub applied_two : (m n : DraftBuilder) (o : Op) (ts : List Term) (t u : Term) (b : Bool) (k : LiteralReading) → length ts ≡ 2 → t ≡ get_or ts 0 t → u ≡ get_or ts 1 u → IsLiteralAdded m n (atom_said (apply o (seen t ⨾ seen u ⨾ end)) b) k → IsLiteralAdded m n (atom_said (apply o (seen_all ts)) b) k
+pub applied_two : (m n : DraftBuilder) (o : Op) (ts : List Term) (t u : Term) (b : Bool) (k : Answer) → length ts ≡ 2 → t ≡ get_or ts 0 t → u ≡ get_or ts 1 u → Adds m n (atom_said (apply o (seen t ⨾ seen u ⨾ end)) b) k → Adds m n (atom_said (apply o (seen_all ts)) b) k
 applied_two m n o [] t u b k l e f p = absurd (omega arith)
 applied_two m n o (x ∷ []) t u b k l e f p = absurd (omega arith)
-applied_two m n o (x ∷ y ∷ []) t u b k l e f p = subst (λ z. IsLiteralAdded m n (atom_said (apply o (seen x ⨾ seen z ⨾ end)) b) k) f (subst (λ z. IsLiteralAdded m n (atom_said (apply o (seen z ⨾ seen u ⨾ end)) b) k) e p)
+applied_two m n o (x ∷ y ∷ []) t u b k l e f p = subst (λ z. Adds m n (atom_said (apply o (seen x ⨾ seen z ⨾ end)) b) k) f (subst (λ z. Adds m n (atom_said (apply o (seen z ⨾ seen u ⨾ end)) b) k) e p)
 applied_two m n o (x ∷ y ∷ z ∷ ts) t u b k l e f p = absurd (omega arith)
 
 pub applied_two_fits : (o : Op) (ts : List Term) (t u : Term) → length ts ≡ 2 → t ≡ get_or ts 0 t → u ≡ get_or ts 1 u → AtomFits (apply o (seen_all ts)) → AtomFits (apply o (seen t ⨾ seen u ⨾ end))
@@ -374,17 +385,17 @@ pub applied_not : (m : DraftBuilder) (o : Op) (ts : List Term) (b : Bool) → (l
 applied_not m o ts b f g = left_out m _ (applied_outside o ts b f g)
 
 -- by the head of the atom
-pub said_constant : (m n : DraftBuilder) (l : Literal) (a : List ℕ) (s : Sort) (k : LiteralReading) → l.atom ≡ term.Constant a s → IsLiteralAdded m n (constant_said a s l.positive) k → IsLiteralAdded m n (said l) k
-said_constant m n l a s k e p = added_as m n _ _ k (ap (λ x. atom_said x l.positive) (ap seen e ∙ seen-Constant a s)) p
+pub said_constant : (m n : DraftBuilder) (l : Literal) (a : List ℕ) (s : Sort) (k : Answer) → l.atom ≡ term.Constant a s → Adds m n (constant_said a s l.positive) k → Adds m n (said l) k
+said_constant m n l a s k e p = adds_as m n _ _ k (ap (λ x. atom_said x l.positive) (ap seen e ∙ seen-Constant a s)) p
 
-pub said_member : (m n : DraftBuilder) (l : Literal) (t u : Term) (r : Regex) (k : LiteralReading) → l.atom ≡ term.InRe t r → u ≡ t → IsLiteralAdded m n (part_said (seen u) (own.InRe r) l.positive) k → IsLiteralAdded m n (said l) k
-said_member m n l t u r k e f p = added_as m n _ _ k (ap (λ x. atom_said x l.positive) (ap seen e ∙ seen-InRe t r) ∙ ap (λ x. part_said (seen x) (own.InRe r) l.positive) (sym f)) p
+pub said_member : (m n : DraftBuilder) (l : Literal) (t u : Term) (r : Regex) (k : Answer) → l.atom ≡ term.InRe t r → u ≡ t → Adds m n (part_said (seen u) (own.InRe r) l.positive) k → Adds m n (said l) k
+said_member m n l t u r k e f p = adds_as m n _ _ k (ap (λ x. atom_said x l.positive) (ap seen e ∙ seen-InRe t r) ∙ ap (λ x. part_said (seen x) (own.InRe r) l.positive) (sym f)) p
 
-pub said_pair : (m n : DraftBuilder) (l : Literal) (a : Transducer) (t u v w : Term) (k : LiteralReading) → l.atom ≡ term.Related a t u → v ≡ t → w ≡ u → IsLiteralAdded m n (pair_said a (seen v) (seen w) l.positive) k → IsLiteralAdded m n (said l) k
-said_pair m n l a t u v w k e f g p = added_as m n _ _ k (ap (λ x. atom_said x l.positive) (ap seen e ∙ seen-Related a t u) ∙ (λ i. pair_said a (seen (sym f i)) (seen (sym g i)) l.positive)) p
+pub said_pair : (m n : DraftBuilder) (l : Literal) (a : Transducer) (t u v w : Term) (k : Answer) → l.atom ≡ term.Related a t u → v ≡ t → w ≡ u → Adds m n (pair_said a (seen v) (seen w) l.positive) k → Adds m n (said l) k
+said_pair m n l a t u v w k e f g p = adds_as m n _ _ k (ap (λ x. atom_said x l.positive) (ap seen e ∙ seen-Related a t u) ∙ (λ i. pair_said a (seen (sym f i)) (seen (sym g i)) l.positive)) p
 
-pub said_applied : (m n : DraftBuilder) (l : Literal) (o : Op) (ts us : List Term) (k : LiteralReading) → l.atom ≡ term.Apply o ts → us ≡ ts → IsLiteralAdded m n (atom_said (apply o (seen_all us)) l.positive) k → IsLiteralAdded m n (said l) k
-said_applied m n l o ts us k e f p = added_as m n _ _ k (ap (λ x. atom_said x l.positive) (seen_apply l.atom o o ts e refl) ∙ ap (λ x. atom_said (apply o (seen_all x)) l.positive) (sym f)) p
+pub said_applied : (m n : DraftBuilder) (l : Literal) (o : Op) (ts us : List Term) (k : Answer) → l.atom ≡ term.Apply o ts → us ≡ ts → Adds m n (atom_said (apply o (seen_all us)) l.positive) k → Adds m n (said l) k
+said_applied m n l o ts us k e f p = adds_as m n _ _ k (ap (λ x. atom_said x l.positive) (seen_apply l.atom o o ts e refl) ∙ ap (λ x. atom_said (apply o (seen_all x)) l.positive) (sym f)) p
 
 pub applied_fits : (l : Literal) (o : Op) (ts us : List Term) → IsFitting l → l.atom ≡ term.Apply o ts → us ≡ ts → AtomFits (apply o (seen_all us))
 applied_fits l o ts us h e f = record { plain = subst (λ x. ArePlain (atom_steps x)) (seen_apply l.atom o o ts e refl ∙ ap (λ x. apply o (seen_all x)) (sym f)) h }

@@ -153,8 +153,7 @@ impl DraftBuilder {
                 let form = bound_form(alloc, differences, bound)?;
                 let form = self.renumber_form(alloc, &unknowns, &form.form)?;
                 let kind = row_kind(bound);
-                self.rows.push(Row { form, kind })?;
-                Ok(())
+                self.rows.push(Row { form, kind })
             }
             Err(fault) => Err(memory(fault)),
         }

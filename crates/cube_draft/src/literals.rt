@@ -73,7 +73,7 @@ fn own_by(affix: Affix, word: Word) -> Own
 
 impl DraftBuilder {
     /// Adds what a literal says.
-    #[tactic(auto, using(crate::proofs::Stated::said_constant, crate::proofs::Stated::said_member, crate::proofs::Stated::said_pair, crate::proofs::Stated::said_applied, crate::proofs::Stated::applied_fits, crate::proofs::Stated::said_nothing))]
+    #[tactic(auto, using(crate::proofs::Stated::said_constant, crate::proofs::Stated::said_member, crate::proofs::Stated::said_pair, crate::proofs::Stated::said_applied, crate::proofs::Stated::said_nothing))]
     pub fn add(&mut self, alloc: Global, literal: &Literal) -> Result<LiteralReading, AllocError>
         requires gathered { IsGathered self.old }
         requires fitting { IsFitting literal.now }
@@ -121,7 +121,7 @@ impl DraftBuilder {
     }
 
     // The transducer reads the first term and may write the second.
-    #[tactic(auto, using(crate::proofs::Stated::pair_not, crate::proofs::Stated::pair_left_not, crate::proofs::Stated::pair_right_not, crate::proofs::Stated::pair_added))]
+    #[tactic(auto, using(crate::proofs::Stated::pair_not, crate::proofs::Stated::pair_left_not, crate::proofs::Stated::pair_right_not))]
     fn add_pair(
         &mut self,
         alloc: Global,
@@ -147,7 +147,6 @@ impl DraftBuilder {
         Ok(LiteralReading::Written)
     }
 
-    #[tactic(auto, using(crate::proofs::Stated::applied_one, crate::proofs::Stated::applied_two, crate::proofs::Stated::applied_two_fits, crate::proofs::Stated::applied_not))]
     fn add_applied(
         &mut self,
         alloc: Global,
@@ -184,7 +183,7 @@ impl DraftBuilder {
         }
     }
 
-    #[tactic(auto, using(crate::proofs::Stated::double_equality, crate::proofs::Stated::double_order, crate::proofs::Stated::order_row_fits, crate::proofs::Stated::equality_fits, crate::proofs::Stated::double_prefix, crate::proofs::Stated::double_suffix, crate::proofs::Stated::double_infix, crate::proofs::Stated::double_digit, crate::proofs::Stated::double_not))]
+    #[tactic(auto, using(crate::proofs::Stated::double_equality, crate::proofs::Stated::double_order, crate::proofs::Stated::equality_fits, crate::proofs::Stated::double_prefix, crate::proofs::Stated::double_suffix, crate::proofs::Stated::double_infix, crate::proofs::Stated::double_digit, crate::proofs::Stated::double_not))]
     fn add_double(
         &mut self,
         alloc: Global,
@@ -246,7 +245,7 @@ impl DraftBuilder {
         Ok(LiteralReading::Written)
     }
 
-    #[tactic(auto, using(crate::proofs::Stated::equal_strings, crate::proofs::Stated::equal_numbers, crate::proofs::Stated::equal_numbers_fit, crate::proofs::Stated::unequal_numbers, crate::proofs::Stated::equal_truths, crate::proofs::Stated::equal_languages))]
+    #[tactic(auto, using(crate::proofs::Stated::equal_strings, crate::proofs::Stated::equal_numbers, crate::proofs::Stated::unequal_numbers, crate::proofs::Stated::equal_truths, crate::proofs::Stated::equal_languages))]
     fn add_equality(
         &mut self,
         alloc: Global,
@@ -273,7 +272,6 @@ impl DraftBuilder {
     }
 
     // The equality of two string terms.
-    #[tactic(auto, using(crate::proofs::Stated::strings_left, crate::proofs::Stated::strings_right, crate::proofs::Stated::strings_neither))]
     fn add_strings(
         &mut self,
         alloc: Global,
@@ -293,7 +291,7 @@ impl DraftBuilder {
     }
 
     // A term is a literal.
-    #[tactic(auto, using(crate::proofs::Stated::hold_same, crate::proofs::Stated::hold_other, crate::proofs::Stated::literal_added))]
+    #[tactic(auto, using(crate::proofs::Stated::literal_added))]
     fn add_literal(
         &mut self,
         alloc: Global,
@@ -316,7 +314,7 @@ impl DraftBuilder {
     }
 
     // Two terms that aren't literals are equal; there is no written kind for two that differ.
-    #[tactic(auto, using(crate::proofs::Stated::one_not, crate::proofs::Stated::one_left_not, crate::proofs::Stated::one_right_not, crate::proofs::Stated::one_added))]
+    #[tactic(auto, using(crate::proofs::Stated::one_not, crate::proofs::Stated::one_left_not, crate::proofs::Stated::one_right_not))]
     fn add_identity(
         &mut self,
         alloc: Global,
@@ -342,7 +340,7 @@ impl DraftBuilder {
     }
 
     // The comparison of two terms of sort Int.
-    #[tactic(auto, using(crate::proofs::Stated::row_left_not, crate::proofs::Stated::row_right_not, crate::proofs::Stated::row_added, crate::proofs::Stated::comparable))]
+    #[tactic(auto, using(crate::proofs::Stated::row_left_not, crate::proofs::Stated::row_right_not, crate::proofs::Stated::row_added))]
     fn add_comparison(
         &mut self,
         alloc: Global,

@@ -22,7 +22,7 @@ impl DraftBuilder {
     /// The place of a string term; nested concatenations are read as one. A term that came before, literals aside,
     /// keeps its place; a new one is put before its arguments. A term of no written form has a place that isn't there.
     #[cycle(terms)]
-    #[tactic(auto, using(crate::proofs::Placing::text_is_met, crate::proofs::Placing::built_nothing, crate::proofs::Placing::leaf_nothing, crate::proofs::Placing::replaces_as))]
+    #[tactic(auto, using(crate::proofs::Placing::replaces_as))]
     pub fn place(&mut self, alloc: Global, term: &Term) -> Result<u32, AllocError>
         ensures met { IfOk result (λ i. IsTermMet self.old self.new (written (seen term.now)) i) }
         ensures numbers { OnOk result (self.new.numbers ≡ self.old.numbers) }
@@ -54,7 +54,6 @@ impl DraftBuilder {
     }
 
     #[cycle(terms)]
-    #[tactic(auto, using(crate::proofs::Placing::apply_no_text, crate::proofs::Placing::apply_no_name, crate::proofs::Placing::concat_is_known, crate::proofs::Placing::concat_is_new))]
     fn concat(&mut self, alloc: Global, term: &Term, terms: &[Term]) -> Result<u32, AllocError>
         requires { term.now ≡ any_term.Apply any_op.Concat terms.now }
         ensures met { IfOk result (λ i. IsTermMet self.old self.new (written (seen term.now)) i) }
@@ -73,7 +72,7 @@ impl DraftBuilder {
 
     // The places of the pieces, behind those of earlier ones.
     #[cycle(terms)]
-    #[tactic(auto, using(crate::proofs::Placing::pieced_none, crate::proofs::Placing::pieced_step, crate::proofs::Placing::pieced_all))]
+    #[tactic(auto, using(crate::proofs::Placing::pieced_none))]
     fn pieces(
         &mut self,
         alloc: Global,
@@ -90,7 +89,6 @@ impl DraftBuilder {
     }
 
     #[cycle(terms)]
-    #[tactic(auto, using(crate::proofs::Placing::piece_concat, crate::proofs::Placing::piece_other, crate::proofs::Placing::piece_leaf))]
     fn piece(
         &mut self,
         alloc: Global,
@@ -101,30 +99,17 @@ impl DraftBuilder {
         ensures numbers { OnOk result (self.new.numbers ≡ self.old.numbers) }
     {
         match term {
-            Term::Apply(op, terms) => {
-                match build_of(*op) {
-                    PlaceBuild::Concat => {
-                        self.pieces(alloc, terms.as_slice(), places)?;
-                        Ok(())
-                    }
-                    _ => {
-                        let place = self.place(alloc, term)?;
-                        places.push(place)?;
-                        Ok(())
-                    }
-                }
-            }
-            _ => {
-                let place = self.place(alloc, term)?;
-                places.push(place)?;
-                Ok(())
-            }
+            Term::Apply(op, terms) => match build_of(*op) {
+                PlaceBuild::Concat => self.pieces(alloc, terms.as_slice(), places),
+                _ => places.push(self.place(alloc, term)?),
+            },
+            _ => places.push(self.place(alloc, term)?),
         }
     }
 
     // A replacement of a literal by a literal.
     #[cycle(terms)]
-    #[tactic(auto, using(crate::proofs::Placing::apply_no_text, crate::proofs::Placing::apply_no_name, crate::proofs::Placing::literals_three, crate::proofs::Placing::replaced_nothing, crate::proofs::Placing::replaced_is_known, crate::proofs::Placing::replaced_is_new))]
+    #[tactic(auto, using(crate::proofs::Placing::literals_three))]
     fn replace(
         &mut self,
         alloc: Global,
