@@ -1,10 +1,10 @@
 -- What the parts say of a word, by tests; and the machines of parts together.
-use Rattle.std.proofs.Common.{◌≡◌, ℕ, zero, suc, ◌+◌, ◌*◌, ◌^◌, ◌<◌, ◌≤◌, ◌↔◌, Bool, true, false, ◌&&◌, nat_eq, if◌then◌else◌, List, [], ◌∷◌, ◌++◌, length, get_or, take, refl, sym, ap, ◌∙◌, subst, arith, mul-le-mul}
+use Rattle.std.proofs.Common.{◌≡◌, ℕ, zero, suc, ◌+◌, ◌*◌, ◌<◌, ◌≤◌, ◌↔◌, Bool, true, false, ◌&&◌, nat_eq, if◌then◌else◌, List, [], ◌∷◌, ◌++◌, length, get_or, refl, sym, ap, ◌∙◌, subst, arith, mul-le-mul}
 use Rattle.std.specs.Prelude.{Result, Ok, Err, IfOk}
 use Rattle.std.specs.List.{AllByRecursion}
 use Rattle.std.proofs.lemmas.Bool.{eqb-true, eq-eqb}
 use Rattle.std.proofs.lemmas.Bool.Decides.{nat_tests}
-use Rattle.std.proofs.lemmas.List.{take_more}
+use Rattle.std.proofs.lemmas.Result.{IfOk-weaker}
 use Rattle.sv_word.specs.Words.{IsWord}
 use Rattle.sv_terms.specs.Language.{Word, In, InAllOf}
 use Rattle.sv_terms.specs.Meaning.{is_digit}
@@ -28,7 +28,8 @@ use Rattle.flat_cubes.specs.Satisfying.{MeetsPart, Says}
 use Rattle.flat_cubes.specs.declared.variable.Own.{Own}
 use Rattle.flat_cubes.specs.declared.variable.Own.TheVariants as own
 use Rattle.part_machines.specs.Chains.{follows, ranges_of, within}
-use Rattle.part_machines.specs.Parts.{AreOfParts, Decides, IsOfPart, IsOfParts, IsPriced, ReadsParts}
+use Rattle.part_machines.specs.Patterns.{finds}
+use Rattle.part_machines.specs.Parts.{AreOfParts, Decides, IsOfPart, ReadsParts}
 
 -- the tests
 within-one : (a c : ℕ) → within (a, a) c ≡ nat_eq a c
@@ -125,43 +126,33 @@ digit-fits : (b : Bool) → 1 + (if b then 1 else 2) ≤ part_bound (own.Digit, 
 digit-fits true = omega arith
 digit-fits false = omega arith
 
-pub word-part : (u : Word) (b : Bool) (ranges : List (ℕ × ℕ)) (m : Graph) → ranges ≡ ranges_of u → Decides (follows false ranges) b (length ranges + (if b then 1 else 2)) m → IsOfPart (own.Word u, b) m
-word-part u b ranges m is d = part-decides (own.Word u) b (follows false (ranges_of u)) (length (ranges_of u) + (if b then 1 else 2)) m (follows-word u) (word-fits u b)
-    (subst (λ l. Decides (follows false l) b (length l + (if b then 1 else 2)) m) is d)
+pub word-part : (u : Word) (b : Bool) (m : Graph) → Decides (follows false (ranges_of u)) b (length (ranges_of u) + (if b then 1 else 2)) m → IsOfPart (own.Word u, b) m
+word-part u b m d = part-decides (own.Word u) b (follows false (ranges_of u)) (length (ranges_of u) + (if b then 1 else 2)) m (follows-word u) (word-fits u b) d
 
-pub prefix-part : (u : Word) (b : Bool) (ranges : List (ℕ × ℕ)) (m : Graph) → ranges ≡ ranges_of u → Decides (follows true ranges) b (length ranges + (if b then 1 else 2)) m → IsOfPart (own.Prefix u, b) m
-prefix-part u b ranges m is d = part-decides (own.Prefix u) b (follows true (ranges_of u)) (length (ranges_of u) + (if b then 1 else 2)) m
-    (λ w. same-true (follows true (ranges_of u) w) (begins u w) (follows-prefix u w)) (prefix-fits u b)
-    (subst (λ l. Decides (follows true l) b (length l + (if b then 1 else 2)) m) is d)
+pub prefix-part : (u : Word) (b : Bool) (m : Graph) → Decides (follows true (ranges_of u)) b (length (ranges_of u) + (if b then 1 else 2)) m → IsOfPart (own.Prefix u, b) m
+prefix-part u b m d = part-decides (own.Prefix u) b (follows true (ranges_of u)) (length (ranges_of u) + (if b then 1 else 2)) m
+    (λ w. same-true (follows true (ranges_of u) w) (begins u w) (follows-prefix u w)) (prefix-fits u b) d
+
+pub contains-part : (u : Word) (b : Bool) (m : Graph) → Decides (finds true u) b (length u + 1) m → IsOfPart (own.Contains u, b) m
+contains-part u b m d = part-decides (own.Contains u) b (finds true u) (length u + 1) m (λ w. (λ h. h, λ h. h)) (omega arith) d
+
+pub suffix-part : (u : Word) (b : Bool) (m : Graph) → Decides (finds false u) b (length u + 1) m → IsOfPart (own.Suffix u, b) m
+suffix-part u b m d = part-decides (own.Suffix u) b (finds false u) (length u + 1) m (λ w. (λ h. h, λ h. h)) (omega arith) d
 
 pub digit-part : (b : Bool) (m : Graph) → Decides (follows false ((48, 57) ∷ [])) b (1 + (if b then 1 else 2)) m → IsOfPart (own.Digit, b) m
 digit-part b m d = part-decides own.Digit b (follows false ((48, 57) ∷ [])) (1 + (if b then 1 else 2)) m (λ w. same-true (follows false ((48, 57) ∷ []) w) (is_digit w) (follows-digit w)) (digit-fits b) d
 
-pub length-fits : (u : Word) (b : Bool) → (length u + 1 ≤ part_bound (own.Word u, b)) × (length u + 1 ≤ part_bound (own.Prefix u, b)) × (length u + 1 ≤ part_bound (own.Contains u, b)) × (length u + 1 ≤ part_bound (own.Suffix u, b))
-length-fits u true = (omega arith, omega arith, omega arith, omega arith)
-length-fits u false = (omega arith, omega arith, omega arith, omega arith)
-
 -- a part by what it says
-pub part-of : (part : Own × Bool) (o : Own) (m : Graph) → part.0 ≡ o → IsOfPart (o, part.1) m → IsOfPart part m
-part-of part o m e h = subst (λ x. IsOfPart (x, part.1) m) (sym e) h
+pub part-of : (part : Own × Bool) (o : Own) (P : Graph → Type 0) (r : Result Graph BuildFault) → part.0 ≡ o → ((m : Graph) → P m → IsOfPart (o, part.1) m) → IfOk r P → IfOk r (IsOfPart part)
+part-of part o P r e f h = subst (λ x. IfOk r (IsOfPart (x, part.1))) (sym e) (IfOk-weaker r P (IsOfPart (o, part.1)) f h)
 
 -- what is built
 pub refused : (P : Word → Type 0) (most limit : ℕ) (r : Result Graph BuildFault) (n : ℕ) → Builds P most limit r → r ≡ Err (States n) → limit < most
 refused P most limit r n h e = (subst (Builds P most limit) e h).0
 
-pub made : (P : Word → Type 0) (most limit : ℕ) (r : Result Graph BuildFault) (m : Graph) → Builds P most limit r → r ≡ Ok m → HasWords P m × (m.states ≤ most)
-made P most limit r m h e = let x = subst (Builds P most limit) e h in (x.0, x.1)
-
-pub at-ok : (P : Graph → Type 0) (r : Result Graph BuildFault) (m : Graph) → r ≡ Ok m → IfOk r P → P m
-at-ok P r m e h = subst (λ x. IfOk x P) e h
-
-pub power-below : (r : Regex) (b : Bool) → b ≡ false → 2 ^ size r ≤ part_bound (own.InRe r, b)
-power-below r true e = cc
-power-below r false e = omega arith
-
-pub size-below : (r : Regex) (b : Bool) → size r ≤ part_bound (own.InRe r, b)
-size-below r true = omega arith
-size-below r false = let x = below-power (size r) in omega (arith, x)
+pub made-as : (P : Word → Type 0) (most limit : ℕ) {Q : Graph → Type 0} (r : Result Graph BuildFault) → Builds P most limit r → ((m : Graph) → HasWords P m → m.states ≤ most → Q m) → IfOk r Q
+made-as P most limit (Ok m) h f = f m h.0 h.1
+made-as P most limit (Err e) h f = tt
 
 -- the machine of a complement is that of the others
 pub others-kept : (r : Regex) (m : Graph) → ((w : Word) → In r w → IsWord w) → IsOfPart (own.InRe (v.Comp r), true) m → IsOfPart (own.InRe r, false) m
@@ -174,18 +165,6 @@ others-kept r m only is = record {
     );
   };
   few = (let x = is.few in let e = size-Comp r in omega (arith, x, e));
-}
-
-pub language-part : (r : Regex) (m : Graph) → ((w : Word) → In r w → IsWord w) → m.registers ≡ 0 → ((w : Word) → WordsOf m w ↔ In r w) → m.states ≤ size r → IsOfPart (own.InRe r, true) m
-language-part r m only plain words few = record {
-  reads = record {
-    plain = plain;
-    words = λ w. (
-      λ h. let g = (words w).0 h in (only w g, g),
-      λ h. (words w).1 h.1,
-    );
-  };
-  few = few;
 }
 
 -- bounds
@@ -235,12 +214,6 @@ of-push [] (n ∷ ms) part m h is = absurd h
 of-push (p ∷ parts) [] part m h is = absurd h
 of-push (p ∷ parts) (n ∷ ms) part m h is = (h.0, of-push parts ms part m h.1 is)
 
-pub of-more : (parts : List (Own × Bool)) (i : ℕ) (ms new : List Graph) (part : Own × Bool) (m : Graph) → i < length parts → part ≡ get_or parts i part → AreOfParts (take i parts) ms → IsOfPart part m → new ≡ ms ++ m ∷ []
-    → AreOfParts (take (i + 1) parts) new
-of-more parts i ms new part m lt is h made e =
-    let grown : take (i + 1) parts ≡ take i parts ++ part ∷ [] = take_more parts i part lt ∙ ap (λ p. take i parts ++ p ∷ []) (sym is) in
-    subst (λ l. AreOfParts l new) (sym grown) (subst (AreOfParts (take i parts ++ part ∷ [])) (sym e) (of-push (take i parts) ms part m h made))
-
 pub of-plain : (parts : List (Own × Bool)) (ms : List Graph) → AreOfParts parts ms → HaveNoRegisters ms
 of-plain [] [] h m (n, lt, e) = absurd (omega (arith, lt))
 of-plain [] (x ∷ ms) h m i = absurd h
@@ -265,15 +238,6 @@ of-states [] (m ∷ ms) h = absurd h
 of-states (part ∷ parts) [] h = absurd h
 of-states (part ∷ parts) (m ∷ ms) h = mul-le-mul h.0.few (of-states parts ms h.1)
 
-pub joint-reads : (parts : List (Own × Bool)) (ms : List Graph) (m : Graph) → AreOfParts parts ms → HasWords (InAllOf WordsOf ms) m → m.states ≤ multiplied states_of ms → ReadsParts parts m
-joint-reads parts ms m h reads few = record {
-  reads = record {
-    plain = reads.plain;
-    words = λ w. (λ r. (of-words parts ms h w).0 ((reads.words w).0 r), λ r. (reads.words w).1 ((of-words parts ms h w).1 r));
-  };
-  few = (let x = of-states parts ms h in omega (arith, x, few));
-}
-
 pub single-reads : (parts : List (Own × Bool)) (part : Own × Bool) (m : Graph) → length parts ≡ 1 → part ≡ get_or parts 0 part → IsOfPart part m → ReadsParts parts m
 single-reads [] part m e is h = absurd (omega (arith, e))
 single-reads (p ∷ []) part m e is h =
@@ -287,16 +251,3 @@ single-reads (p ∷ []) part m e is h =
       few = (let x = g.few in omega (arith, x));
     }
 single-reads (p ∷ q ∷ parts) part m e is h = absurd (omega (arith, e))
-
--- with costs
-pub priced-parts : (parts : List (Own × Bool)) (each : List ℕ) (m n : Graph) → ReadsParts parts m → IsPriced each m n → IsOfParts parts each n
-priced-parts parts each m n r p = record {
-  registers = p.registers;
-  words = λ word cost. (
-    λ a. let x = (p.words word cost).0 a in ((r.reads.words word).0 x.0, x.1),
-    λ a. (p.words word cost).1 ((r.reads.words word).1 a.0, a.1),
-  );
-  few = (let x = p.states in let y = r.few in omega (arith, x, y));
-  runs = p.runs;
-  paths = p.paths;
-}

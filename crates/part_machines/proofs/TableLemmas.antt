@@ -1,6 +1,6 @@
 -- The edges of rows, and the words of a machine by a table.
 use Rattle.std.proofs.Common.{◌≡◌, ℕ, zero, suc, ◌+◌, ◌-◌, ◌<◌, ◌≤◌, ◌↔◌, ◌⊎◌, inl, inr, ⊎_elim, max, Bool, true, false, ◌&&◌, nat_le, if◌then◌else◌, IsTrue, List, [], ◌∷◌, ◌++◌, length, drop, get_or, slice_get, Some, Any, refl, sym, ap, ◌∙◌, subst, arith, rules}
-use Rattle.std.specs.Prelude.{nat_eq, nat_lt, not}
+use Rattle.std.specs.Prelude.{nat_eq, nat_lt, not, Result, Ok, Err, IfOk}
 use Rattle.std.proofs.Math.Bool.{beq}
 use Rattle.std.specs.List.{AllByRecursion}
 use Rattle.std.proofs.lemmas.Bool.{eqb-true, eq-eqb}
@@ -21,6 +21,11 @@ use Rattle.part_machines.specs.declared.table.TableLeg.{TableLeg}
 use Rattle.part_machines.specs.declared.table.TableRow.{TableRow}
 use Rattle.part_machines.specs.Parts.{Decides}
 use Rattle.part_machines.specs.Tables.{IsEndState, IsOfTable, IsRow, StepsAlong, StepsOfRow, after, lead, lead_by, next}
+
+-- what follows from two clauses on one result
+pub IfOk-both : {X E : Type 0} (r : Result X E) (P Q R : X → Type 0) → IfOk r P → IfOk r Q → ((x : X) → P x → Q x → R x) → IfOk r R
+IfOk-both (Ok x) P Q R p q f = f x p q
+IfOk-both (Err e) P Q R p q f = tt
 
 pub less_or_not : (a b : ℕ) → ((a < b) × (nat_lt a b ≡ true)) ⊎ ((b ≤ a) × (nat_lt a b ≡ false))
 less_or_not a b = by (nat_lt a b) refl

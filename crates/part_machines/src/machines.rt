@@ -44,10 +44,7 @@ impl Machines {
         match self.digests.binary_search(&digest(regex)) {
             Ok(cell) => {
                 let mut note = self.pool.note(cell);
-                Ok(
-                    self.pool
-                        .get(cell, regex, &mut note, || make(alloc, regex))?,
-                )
+                self.pool.get(cell, regex, &mut note, || make(alloc, regex))
             }
             Err(_) => Ok(PoolValue::Owned(make(alloc, regex)?)),
         }
@@ -59,5 +56,5 @@ fn make(alloc: Global, regex: &Regex) -> Result<Box<Keep>, AllocError>
     ensures { IfOk result (λ keep. keep.value.0 ≡ regex.now) }
 {
     let keep = Keep::of(alloc, regex)?;
-    Box::new(alloc, keep)
+    Ok(Box::new(alloc, keep)?)
 }

@@ -1,5 +1,6 @@
 use Rattle.std.proofs.Common.{arith, ap, length, ℕ, Bool, if◌then◌else◌, slice_get, ◌+◌, sym, ◌∙◌}
 use Rattle.part_machines.proofs.ChainLemmas.{chain-decides, chain-formed, chain-length}
+use Rattle.part_machines.proofs.TableLemmas.{IfOk-both}
 use Rattle.part_machines.proofs.chains.chain.Goals as goal
 use Rattle.part_machines.proofs.chains.chain.Goals.{then-holds, else-holds}
 
@@ -18,6 +19,6 @@ table_machine-requires-clause-formed c = λ s row e.
 pub returns : goal.returns
 returns c =
     let bound : Bool → ℕ = λ b. length c.args.ranges.now + (if b then 1 else 2) in
-    chain-decides c.args.ranges.now c.args.longer c.args.holds c.as_slice.result.now c.if-holds.states c.in_ok-table_machine.field-0 (c.as_slice.ensures ∙ c.in_ok-rows.ensures)
-    (elim c.if-holds.branch [ then-holds w ↦ w.states-is ∙ ap bound (sym w.if-holds.true) | else-holds w ↦ w.states-is ∙ ap bound (sym w.if-holds.false) ])
-    c.in_ok-table_machine.ensures.states c.in_ok-table_machine.ensures.table
+    IfOk-both c.table_machine.result _ _ _ c.table_machine.ensures.states c.table_machine.ensures.table
+    (λ m. chain-decides c.args.ranges.now c.args.longer c.args.holds c.as_slice.result.now c.if-holds.states m (c.as_slice.ensures ∙ c.in_ok-rows.ensures)
+    (elim c.if-holds.branch [ then-holds w ↦ w.states-is ∙ ap bound (sym w.if-holds.true) | else-holds w ↦ w.states-is ∙ ap bound (sym w.if-holds.false) ]))

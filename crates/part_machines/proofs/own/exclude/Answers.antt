@@ -1,4 +1,4 @@
-use Rattle.std.proofs.Common.{◌+◌, ◌∷◌, ◌++◌, [], List, ap, ◌∙◌}
+use Rattle.std.proofs.Common.{◌∷◌, ◌++◌, [], List, ap, ◌∙◌}
 use Rattle.machine_core.specs.declared.graph.Graph.{Graph}
 use Rattle.part_machines.proofs.SideLemmas.{plain-more}
 use Rattle.part_machines.proofs.own.exclude.Goals as goal
