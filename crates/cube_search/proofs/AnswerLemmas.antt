@@ -21,18 +21,18 @@ use Rattle.backward.specs.Leaves.{source_words}
 use Rattle.backward.specs.Runs.{run_words}
 use Rattle.backward.specs.States.{IsLittle}
 use Rattle.cube_region.specs.Regions.{IsRegionFor}
-use Rattle.cube_answers.specs.Tallies.{left_of, left_given, left_long}
-use Rattle.cube_answers.specs.Limits.{GrowsLittle, MustDecideFlat}
-use Rattle.cube_answers.specs.declared.answer.Refutation.{Refutation}
-use Rattle.cube_answers.specs.declared.tally.GivenUpLeaf.{GivenUpLeaf}
-use Rattle.cube_answers.specs.declared.tally.LongLeaf.{LongLeaf}
-use Rattle.cube_answers.specs.declared.tally.LeafTally.{LeafTally}
+use Rattle.cube_search.specs.LeafTallies.{left_of, left_given, left_long}
+use Rattle.cube_search.specs.Limits.{GrowsLittle, MustDecideFlat}
+use Rattle.cube_search.specs.declared.answer.Refutation.{Refutation}
+use Rattle.cube_search.specs.declared.tally.GivenUpLeaf.{GivenUpLeaf}
+use Rattle.cube_search.specs.declared.tally.LongLeaf.{LongLeaf}
+use Rattle.cube_search.specs.declared.tally.LeafTally.{LeafTally}
 use Rattle.cube_search.specs.Answers.{IsCubeAnswer, IsDecidedCube, IsModelOf}
 use Rattle.cube_search.specs.Causes.{EachSolution}
-use Rattle.cube_answers.specs.Models.{all_words}
+use Rattle.cube_search.specs.Models.{all_words}
 use Rattle.cube_search.specs.Searches.{AreFoundRuns}
 use Rattle.cube_search.specs.Tallies.{IsTally, IsCovered, IsAccounted}
-use Rattle.cube_answers.specs.declared.found.FoundRuns.{FoundRuns}
+use Rattle.cube_search.specs.declared.found.FoundRuns.{FoundRuns}
 use Rattle.cube_search.proofs.FirstLemmas.{range-at, satisfies-conf, satisfies-obey, words-same}
 use Rattle.cube_search.proofs.FoundLemmas.{sources-all}
 

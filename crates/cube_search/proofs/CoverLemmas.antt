@@ -10,7 +10,7 @@ use Rattle.backward.specs.Families.{Family, Words, HasMachine, Conf}
 use Rattle.backward.specs.Pieces.{ConfCut, AreCuts}
 use Rattle.backward.specs.Definitions.{definition}
 use Rattle.backward.specs.Chains.{width, ConfBefore}
-use Rattle.cube_answers.specs.declared.tally.LeafTally.{LeafTally}
+use Rattle.cube_search.specs.declared.tally.LeafTally.{LeafTally}
 use Rattle.cube_search.specs.Steps.{AreExact}
 use Rattle.cube_search.specs.Tallies.{Keeps, IsAccounted, IsCovered, IsCoveredFrom}
 use Rattle.cube_search.proofs.ConfLemmas.{conf-put}

@@ -21,10 +21,10 @@ use Rattle.flat_cubes.specs.declared.variable.Variable.{Variable}
 use Rattle.backward.specs.Families.{Family, Words, after, HasMachine, Conf}
 use Rattle.backward.specs.Chains.{width, own_cost, ReadsOwn, IsOwnFamily, IsLed, begun, same, cut, through, IsLedFrom, SameConf}
 use Rattle.backward.specs.Runs.{Runs, AreRuns, run_words, run_totals}
-use Rattle.cube_answers.specs.Entries.{word_by}
-use Rattle.cube_answers.specs.Models.{all_words}
+use Rattle.cube_search.specs.Entries.{word_by}
+use Rattle.cube_search.specs.Models.{all_words}
 use Rattle.cube_search.specs.Searches.{AreFoundRuns, Obey}
-use Rattle.cube_answers.specs.declared.found.FoundRuns.{FoundRuns}
+use Rattle.cube_search.specs.declared.found.FoundRuns.{FoundRuns}
 use Rattle.cube_search.proofs.FoundLemmas.{comes-agree}
 use Rattle.cube_search.proofs.OrderLemmas.{get-below, get-there}
 

@@ -31,11 +31,11 @@ use Rattle.backward.specs.Leaves.{machines_of, source_words}
 use Rattle.backward.specs.Runs.{Runs, AreRuns, run_words, run_totals}
 use Rattle.backward.specs.States.{IsState}
 use Rattle.backward.specs.declared.leaf_state.LeafState.{LeafState}
-use Rattle.cube_answers.specs.Leaves.{IsHitOf, words_of}
+use Rattle.cube_search.specs.LeafAnswers.{IsHitOf, words_of}
 use Rattle.cube_search.specs.Leaves.{AreLifted, IsTrim, machine_of}
 use Rattle.cube_search.specs.Spreads.{IsSpread}
 use Rattle.cube_search.specs.Searches.{AreFoundRuns, Obey}
-use Rattle.cube_answers.specs.declared.found.FoundRuns.{FoundRuns}
+use Rattle.cube_search.specs.declared.found.FoundRuns.{FoundRuns}
 use Rattle.cube_search.proofs.OrderLemmas.{obey-join}
 use Rattle.cube_search.proofs.Places.{places_from, sources-places}
 use Rattle.cube_search.proofs.TrimLemmas.{lifted-runs, lifted-words, lifted-totals}

@@ -18,7 +18,7 @@ use Rattle.backward.specs.Chains.{width}
 use Rattle.backward.specs.Leaves.{machines_of, source_words}
 use Rattle.backward.specs.States.{IsState}
 use Rattle.backward.specs.declared.leaf_state.LeafState.{LeafState}
-use Rattle.cube_answers.specs.Leaves.{words_of}
+use Rattle.cube_search.specs.LeafAnswers.{words_of}
 use Rattle.cube_search.specs.Causes.{HaveRunsOn}
 use Rattle.cube_search.proofs.OrderLemmas.{get-below, get-there}
 

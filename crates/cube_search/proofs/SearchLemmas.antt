@@ -14,7 +14,7 @@ use Rattle.backward.specs.Chains.{width, ConfBefore}
 use Rattle.backward.specs.Pieces.{ConfCut}
 use Rattle.backward.specs.Steps.{CanPassAt, IsMadeAt, IsMadeBy}
 use Rattle.backward.specs.declared.leaf_state.LeafState.{LeafState}
-use Rattle.cube_answers.specs.declared.tally.LeafTally.{LeafTally}
+use Rattle.cube_search.specs.declared.tally.LeafTally.{LeafTally}
 use Rattle.cube_search.specs.Steps.{AreExact, CanStep, IsCutting}
 use Rattle.cube_search.specs.Tallies.{Keeps, IsCovered, AreCoveredFrom, IsCoveredBelow}
 use Rattle.cube_search.proofs.CoverLemmas.{covered-all, covered-concat, covered-through, covered-whole, covered-from-kept}

@@ -21,13 +21,13 @@ use Rattle.backward.specs.Families.{Family, Words, Conf}
 use Rattle.backward.specs.Leaves.{IsLeaf, IsLessened, machines_of, source_words}
 use Rattle.backward.specs.States.{IsState}
 use Rattle.backward.specs.declared.leaf_state.LeafState.{LeafState}
-use Rattle.cube_answers.specs.OpenLeaves.{HasGivenUp, IsLongFor}
-use Rattle.cube_answers.specs.Leaves.{IsAnswerFor, IsHitOf, IsLeafOutside}
-use Rattle.cube_answers.specs.Limits.{MustDecideFlat}
-use Rattle.cube_answers.specs.Tallies.{first_some, hit_of, settled}
-use Rattle.cube_answers.specs.declared.tally.GivenUpLeaf.{GivenUpLeaf}
-use Rattle.cube_answers.specs.declared.tally.LongLeaf.{LongLeaf}
-use Rattle.cube_answers.specs.declared.tally.LeafTally.{LeafTally}
+use Rattle.cube_search.specs.OpenLeaves.{HasGivenUp, IsLongFor}
+use Rattle.cube_search.specs.LeafAnswers.{IsAnswerFor, IsHitOf, IsLeafOutside}
+use Rattle.cube_search.specs.Limits.{MustDecideFlat}
+use Rattle.cube_search.specs.LeafTallies.{first_some, hit_of, settled}
+use Rattle.cube_search.specs.declared.tally.GivenUpLeaf.{GivenUpLeaf}
+use Rattle.cube_search.specs.declared.tally.LongLeaf.{LongLeaf}
+use Rattle.cube_search.specs.declared.tally.LeafTally.{LeafTally}
 use Rattle.cube_search.specs.Causes.{HaveRunsOn}
 use Rattle.cube_search.specs.Leaves.{IsTrim, machine_of}
 use Rattle.cube_search.specs.Tallies.{IsTally, Keeps, IsCovered, IsReadBy}

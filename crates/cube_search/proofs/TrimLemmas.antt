@@ -20,7 +20,7 @@ use Rattle.backward.specs.States.{IsState}
 use Rattle.backward.specs.declared.leaf_state.LeafState.{LeafState}
 use Rattle.cube_bounds.specs.NumberLaws.{StatesAreBounded, StatesAreSolved}
 use Rattle.flat_cubes.specs.Straight.{IsStraight}
-use Rattle.cube_answers.specs.Leaves.{AreOfLeaf, words_of}
+use Rattle.cube_search.specs.LeafAnswers.{AreOfLeaf, words_of}
 use Rattle.cube_search.specs.Leaves.{AreLifted, IsTrim, machine_of}
 use Rattle.cube_search.proofs.Places.{ReadsSame, machines-all, machines-length, few-states}
 

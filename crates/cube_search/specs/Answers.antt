@@ -7,8 +7,8 @@ use Rattle.cube_bounds.specs.Growth.{reach}
 use Rattle.cube_bounds.specs.NumberLaws.{source_length}
 use Rattle.flat_cubes.specs.Satisfying.{Satisfies, AreModelValues}
 use Rattle.flat_cubes.specs.declared.flat.Flat.{Flat}
-use Rattle.cube_answers.specs.declared.answer.CubeAnswer.{CubeAnswer}
-use Rattle.cube_answers.specs.declared.answer.CubeAnswer.TheVariants as answer
+use Rattle.cube_search.specs.declared.answer.CubeAnswer.{CubeAnswer}
+use Rattle.cube_search.specs.declared.answer.CubeAnswer.TheVariants as answer
 use Rattle.cube_search.specs.Causes.{EachSolution, IsCauseOf}
 
 -- values that extend to words and numbers that satisfy the cube; its source words have together at most so many characters as are within reach

@@ -17,10 +17,10 @@ use Rattle.flat_cubes.specs.declared.flat.Flat.{Flat}
 use Rattle.backward.specs.Chains.{width}
 use Rattle.backward.specs.Leaves.{IsLeaf, source_words}
 use Rattle.cube_region.specs.Regions.{Near}
-use Rattle.cube_answers.specs.Limits.{most_states, most_splits}
-use Rattle.cube_answers.specs.OpenLeaves.{HasGivenUp, IsLeftOpen, IsLongFor}
-use Rattle.cube_answers.specs.declared.reason.OpenReason.{OpenReason}
-use Rattle.cube_answers.specs.declared.reason.OpenReason.TheVariants as reason
+use Rattle.cube_search.specs.Limits.{most_states, most_splits}
+use Rattle.cube_search.specs.OpenLeaves.{HasGivenUp, IsLeftOpen, IsLongFor}
+use Rattle.cube_search.specs.declared.reason.OpenReason.{OpenReason}
+use Rattle.cube_search.specs.declared.reason.OpenReason.TheVariants as reason
 use Rattle.cube_search.specs.declared.limits.PastLimit.{PastLimit}
 use Rattle.cube_search.specs.declared.limits.PastLimit.TheVariants as past
 

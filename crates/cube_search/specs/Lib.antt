@@ -1,7 +1,13 @@
-pub mod Causes
 pub mod Answers
-pub mod Spreads
-pub mod Searches
-pub mod Steps
+pub mod Causes
+pub mod Entries
+pub mod LeafAnswers
+pub mod LeafTallies
 pub mod Leaves
+pub mod Limits
+pub mod Models
+pub mod OpenLeaves
+pub mod Searches
+pub mod Spreads
+pub mod Steps
 pub mod Tallies

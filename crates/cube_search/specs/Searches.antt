@@ -15,7 +15,7 @@ use Rattle.backward.specs.Leaves.{source_words}
 use Rattle.backward.specs.Runs.{AreRuns, run_words, run_totals}
 use Rattle.backward.specs.States.{IsLittle}
 use Rattle.cube_region.specs.Regions.{IsRegionFor}
-use Rattle.cube_answers.specs.declared.found.FoundRuns.{FoundRuns}
+use Rattle.cube_search.specs.declared.found.FoundRuns.{FoundRuns}
 use Rattle.cube_search.specs.declared.searching.Search.{Search}
 
 -- a straight cube that isn't broken, with its region and numbers; words grow little, and with rows some characters are within reach

@@ -3,16 +3,19 @@ ghost use Rattle.trim_search.specs.declared.build_fault.BuildFault.TheVariants.{
 ghost use Rattle.cube_bounds.specs.Bounds.{states};
 ghost use Rattle.cube_bounds.specs.Measuring.{AreNumbersOf};
 ghost use Rattle.flat_cubes.specs.Straight.{AreNamesApart, HasFormed, IsStraight};
-ghost use Rattle.cube_answers.specs.Limits.{GrowsLittle, IsWithinLimits, MustDecideFlat};
+ghost use Rattle.cube_search.specs.Limits.{GrowsLittle, IsWithinLimits, MustDecideFlat};
 ghost use Rattle.cube_search.specs.Answers.{IsCubeAnswer, IsDecidedCube};
 ghost use Rattle.cube_search.specs.Causes.{IsCauseOf, past_reason};
 ghost use Rattle.cube_search.specs.declared.allowance.Allowance.TheVariants.{Part};
 
 use crate::allowance::Allowance;
+use crate::answer::{CubeAnswer, Refutation};
 use crate::limits::{PastLimit, past_limit};
+use crate::modelling::model_of;
 use crate::searching::{Search, descend};
+use crate::settling::open_answer;
+use crate::tally::LeafTally;
 use backward::first_state;
-use cube_answers::{CubeAnswer, LeafTally, Refutation, model_of, open_answer};
 use cube_bounds::Numbers;
 use cube_region::region_of;
 use flat_cubes::Flat;

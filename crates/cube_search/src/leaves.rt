@@ -5,11 +5,14 @@ ghost use Rattle.backward.specs.States.{IsState};
 ghost use Rattle.cube_search.specs.Searches.{AreFoundRuns, IsSearch};
 ghost use Rattle.cube_search.specs.Tallies.{IsTally, Keeps, IsCovered};
 
+use crate::asking::answer_machines;
+use crate::found::FoundRuns;
 use crate::searching::Search;
+use crate::settling::settle;
 use crate::spreading::spread;
+use crate::tally::LeafTally;
 use crate::trimming::{lift_runs, machines_of, trim_family};
 use backward::{LeafState, families_become_leaves};
-use cube_answers::{FoundRuns, LeafTally, answer_machines, settle};
 use cube_bounds::states_are_solved;
 use search_hits::Hit;
 use std::alloc::Global;

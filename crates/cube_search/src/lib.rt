@@ -5,10 +5,15 @@
 //! where a model or `Unsat` is owed.
 //!
 //! A concatenation is cut at all lists of states of its machine, one list after another, and another definition
-//! is carried through its transducer, until only the machines of the source variables are left. These are cut
-//! down to what lies on runs and answered in the region of the cube (`cube_region`, `cube_answers`). Where some machine
+//! is carried through its transducer, until only the machines of the source variables are left. These, a leaf, are cut
+//! down to what lies on runs and answered in the region of the cube (`cube_region`). Where some machine
 //! on the way reads nothing, nothing below it is looked at. The first hit ends the search: its runs are taken back over
 //! the steps that led to it, and its words are the model. One family a definition is kept at a time.
+//!
+//! Of a leaf the clause `answer` of [`answer_machines`](asking::answer_machines) says that a hit is within the reach of
+//! the cube, a closed leaf has none, words that are too long are past the reach, and where the solver gave up the
+//! evidence holds and nothing in the region meets the rows. It takes what `leaf_solve` takes. What the answers for leaves
+//! come to is a [`LeafTally`](tally::LeafTally).
 //!
 //! The limits on a cube's text bound what its machines and their cuts may come to, which they seldom do. So a cube
 //! past the limit on states or on splits is searched all the same, as far as a bounded effort goes, and left open
@@ -22,16 +27,25 @@
 #![tactic(auto)]
 
 mod allowance;
+mod answer;
 mod answering;
+mod asking;
 mod dead_ends;
+mod found;
 mod laws;
 mod leaves;
 mod limits;
+mod modelling;
+mod reason;
 mod searching;
+mod settling;
 mod spending;
 mod spreading;
 mod stepping;
+mod tally;
 mod trimming;
 
+pub use answer::{CubeAnswer, Refutation, answer_crosses};
 pub use answering::cube_answer;
 pub use laws::rows_count;
+pub use reason::{OpenReason, Shown};

@@ -1,10 +1,10 @@
 //! The limits on the numbers of a cube's text.
 ghost use Rattle.std.specs.Prelude.{◌≡◌, IfSome, MatchOption};
 ghost use Rattle.cube_bounds.specs.Measuring.{AreNumbersOf};
-ghost use Rattle.cube_answers.specs.Limits.{IsWithinLimits, MustDecideFlat};
+ghost use Rattle.cube_search.specs.Limits.{IsWithinLimits, MustDecideFlat};
 ghost use Rattle.cube_search.specs.Causes.{IsCauseOf, past_reason};
 
-use cube_answers::OpenReason;
+use crate::reason::OpenReason;
 use cube_bounds::Numbers;
 use flat_cubes::Flat;
 use part_machines::MOST_STATES;

@@ -9,11 +9,12 @@ ghost use Rattle.cube_search.specs.Tallies.{IsTally, Keeps, IsCovered, AreCovere
 
 use crate::allowance::Allowance;
 use crate::dead_ends::reads_nothing;
+use crate::found::FoundRuns;
 use crate::leaves::answer_leaf;
 use crate::spending::spend;
 use crate::stepping::{leave, pieces_at, states_at, step};
+use crate::tally::LeafTally;
 use backward::LeafState;
-use cube_answers::{FoundRuns, LeafTally};
 use flat_cubes::Flat;
 use search_hits::Region;
 use std::alloc::{AllocError, Global};

@@ -7,7 +7,7 @@ ghost use Rattle.backward.specs.Leaves.{machines_of};
 ghost use Rattle.cube_search.specs.Spreads.{IsSpread};
 
 use backward::LeafState;
-use cube_answers::FoundRuns;
+use crate::found::FoundRuns;
 use machine_core::{Explicit, Run};
 use search_hits::Hit;
 use std::alloc::{AllocError, Global};

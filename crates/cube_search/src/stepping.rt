@@ -8,14 +8,14 @@ ghost use Rattle.backward.specs.Families.{HasMachine};
 ghost use Rattle.backward.specs.States.{IsState};
 ghost use Rattle.backward.specs.Steps.{CanPassAt, IsMadeAt};
 ghost use Rattle.cube_search.specs.Searches.{AreFoundRuns, IsSearch};
-ghost use Rattle.cube_answers.specs.declared.found.FoundRuns.{FoundRuns as AnyFound};
+ghost use Rattle.cube_search.specs.declared.found.FoundRuns.{FoundRuns as AnyFound};
 ghost use Rattle.cube_search.specs.Steps.{AreExact, CanStep, IsCutting, IsNextFamily};
 
+use crate::found::FoundRuns;
 use crate::searching::Search;
 use backward::{
     LeafState, cuts_are_exact, lift_step, next_can_be_carried, step_concat, step_through,
 };
-use cube_answers::FoundRuns;
 use flat_cubes::{By, Definition, Flat};
 use std::alloc::Global;
 use trim_search::BuildFault;

@@ -5,11 +5,11 @@ use Rattle.std.specs.List.Sorted.{IsStrictlyIncreasing}
 use Rattle.sv_terms.specs.Meaning.{Named}
 use Rattle.sv_terms.specs.declared.term.Term.{Term}
 use Rattle.literal_forms.specs.declared.literal.Cube.{Cube}
-use Rattle.cube_answers.specs.declared.answer.CubeAnswer.{CubeAnswer}
-use Rattle.cube_answers.specs.declared.answer.CubeAnswer.TheVariants as answer
-use Rattle.cube_answers.specs.declared.reason.OpenReason.{OpenReason}
-use Rattle.cube_answers.specs.declared.reason.OpenReason.TheVariants.{Fragment}
-use Rattle.cube_answers.specs.declared.reason.Shown.TheVariants.{Opaque}
+use Rattle.cube_search.specs.declared.answer.CubeAnswer.{CubeAnswer}
+use Rattle.cube_search.specs.declared.answer.CubeAnswer.TheVariants as answer
+use Rattle.cube_search.specs.declared.reason.OpenReason.{OpenReason}
+use Rattle.cube_search.specs.declared.reason.OpenReason.TheVariants.{Fragment}
+use Rattle.cube_search.specs.declared.reason.Shown.TheVariants.{Opaque}
 use Rattle.sv_terms.specs.Truth.{AreValued, clear_of, opaque_of}
 use Rattle.assertion_parts.specs.Constants.{AreValuesOf}
 use Rattle.decide.specs.CubeValues.{CubeHasNoValues, AreTrueAtCube}

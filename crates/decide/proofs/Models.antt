@@ -29,9 +29,9 @@ use Rattle.flat_cubes.specs.declared.flat.Flat.{Flat}
 use Rattle.flat_cubes.specs.declared.variable.Variable.{Variable}
 use Rattle.cube_search.specs.Answers.{IsModelOf}
 use Rattle.cube_search.specs.Causes.{EachSolution, IsCauseOf}
-use Rattle.cube_answers.specs.Limits.{MustDecideFlat}
-use Rattle.cube_answers.specs.declared.reason.OpenReason.{OpenReason}
-use Rattle.cube_answers.specs.declared.reason.OpenReason.TheVariants as reason
+use Rattle.cube_search.specs.Limits.{MustDecideFlat}
+use Rattle.cube_search.specs.declared.reason.OpenReason.{OpenReason}
+use Rattle.cube_search.specs.declared.reason.OpenReason.TheVariants as reason
 use Rattle.decide.specs.CubeValues.{CubeHasNoValues}
 use Rattle.decide.proofs.Listed.{first-part}
 use Rattle.decide.specs.Causes.{IsCause}

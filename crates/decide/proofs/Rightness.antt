@@ -11,9 +11,9 @@ use Rattle.bool_cubes.specs.Cubes.{CubeTrue, SomeCubeTrue, cubes_of}
 use Rattle.literal_forms.specs.Literals.{SomeOf}
 use Rattle.bool_cubes.specs.Laws.{IsValuedCube}
 use Rattle.literal_forms.specs.declared.literal.Cube.{Cube}
-use Rattle.cube_answers.specs.declared.answer.CubeAnswer.{CubeAnswer}
-use Rattle.cube_answers.specs.declared.answer.Refutation.{Refutation}
-use Rattle.cube_answers.specs.declared.reason.OpenReason.{OpenReason}
+use Rattle.cube_search.specs.declared.answer.CubeAnswer.{CubeAnswer}
+use Rattle.cube_search.specs.declared.answer.Refutation.{Refutation}
+use Rattle.cube_search.specs.declared.reason.OpenReason.{OpenReason}
 use Rattle.assertion_parts.specs.Constants.{AreOnly}
 use Rattle.decide.specs.CubeValues.{CubeHasNoValues, AreTrueAtCube}
 use Rattle.decide.specs.Folds.{first_sat, opens_from, refuted_from, refutation, with_first, without_sat, found, fold}

@@ -6,12 +6,12 @@ use Rattle.sv_terms.specs.CutOff.{cut_off}
 use Rattle.sv_terms.specs.Meaning.{Named}
 use Rattle.sv_terms.specs.declared.term.Term.{Term}
 use Rattle.assertion_parts.specs.Firsts.{first_of}
-use Rattle.cube_answers.specs.declared.answer.CubeAnswer.{CubeAnswer}
-use Rattle.cube_answers.specs.declared.answer.CubeAnswer.TheVariants as answer
-use Rattle.cube_answers.specs.declared.answer.Refutation.{Refutation}
-use Rattle.cube_answers.specs.declared.reason.OpenReason.{OpenReason}
-use Rattle.cube_answers.specs.declared.reason.OpenReason.TheVariants.{Fragment}
-use Rattle.cube_answers.specs.declared.reason.Shown.TheVariants.{Opaque}
+use Rattle.cube_search.specs.declared.answer.CubeAnswer.{CubeAnswer}
+use Rattle.cube_search.specs.declared.answer.CubeAnswer.TheVariants as answer
+use Rattle.cube_search.specs.declared.answer.Refutation.{Refutation}
+use Rattle.cube_search.specs.declared.reason.OpenReason.{OpenReason}
+use Rattle.cube_search.specs.declared.reason.OpenReason.TheVariants.{Fragment}
+use Rattle.cube_search.specs.declared.reason.Shown.TheVariants.{Opaque}
 use Rattle.decide.specs.Folds.{first_sat, opens_from, refuted_from, refutation, add, found, or_else}
 use Rattle.decide.specs.Passing.{passed}
 use Rattle.decide.specs.Tallies.{IsTallyOf}

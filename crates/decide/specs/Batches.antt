@@ -4,7 +4,7 @@ use Rattle.std.specs.List.{AllZip}
 use Rattle.std.specs.declared.alloc.AllocError.{AllocError}
 use Rattle.sv_terms.specs.declared.term.Term.{Term}
 use Rattle.literal_forms.specs.declared.literal.Cube.{Cube}
-use Rattle.cube_answers.specs.declared.answer.CubeAnswer.{CubeAnswer}
+use Rattle.cube_search.specs.declared.answer.CubeAnswer.{CubeAnswer}
 use Rattle.decide.specs.Jobs.{IsOutcome}
 
 -- a job for each of the first cubes of the old list, in order; the others are left. A job is seen as its assertions and its cube

@@ -8,10 +8,10 @@ use Rattle.flat_cubes.specs.declared.fault.FlatFault.{FlatFault}
 use Rattle.flat_cubes.specs.declared.fault.FlatFault.TheVariants as fault
 use Rattle.flat_cubes.specs.declared.flat.Flat.{Flat}
 use Rattle.cube_search.specs.Causes.{IsCauseOf}
-use Rattle.cube_answers.specs.declared.reason.OpenReason.{OpenReason}
-use Rattle.cube_answers.specs.declared.reason.OpenReason.TheVariants.{Fragment, Wide, States, Splits, Growth, Length, Arithmetic}
-use Rattle.cube_answers.specs.declared.reason.Shown.{Shown}
-use Rattle.cube_answers.specs.declared.reason.Shown.TheVariants.{Outside, Twice, Cycle, Opaque}
+use Rattle.cube_search.specs.declared.reason.OpenReason.{OpenReason}
+use Rattle.cube_search.specs.declared.reason.OpenReason.TheVariants.{Fragment, Wide, States, Splits, Growth, Length, Arithmetic}
+use Rattle.cube_search.specs.declared.reason.Shown.{Shown}
+use Rattle.cube_search.specs.declared.reason.Shown.TheVariants.{Outside, Twice, Cycle, Opaque}
 use Rattle.decide.specs.CubeValues.{CubeHasValues}
 
 -- the first thing for which the cube isn't straight

@@ -8,7 +8,7 @@ use Rattle.bool_cubes.specs.Refusing.{count_of, most_cubes}
 use Rattle.literal_forms.specs.declared.literal.Cube.{Cube}
 use Rattle.flat_cubes.specs.Flattening.{IsFlattening}
 use Rattle.flat_cubes.specs.declared.flat.Flat.{Flat}
-use Rattle.cube_answers.specs.Limits.{MustDecideFlat}
+use Rattle.cube_search.specs.Limits.{MustDecideFlat}
 use Rattle.decide.specs.declared.verdict.Verdict.{Verdict}
 use Rattle.decide.specs.declared.verdict.Verdict.TheVariants.{Sat, Unsat, Unknown}
 

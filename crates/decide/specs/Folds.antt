@@ -2,12 +2,12 @@
 use Rattle.std.specs.Prelude.{ℕ, suc, ◌+◌, List, [], ◌∷◌, Option, Some, None}
 use Rattle.sv_terms.specs.Meaning.{Named}
 use Rattle.sv_terms.specs.declared.term.Term.{Term}
-use Rattle.cube_answers.specs.declared.answer.CubeAnswer.{CubeAnswer}
-use Rattle.cube_answers.specs.declared.answer.CubeAnswer.TheVariants as answer
-use Rattle.cube_answers.specs.declared.answer.Refutation.{Refutation}
-use Rattle.cube_answers.specs.declared.reason.OpenReason.{OpenReason}
-use Rattle.cube_answers.specs.declared.reason.OpenReason.TheVariants.{Fragment}
-use Rattle.cube_answers.specs.declared.reason.Shown.TheVariants.{Opaque}
+use Rattle.cube_search.specs.declared.answer.CubeAnswer.{CubeAnswer}
+use Rattle.cube_search.specs.declared.answer.CubeAnswer.TheVariants as answer
+use Rattle.cube_search.specs.declared.answer.Refutation.{Refutation}
+use Rattle.cube_search.specs.declared.reason.OpenReason.{OpenReason}
+use Rattle.cube_search.specs.declared.reason.OpenReason.TheVariants.{Fragment}
+use Rattle.cube_search.specs.declared.reason.Shown.TheVariants.{Opaque}
 use Rattle.sv_terms.specs.CutOff.{cut_off}
 use Rattle.decide.specs.declared.verdict.Open.TheVariants.{Cubes}
 use Rattle.decide.specs.declared.verdict.Verdict.{Verdict}

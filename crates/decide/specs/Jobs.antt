@@ -17,10 +17,10 @@ use Rattle.flat_cubes.specs.declared.fault.FlatFault.{FlatFault}
 use Rattle.flat_cubes.specs.declared.fault.FlatFault.TheVariants as fault
 use Rattle.flat_cubes.specs.declared.flat.Flat.{Flat}
 use Rattle.cube_search.specs.Answers.{IsDecidedCube, IsModelOf}
-use Rattle.cube_answers.specs.declared.answer.CubeAnswer.{CubeAnswer}
-use Rattle.cube_answers.specs.declared.answer.CubeAnswer.TheVariants as answer
-use Rattle.cube_answers.specs.declared.reason.OpenReason.TheVariants.{Fragment, Wide}
-use Rattle.cube_answers.specs.declared.reason.Shown.TheVariants.{Outside, Twice, Cycle}
+use Rattle.cube_search.specs.declared.answer.CubeAnswer.{CubeAnswer}
+use Rattle.cube_search.specs.declared.answer.CubeAnswer.TheVariants as answer
+use Rattle.cube_search.specs.declared.reason.OpenReason.TheVariants.{Fragment, Wide}
+use Rattle.cube_search.specs.declared.reason.Shown.TheVariants.{Outside, Twice, Cycle}
 use Rattle.decide.specs.Causes.{IsCause}
 use Rattle.decide.specs.Completeness.{MustDecideCube}
 use Rattle.decide.specs.CubeValues.{AreTrueAtCube, CubeHasNoValues}

@@ -6,8 +6,8 @@ use Rattle.sv_terms.specs.declared.term.Term.{Term}
 use Rattle.bool_cubes.specs.Cubes.{cubes_of}
 use Rattle.bool_cubes.specs.Refusing.{count_of, most_cubes}
 use Rattle.literal_forms.specs.declared.literal.Cube.{Cube}
-use Rattle.cube_answers.specs.declared.answer.CubeAnswer.{CubeAnswer}
-use Rattle.cube_answers.specs.declared.answer.CubeAnswer.TheVariants as answer
+use Rattle.cube_search.specs.declared.answer.CubeAnswer.{CubeAnswer}
+use Rattle.cube_search.specs.declared.answer.CubeAnswer.TheVariants as answer
 use Rattle.decide.specs.CubeValues.{CubeHasNoValues}
 use Rattle.decide.specs.Folds.{refutation}
 use Rattle.decide.specs.Tallies.{IsTallyOf, batch}

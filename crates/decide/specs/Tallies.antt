@@ -2,7 +2,7 @@
 use Rattle.std.specs.Prelude.{◌≡◌, ℕ, List, length}
 use Rattle.sv_terms.specs.declared.term.Term.{Term}
 use Rattle.assertion_parts.specs.Firsts.{first_of}
-use Rattle.cube_answers.specs.declared.answer.CubeAnswer.{CubeAnswer}
+use Rattle.cube_search.specs.declared.answer.CubeAnswer.{CubeAnswer}
 use Rattle.decide.specs.Folds.{found, opens_from, refuted_from, refutation, with_first, without_sat}
 use Rattle.decide.specs.declared.tally.CubeTally.{CubeTally}
 use Rattle.decide.specs.declared.verdict.Verdict.{Verdict}

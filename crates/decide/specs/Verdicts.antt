@@ -11,7 +11,7 @@ use Rattle.bool_cubes.specs.Refusing.{count_of, most_cubes}
 use Rattle.bool_cubes.specs.declared.fault.CubeFault.{CubeFault}
 use Rattle.bool_cubes.specs.declared.fault.CubeFault.TheVariants as fault
 use Rattle.literal_forms.specs.declared.literal.Cube.{Cube}
-use Rattle.cube_answers.specs.declared.reason.OpenReason.{OpenReason}
+use Rattle.cube_search.specs.declared.reason.OpenReason.{OpenReason}
 use Rattle.decide.specs.Causes.{IsCause}
 use Rattle.decide.specs.CubeValues.{CubeHasNoValues}
 use Rattle.assertion_parts.specs.Constants.{AreOnly}

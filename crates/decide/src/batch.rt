@@ -8,7 +8,7 @@ ghost use Rattle.decide.specs.Jobs.{IsAskedCube};
 use crate::cube_job::{CubeJob, Shared};
 use crate::tally::BATCH;
 use bool_cubes::Cubes;
-use cube_answers::{CubeAnswer, answer_crosses};
+use cube_search::{CubeAnswer, answer_crosses};
 use par_phase::{Gate, run_jobs};
 use part_machines::machines_cross;
 use std::alloc::{AllocError, Global};

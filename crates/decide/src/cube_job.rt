@@ -2,14 +2,13 @@
 ghost use Rattle.std.specs.Prelude.{◌≡◌, ◌<◌, ◌^◌, length, IfOk};
 ghost use Rattle.flat_cubes.specs.Flattening.{IsFlattening};
 ghost use Rattle.flat_cubes.specs.Straight.{AreNamesApart};
-ghost use Rattle.cube_answers.specs.declared.answer.CubeAnswer.TheVariants.{Open};
-ghost use Rattle.cube_answers.specs.declared.reason.OpenReason.TheVariants.{Fragment};
+ghost use Rattle.cube_search.specs.declared.answer.CubeAnswer.TheVariants.{Open};
+ghost use Rattle.cube_search.specs.declared.reason.OpenReason.TheVariants.{Fragment};
 ghost use Rattle.decide.specs.Jobs.{IsAskedCube, IsOutcome, refused_answer};
 
 use assertion_parts::complete;
-use cube_answers::{CubeAnswer, OpenReason, Shown};
+use cube_search::{CubeAnswer, OpenReason, Shown, cube_answer};
 use cube_bounds::numbers;
-use cube_search::cube_answer;
 use flat_cubes::{Flat, FlatFault};
 use literal_forms::Cube;
 use par_phase::Job;

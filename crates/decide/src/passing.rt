@@ -10,7 +10,7 @@ ghost use Rattle.decide.specs.Jobs.{IsAskedCube};
 use crate::blocks::{block_of, count_ahead, longest_choice, shared_literals};
 use crate::cube_job::{Shared, answer_for};
 use bool_cubes::{cubes_are_counted, cubes_are_picked};
-use cube_answers::CubeAnswer;
+use cube_search::CubeAnswer;
 use literal_forms::Cube;
 use std::alloc::AllocError;
 use sv_terms::Term;

@@ -1,7 +1,7 @@
 //! What the answers for the cubes come to.
 ghost use Rattle.std.specs.Prelude.{◌≡◌, ◌||◌, nat_lt, ◌++◌, ◌∷◌, [], ◌+◌, ◌<◌, ◌^◌, List, length, map, Ok, Some, OnOk};
-ghost use Rattle.cube_answers.specs.declared.answer.CubeAnswer.{CubeAnswer as AnyAnswer};
-ghost use Rattle.cube_answers.specs.declared.answer.CubeAnswer.TheVariants as answer;
+ghost use Rattle.cube_search.specs.declared.answer.CubeAnswer.{CubeAnswer as AnyAnswer};
+ghost use Rattle.cube_search.specs.declared.answer.CubeAnswer.TheVariants as answer;
 ghost use Rattle.sv_terms.specs.declared.term.Term.{Term as AnyTerm};
 ghost use Rattle.decide.specs.Folds.{add, or_else};
 ghost use Rattle.assertion_parts.specs.Firsts.{first_of};
@@ -10,7 +10,7 @@ ghost use Rattle.decide.specs.Tallies.{IsTallyOf, batch, verdict_of};
 ghost use Rattle.std.specs.Option.{is_some};
 
 use crate::verdict::{Open, Verdict};
-use cube_answers::{CubeAnswer, OpenReason, Refutation, Shown};
+use cube_search::{CubeAnswer, OpenReason, Refutation, Shown};
 use std::alloc::{AllocError, Global};
 use sv_list::Items;
 use sv_terms::{Model, Term};

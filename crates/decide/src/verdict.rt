@@ -1,4 +1,4 @@
-use cube_answers::{OpenReason, Refutation};
+use cube_search::{OpenReason, Refutation};
 use sv_list::Items;
 use sv_terms::Model;
 

@@ -24,7 +24,7 @@ use Rattle.smt_session.specs.declared.reply.Reply.{Reply}
 use Rattle.smt_session.specs.declared.reply.Reply.TheVariants as reply
 use Rattle.smt_session.specs.declared.session.LastVerdict.{LastVerdict}
 use Rattle.smt_session.specs.declared.session.LastVerdict.TheVariants as kept
-use Rattle.cube_answers.specs.declared.answer.Refutation.{Refutation}
+use Rattle.cube_search.specs.declared.answer.Refutation.{Refutation}
 use Rattle.decide.specs.Completeness.{MustDecide, IsComplete}
 use Rattle.decide.specs.Verdicts.{RightVerdict}
 use Rattle.decide.specs.declared.verdict.Verdict.{Verdict}

@@ -4,8 +4,8 @@ use Rattle.std.specs.Map.{lookup}
 use Rattle.std.specs.Cmp.Lexicographic.{pointwise}
 use Rattle.smt_names.specs.Signature.{Name}
 use Rattle.assert_stack.specs.Levels.{Symbol}
-use Rattle.cube_answers.specs.declared.reason.OpenReason.{OpenReason}
-use Rattle.cube_answers.specs.declared.reason.OpenReason.TheVariants as reason
+use Rattle.cube_search.specs.declared.reason.OpenReason.{OpenReason}
+use Rattle.cube_search.specs.declared.reason.OpenReason.TheVariants as reason
 use Rattle.assertion_parts.specs.Constants.{is_mentioned}
 use Rattle.assertion_parts.specs.Filling.{default}
 use Rattle.decide.specs.declared.verdict.Open.{Open}

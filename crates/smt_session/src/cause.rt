@@ -2,7 +2,7 @@
 ghost use Rattle.std.specs.Prelude.{◌≡◌};
 ghost use Rattle.smt_session.specs.Verdicts.{cause_of, of_evidence, of_reason};
 
-use cube_answers::OpenReason;
+use cube_search::OpenReason;
 use lia_branch::Evidence;
 use reply_text::{Cause, CubeCause};
 use decide::Open;

@@ -2,8 +2,8 @@ use Rattle.std.proofs.Common.{◌≡◌, map, sym, ap, ◌∙◌, subst, rules, 
 use Rattle.std.proofs.lemmas.Int.{to_z-of_z}
 use mir.Val.{SFits}
 use Rattle.backward.specs.Leaves.{machines_of}
-use Rattle.cube_answers.specs.Leaves.{AreOfLeaf, IsAnswerFor}
-use Rattle.cube_answers.specs.Tallies.{settled}
+use Rattle.cube_search.specs.LeafAnswers.{AreOfLeaf, IsAnswerFor}
+use Rattle.cube_search.specs.LeafTallies.{settled}
 use Rattle.cube_search.specs.Leaves.{AreLifted, machine_of}
 use Rattle.cube_search.specs.Tallies.{IsCovered, IsTally}
 use Rattle.cube_search.proofs.FoundLemmas.{hit-found}

@@ -6,7 +6,7 @@ use Rattle.std.proofs.Crossing.{crosses}
 use Rattle.std.specs.contracts.alloc.AllocError as fault
 use Rattle.std.specs.contracts.result.Result as result
 use Rattle.part_machines.specs.contracts.machines.Machines as machines
-use Rattle.cube_answers.specs.contracts.answer.CubeAnswer as answer
+use Rattle.cube_search.specs.contracts.answer.CubeAnswer as answer
 use Rattle.decide.specs.contracts.cube_job.CubeJob as job
 use Rattle.decide.specs.contracts.cube_job.Shared as shared
 use Rattle.decide.proofs.Crossing.{cube-sync, term-sync}

@@ -1,7 +1,7 @@
 use Rattle.std.proofs.Common.{◌≡◌, ◌++◌, ◌+◌, ◌<◌, ◌^◌, List, map, length, Ok}
 use Rattle.std.specs.Vec.Iter.{into_iter_items}
 use Rattle.sv_terms.specs.declared.term.Term.{Term}
-use Rattle.cube_answers.specs.declared.answer.CubeAnswer.{CubeAnswer}
+use Rattle.cube_search.specs.declared.answer.CubeAnswer.{CubeAnswer}
 use Rattle.decide.specs.Tallies.{IsTallyOf}
 use Rattle.decide.proofs.tally.tally_all.Given as goal
 

@@ -1,5 +1,0 @@
-pub mod Crossing
-mod RowLemmas
-mod AskLemmas
-mod Named
-mod ModelLemmas

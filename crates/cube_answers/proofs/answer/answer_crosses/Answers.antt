@@ -1,8 +1,0 @@
-use Rattle.cube_answers.proofs.Crossing.{answer-send, answer-sync}
-use Rattle.cube_answers.proofs.answer.answer_crosses.Goals as goal
-
-pub returns-clause-send : goal.returns-clause-send
-returns-clause-send c = answer-send
-
-pub returns-clause-sync : goal.returns-clause-sync
-returns-clause-sync c = answer-sync
