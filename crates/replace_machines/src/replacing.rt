@@ -133,12 +133,12 @@ pub fn replace_first(alloc: Global, pattern: &Word, by: &Word) -> Result<Transdu
     ensures most { IfOk result (λ t. max (edges_most t.edges) (ends_most t.ends) ≤ 1 + length pattern.now + length by.now) }
 {
     if pattern.is_empty() {
-        return put_in_front(alloc, by);
+        return Ok(put_in_front(alloc, by)?);
     }
     if pattern.len() >= u32::MAX as usize {
         return Err(AllocError);
     }
-    replace_one(alloc, pattern, by)
+    Ok(replace_one(alloc, pattern, by)?)
 }
 
 /// The transducer that relates each word to what `str.replace_all` makes of it: the word with `by` in
@@ -152,10 +152,10 @@ pub fn replace_all(alloc: Global, pattern: &Word, by: &Word) -> Result<Transduce
     ensures most { IfOk result (λ t. max (edges_most t.edges) (ends_most t.ends) ≤ (1 + length pattern.now) * max 1 (length by.now)) }
 {
     if pattern.is_empty() {
-        return copy_word(alloc, by);
+        return Ok(copy_word(alloc, by)?);
     }
     if pattern.len() >= u32::MAX as usize {
         return Err(AllocError);
     }
-    replace_each(alloc, pattern, by)
+    Ok(replace_each(alloc, pattern, by)?)
 }
