@@ -1,6 +1,7 @@
 -- A list looked at from its front: what holds of some element that was looked at, once one element more was.
-use Rattle.std.proofs.Common.{◌≡◌, ℕ, ◌+◌, ◌<◌, ◌≤◌, ◌↔◌, ◌⊎◌, inl, inr, List, [], ◌∷◌, ◌++◌, length, take, get_or, Any, refl, sym, ap, ◌∙◌, subst, append_assoc}
+use Rattle.std.proofs.Common.{◌≡◌, ℕ, ◌+◌, ◌<◌, ◌≤◌, ◌↔◌, ◌⊎◌, inl, inr, List, [], ◌∷◌, ◌++◌, length, take, get_or, Any, Contains, refl, sym, ap, ◌∙◌, subst, append_assoc}
 use Rattle.std.proofs.lemmas.List.{take_more, take_all}
+use Rattle.std.proofs.lemmas.List.Elements.{Contains-push_cases}
 use Rattle.machine_core.specs.Lists.{Any-none, Any-here, Any-push_cases, Any-append_left, Any-append_right}
 use Rattle.sv_terms.specs.Language.{Word}
 use Rattle.pre_image.specs.Spelling.{moved_to, spelling}
@@ -16,6 +17,9 @@ any-more P xs new x e = (
   λ a. Any-push_cases P xs x (subst (Any P) e a),
   λ h. subst (Any P) (sym e) (elim h [ inl a ↦ Any-append_left P xs (x ∷ []) a | inr p ↦ Any-append_right P xs (x ∷ []) (Any-here P x [] p) ]),
 )
+
+pub each-more : {X : Type 0} (P : X → Type 0) (xs new : List X) (x : X) → new ≡ xs ++ x ∷ [] → ((y : X) → Contains xs y → P y) → P x → (y : X) → Contains new y → P y
+each-more P xs new x e old here y i = elim (Contains-push_cases xs x y (subst (λ l. Contains l y) e i)) [ inl a ↦ old y a | inr s ↦ subst P s here ]
 
 pub taken : {X : Type 0} (xs : List X) (i : ℕ) (x : X) → i < length xs → x ≡ get_or xs i x → take (i + 1) xs ≡ take i xs ++ x ∷ []
 taken xs i x lt e = take_more xs i x lt ∙ ap (λ y. take i xs ++ y ∷ []) (sym e)
@@ -65,6 +69,9 @@ none-yet P Q = (λ a. absurd (Any-none P a), λ a. absurd (Any-none Q a))
 
 pub old-yet : {Y : Type 0} (Q : Y → Type 0) (Old : Type 0) → Old ↔ (Old ⊎ Any Q [])
 old-yet Q Old = (λ o. inl o, λ h. elim h [ inl o ↦ o | inr a ↦ absurd (Any-none Q a) ])
+
+pub or-never : (Old : Type 0) → Old ↔ (Old ⊎ ⊥)
+or-never Old = (λ o. inl o, λ h. elim h [ inl o ↦ o | inr a ↦ absurd a ])
 
 -- where the inner facts are alike
 pub alike : (New Old P Q : Type 0) → New ↔ (Old ⊎ P) → P ↔ Q → New ↔ (Old ⊎ Q)

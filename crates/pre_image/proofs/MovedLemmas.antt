@@ -1,5 +1,5 @@
 -- Characters of a set that are in another set once they are moved.
-use Rattle.std.proofs.Common.{◌≡◌, ℕ, zero, suc, ℤ, pos, Some, None, if◌then◌else◌, ◌+◌, ◌<◌, ◌≤◌, ◌&&◌, ◌||◌, nat_le, Bool, true, false, List, [], ◌∷◌, length, get_or, take, refl, sym, ap, ap₂, ◌∙◌, arith}
+use Rattle.std.proofs.Common.{◌≡◌, ℕ, zero, suc, ℤ, pos, Some, None, if◌then◌else◌, ◌+◌, ◌<◌, ◌≤◌, ◌&&◌, ◌||◌, nat_le, Bool, true, false, List, [], ◌∷◌, length, get_or, take, refl, sym, ap, ◌∙◌, arith}
 use Rattle.std.specs.Option.{unwrap_or}
 use Rattle.std.proofs.lemmas.Bool.{leb-true, le-leb}
 use Rattle.std.proofs.lemmas.List.{take_more}
@@ -28,14 +28,26 @@ or-false : (b : Bool) → (b || false) ≡ b
 or-false true = refl
 or-false false = refl
 
--- one pair more was looked at
-pub moved-more : (lead step on window more new : List (ℕ × ℕ)) (i : ℕ) (k : ℤ) (c : ℕ) → i < length step → IsApartFrom 0 lead
-    → in_ranges on c ≡ (in_ranges lead c && in_ranges (take i step) (moved_to k c))
-    → (c ≤ greatest_character → in_ranges window c ≡ in_pair (get_or step i (0, 0)) (moved_to k c))
+-- beside a set, those of the lead that are in the pair once they are moved
+pub moved-joined : (lead on window more new : List (ℕ × ℕ)) (pair : ℕ × ℕ) (k : ℤ) (c : ℕ) → IsApartFrom 0 lead
+    → (c ≤ greatest_character → in_ranges window c ≡ in_pair pair (moved_to k c))
     → in_ranges more c ≡ (in_ranges lead c && in_ranges window c)
     → in_ranges new c ≡ (in_ranges on c || in_ranges more c)
+    → in_ranges new c ≡ (in_ranges on c || (in_ranges lead c && in_pair pair (moved_to k c)))
+moved-joined lead on window more new pair k c apart at meets joins = joins ∙ ap (λ b. in_ranges on c || b) (meets ∙ by (in_ranges lead c) refl)
+  where
+    by : (b : Bool) → in_ranges lead c ≡ b → (b && in_ranges window c) ≡ (b && in_pair pair (moved_to k c))
+    by false e = refl
+    by true e = at (in-top 0 lead c apart e)
+
+-- one pair more was looked at
+pub moved-more : (lead step on new : List (ℕ × ℕ)) (i : ℕ) (k : ℤ) (c : ℕ) → i < length step
+    → in_ranges on c ≡ (in_ranges lead c && in_ranges (take i step) (moved_to k c))
+    → in_ranges new c ≡ (in_ranges on c || (in_ranges lead c && in_pair (get_or step i (0, 0)) (moved_to k c)))
     → in_ranges new c ≡ (in_ranges lead c && in_ranges (take (i + 1) step) (moved_to k c))
-moved-more lead step on window more new i k c lt apart before at meets joins = joins ∙ by (in_ranges lead c) refl
+moved-more lead step on new i k c lt before joins =
+    joins ∙ ap (λ b. b || (in_ranges lead c && in_pair (get_or step i (0, 0)) (moved_to k c))) before
+    ∙ both (in_ranges lead c) (in_ranges (take i step) (moved_to k c)) (in_pair (get_or step i (0, 0)) (moved_to k c)) ∙ ap (λ b. in_ranges lead c && b) (sym next)
   where
     next : in_ranges (take (i + 1) step) (moved_to k c) ≡ (in_ranges (take i step) (moved_to k c) || in_pair (get_or step i (0, 0)) (moved_to k c))
     next =
@@ -43,13 +55,9 @@ moved-more lead step on window more new i k c lt apart before at meets joins = j
         ∙ list_any-append (λ p. nat_le p.0 (moved_to k c) && nat_le (moved_to k c) p.1) (take i step) (get_or step i (0, 0) ∷ [])
         ∙ ap (λ b. in_ranges (take i step) (moved_to k c) || b) (or-false (in_pair (get_or step i (0, 0)) (moved_to k c)))
 
-    by : (b : Bool) → in_ranges lead c ≡ b → (in_ranges on c || in_ranges more c) ≡ (in_ranges lead c && in_ranges (take (i + 1) step) (moved_to k c))
-    by false e =
-        ap₂ (λ x y. x || y) (before ∙ ap (λ b. b && in_ranges (take i step) (moved_to k c)) e) (meets ∙ ap (λ b. b && in_ranges window c) e)
-        ∙ sym (ap (λ b. b && in_ranges (take (i + 1) step) (moved_to k c)) e)
-    by true e =
-        ap₂ (λ x y. x || y) (before ∙ ap (λ b. b && in_ranges (take i step) (moved_to k c)) e) (meets ∙ ap (λ b. b && in_ranges window c) e ∙ at (in-top 0 lead c apart e))
-        ∙ sym next ∙ sym (ap (λ b. b && in_ranges (take (i + 1) step) (moved_to k c)) e)
+    both : (a b d : Bool) → ((a && b) || (a && d)) ≡ (a && (b || d))
+    both true b d = refl
+    both false b d = refl
 
 -- all pairs were looked at
 pub moved-all : (lead step items on : List (ℕ × ℕ)) (i : ℕ) (k : ℤ) (c : ℕ) → take i items ≡ step

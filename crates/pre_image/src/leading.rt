@@ -1,5 +1,5 @@
 //! Where a target may be once it went along what a transducer writes.
-ghost use Rattle.std.specs.Prelude.{◌≡◌, ⊤, ℕ, ◌++◌, ◌*◌, ◌<◌, ◌≤◌, ◌^◌, ◌↔◌, ◌⊎◌, ◌&&◌, List, [], ◌∷◌, length, IfOk, IfSome, OnOk, Any, Contains, MatchOption};
+ghost use Rattle.std.specs.Prelude.{◌≡◌, ⊤, ℕ, ◌++◌, ◌*◌, ◌<◌, ◌≤◌, ◌^◌, ◌↔◌, ◌⊎◌, ◌&&◌, ◌||◌, List, [], ◌∷◌, length, IfOk, IfSome, OnOk, Any, Contains, MatchOption};
 ghost use Rattle.sv_word.specs.Ranges.{in_pair, in_ranges, IsInhabited};
 ghost use Rattle.machine_core.specs.declared.machine.Move.{Move};
 ghost use Rattle.machine_core.specs.Moves.{Moves};
@@ -79,16 +79,30 @@ fn move_back(alloc: Global, pair: (u32, u32), by: i32) -> Result<Ranges, AllocEr
     Ranges::of(alloc, pair.0.saturating_sub(steps), pair.1 - steps)
 }
 
+// Beside these characters, those of a lead that are in the pair once they are moved by this number.
+fn join_moved(
+    alloc: Global,
+    on: &Ranges,
+    lead: &Ranges,
+    pair: (u32, u32),
+    by: i32,
+) -> Result<Ranges, AllocError>
+    requires { pair.1 ≤ greatest_character }
+    ensures { IfOk result (λ r. (c : ℕ) → in_ranges r c ≡ (in_ranges on.now c || (in_ranges lead.now c && in_pair pair (moved_to by c)))) }
+{
+    let _lead = lead.as_slice();
+    let window = move_back(alloc, pair, by)?;
+    let more = lead.meet(alloc, &window)?;
+    on.join(alloc, &more)
+}
+
 // The characters of a lead that are read by a move once they are moved by this number.
 fn meet_moved(alloc: Global, lead: &Ranges, step: &Ranges, by: i32) -> Result<Ranges, AllocError>
     ensures { IfOk result (λ r. (c : ℕ) → in_ranges r c ≡ (in_ranges lead.now c && in_ranges step.now (moved_to by c))) }
 {
-    let _lead = lead.as_slice();
     let mut on = Ranges::none(alloc);
     for pair in step.as_slice() {
-        let window = move_back(alloc, *pair, by)?;
-        let more = lead.meet(alloc, &window)?;
-        on = on.join(alloc, &more)?;
+        on = join_moved(alloc, &on, lead, *pair, by)?;
     }
     Ok(on)
 }
@@ -150,10 +164,7 @@ fn push_some(leads: &mut Items<Move<u32>>, lead: Option<Move<u32>>) -> Result<()
 {
     match lead {
         None => Ok(()),
-        Some(further) => {
-            leads.push(further)?;
-            Ok(())
-        }
+        Some(further) => leads.push(further),
     }
 }
 
@@ -198,6 +209,25 @@ fn go_on(
     join_moves(alloc, all)
 }
 
+// The one lead where nothing is written.
+fn first_leads(
+    alloc: Global,
+    target: &Explicit,
+    from: u32,
+    low: u32,
+    high: u32,
+) -> Result<Items<Move<u32>>, AllocError>
+    requires order { low ≤ high }
+    requires high { high ≤ greatest_character }
+    ensures { IfOk result (AreLeads target.now from low high (spelled [])) }
+{
+    let on = Ranges::of(alloc, low, high)?;
+    let cost = Cost::zeros(alloc, target.registers())?;
+    let mut leads = Items::new(alloc);
+    leads.push(Move { on, cost, to: from })?;
+    Ok(leads)
+}
+
 /// Where the target may be, from the state `from` on, once it went along what is written for a
 /// character from `low` to `high`, and at which costs: a move for each way.
 pub fn moves_along(
@@ -214,12 +244,7 @@ pub fn moves_along(
     requires fits { edges_top target.now.edges * length nexts.now < 2 ^ 64 }
     ensures { IfOk result (AreLeads target.now from low high (spelled nexts.now)) }
 {
-    let mut leads = Items::new(alloc);
-    leads.push(Move {
-        on: Ranges::of(alloc, low, high)?,
-        cost: Cost::zeros(alloc, target.registers())?,
-        to: from,
-    })?;
+    let mut leads = first_leads(alloc, target, from, low, high)?;
     for next in nexts {
         leads = go_on(alloc, target, leads.as_slice(), *next)?;
     }

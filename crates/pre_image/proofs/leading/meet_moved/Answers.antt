@@ -14,15 +14,12 @@ loop-pair-init c d = ap (λ (l : List (ℕ × ℕ)). in_ranges l d) c.none-on.en
     none true = refl
     none false = refl
 
-pub move_back-requires : goal.move_back-requires
-move_back-requires c = apart-top 0 c.as_slice-pair-items.result.now c.loop-pair.pair-index (subst (IsApartFrom 0) (sym c.as_slice-pair-items.ensures.pairs) c.as_slice-pair-items.ensures.apart) c.loop-pair-test.true
+pub join_moved-requires : goal.join_moved-requires
+join_moved-requires c = apart-top 0 c.as_slice-pair-items.result.now c.loop-pair.pair-index (subst (IsApartFrom 0) (sym c.as_slice-pair-items.ensures.pairs) c.as_slice-pair-items.ensures.apart) c.loop-pair-test.true
 
 pub loop-pair-preserved : goal.loop-pair-preserved
 loop-pair-preserved c d =
-    moved-more c.args.lead.now c.as_slice-pair-items.result.now c.loop-pair.on c.in_ok-window.window c.in_ok-more.more c.in_ok-on.on c.loop-pair.pair-index (to_z w32 (of_z w32 c.args.by)) d c.loop-pair-test.true
-    c.as_slice-lead.ensures.apart (c.loop-pair.invariant d)
-    (c.in_ok-window.ensures d)
-    (c.in_ok-more.ensures d) (c.in_ok-on.ensures d)
+    moved-more c.args.lead.now c.as_slice-pair-items.result.now c.loop-pair.on c.in_ok-on.on c.loop-pair.pair-index (to_z w32 (of_z w32 c.args.by)) d c.loop-pair-test.true (c.loop-pair.invariant d) (c.in_ok-on.ensures d)
 
 pub returns : goal.returns
 returns c d =

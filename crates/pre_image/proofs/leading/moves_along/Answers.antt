@@ -1,22 +1,12 @@
-use Rattle.std.proofs.Common.{ℕ, get_or, ◌+◌, ◌++◌, ◌↔◌, Any, ◌∷◌, [], List, length, take, Contains, sym, ap, ◌∙◌, subst, arith}
+use Rattle.std.proofs.Common.{ℕ, get_or, ◌+◌, ◌++◌, ◌↔◌, Any, ◌∷◌, [], List, length, take, Contains, subst, arith}
 use Rattle.std.proofs.lemmas.List.{length-take-le}
 use Rattle.machine_core.specs.declared.machine.Move.{Move}
-use Rattle.machine_core.specs.Costs.{zeros}
 use Rattle.machine_core.specs.Moves.{Moves}
 use Rattle.pre_image.specs.declared.letter.Letter.TheVariants.{Fixed}
-use Rattle.pre_image.specs.Leading.{next_of, spelled, AreLeads, Led}
-use Rattle.pre_image.proofs.LeadLemmas.{leads-first, lead-fits, leads-more, leads-same, between-set, spelled-length}
+use Rattle.pre_image.specs.Leading.{next_of, spelled, Led}
+use Rattle.pre_image.proofs.LeadLemmas.{lead-fits, leads-more, leads-same, spelled-length}
 use Rattle.pre_image.proofs.MoreLemmas.{spelled-next}
 use Rattle.pre_image.proofs.leading.moves_along.Goals as goal
-
-pub loop-next-init : goal.loop-next-init
-loop-next-init c =
-    let on = c.in_ok-of.field-0 in
-    let cost = c.in_ok-zeros.field-0 in
-    let m = c.args.target.now in
-    let first = leads-first m c.args.from c.args.low c.args.high on (between-set on c.args.low c.args.high c.in_ok-of.ensures.set) (c.in_ok-of.ensures.inhabited c.requires.order)
-    cost (c.in_ok-zeros.ensures ∙ ap zeros c.registers.ensures) in
-    subst (AreLeads m c.args.from c.args.low c.args.high (spelled [])) (sym (c.in_ok-push.ensures.ok ∙ ap (λ l. l ++ record { on = on; cost = cost; to = c.args.from } ∷ []) c.new-leads.ensures)) first
 
 pub go_on-requires : goal.go_on-requires
 go_on-requires c l i =
@@ -33,7 +23,7 @@ loop-next-preserved c =
     let m = c.args.target.now in
     let W : ℕ → List ℕ = spelled (take at nexts) in
     let n = get_or nexts at (Fixed 0) in
-    let more = leads-more m c.args.from c.args.low c.args.high W c.loop-next.leads c.loop-next.invariant n c.in_ok-leads.leads
-    (subst (λ (k : List (Move ℕ)). (d : ℕ) (cost : List ℕ) (to : ℕ) → Any (Moves d cost to) c.in_ok-leads.leads ↔ Any (Led m n d cost to) k) c.as_slice.ensures c.in_ok-leads.ensures.exact) c.in_ok-leads.ensures.inhabited in
-    leads-same m c.args.from c.args.low c.args.high (λ d. W d ++ next_of n d ∷ []) (spelled (take (at + 1) nexts)) c.in_ok-leads.leads
+    let more = leads-more m c.args.from c.args.low c.args.high W c.loop-next.leads c.loop-next.invariant n c.in_ok-leads-2.leads
+    (subst (λ (k : List (Move ℕ)). (d : ℕ) (cost : List ℕ) (to : ℕ) → Any (Moves d cost to) c.in_ok-leads-2.leads ↔ Any (Led m n d cost to) k) c.as_slice.ensures c.in_ok-leads-2.ensures.exact) c.in_ok-leads-2.ensures.inhabited in
+    leads-same m c.args.from c.args.low c.args.high (λ d. W d ++ next_of n d ∷ []) (spelled (take (at + 1) nexts)) c.in_ok-leads-2.leads
     (λ d. spelled-next nexts at d c.loop-next-test.true) more

@@ -1,4 +1,5 @@
 use Rattle.std.proofs.Common.{◌<◌, ◌↔◌, length, Any, Contains, sym, subst}
+use Rattle.std.proofs.lemmas.Result.{IfOk-weaker}
 use Rattle.machine_core.specs.Moves.{Moves}
 use Rattle.machine_core.specs.Places.{pick}
 use Rattle.pre_image.specs.Indexed.{edge_source}
@@ -23,10 +24,11 @@ moves_of-requires-clause-fits c e i =
     edge-fits p.through.now p.target.now p.fits e (subst (λ l. Contains l e) c.as_slice-edges.ensures i)
 
 pub returns-clause-exact : goal.returns-clause-exact
-returns-clause-exact c d cost to =
+returns-clause-exact c =
     let p = c.args.self.now in
     let at = c.args.at.now in
-    let listed = subst (λ l. Any (Moves d cost to) c.in_ok-moves_of.field-0 ↔ Any (Passes p.target.now at d cost to) (pick l c.row.result.now)) c.as_slice-edges.ensures (c.in_ok-moves_of.ensures.exact d cost to) in
+    IfOk-weaker c.moves_of.result _ _ (λ moves exact d cost to.
+    let listed = subst (λ l. Any (Moves d cost to) moves ↔ Any (Passes p.target.now at d cost to) (pick l c.row.result.now)) c.as_slice-edges.ensures (exact d cost to) in
     let all = row-all edge_source at.0 (Passes p.target.now at d cost to) (λ x h. h.0) p.through.now.edges c.row.result.now (p.indexed.edges_found at.0 c.row.result.now c.row.ensures) _ listed in
-    let moves = all-moves p.through.now p.target.now at d cost to in
-    (λ s. all.1 (moves.0 s), λ a. moves.1 (all.0 a))
+    let pair = all-moves p.through.now p.target.now at d cost to in
+    (λ s. all.1 (pair.0 s), λ a. pair.1 (all.0 a))) c.moves_of.ensures.exact
