@@ -1,5 +1,5 @@
 -- Configurations of a family in which one machine is exchanged or taken out.
-use Rattle.std.proofs.Common.{◌≡◌, ℕ, zero, suc, ◌↔◌, cond, List, [], ◌∷◌, length, map, Contains, Option, Some, None, slice_get, slice_set, refl, sym, ap, ◌∙◌, subst, arith}
+use Rattle.std.proofs.Common.{◌≡◌, ℕ, zero, suc, ◌↔◌, cond, List, [], ◌∷◌, length, map, Contains, Some, None, slice_get, slice_set, refl, sym, ap, ◌∙◌, subst, arith}
 use Rattle.std.proofs.lemmas.Bool.{eq-eqb, ne_eqb}
 use Rattle.machine_core.specs.declared.graph.Graph.{Graph}
 use Rattle.machine_core.specs.Costs.{add_costs}

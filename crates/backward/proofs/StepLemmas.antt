@@ -1,5 +1,6 @@
 -- The definition at a place of a flat cube, carried.
 use Rattle.std.proofs.Common.{◌≡◌, ℕ, ◌+◌, ◌*◌, ◌<◌, ◌≤◌, ◌↔◌, max, List, [], ◌∷◌, length, map, Some, slice_get, refl, sym, ap, ◌∙◌, subst, arith, mul-le-mul_left, mul_comm, add-mul, one-mul}
+use Rattle.std.specs.Prelude.{Result, Ok, Err, IfOk}
 use Rattle.std.proofs.Math.Nat.{max_comm}
 use Rattle.sv_word.specs.Words.{IsWord}
 use Rattle.machine_core.specs.declared.graph.Graph.{Graph}
@@ -29,6 +30,11 @@ use Rattle.backward.proofs.ConfLemmas.{take-out, put-other}
 use Rattle.backward.proofs.LoopLemmas.{get-below, same-found}
 use Rattle.backward.proofs.MeetingLemmas.{graph-words}
 
+-- what follows from two clauses on one result
+pub IfOk-both : {X E : Type 0} (r : Result X E) (P Q R : X → Type 0) → IfOk r P → IfOk r Q → ((x : X) → P x → Q x → R x) → IfOk r R
+IfOk-both (Ok x) P Q R p q f = f x p q
+IfOk-both (Err e) P Q R p q f = tt
+
 same-pieces : (ps qs : List ℕ) → by.Concat ps ≡ by.Concat qs → ps ≡ qs
 same-pieces ps qs e = cc
 
@@ -51,31 +57,32 @@ module _ (flat : Flat) (at : ℕ) (d : Definition) (there : slice_get flat.defin
       (can.target, subst (λ x. CanCut ms x can.target ps cuts) (sym v) (subst (λ l. CanCut ms can.variable can.target l cuts) (sym p) can.can))
 
   -- a concatenation
-  module _ (s new : LeafState) (ps cuts : List ℕ) (is : d.by ≡ by.Concat ps) (m : Graph) (can : CanCut s.machines d.variable m ps cuts) (registers : new.registers ≡ s.registers)
-      (c : IsCarried s.registers s.machines d.variable m (0 ∷ cuts) ps new.machines) where
-    plain-cut : (words : Words) (totals : List ℕ) → Conf s.registers new.machines words totals ↔ ConfCut s.registers s.machines d.variable ps cuts words totals
-    plain-cut words totals = (
-      λ h. let r = (c.conf words totals).0 h in (m, r.0, r.1, can.machine, r.2, r.3, r.4),
-      λ h.
-          let same = same-found s.machines d.variable h.0 m h.3 can.machine in
-          (c.conf words totals).1 (h.1, h.2, subst (λ g. RunsInTurn g (0 ∷ cuts) (map words ps) h.1) same h.4, h.5, h.6),
-    )
-
-    pub cut-conf : (words : Words) (totals : List ℕ) → Conf new.registers new.machines words totals ↔ ConfCut s.registers s.machines d.variable ps cuts words totals
-    cut-conf = subst (λ w. (words : Words) (totals : List ℕ) → Conf w new.machines words totals ↔ ConfCut s.registers s.machines d.variable ps cuts words totals) (sym registers) plain-cut
-
-    pub cut-at : IsCutAt flat at cuts s new
-    cut-at x pieces e words totals =
-        let same = one-definition flat.definitions at d (definition x (by.Concat pieces)) there e in
-        let v = ap (λ (z : Definition). z.variable) same in
-        let p = same-pieces ps pieces (sym is ∙ ap (λ (z : Definition). z.by) same) in
-        subst (λ z. Conf new.registers new.machines words totals ↔ ConfCut s.registers s.machines z pieces cuts words totals) v
-        (subst (λ l. Conf new.registers new.machines words totals ↔ ConfCut s.registers s.machines d.variable l cuts words totals) p (cut-conf words totals))
-
+  module _ (s new : LeafState) (ps cuts : List ℕ) (is : d.by ≡ by.Concat ps) where
     pub cut-made : IsCut s.machines d.variable ps cuts new → IsMadeAt flat at cuts s.machines new
     cut-made made e at-e =
         subst (λ (z : Definition). IsMadeBy z.by z.variable cuts s.machines new) (one-definition flat.definitions at d e there at-e)
         (subst (λ b. IsMadeBy b d.variable cuts s.machines new) (sym is) made)
+
+    module _ (m : Graph) (can : CanCut s.machines d.variable m ps cuts) (registers : new.registers ≡ s.registers)
+        (c : IsCarried s.registers s.machines d.variable m (0 ∷ cuts) ps new.machines) where
+      plain-cut : (words : Words) (totals : List ℕ) → Conf s.registers new.machines words totals ↔ ConfCut s.registers s.machines d.variable ps cuts words totals
+      plain-cut words totals = (
+        λ h. let r = (c.conf words totals).0 h in (m, r.0, r.1, can.machine, r.2, r.3, r.4),
+        λ h.
+            let same = same-found s.machines d.variable h.0 m h.3 can.machine in
+            (c.conf words totals).1 (h.1, h.2, subst (λ g. RunsInTurn g (0 ∷ cuts) (map words ps) h.1) same h.4, h.5, h.6),
+      )
+
+      pub cut-conf : (words : Words) (totals : List ℕ) → Conf new.registers new.machines words totals ↔ ConfCut s.registers s.machines d.variable ps cuts words totals
+      cut-conf = subst (λ w. (words : Words) (totals : List ℕ) → Conf w new.machines words totals ↔ ConfCut s.registers s.machines d.variable ps cuts words totals) (sym registers) plain-cut
+
+      pub cut-at : IsCutAt flat at cuts s new
+      cut-at x pieces e words totals =
+          let same = one-definition flat.definitions at d (definition x (by.Concat pieces)) there e in
+          let v = ap (λ (z : Definition). z.variable) same in
+          let p = same-pieces ps pieces (sym is ∙ ap (λ (z : Definition). z.by) same) in
+          subst (λ z. Conf new.registers new.machines words totals ↔ ConfCut s.registers s.machines z pieces cuts words totals) v
+          (subst (λ l. Conf new.registers new.machines words totals ↔ ConfCut s.registers s.machines d.variable l cuts words totals) p (cut-conf words totals))
 
   -- a definition through a transducer
   pub reads-there : {ms : Family} → CanPassAt flat at ms → (v : ℕ) × (reads d.by ≡ Some v)
@@ -161,10 +168,11 @@ module _ (flat : Flat) (at : ℕ) (d : Definition) (there : slice_get flat.defin
         (one-definition flat.definitions at d (definition x b) there e) (passed-conf words totals)
 
 -- the transducers of replacements and of the text are for their definitions
-pub first-for : (p u : Word) (v : ℕ) (t : Transducer) → IsFormed t → t.states ≡ max 1 (length p) + 1
-    → ((read written : Word) → Pairs t read written ↔ (IsWord read × (written ≡ replace_first p u read))) → WritesWithin t (λ n. n + length p + length u)
-    → max (edges_most t.edges) (ends_most t.ends) ≤ 1 + length p + length u → IsFor (by.First p u v) t
-first-for p u v t formed states exact writes most = record {
+pub first-for : {E : Type 0} (p u : Word) (v : ℕ) (r : Result Transducer E) → IfOk r IsFormed → IfOk r (λ t. t.states ≡ max 1 (length p) + 1)
+    → IfOk r (λ t. (read written : Word) → Pairs t read written ↔ (IsWord read × (written ≡ replace_first p u read))) → IfOk r (λ t. WritesWithin t (λ n. n + length p + length u))
+    → IfOk r (λ t. max (edges_most t.edges) (ends_most t.ends) ≤ 1 + length p + length u) → IfOk r (IsFor (by.First p u v))
+first-for p u v (Err e) formed states exact writes most = tt
+first-for p u v (Ok t) formed states exact writes most = record {
   formed = formed;
   gives = exact;
   states = states ∙ ap (λ n. n + 1) (max_comm 1 (length p));
@@ -172,10 +180,11 @@ first-for p u v t formed states exact writes most = record {
   most = omega arith;
 }
 
-pub all-for : (p u : Word) (v : ℕ) (t : Transducer) → IsFormed t → t.states ≡ max 1 (length p)
-    → ((read written : Word) → Pairs t read written ↔ (IsWord read × (written ≡ replace_all p u read))) → WritesWithin t (λ n. (n + length p) * max 1 (length u))
-    → max (edges_most t.edges) (ends_most t.ends) ≤ (1 + length p) * max 1 (length u) → IsFor (by.All p u v) t
-all-for p u v t formed states exact writes most = record {
+pub all-for : {E : Type 0} (p u : Word) (v : ℕ) (r : Result Transducer E) → IfOk r IsFormed → IfOk r (λ t. t.states ≡ max 1 (length p))
+    → IfOk r (λ t. (read written : Word) → Pairs t read written ↔ (IsWord read × (written ≡ replace_all p u read))) → IfOk r (λ t. WritesWithin t (λ n. (n + length p) * max 1 (length u)))
+    → IfOk r (λ t. max (edges_most t.edges) (ends_most t.ends) ≤ (1 + length p) * max 1 (length u)) → IfOk r (IsFor (by.All p u v))
+all-for p u v (Err e) formed states exact writes most = tt
+all-for p u v (Ok t) formed states exact writes most = record {
   formed = formed;
   gives = exact;
   states = states ∙ max_comm 1 (length p);

@@ -59,7 +59,7 @@ pub fn lift_through(
     let run = run_at(runs.as_slice(), v);
     let lifted = lift_read(alloc, through, target, reader, pre, meeting, run)?;
     let ReadRun { read, written } = lifted;
-    put_runs(runs, v, read, x, written)
+    Ok(put_runs(runs, v, read, x, written))
 }
 
 // What the run of the meeting came of: a run of the reader, and one of the target on what is written.
@@ -96,13 +96,13 @@ fn put_runs(
     first: Run<u32>,
     x: u32,
     second: Run<u32>,
-) -> Result<Items<Option<Run<u32>>>, AllocError>
+) -> Items<Option<Run<u32>>>
     requires first { v < length runs }
     requires second { x < length runs }
-    ensures { IfOk result (λ rs. rs ≡ slice_set (slice_set runs v (Some first)) x (Some second)) }
+    ensures { result ≡ slice_set (slice_set runs v (Some first)) x (Some second) }
 {
     let mut runs = runs;
     runs.set(v as usize, Some(first));
     runs.set(x as usize, Some(second));
-    Ok(runs)
+    runs
 }

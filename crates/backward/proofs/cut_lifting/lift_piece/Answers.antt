@@ -1,4 +1,4 @@
-use Rattle.std.proofs.Common.{◌≡◌, suc, ◌+◌, ◌-◌, drop, get_or, Some, slice_get, sym, subst, arith}
+use Rattle.std.proofs.Common.{◌≡◌, suc, ◌+◌, drop, get_or, Some, slice_get, sym, subst, arith}
 use Rattle.backward.specs.Families.{without}
 use Rattle.backward.specs.PiecesBack.{HasMet, AreTakenBack}
 use Rattle.backward.specs.Runs.{Runs}

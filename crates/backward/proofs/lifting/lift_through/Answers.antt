@@ -55,14 +55,14 @@ returns-clause-back c =
     let hk = subst (λ l. HasMachine l c.args.v c.machine_at-reader.result.now) c.as_slice-2.ensures c.machine_at-reader.ensures in
     passed-back (passed-with c.requires.passed.1 c.in-Through.is hg hk) c.args.runs c.requires.runs c.run_at-run.result.now
     (subst (λ (l : Runs). slice_get l c.args.v ≡ Some (Some c.run_at-run.result.now)) c.as_slice-3.ensures c.run_at-run.ensures)
-    c.in_ok-lifted.lifted c.in_ok-lifted.ensures c.in_ok-put_runs.field-0 c.in_ok-put_runs.ensures
+    c.in_ok-lifted.lifted c.in_ok-lifted.ensures c.put_runs.result c.put_runs.ensures
 
 pub returns-clause-defined : goal.returns-clause-defined
 returns-clause-defined c t passed =
     let hg = subst (λ l. HasMachine l c.args.x c.machine_at-target.result.now) c.as_slice.ensures c.machine_at-target.ensures in
     let hk = subst (λ l. HasMachine l c.args.v c.machine_at-reader.result.now) c.as_slice-2.ensures c.machine_at-reader.ensures in
-    let new = c.in_ok-put_runs.field-0 in
+    let new = c.put_runs.result in
     subst (λ u. Pairs u (run_words new c.args.v) (run_words new c.args.x)) (passed-same passed c.in-Through.is)
     (passed-pairs (passed-with c.requires.passed.1 c.in-Through.is hg hk) c.args.runs c.requires.runs c.run_at-run.result.now
     (subst (λ (l : Runs). slice_get l c.args.v ≡ Some (Some c.run_at-run.result.now)) c.as_slice-3.ensures c.run_at-run.ensures)
-    c.in_ok-lifted.lifted c.in_ok-lifted.ensures new c.in_ok-put_runs.ensures)
+    c.in_ok-lifted.lifted c.in_ok-lifted.ensures new c.put_runs.ensures)
