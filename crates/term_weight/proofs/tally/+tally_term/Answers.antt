@@ -1,4 +1,5 @@
 use Rattle.std.proofs.Common.{sym, subst}
+use Rattle.std.proofs.lemmas.Result.{on_ok_weaker}
 use Rattle.sv_terms.specs.declared.term.Term.{Term}
 use Rattle.term_weight.specs.Summaries.{share, part, Gains}
 use Rattle.term_weight.proofs.Tallying.{gains-Truth, gains-Number, gains-Text, gains-Opaque, gains-Apply, gains-InRe, gains-Related, gains-next}
@@ -13,17 +14,17 @@ tally_term-returns-in_ok-tally_all-in-Apply n c =
     subst (λ (x : Term). Gains places c.args.tally.now c.measure_all.new.tally (λ ws. share c.args.depth (part places ws x))) (sym c.in-Apply.is)
     (gains-Apply places c.args.tally.now c.leaf-in-Apply.new.tally c.tally_all.new.tally c.measure_all.new.tally c.args.depth c.saturating_add.result c.saturating_add.ensures c.leaf-in-Apply.ensures c.in-Apply.op c.in-Apply.terms c.as_slice-terms.result.now c.as_slice-terms.ensures c.in_ok-tally_all-in-Apply.ensures c.measure_all.ensures)
 
-pub tally_term-returns-in_ok-tally_regex-in-InRe : goal.tally_term-returns-in_ok-tally_regex-in-InRe
-tally_term-returns-in_ok-tally_regex-in-InRe n c =
+pub tally_term-returns-in_ok-tally_term-in-InRe : goal.tally_term-returns-in_ok-tally_term-in-InRe
+tally_term-returns-in_ok-tally_term-in-InRe n c =
     let places = c.args.places.now in
-    subst (λ (x : Term). Gains places c.args.tally.now c.tally_regex.new.tally (λ ws. share c.args.depth (part places ws x))) (sym c.in-InRe.is)
-    (gains-InRe places c.args.tally.now c.leaf-in-InRe.new.tally c.tally_term.new.tally c.tally_regex.new.tally c.args.depth c.saturating_add-below.result c.saturating_add-below.ensures c.leaf-in-InRe.ensures c.in-InRe.word c.get.result.now c.in-InRe.regex c.get.ensures c.in_ok-tally_term-in-InRe.ensures c.in_ok-tally_regex-in-InRe.ensures)
+    on_ok_weaker c.tally_regex.result (λ h. subst (λ (x : Term). Gains places c.args.tally.now c.tally_regex.new.tally (λ ws. share c.args.depth (part places ws x))) (sym c.in-InRe.is)
+    (gains-InRe places c.args.tally.now c.leaf-in-InRe.new.tally c.tally_term.new.tally c.tally_regex.new.tally c.args.depth c.saturating_add-below.result c.saturating_add-below.ensures c.leaf-in-InRe.ensures c.in-InRe.word c.get.result.now c.in-InRe.regex c.get.ensures c.in_ok-tally_term-in-InRe.ensures h)) c.tally_regex.ensures
 
-pub tally_term-returns-in_ok-tally_term-in-Related-2 : goal.tally_term-returns-in_ok-tally_term-in-Related-2
-tally_term-returns-in_ok-tally_term-in-Related-2 n c =
+pub tally_term-returns-in_ok-tally_term-in-Related : goal.tally_term-returns-in_ok-tally_term-in-Related
+tally_term-returns-in_ok-tally_term-in-Related n c =
     let places = c.args.places.now in
-    subst (λ (x : Term). Gains places c.args.tally.now c.tally_term-in-Related-2.new.tally (λ ws. share c.args.depth (part places ws x))) (sym c.in-Related.is)
-    (gains-Related places c.args.tally.now c.leaf-in-Related.new.tally c.tally_term-in-Related.new.tally c.tally_term-in-Related-2.new.tally c.args.depth c.saturating_add-below-in-Related.result c.saturating_add-below-in-Related.ensures c.leaf-in-Related.ensures c.in-Related.field-0 c.in-Related.read c.in-Related.written c.get-in-Related.result.now c.get-in-Related-2.result.now c.get-in-Related.ensures c.get-in-Related-2.ensures c.in_ok-tally_term-in-Related.ensures c.in_ok-tally_term-in-Related-2.ensures)
+    on_ok_weaker c.tally_term-in-Related-2.result (λ h. subst (λ (x : Term). Gains places c.args.tally.now c.tally_term-in-Related-2.new.tally (λ ws. share c.args.depth (part places ws x))) (sym c.in-Related.is)
+    (gains-Related places c.args.tally.now c.leaf-in-Related.new.tally c.tally_term-in-Related.new.tally c.tally_term-in-Related-2.new.tally c.args.depth c.saturating_add-below-in-Related.result c.saturating_add-below-in-Related.ensures c.leaf-in-Related.ensures c.in-Related.field-0 c.in-Related.read c.in-Related.written c.get-in-Related.result.now c.get-in-Related-2.result.now c.get-in-Related.ensures c.get-in-Related-2.ensures c.in_ok-tally_term-in-Related.ensures h)) c.tally_term-in-Related-2.ensures
 
 pub tally_term-returns-in-Truth : goal.tally_term-returns-in-Truth
 tally_term-returns-in-Truth n c = gains-Truth c.args.places.now c.args.tally.now c.leaf.new.tally c.args.depth c.args.term.now c.in-Truth.field-0 c.in-Truth.is c.leaf.ensures
