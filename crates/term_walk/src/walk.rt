@@ -64,7 +64,7 @@ impl<'a> Walk<'a> {
 fn put_opaque(walk: &mut Walk<'_>, sort: Sort) -> Result<usize, CheckFault>
     ensures { ReadsMeaning Here (λ t. Ok (bodies.opaque sort)) walk.old walk.new result }
 {
-    walk.draft.put_opaque(sort)
+    Ok(walk.draft.put_opaque(sort)?)
 }
 
 fn constant(walk: &mut Walk<'_>, name: Name, sort: Sort) -> Result<usize, CheckFault>
