@@ -1,7 +1,7 @@
 -- The steps of loops that add costs up.
 use Rattle.std.proofs.Common.{◌≡◌, ℕ, zero, suc, ◌+◌, ◌<◌, ◌≤◌, ◌^◌, ◌⊎◌, inl, inr, List, [], ◌∷◌, ◌++◌, length, slice_index, take, get_or, All, refl, ap, sym, ◌∙◌, subst, arith}
-use Rattle.std.proofs.lemmas.List.{take_more, take_all, get_or_past}
-use Rattle.machine_core.specs.Costs.{add_costs, entry_total, total_of, Fits, IsFirstPast}
+use Rattle.std.proofs.lemmas.List.{take_more, take_all}
+use Rattle.machine_core.specs.Costs.{add_costs, entry_total, total_of, IsFirstPast}
 use Rattle.machine_core.specs.CostLaws.{total_of-entry, total_of-length}
 
 pub take-add_costs : (xs ys : List ℕ) (i : ℕ) → length xs ≡ length ys → i < length xs
@@ -54,9 +54,6 @@ entry-past register costs last i k sum entry lt e a b d =
 below-or-last : (k i : ℕ) → k < i + 1 → (k < i) ⊎ (k ≡ i)
 below-or-last k i lt = grind arith
 
-below-or-not : (k i : ℕ) → (k < i) ⊎ (i ≤ k)
-below-or-not k i = grind arith
-
 module _ (costs : List (List ℕ)) (last : List ℕ) (wide : All (λ k. length k ≡ length last) costs) where
   pub total-width : length (total_of costs last) ≡ length last
   total-width = total_of-length costs last (length last) wide refl
@@ -82,13 +79,6 @@ module _ (costs : List (List ℕ)) (last : List ℕ) (wide : All (λ k. length k
   -- all registers are added up
   pub total-done : (sum : List ℕ) (i : ℕ) → length last ≤ i → sum ≡ take i (total_of costs last) → sum ≡ total_of costs last
   total-done sum i h a = a ∙ take_all i (total_of costs last) (subst (λ n. n ≤ i) (sym total-width) h)
-
-  pub fits-done : (sum : List ℕ) (i : ℕ) → length last ≤ i → sum ≡ take i (total_of costs last)
-      → ((k : ℕ) → k < i → slice_index (total_of costs last) k < 2 ^ 64) → Fits sum
-  fits-done sum i h a so_far k = subst (λ l. slice_index l k < 2 ^ 64) (sym (total-done sum i h a)) (elim (below-or-not k i) [
-    | inl lt ↦ so_far k lt
-    | inr ge ↦ (let w = total-width in let z : slice_index (total_of costs last) k ≡ 0 = get_or_past (total_of costs last) k 0 (omega (arith, w, h, ge)) in omega (arith, z))
-  ])
 
   -- the first sum past 64 bits
   pub first-past : (i n : ℕ) → n ≡ slice_index last i → ((k : ℕ) → k < i → slice_index (total_of costs last) k < 2 ^ 64)

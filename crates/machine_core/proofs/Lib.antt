@@ -6,3 +6,4 @@ pub mod WideLemmas
 pub mod GraphLemmas
 pub mod LikeLemmas
 pub mod JoinedLemmas
+pub mod WalkLemmas

@@ -1,5 +1,5 @@
 -- What follows from well-formed edges and ends.
-use Rattle.std.specs.Prelude.{◌≡◌, ℕ, ◌<◌, ◌≤◌, ◌+◌, max, ⊤, List, [], ◌∷◌, ◌++◌, length}
+use Rattle.std.specs.Prelude.{◌≡◌, ℕ, ◌<◌, ◌≤◌, ◌+◌, max, ⊤, List, [], ◌∷◌, ◌++◌, length, All}
 use Rattle.std.proofs.Common.{arith, refl, ap, ◌∙◌, subst}
 use Rattle.sv_word.specs.Ranges.{least_of}
 use Rattle.machine_core.specs.Costs.{IsCost, add_costs, cost_top}
@@ -7,9 +7,12 @@ use Rattle.machine_core.specs.Language.{RunsFrom, StopsAt}
 use Rattle.machine_core.specs.LanguageLaws.{runs_width, runs_cut}
 use Rattle.machine_core.specs.CostLaws.{zeros-length, top_by-at, top_by-least, top_by-push, cost_top-at, cost_top-least}
 use Rattle.machine_core.specs.RunBounds.{RunsWithin, PathsWithin, step_within, end_within, runs_from_steps, paths_from_steps}
+use Rattle.machine_core.specs.Runs.{IsRun}
+use Rattle.machine_core.specs.RunLaws.{run_formed}
 use Rattle.machine_core.specs.Edges.{EndsAt, StepsBy, AreEdgesAndEnds, edges_top, ends_top, listed_top}
 use Rattle.machine_core.specs.declared.edge.Edge.{Edge}
 use Rattle.machine_core.specs.declared.end.End.{End}
+use Rattle.machine_core.specs.declared.run.Run.{Run}
 use Rattle.sv_word.specs.Words.{greatest_character}
 
 -- the greatest cost after one edge or one end more
@@ -43,6 +46,12 @@ module _ (states width : ℕ) (edges : List Edge) (ends : List End) (formed : Ar
 
   pub end_cost : (s : ℕ) (cost : List ℕ) → EndsAt ends s cost → IsCost width (listed_top edges ends) cost
   end_cost s cost m = let h = end_most s cost m in record { entries = h.entries; below = λ k. let b = h.below k in omega arith }
+
+  -- a run goes through states alone, and its costs have one number for each register
+  pub formed_run : (first : ℕ) → first < states → (run : Run ℕ) → IsRun (EndsAt ends) (StepsBy edges) first run
+      → All (λ s. s < states) run.states × All (λ k. length k ≡ width) run.costs × (length run.last ≡ width)
+  formed_run = run_formed (StepsBy edges) (λ s. s < states) width (λ s t c cost h m. step_target s t c cost m) (λ s t c cost h m. (step_most s t c cost m).entries)
+      (EndsAt ends) (λ s cost h m. (end_most s cost m).entries)
 
   -- a run has one number for each register, wherever it begins, and so has a path
   pub run_width : (word : List ℕ) (s : ℕ) (cost : List ℕ) → RunsFrom (EndsAt ends) (StepsBy edges) s word cost → length cost ≡ width

@@ -14,5 +14,7 @@ pub mod Places
 pub mod PlaceLaws
 pub mod Edges
 pub mod EdgeLaws
+pub mod Walks
 pub mod Indexed
 pub mod Graphs
+pub mod WalkLaws

@@ -109,6 +109,15 @@ stands-at [] at x lt e = absurd (omega (arith, lt))
 stands-at (y ∷ ys) zero x lt e = ap Some (sym e)
 stands-at (y ∷ ys) (suc at) x lt e = stands-at ys at x (omega (arith, lt)) e
 
+-- an element that was read by its index, from a list that equals this one
+pub slice_get-read : {X : Type 0} (xs ys : List X) (n : ℕ) (x : X) → n < length xs → ys ≡ xs → x ≡ get_or ys n x → slice_get xs n ≡ Some x
+slice_get-read {X} xs ys n x lt e read = stands-at xs n x lt (read ∙ ap (λ (zs : List X). get_or zs n x) e)
+
+pub slice_get-some : {X : Type 0} (xs : List X) (n : ℕ) → n < length xs → (x : X) × (slice_get xs n ≡ Some x)
+slice_get-some [] n lt = absurd (omega arith)
+slice_get-some (x ∷ xs) zero lt = (x, refl)
+slice_get-some (x ∷ xs) (suc n) lt = slice_get-some xs n (omega arith)
+
 -- what was read at the place where an element stands is that element
 at-place : {X : Type 0} (ys : List X) (n : ℕ) (l x : X) → slice_get ys n ≡ Some l → get_or ys n x ≡ l
 at-place [] n l x h = cc

@@ -14,7 +14,8 @@
 //!   `moves` and `ends` are linear in what they answer.
 //! - [`join_moves`] makes the moves of a state to one state at one cost one.
 //! - [`Index`] finds places in a list by the row that each belongs to, in constant time.
-//! - [`Run`] is one run with its states and costs, and [`total`] adds the costs up.
+//! - [`Run`] is one run with its states and costs. [`total`] adds the costs up, and [`Run::along`] puts a run
+//!   together from edges.
 //! - [`Cost`] keeps up to two numbers in place, and allocates nothing for them.
 //!
 //! ```

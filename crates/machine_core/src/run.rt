@@ -1,12 +1,17 @@
-ghost use Rattle.std.specs.Prelude.{◌≡◌, ℕ, ◌<◌, ◌≤◌, ◌^◌, length, IfOk, IfSome, IfNone, All, Err};
+ghost use Rattle.std.specs.Prelude.{◌≡◌, ℕ, ◌<◌, ◌≤◌, ◌^◌, [], ◌∷◌, ◌++◌, length, reverse, IfOk, OnOk, IfSome, IfNone, All, Err};
+ghost use Rattle.sv_word.specs.Ranges.{least_of};
+ghost use Rattle.sv_word.specs.Words.{greatest_character};
 ghost use Rattle.machine_core.specs.Costs.{Fits, IsFirstPast, entry_total};
+ghost use Rattle.machine_core.specs.Edges.{IsWalk};
 ghost use Rattle.machine_core.specs.Runs.{run_total};
+ghost use Rattle.machine_core.specs.Walks.{IsRunAlong};
 ghost use Rattle.machine_core.specs.declared.run.CostFault.TheVariants.{Past, Memory};
 
 use crate::cost::Cost;
+use crate::explicit::Explicit;
 use std::alloc::{AllocError, Global};
 use sv_list::{Copied, Items};
-use sv_word::Word;
+use sv_word::{Ranges, Word};
 use thiserror::Error;
 
 /// A run of a machine over its states `T`: the characters that it reads, the states that it goes
@@ -38,6 +43,79 @@ impl<T: Copied> Copied for Run<T> {
             costs: self.costs.copy(alloc)?,
             last: self.last.copy(alloc)?,
         })
+    }
+}
+
+impl Run<u32> {
+    /// The run of no characters, from state 0, whose end costs `last`. It has room for `steps` steps.
+    pub fn open(alloc: Global, steps: usize, last: Cost) -> Result<Run<u32>, AllocError>
+        ensures { IfOk result (λ run. run ≡ record { word = []; states = 0 ∷ []; costs = []; last = last }) }
+    {
+        let room = Vec::with_capacity(alloc, steps.saturating_add(1))?;
+        let mut states = Items::from_vec(room);
+        states.push(0)?;
+        let room = Vec::with_capacity(alloc, steps)?;
+        Ok(Run {
+            word: Word::new(alloc),
+            states,
+            costs: Items::from_vec(room),
+            last,
+        })
+    }
+
+    /// One step more: on `character`, to the state `to`, at `cost`. Where there is no memory the run is
+    /// lost. Amortised constant, and linear in the registers.
+    pub fn add_step(
+        &mut self,
+        alloc: Global,
+        character: u32,
+        to: u32,
+        cost: &Cost,
+    ) -> Result<(), AllocError>
+        requires { character ≤ greatest_character }
+        ensures { OnOk result (self.new ≡ record {
+          word = self.old.word ++ character ∷ [];
+          states = self.old.states ++ to ∷ [];
+          costs = self.old.costs ++ cost.now ∷ [];
+          last = self.old.last;
+        }) }
+    {
+        self.word.push(character)?;
+        self.costs.push(cost.copy(alloc)?)?;
+        self.states.push(to)
+    }
+
+    /// The run along the edges at the places of `back`, the last of which comes first, on the least
+    /// character of each; its end costs `last`. These edges lead from state 0, one after another.
+    /// Linear in the edges and their registers.
+    pub fn along(
+        alloc: Global,
+        machine: &Explicit,
+        back: &[usize],
+        last: &Cost,
+    ) -> Result<Run<u32>, AllocError>
+        requires { (t : ℕ) × IsWalk machine.now.edges 0 (reverse back.now) t }
+        ensures along { IfOk result (IsRunAlong machine.now.edges (reverse back.now)) }
+        ensures last { IfOk result (λ run. run.last ≡ last.now) }
+    {
+        let mut run = Run::open(alloc, back.len(), last.copy(alloc)?)?;
+        let mut k = back.len();
+        while k > 0 {
+            k -= 1;
+            let edge = &machine.edges()[back[k]];
+            run.add_step(alloc, least(&edge.on), edge.to, &edge.cost)?;
+        }
+        Ok(run)
+    }
+}
+
+// The least character; 0 where there is none.
+fn least(on: &Ranges) -> u32
+    ensures { result ≡ least_of on.now }
+{
+    match on.least() {
+        Some(c) => c,
+        None => 0,
     }
 }
 
