@@ -1,6 +1,6 @@
 use Rattle.std.proofs.Common.{◌≡◌, length, sym, subst, inl, inr, ap, arith, Result, Ok, Err}
+use Rattle.machine_core.specs.Lists.{slice_get-read}
 use Rattle.trim_search.specs.Grown.{IsNodeOf}
-use Rattle.trim_search.proofs.Gets.{slice_get-read}
 use Rattle.trim_search.proofs.NodeLemmas.{target-follows, grown-valid, node-of, node-formed, node-top}
 use Rattle.trim_search.specs.Grown.{IsTarget}
 use Rattle.trim_search.proofs.FullLemmas.{full-weaker, memory-no-states}

@@ -1,8 +1,7 @@
 use Rattle.std.proofs.Common.{◌≡◌, ◌+◌, take, Any, refl, subst, sym}
-use Rattle.machine_core.specs.Lists.{Any-none}
+use Rattle.std.proofs.lemmas.List.{take_all}
+use Rattle.machine_core.specs.Lists.{Any-none, slice_get-read}
 use Rattle.trim_search.specs.Incoming.{AreMarkedToo}
-use Rattle.trim_search.proofs.SearchLemmas.{take-full}
-use Rattle.trim_search.proofs.Gets.{slice_get-read}
 use Rattle.trim_search.proofs.RestLemmas.{too-none, too-then, ends-more}
 use Rattle.trim_search.proofs.rests.mark_ends.Goals as goal
 
@@ -25,4 +24,4 @@ loop-end-preserved c =
 pub returns : goal.returns
 returns c =
     subst (λ l. AreMarkedToo (λ s. Any (λ x. x.at ≡ s) l) c.args.marks.now c.args.found.now c.loop-end.marks c.loop-end.found)
-    (take-full c.args.ends.now c.loop-end.end-index c.loop-end-test.false) c.loop-end.invariant
+    (take_all c.loop-end.end-index c.args.ends.now c.loop-end-test.false) c.loop-end.invariant

@@ -1,10 +1,10 @@
 use Rattle.std.proofs.Common.{◌<◌, sym, subst}
+use Rattle.machine_core.specs.Lists.{slice_get-some}
 use Rattle.machine_core.specs.Edges.{EndsAt, StepsBy}
 use Rattle.machine_core.specs.RunBounds.{PathsWithin}
 use Rattle.machine_core.specs.Counts.{at_most-below}
 use Rattle.trim_search.specs.Useful.{AreMarked, StepsMarked}
 use Rattle.trim_search.proofs.CountLemmas.{different-few}
-use Rattle.trim_search.proofs.Gets.{slice_get-some}
 use Rattle.trim_search.proofs.LiftLemmas.{lifted-run}
 use Rattle.trim_search.proofs.RunBoundLemmas.{explored-within, explored-paths}
 use Rattle.trim_search.proofs.TrimLemmas.{marked-run, marked-language, marked-within, marked-paths, number-used}

@@ -1,9 +1,8 @@
 use Rattle.std.proofs.Common.{take, false, get_or, refl, subst}
-use Rattle.std.proofs.lemmas.List.{take_more}
-use Rattle.machine_core.specs.Lists.{slice_get-contains}
+use Rattle.std.proofs.lemmas.Option.{slice_get-get_or}
+use Rattle.std.proofs.lemmas.List.{take_all, take_more}
+use Rattle.machine_core.specs.Lists.{slice_get-contains, slice_get-read}
 use Rattle.trim_search.specs.Useful.{AreKept}
-use Rattle.trim_search.proofs.SearchLemmas.{take-full}
-use Rattle.trim_search.proofs.Gets.{slice_get-in, slice_get-read}
 use Rattle.trim_search.proofs.TrimLemmas.{kept-push}
 use Rattle.trim_search.proofs.useful.moves_to_marked.Goals as goal
 
@@ -12,7 +11,7 @@ bounds-marks-edge c =
     let place = get_or c.args.places.now c.loop-place.place-index 0 in
     let edge = c.index-edges-place.result in
     c.requires.to edge (slice_get-contains c.args.edges.now place edge
-    (slice_get-read c.args.edges.now c.args.edges.now place edge (c.requires.places c.loop-place.place-index place (slice_get-in c.args.places.now c.loop-place.place-index 0 c.loop-place-test.true)) refl c.index-edges-place.is))
+    (slice_get-read c.args.edges.now c.args.edges.now place edge (c.requires.places c.loop-place.place-index place (slice_get-get_or c.args.places.now c.loop-place.place-index 0 c.loop-place-test.true)) refl c.index-edges-place.is))
 
 pub loop-place-preserved : goal.loop-place-preserved
 loop-place-preserved c =
@@ -20,10 +19,10 @@ loop-place-preserved c =
     let i = c.loop-place.place-index in
     let place = get_or c.args.places.now i 0 in
     let edge = c.index-edges-place.result in
-    let at = slice_get-read edges edges place edge (c.requires.places i place (slice_get-in c.args.places.now i 0 c.loop-place-test.true)) refl c.index-edges-place.is in
+    let at = slice_get-read edges edges place edge (c.requires.places i place (slice_get-get_or c.args.places.now i 0 c.loop-place-test.true)) refl c.index-edges-place.is in
     rw (take_more c.args.places.now i 0 c.loop-place-test.true)
     (kept-push edges (take i c.args.places.now) c.args.marks.now c.loop-place.kept c.keep_if.new.kept place edge c.loop-place.invariant at (get_or c.args.marks.now edge.to false)
-    (slice_get-in c.args.marks.now edge.to false (c.requires.to edge (slice_get-contains edges place edge at))) c.in_ok-keep_if.ensures.kept c.in_ok-keep_if.ensures.left)
+    (slice_get-get_or c.args.marks.now edge.to false (c.requires.to edge (slice_get-contains edges place edge at))) c.in_ok-keep_if.ensures.kept c.in_ok-keep_if.ensures.left)
 
 pub returns : goal.returns
-returns c = subst (λ l. AreKept c.args.edges.now l c.args.marks.now c.loop-place.kept) (take-full c.args.places.now c.loop-place.place-index c.loop-place-test.false) c.loop-place.invariant
+returns c = subst (λ l. AreKept c.args.edges.now l c.args.marks.now c.loop-place.kept) (take_all c.loop-place.place-index c.args.places.now c.loop-place-test.false) c.loop-place.invariant
