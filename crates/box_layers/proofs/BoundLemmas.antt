@@ -20,13 +20,6 @@ side-amounts s h = by_test (int_le s.0 s.1) refl
     by_test false e = absurd (grind (arith, ints))
 
 -- the products with the ends of a side
-pub product-fits : (c v : ℤ) (s : ℤ × ℤ) → unsigned_abs v ≤ greatest_amount s → unsigned_abs c * greatest_amount s < 2 ^ 127
-    → FitsSigned w128 (c *ℤ v) × (unsigned_abs (c *ℤ v) ≤ unsigned_abs c * greatest_amount s)
-product-fits c v s le lt = (
-  fits_signed_mul w128 c v (unsigned_abs c) (greatest_amount s) (omega arith) le lt,
-  (let e = unsigned_abs-mul c v in let m : unsigned_abs c * unsigned_abs v ≤ unsigned_abs c * greatest_amount s = mul-le-mul_left (unsigned_abs c) le in omega arith),
-)
-
 pub product-fits-itself : (c v : ℤ) → unsigned_abs c * unsigned_abs v < 2 ^ 127 → FitsSigned w128 (c *ℤ v)
 product-fits-itself c v lt = fits_signed_mul w128 c v (unsigned_abs c) (unsigned_abs v) (omega arith) (omega arith) lt
 

@@ -34,6 +34,10 @@ pub record IsCutting (machines : List Graph) (registers : ℕ) (p : Layer) (plac
   pub behind : p.machine ≡ length machines → (current.costs ≡ []) × (current.word ≡ [])
   pub size : characters runs + length runs + length current.word ≡ place
 
+-- a run of no characters has just begun
+pub just-opened : (run : Run ℕ) (last : List ℕ) → run ≡ record { word = []; states = 0 ∷ []; costs = []; last = last } → IsOpened run
+just-opened run last e = record { word = ap (λ (r : Run ℕ). r.word) e; states = ap (λ (r : Run ℕ). r.states) e; costs = ap (λ (r : Run ℕ). r.costs) e }
+
 -- totals with a cost more, and with a run more
 total-last : (costs : List (List ℕ)) (k : List ℕ) (n : ℕ) → length k ≡ n → add_costs (total_of costs (zeros n)) k ≡ total_of costs k
 total-last [] k n e = zeros-add_costs k n e

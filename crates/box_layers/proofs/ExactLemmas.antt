@@ -1,5 +1,5 @@
 -- What leaves a layer is just each step to another layer.
-use Rattle.std.proofs.Common.{◌≡◌, ℕ, zero, suc, ◌≤◌, ◌↔◌, inl, inr, Bool, true, false, cond, nat_lt, nat_le, ◌&&◌, IsTrue, List, [], ◌∷◌, ◌++◌, length, slice_get, All, Any, Contains, Some, refl, ap, sym, ◌∙◌, subst, arith}
+use Rattle.std.proofs.Common.{◌≡◌, ℕ, suc, ◌≤◌, ◌↔◌, inl, inr, Bool, true, false, cond, nat_lt, nat_le, ◌&&◌, IsTrue, List, [], ◌∷◌, ◌++◌, length, slice_get, All, Any, Contains, Some, refl, ap, sym, ◌∙◌, subst, arith}
 use Rattle.std.proofs.lemmas.Bool.Decides.{nat_tests}
 use Rattle.std.proofs.lemmas.List.Elements.{All-nil, All-cons, All-head, All-tail, All-append, All-contains}
 use Rattle.sv_word.specs.Ranges.{in_ranges, least_of, IsInhabited}
@@ -175,13 +175,3 @@ moves-some us on at inner last h g =
 pub moves-made : (m : Graph) (us : List ℕ) (at : Layer) (all next : List (Move Layer)) → (steps : AreLayerSteps m us at all) → (ends : AreLayerEnds m us at next)
     → all ++ next ≡ step_moves us at steps.inner ++ end_moves us ends.on at ends.costs
 moves-made m us at all next steps ends = ap (λ l. l ++ next) steps.made ∙ ap (λ l. step_moves us at steps.inner ++ l) ends.made
-
--- nothing leaves what lies behind the last machine
-pub moves-none : (machines : List Graph) (us : List ℕ) (good : List ℕ → Type 0) (at : Layer) → at.machine ≡ length machines → (c : ℕ) (k : List ℕ) (q : Layer)
-    → LayerStep machines us good at c k q ↔ Any (Moves c k q) []
-moves-none machines us good at e c k q = ((λ step. absurd (behind machines at.machine step.graph e step.at_work)), (λ a. absurd (Any-none (Moves c k q) a)))
-  where
-    behind : (ms : List Graph) (i : ℕ) (m : Graph) → i ≡ length ms → slice_get ms i ≡ Some m → ⊥
-    behind [] i m e g = cc
-    behind (x ∷ xs) zero m e g = omega arith
-    behind (x ∷ xs) (suc i) m e g = behind xs i m (omega arith) g

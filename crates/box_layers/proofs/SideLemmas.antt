@@ -142,15 +142,6 @@ module _ (rows : List Row) (region : Region) (totals : List ℕ) where
   pub good-integers : AreGoodTotals rows region totals → All IsSide region.integers
   good-integers good = within-some region.integers good.1 good.2.within
 
--- the box of all sides
-pub whole-box : (rows : List Row) (region : Region) (n : ℕ) (sides : List (ℤ × ℤ)) → sides ≡ sides_of region → length region.integers ≡ n → All IsSide sides
-    → HaveSides (n + length region.registers) rows → All (FitsRegion region) rows → IsBox rows sides
-whole-box rows region n sides e count some unknowns fits = record {
-  some = some;
-  unknowns = subst (λ k. HaveSides k rows) (sym (ap length e ∙ length-append region.integers (map whole_side region.registers) ∙ ap (λ k. length region.integers + k) (length-map region.registers whole_side) ∙ ap (λ k. k + length region.registers) count)) unknowns;
-  fits = rw e fits;
-}
-
 -- where a word may end
 module _ (machines : List Graph) (region : Region) (rows : List Row) (at : Layer) where
   abbrev EndsSo : List (List ℕ) → Type 0
@@ -158,9 +149,6 @@ module _ (machines : List Graph) (region : Region) (rows : List Row) (at : Layer
 
   pub ends-inside : (costs : List (List ℕ)) → costs ≡ [] → (at.machine ≡ length machines → ⊥) → EndsSo costs
   ends-inside costs e other cost = rw e ((λ h. absurd (other h.1)), (λ a. absurd (Any-none (λ e. e ≡ cost) a)))
-
-  pub ends-none : (costs : List (List ℕ)) → costs ≡ [] → (AreGoodTotals rows region at.spent → ⊥) → EndsSo costs
-  ends-none costs e none cost = rw e ((λ h. absurd (none h.2)), (λ a. absurd (Any-none (λ e. e ≡ cost) a)))
 
   pub ends-some : (start costs : List (List ℕ)) (last : List ℕ) → start ≡ [] → costs ≡ start ++ last ∷ [] → last ≡ zeros (length region.registers) → at.machine ≡ length machines → AreGoodTotals rows region at.spent → EndsSo costs
   ends-some start costs last s e z behind good cost =

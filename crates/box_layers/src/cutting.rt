@@ -1,7 +1,7 @@
 //! A run of all machines in turn, cut into a run of each.
 ghost use Rattle.std.specs.Prelude.{◌≡◌, ◌+◌, ◌<◌, ◌≤◌, length, slice_get, Some, IfOk, OnOk};
 ghost use Rattle.sv_word.specs.Words.{greatest_character};
-ghost use Rattle.box_layers.specs.Cuts.{IsRunOfAll, IsCutInto, IsOpened, AddsStep, BeginsNext, CutsBy};
+ghost use Rattle.box_layers.specs.Cuts.{IsRunOfAll, IsCutInto, BeginsNext, CutsBy};
 
 use crate::layer::Layer;
 use crate::layers::Layers;
@@ -10,36 +10,6 @@ use std::alloc::{AllocError, Global};
 use std::mem::replace;
 use sv_list::{Copied, Items};
 use sv_word::Word;
-
-// The run of no characters, which has just begun.
-fn open_run(alloc: Global) -> Result<Run<u32>, AllocError>
-    ensures { IfOk result IsOpened }
-{
-    let mut states = Items::new(alloc);
-    states.push(0)?;
-    Ok(Run {
-        word: Word::new(alloc),
-        states,
-        costs: Items::new(alloc),
-        last: Cost::new(alloc),
-    })
-}
-
-// One step more of the open run, to this layer.
-fn add_step(
-    alloc: Global,
-    current: &mut Run<u32>,
-    to: &Layer,
-    character: u32,
-    cost: &Cost,
-) -> Result<(), AllocError>
-    requires { character ≤ greatest_character }
-    ensures { OnOk result (AddsStep to.now character cost.now current.old current.new) }
-{
-    current.word.push(character)?;
-    current.states.push(to.state)?;
-    current.costs.push(cost.copy(alloc)?)
-}
 
 // The open run ends at this cost, and another one begins.
 fn begin_next(
@@ -51,7 +21,7 @@ fn begin_next(
     ensures { OnOk result (BeginsNext cost.now runs.old runs.new current.old current.new) }
 {
     current.last = cost.copy(alloc)?;
-    let ended = replace(current, open_run(alloc)?);
+    let ended = replace(current, Run::open(alloc, 0, Cost::new(alloc))?);
     runs.push(ended)
 }
 
@@ -69,7 +39,7 @@ fn cut_step(
     ensures { OnOk result (CutsBy from.now to.now character cost.now runs.old runs.new current.old current.new) }
 {
     if to.machine == from.machine {
-        add_step(alloc, current, to, character, cost)
+        current.add_step(alloc, character, to.state, cost)
     } else {
         begin_next(alloc, runs, current, cost)
     }
@@ -105,7 +75,7 @@ pub fn cut(alloc: Global, layers: &Layers, run: &Run<Layer>) -> Result<Items<Run
 {
     let _machines = layers.machines;
     let mut runs = Items::new(alloc);
-    let mut current = open_run(alloc)?;
+    let mut current = Run::open(alloc, 0, Cost::new(alloc))?;
     for place in 0..run.word.len() {
         let from = layer_at(run.states.as_slice(), place);
         let to = layer_at(run.states.as_slice(), place + 1);

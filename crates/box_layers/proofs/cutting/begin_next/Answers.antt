@@ -1,7 +1,8 @@
-use Rattle.std.proofs.Common.{◌≡◌, ◌∙◌, ℕ, ◌++◌, ◌∷◌, [], ap, sym, subst}
+use Rattle.std.proofs.Common.{◌≡◌, ◌∙◌, ℕ, ◌++◌, ◌∷◌, [], ap}
 use Rattle.std.proofs.lemmas.Result.{IfOk-weaker}
 use Rattle.machine_core.specs.declared.run.Run.{Run}
-use Rattle.box_layers.specs.Cuts.{IsOpened, BeginsNext}
+use Rattle.box_layers.specs.Cuts.{BeginsNext}
+use Rattle.box_layers.proofs.CutLemmas.{just-opened}
 use Rattle.box_layers.proofs.cutting.begin_next.Goals as goal
 
 pub returns : goal.returns
@@ -14,6 +15,6 @@ returns c =
       states = ap (λ (r : Run ℕ). r.states) c.replace-ended.ensures.value;
       costs = ap (λ (r : Run ℕ). r.costs) c.replace-ended.ensures.value;
       last = ap (λ (r : Run ℕ). r.last) c.replace-ended.ensures.value ∙ c.in_ok-current.ensures;
-      opened = subst IsOpened (sym c.replace-ended.ensures.after) c.in_ok-open_run.ensures;
+      opened = just-opened c.replace-ended.new.dest c.new.result (c.replace-ended.ensures.after ∙ c.in_ok-open.ensures);
     })
     c.push.ensures.ok

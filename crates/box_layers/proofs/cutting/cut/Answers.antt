@@ -1,10 +1,10 @@
 use Rattle.std.proofs.Common.{◌≡◌, ◌+◌, ℕ, List, length, slice_get, Some, ap, subst, arith}
 use Rattle.box_layers.specs.declared.layer.Layer.{Layer}
-use Rattle.box_layers.proofs.CutLemmas.{states-size, costs-size, run-start, run-next, run-end}
+use Rattle.box_layers.proofs.CutLemmas.{just-opened, states-size, costs-size, run-start, run-next, run-end}
 use Rattle.box_layers.proofs.cutting.cut.Goals as goal
 
 pub loop-place-init : goal.loop-place-init
-loop-place-init c = run-start c.args.layers.now.machines.now c.args.layers.now.rows.now c.args.layers.now.region.now c.args.layers.now.registers c.args.run.now c.requires c.new-runs.result c.in_ok-current.current c.new-runs.ensures c.in_ok-current.ensures
+loop-place-init c = run-start c.args.layers.now.machines.now c.args.layers.now.rows.now c.args.layers.now.region.now c.args.layers.now.registers c.args.run.now c.requires c.new-runs.result c.in_ok-current.current c.new-runs.ensures (just-opened c.in_ok-current.current _ c.in_ok-current.ensures)
 
 pub layer_at-from-requires : goal.layer_at-from-requires
 layer_at-from-requires c =
