@@ -16,7 +16,7 @@ value-meant values t v e = by (is_opaque t) refl
   where
     by : (b : Bool) → is_opaque t ≡ b → val values t ≡ Some v
     by true q = let f : Err Opaque ≡ Ok v = sym (ap (λ c. if c then Err Opaque else evaluated values t) q) ∙ e in absurd (cc)
-    by false q = meant values t v (sym (ap (λ c. if c then Err Opaque else evaluated values t) q) ∙ e)
+    by false q = meant values t (Ok v) (sym (ap (λ c. if c then Err Opaque else evaluated values t) q) ∙ e)
 
 sort-there : (o : Option Sort) → IsSome o → (s : Sort) × (o ≡ Some s)
 sort-there None h = absurd (cc)
