@@ -56,8 +56,7 @@ pub fn solve_system(alloc: Global, system: &System) -> Result<Outcome, AllocErro
     requires { IsSearchable system.now }
     ensures { IfOk result (IsAnswer system.now) }
 {
-    let outcome = solve(alloc, system, &NetCutter::of(system))?;
-    Ok(outcome)
+    solve(alloc, system, &NetCutter::of(system))
 }
 
 /// The hit of a solution: runs for its counts, and its first unknowns.
