@@ -1,5 +1,5 @@
 -- The forms of all states, while edges and ends are added to them.
-use Rattle.std.proofs.Common.{◌≡◌, ℕ, zero, suc, ◌+◌, ◌<◌, ◌≤◌, ℤ, pos, negsuc, neg_ℤ, ◌+ℤ◌, Bool, true, false, cond, nat_eq, List, [], ◌∷◌, ◌++◌, length, map, take, get_or, slice_get, slice_set, Some, All, ◌⊎◌, inl, inr, append_assoc, refl, ap, sym, ◌∙◌, subst, arith}
+use Rattle.std.proofs.Common.{◌≡◌, ℕ, zero, suc, ◌+◌, ◌<◌, ◌≤◌, ℤ, pos, negsuc, neg_ℤ, ◌+ℤ◌, Bool, true, false, cond, nat_eq, List, [], ◌∷◌, ◌++◌, length, map, take, get_or, slice_get, slice_set, Some, All, append_assoc, refl, ap, sym, ◌∙◌, subst, arith}
 use Rattle.std.specs.List.{range_with_len}
 use Rattle.std.proofs.lemmas.Int.{ints}
 use Rattle.std.proofs.lemmas.Bool.Decides.{nat_tests}
@@ -14,7 +14,7 @@ use Rattle.machine_core.specs.declared.end.End.{End}
 use Rattle.machine_core.specs.declared.graph.Graph.{Graph}
 use Rattle.parikh_flow.specs.Rows.{terms_by, machine_terms, edge_balance, end_balance, state_row, IsSameRow, AreSameRows}
 use Rattle.parikh_flow.specs.Building.{AreTermsAdded, IsTermAdded, AreAdded, AreOpened, AreStateForms, equation_row}
-use Rattle.parikh_flow.proofs.FormLemmas.{added-none, added-join, added-term, added-zero, ascends-more, ascends-push, terms-more}
+use Rattle.parikh_flow.proofs.FormLemmas.{added-join, added-term, added-zero, ascends-more, ascends-push, terms-more}
 
 by_same : {P : Type 0} (m n : ℕ) → (m ≡ n → P) → ((m ≡ n → ⊥) → P) → P
 by_same zero zero f g = f refl
@@ -145,9 +145,6 @@ module _ (e : Edge) (unknown : ℕ) (a b d : List Form) (ascend : (s : ℕ) (f :
   pub second-below : (e.from ≡ e.to → ⊥) → IsTermAdded e.to unknown (pos 1) a b → (f : Form) → slice_get b e.from ≡ Some f → AscendsWithin 0 unknown f.coefficients
   second-below ne p f h = ascend e.from f (sym (get-other a e.to e.from p.now ne) ∙ subst (λ l. slice_get l e.from ≡ Some f) p.set h)
 
-  pub second-size : IsTermAdded e.to unknown (pos 1) a b → length b ≡ length a
-  second-size p = (first p).size
-
   pub added-edge : (e.from ≡ e.to → ⊥) → IsTermAdded e.to unknown (pos 1) a b → IsTermAdded e.from unknown (negsuc 0) b d → AreAdded (λ s. (unknown, edge_balance s e) ∷ []) (unknown + 1) a d
   added-edge ne p q =
       let one = first p in
@@ -173,53 +170,9 @@ added-more {X} by base i unknown xs x a b d lt read next p q =
     (λ s f g h. subst (λ ts. AreTermsAdded ts f g) (ap (λ n. terms_by (by s) base (take i xs) ++ (n, by s x) ∷ []) next ∙ sym (terms-more (by s) base xs i x x lt read)) h)
     (added-both (λ s. terms_by (by s) base (take i xs)) (λ s. (unknown, by s x) ∷ []) unknown (unknown + 1) a b d p q)
 
-take-all : {X : Type 0} (xs : List X) (i : ℕ) → length xs ≤ i → take i xs ≡ xs
-take-all [] zero h = refl
-take-all [] (suc i) h = refl
-take-all (x ∷ xs) zero h = absurd (omega arith)
-take-all (x ∷ xs) (suc i) h = ap (λ l. x ∷ l) (take-all xs i (omega arith))
-
-pub added-all : {X : Type 0} (by : ℕ → X → ℤ) (base i unknown : ℕ) (xs : List X) (a b : List Form) → length xs ≤ i → i ≤ length xs → unknown ≡ base + i
-    → AreAdded (λ s. terms_by (by s) base (take i xs)) unknown a b → AreAdded (λ s. terms_by (by s) base xs) (base + length xs) a b
-added-all {X} by base i unknown xs a b le ge next p =
-    subst (λ n. AreAdded (λ s. terms_by (by s) base xs) n a b) (let z : unknown ≡ base + length xs = omega arith in z)
-    (subst (λ (l : List X). AreAdded (λ s. terms_by (by s) base l) unknown a b) (take-all xs i le) p)
-
--- no edges or ends yet
-pub added-start : {X : Type 0} (by : ℕ → X → ℤ) (base : ℕ) (xs : List X) (a : List Form) → ((s : ℕ) (f : Form) → slice_get a s ≡ Some f → AscendsWithin 0 base f.coefficients)
-    → AreAdded (λ s. terms_by (by s) base (take 0 xs)) base a a
-added-start {X} by base xs a ascend = added-nothing (λ s. terms_by (by s) base (take 0 xs)) base base a (omega arith) ascend (λ s f. none xs s f)
-  where
-    none : (xs : List X) (s : ℕ) (f : Form) → AreTermsAdded (terms_by (by s) base (take 0 xs)) f f
-    none [] s f = added-none f
-    none (x ∷ xs) s f = added-none f
-
 -- forms without unknowns
 pub opened-ascend : (states n : ℕ) (forms : List Form) → AreOpened states forms → (s : ℕ) (f : Form) → slice_get forms s ≡ Some f → AscendsWithin 0 n f.coefficients
 opened-ascend states n forms o s f e = rw (o.each s f e).0 (omega arith)
-
-pub opened-push : (n : ℕ) (forms new : List Form) (f : Form) (c : ℤ) → new ≡ forms ++ f ∷ [] → f.coefficients ≡ [] → f.constant ≡ c → c ≡ unit n 0 → AreOpened n forms → AreOpened (n + 1) new
-opened-push n forms new f c push terms constant is o = rw push (record {
-  size = length-push forms ∙ ap (λ k. k + 1) o.size;
-  each = λ s g e. by_last s g (cases forms s g e);
-})
-  where
-    length-push : (xs : List Form) → length (xs ++ f ∷ []) ≡ length xs + 1
-    length-push [] = omega arith
-    length-push (x ∷ xs) = let h = length-push xs in omega arith
-
-    cases : (xs : List Form) (s : ℕ) (g : Form) → slice_get (xs ++ f ∷ []) s ≡ Some g → (slice_get xs s ≡ Some g) ⊎ ((s ≡ length xs) × (f ≡ g))
-    cases [] zero g e = inr (refl, cc)
-    cases [] (suc s) g e = cc
-    cases (x ∷ xs) zero g e = inl e
-    cases (x ∷ xs) (suc s) g e = elim (cases xs s g e) [ inl h ↦ inl h | inr h ↦ inr (ap suc h.0, h.1) ]
-
-    by_last : (s : ℕ) (g : Form) → (slice_get forms s ≡ Some g) ⊎ ((s ≡ length forms) × (f ≡ g)) → (g.coefficients ≡ []) × (g.constant ≡ unit s 0)
-    by_last s g (inl old) = o.each s g old
-    by_last s g (inr new) = (
-      ap (λ (x : Form). x.coefficients) (sym new.1) ∙ terms,
-      ap (λ (x : Form). x.constant) (sym new.1) ∙ constant ∙ is ∙ ap (λ k. unit k 0) (sym (new.0 ∙ o.size)),
-    )
 
 -- the forms of all states
 pub state-forms : (base : ℕ) (m : Graph) (a b d : List Form) → AreOpened m.states a → AreAdded (λ s. terms_by (edge_balance s) base m.edges) (base + length m.edges) a b

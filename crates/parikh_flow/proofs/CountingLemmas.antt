@@ -1,23 +1,25 @@
 -- Counts that are collected from the end of a run.
 use Rattle.std.proofs.Common.{◌≡◌, ℕ, zero, suc, ◌+◌, ◌-◌, ◌<◌, ◌≤◌, Bool, true, false, cond, nat_eq, List, [], ◌∷◌, length, drop, replicate, slice_get, get_or, slice_index, slice_set, Some, refl, ap, sym, ◌∙◌, subst, arith}
 use Rattle.std.proofs.Math.Seq.{drop-cons}
+use Rattle.std.proofs.lemmas.Option.{slice_get_within, slice_get-get_or}
 use Rattle.machine_core.specs.declared.edge.Edge.{Edge}
 use Rattle.machine_core.specs.declared.end.End.{End}
 use Rattle.machine_core.specs.declared.graph.Graph.{Graph}
 use Rattle.machine_core.specs.declared.run.Run.{Run}
 use Rattle.machine_core.specs.Moves.{Moves}
 use Rattle.machine_core.specs.Edges.{EndsAt, StepsBy, move_of, IsWalk}
-use Rattle.machine_core.specs.EdgeLaws.{step_target, step_cost, end_cost}
+use Rattle.machine_core.specs.EdgeLaws.{formed_run}
 use Rattle.machine_core.specs.Graphs.{IsRunOf}
 use Rattle.machine_core.specs.Runs.{IsPath}
-use Rattle.machine_core.specs.RunLaws.{path_lengths, run_formed}
+use Rattle.machine_core.specs.RunLaws.{path_lengths}
+use Rattle.machine_core.specs.Walks.{LeadsAlong, IsRunAlong}
+use Rattle.machine_core.specs.WalkLaws.{along_walk}
 use Rattle.parikh_flow.specs.Counts.{occurrences, size_of}
 use Rattle.parikh_flow.specs.Balance.{one_at}
-use Rattle.parikh_flow.specs.Flows.{LeadsAlong, IsFlow}
+use Rattle.parikh_flow.specs.Flows.{IsFlow}
 use Rattle.std.proofs.lemmas.Bool.Decides.{nat_tests}
-use Rattle.parikh_flow.proofs.Gets.{slice_get-below, slice_get-in}
 use Rattle.parikh_flow.proofs.CountLemmas.{length-set, one_at-is, one_at-suc}
-use Rattle.parikh_flow.proofs.FlowLemmas.{leads-walk, walk-within}
+use Rattle.parikh_flow.proofs.FlowLemmas.{walk-within}
 
 -- the step at a place of a path
 pub path-at : (edges : List Edge) (s : ℕ) (us word : List ℕ) (costs : List (List ℕ)) (t k : ℕ) → IsPath (StepsBy edges) s us word costs t → k < length word
@@ -93,7 +95,7 @@ module _ (m : Graph) (states : List ℕ) (after word : List ℕ) (costs : List (
         let l = path_lengths (StepsBy m.edges) 0 after word costs stop path in
         let w = h.within in
         let one : suc (k - 1) ≡ k = omega arith in
-        let inside : place < length counts = (let b = slice_get-below m.edges place e.0 e.1 in let s = h.size in omega arith) in
+        let inside : place < length counts = (let b = slice_get_within m.edges place e.0 e.1 in let s = h.size in omega arith) in
         let da = drop-cons after (k - 1) 0 (let a = l.0 in omega arith) ∙ ap (λ n. get_or after (k - 1) 0 ∷ drop n after) one in
         let dw = drop-cons word (k - 1) 0 (omega arith) ∙ ap (λ n. get_or word (k - 1) 0 ∷ drop n word) one in
         let dc = drop-cons costs (k - 1) [] (let b = l.1 in omega arith) ∙ ap (λ n. get_or costs (k - 1) [] ∷ drop n costs) one in
@@ -123,24 +125,16 @@ module _ (m : Graph) (states : List ℕ) (after word : List ℕ) (costs : List (
     pub counted-flow : (run : Run ℕ) (counts new : List ℕ) (last : ℕ) (e : End) → run.states ≡ 0 ∷ after → run.word ≡ word → run.costs ≡ costs → IsCounted 0 counts → slice_get m.ends last ≡ Some e → e.at ≡ stop → e.cost ≡ run.last
         → new ≡ slice_set counts (length m.edges + last) 1 → IsFlow m run new
     counted-flow run counts new last e rs rw' rc h is at cost push =
-        let b = slice_get-below m.ends last e is in
-        let walk = leads-walk m.edges 0 h.places after word costs stop (subst (λ u. LeadsAlong m.edges u h.places after word costs stop) (ap (λ l. get_or l 0 0) are) h.leads) in
+        let b = slice_get_within m.ends last e is in
+        let along : IsRunAlong m.edges h.places run = record { after = after; stop = stop; states = rs; leads = rw (rw', rc) (subst (λ u. LeadsAlong m.edges u h.places after word costs stop) (ap (λ l. get_or l 0 0) are) h.leads) } in
+        let walk = along_walk m.edges h.places run along in
         let none : slice_index counts (length m.edges + last) ≡ 0 = h.tally (length m.edges + last) ∙ no-place (length m.edges + last) walk (omega arith) in
         let size = h.size in
         let same : new ≡ slice_set counts (length m.edges + last) (slice_index counts (length m.edges + last) + 1) = push ∙ ap (slice_set counts (length m.edges + last)) (omega arith) in
         record {
           places = h.places;
           last = last;
-          goes = record {
-            after = after;
-            stop = stop;
-            ending = e;
-            states = rs;
-            leads = rw (rw', rc) (subst (λ u. LeadsAlong m.edges u h.places after word costs stop) (ap (λ l. get_or l 0 0) are) h.leads);
-            is_end = is;
-            at = at;
-            cost = cost;
-          };
+          goes = record { along = along; ending = e; is_end = is; at = at; cost = cost };
           tally = rw same (record {
             size = length-set counts (length m.edges + last) (slice_index counts (length m.edges + last) + 1) ∙ h.size;
             of_edges = λ p lt. (let r = index-rise counts (length m.edges + last) p (omega arith) in let t = h.tally p in let o = apart p (length m.edges + last) (omega arith) in omega arith);
@@ -194,11 +188,7 @@ module _ (m : Graph) (run : Run ℕ) (is : IsRunOf m run) where
   costs-size = (path_lengths (StepsBy m.edges) 0 is.after run.word run.costs is.stop is.path).1
 
   pub state-inside : (k : ℕ) → k ≤ length run.word → get_or run.states k 0 < m.states
-  state-inside k le =
-      let f = run_formed (StepsBy m.edges) (λ s. s < m.states) m.registers (λ s t c k h st. step_target m.states m.registers m.edges m.ends m.formed s t c k st)
-      (λ s t c k h st. (step_cost m.states m.registers m.edges m.ends m.formed s t c k st).entries) (EndsAt m.ends)
-      (λ s k h e. (end_cost m.states m.registers m.edges m.ends m.formed s k e).entries) 0 m.started run is in
-      f.0 k 0 (let s = states-size in omega arith)
+  state-inside k le = (formed_run m.states m.registers m.edges m.ends m.formed 0 m.started run is).0 k 0 (let s = states-size in omega arith)
 
   pub last-ends : EndsAt m.ends (get_or run.states (length run.word) 0) run.last
   last-ends =
@@ -228,7 +218,7 @@ module _ (m : Graph) (run : Run ℕ) (is : IsRunOf m run) where
       → new ≡ slice_set counts place (slice_index counts place + 1) → Collected m run (k - 1) new
   collected-step k next counts new place c d some n h w e push =
       let le = h.within in
-      let x = slice_get-in run.word (k - 1) 0 (omega arith) in
+      let x = slice_get-get_or run.word (k - 1) 0 (omega arith) in
       let f = get-default run.costs (k - 1) d [] (let s = costs-size in omega arith) in
       counted-step m run.states (drop 1 run.states) run.word run.costs (get_or run.states (length run.word) 0) shape path k counts new place c some h (let same : get_or run.word (k - 1) 0 ≡ c = cc in same)
       (e.0, e.1, e.2, subst (λ y. Moves c y (get_or run.states k 0) (move_of e.0)) f (subst (λ i. Moves c (get_or run.costs (k - 1) d) (get_or run.states i 0) (move_of e.0)) n e.3)) push
@@ -252,8 +242,8 @@ module _ (m : Graph) (run : Run ℕ) (is : IsRunOf m run) where
   pub step-read : (states : List ℕ) (costs : List (List ℕ)) (k from to c : ℕ) (cost : List ℕ) → states ≡ run.states → costs ≡ run.costs → 0 < k → k ≤ length run.word
       → slice_get run.word (k - 1) ≡ Some c → from ≡ slice_index states (k - 1) → to ≡ slice_index states (k - 1 + 1) → slice_get costs (k - 1) ≡ Some cost → StepsBy m.edges from c cost to
   step-read states costs k from to c cost es ec some le w ef et rc =
-      let x = slice_get-in run.word (k - 1) 0 (omega arith) in
-      let y = slice_get-in run.costs (k - 1) [] (let s = costs-size in omega arith) in
+      let x = slice_get-get_or run.word (k - 1) 0 (omega arith) in
+      let y = slice_get-get_or run.costs (k - 1) [] (let s = costs-size in omega arith) in
       let rc' = subst (λ l. slice_get l (k - 1) ≡ Some cost) ec rc in
       let is : get_or run.costs (k - 1) [] ≡ cost = cc in
       let cw : get_or run.word (k - 1) 0 ≡ c = cc in
@@ -267,7 +257,7 @@ module _ (m : Graph) (run : Run ℕ) (is : IsRunOf m run) where
       → all ≡ counts → count ≡ slice_index all place → new ≡ slice_set counts place (count + 1) → Collected m run (k - 1) new
   step-collected states costs k from to c cost counts all new place count es ec some h w ef et rc e ea en push =
       let le = h.within in
-      let y = slice_get-in run.costs (k - 1) [] (let s = costs-size in omega arith) in
+      let y = slice_get-get_or run.costs (k - 1) [] (let s = costs-size in omega arith) in
       let rc' = subst (λ l. slice_get l (k - 1) ≡ Some cost) ec rc in
       let is : cost ≡ get_or run.costs (k - 1) [] = cc in
       let f : from ≡ get_or run.states (k - 1) 0 = ef ∙ ap (λ l. slice_index l (k - 1)) es in

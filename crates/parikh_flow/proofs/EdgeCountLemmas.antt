@@ -1,5 +1,6 @@
 -- Where the rows of a system are met no edge is counted below 0.
 use Rattle.std.proofs.Common.{ℕ, ◌+◌, ◌<◌, ◌≤◌, ℤ, pos, ◌≤ℤ◌, List, [], ◌∷◌, All, Option, get_or, sym, subst, arith}
+use Rattle.std.proofs.lemmas.Option.{slice_get_within, slice_get-get_or}
 use Rattle.std.proofs.lemmas.List.Elements.{All-nil, All-cons}
 use Rattle.sv_linear.specs.declared.row.Row.{Row}
 use Rattle.machine_core.specs.declared.graph.Graph.{Graph}
@@ -11,7 +12,6 @@ use Rattle.farkas_check.specs.Systems.{Meets, rows_of}
 use Rattle.parikh_flow.specs.Counts.{size_of}
 use Rattle.parikh_flow.specs.Nets.{net_edges, net_of, nets_of}
 use Rattle.parikh_flow.specs.Rows.{unknowns_after, IsSystemOf}
-use Rattle.parikh_flow.proofs.Gets.{slice_get-below, slice_get-in}
 use Rattle.parikh_flow.proofs.FormLemmas.{after-most}
 use Rattle.parikh_flow.proofs.RunLemmas.{net-out}
 use Rattle.parikh_flow.proofs.HitLemmas.{low-met}
@@ -22,8 +22,8 @@ AreCounted x net = All (λ e. pos 0 ≤ℤ x e.unknown) net.edges
 module _ (x : ℕ → ℤ) (low high : ℕ) (counts : (u : ℕ) → low ≤ u → u < high → pos 0 ≤ℤ x u) where
   net-counted : (m : Graph) (base : ℕ) → low ≤ base → base + size_of m ≤ high → AreCounted x (net_of base m)
   net-counted m base le ge = λ k d lt.
-      let e = net-out base m.edges (get_or (net_edges base m.edges) k d) (slice_get-contains (net_edges base m.edges) k (get_or (net_edges base m.edges) k d) (slice_get-in (net_edges base m.edges) k d lt)) in
-      let b = slice_get-below m.edges e.0 e.1 e.2 in
+      let e = net-out base m.edges (get_or (net_edges base m.edges) k d) (slice_get-contains (net_edges base m.edges) k (get_or (net_edges base m.edges) k d) (slice_get-get_or (net_edges base m.edges) k d lt)) in
+      let b = slice_get_within m.edges e.0 e.1 e.2 in
       subst (λ (d : NetEdge). pos 0 ≤ℤ x d.unknown) (sym e.3) (counts (base + e.0) (omega arith) (omega arith))
 
   nets-counted : (ms : List Graph) (base : ℕ) → low ≤ base → unknowns_after base ms ≤ high → All (AreCounted x) (nets_of base ms)

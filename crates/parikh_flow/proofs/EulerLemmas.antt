@@ -1,26 +1,27 @@
 -- Counts that balance and are joined are those of some run (Euler, by Hierholzer's tour).
 use Rattle.std.proofs.Common.{◌≡◌, ℕ, zero, suc, ◌+◌, ◌-◌, ◌<◌, ◌≤◌, ◌⊎◌, inl, inr, Bool, true, false, nat_eq, ℤ, List, [], ◌∷◌, ◌++◌, length, take, drop, reverse, replicate, IsTrue, slice_get, get_or, slice_index, slice_set, Some, refl, ap, ◌∙◌, subst, arith}
+use Rattle.std.proofs.lemmas.List.{get_or_past}
+use Rattle.std.proofs.lemmas.Option.{slice_get-get_or}
 use Rattle.std.proofs.lemmas.Bool.Decides.{nat_tests}
 use Rattle.sv_word.specs.Ranges.{in_ranges, least_of}
 use Rattle.machine_core.specs.declared.edge.Edge.{Edge}
 use Rattle.machine_core.specs.declared.end.End.{End}
 use Rattle.machine_core.specs.declared.graph.Graph.{Graph}
 use Rattle.machine_core.specs.declared.run.Run.{Run}
-use Rattle.machine_core.specs.Lists.{slice_get-contains}
+use Rattle.machine_core.specs.Lists.{slice_get-contains, slice_get-some}
+use Rattle.machine_core.specs.Walks.{LeadsAlong}
 use Rattle.parikh_flow.specs.Counts.{total_count, size_of}
 use Rattle.parikh_flow.specs.Balance.{one_at, AreBalanced}
-use Rattle.parikh_flow.specs.Flows.{LeadsAlong, GoesAlong, IsFlow}
+use Rattle.parikh_flow.specs.Flows.{IsFlow}
 use Rattle.parikh_flow.specs.Nets.{AreJoined}
 use Rattle.parikh_flow.specs.Solutions.{HaveFlowsAt, HaveJoinedCounts}
 use Rattle.parikh_flow.specs.Tours.{IsDrained, IsTour, IsToured}
 use Rattle.machine_core.specs.Edges.{IsWalk}
-use Rattle.parikh_flow.proofs.Gets.{slice_get-some, slice_get-in}
-use Rattle.parikh_flow.proofs.CountLemmas.{total-fall}
+use Rattle.parikh_flow.proofs.CountLemmas.{rest-length, total-fall}
 use Rattle.parikh_flow.proofs.MarkLemmas.{used-found}
 use Rattle.parikh_flow.proofs.TourLemmas.{advance-tour, retreat-tour, tour-done, tour-start, walk-pop}
 use Rattle.parikh_flow.proofs.RunLemmas.{joined-spent, index-take}
-use Rattle.parikh_flow.proofs.WholeLemmas.{end-is, start-balances, front-size, whole-flow}
-use Rattle.parikh_flow.proofs.WeightLemmas.{length-drop}
+use Rattle.parikh_flow.proofs.WholeLemmas.{start-balances, front-size, whole-flow}
 
 -- an edge that leaves the state and is left
 abbrev IsLeftAt : List Edge → List ℕ → ℕ → Type 0
@@ -134,12 +135,6 @@ used-one (suc n ∷ f) h = (
   },
 )
 
-index-past : (f : List ℕ) (p : ℕ) → length f ≤ p → slice_index f p ≡ 0
-index-past [] zero h = refl
-index-past [] (suc p) h = refl
-index-past (x ∷ f) zero h = absurd (omega arith)
-index-past (x ∷ f) (suc p) h = index-past f p (omega arith)
-
 module _ (m : Graph) (f : List ℕ) (balanced : AreBalanced m f) (joined : AreJoined m f) (last : ℕ) (e : End) (u : IsUsed (drop (length m.edges) f) last) (read : e ≡ get_or m.ends last e) where
   used : (k : ℕ) → slice_index (drop (length m.edges) f) k ≡ one_at k last
   used k = used-found (drop (length m.edges) f) last k u.before u.rest u.used
@@ -154,18 +149,11 @@ module _ (m : Graph) (f : List ℕ) (balanced : AreBalanced m f) (joined : AreJo
   run-of-tour : Ends m (take (length m.edges) f) e.at → (run : Run ℕ) × IsFlow m run f
   run-of-tour t =
       let walk = walk-leads m 0 (reverse t.1) e.at t.2.home in
-      let run : Run ℕ = record { word = walk.1; states = 0 ∷ walk.0; costs = walk.2; last = e.cost } in
-      let goes : GoesAlong m run (reverse t.1) last = record {
-        after = walk.0;
-        stop = e.at;
-        ending = e;
-        states = refl;
-        leads = walk.3;
-        is_end = end-is m f (take (length m.edges) f) (drop (length m.edges) f) last e m.ends m.edges balanced refl refl refl u.within used refl read;
-        at = refl;
-        cost = refl;
-      } in
-      (run, whole-flow m f (take (length m.edges) f) (drop (length m.edges) f) last e m.ends m.edges balanced refl refl refl u.within used refl read t.0 t.1 t.1 t.2 refl run spent goes)
+      let run : Run ℕ = record { word = walk.1; states = 0 ∷ walk.0; costs = walk.2; last = e.cost } in (
+        run,
+        whole-flow m f (take (length m.edges) f) (drop (length m.edges) f) last e m.ends m.edges balanced refl refl refl u.within used refl read t.0 t.1 t.1 t.2 refl run spent
+            (record { after = walk.0; stop = e.at; states = refl; leads = walk.3 }) refl,
+      )
     where
       by_less : {P : Type 0} (a b : ℕ) → (a < b → P) → (b ≤ a → P) → P
       by_less a zero f g = g (omega arith)
@@ -176,15 +164,15 @@ module _ (m : Graph) (f : List ℕ) (balanced : AreBalanced m f) (joined : AreJo
       spent p = by_less p (length m.edges)
           (λ lt. let d = slice_get-some m.edges p lt in
           joined-spent m (take (length m.edges) f) f (λ q l. index-take f (length m.edges) q l) e.at t.0 t.1 t.2 joined p d.0 d.1)
-          (λ le. index-past t.0 p (let s = t.2.size in omega arith))
+          (λ le. get_or_past t.0 p 0 (let s = t.2.size in omega arith))
 
 pub euler : (m : Graph) (f : List ℕ) → AreBalanced m f → AreJoined m f → (run : Run ℕ) × IsFlow m run f
 euler m f balanced joined =
     let u = used-one (drop (length m.edges) f) balanced.one_end in
-    let size = length-drop f (length m.edges) (length m.ends) balanced.size in
+    let size = rest-length f (length m.edges) (length m.ends) balanced.size in
     let inside : u.0 < length m.ends = let w = u.1.within in omega arith in
     let e = slice_get-some m.ends u.0 inside in
-    let read : e.0 ≡ get_or m.ends u.0 e.0 = let g = slice_get-in m.ends u.0 e.0 inside in let h = e.1 in cc in
+    let read : e.0 ≡ get_or m.ends u.0 e.0 = let g = slice_get-get_or m.ends u.0 e.0 inside in let h = e.1 in cc in
     run-of-tour m f balanced joined u.0 e.0 u.1 read (whole-tour m f balanced joined u.0 e.0 u.1 read)
 
 -- joined counts of all machines are those of some runs

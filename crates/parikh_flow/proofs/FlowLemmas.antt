@@ -1,5 +1,7 @@
 -- Counts of a run balance, and are joined.
-use Rattle.std.proofs.Common.{◌≡◌, ℕ, zero, suc, ◌+◌, ◌<◌, ◌≤◌, ◌⊎◌, inl, inr, Bool, true, false, cond, nat_eq, pos, ◌<ℤ◌, ◌≤ℤ◌, List, [], ◌∷◌, ◌++◌, length, map, take, drop, length-append, Contains, slice_get, get_or, slice_index, slice_set, Some, refl, ap, sym, ◌∙◌, subst, arith}
+use Rattle.std.proofs.Common.{◌≡◌, ℕ, zero, suc, ◌+◌, ◌<◌, ◌≤◌, ◌⊎◌, inl, inr, Bool, true, false, cond, nat_eq, pos, ◌<ℤ◌, ◌≤ℤ◌, List, [], ◌∷◌, ◌++◌, length, map, take, length-append, Contains, slice_get, get_or, slice_index, slice_set, Some, refl, ap, sym, ◌∙◌, subst, arith}
+use Rattle.std.proofs.lemmas.List.{get_or_past}
+use Rattle.std.proofs.lemmas.Option.{slice_get_within, slice_get-get_or}
 use Rattle.std.specs.List.{range_with_len}
 use Rattle.std.proofs.lemmas.Int.{ints}
 use Rattle.machine_core.specs.declared.edge.Edge.{Edge}
@@ -8,30 +10,19 @@ use Rattle.machine_core.specs.declared.run.Run.{Run}
 use Rattle.machine_core.specs.Edges.{StepsBy, from_of, at_of, IsWalk}
 use Rattle.machine_core.specs.Graphs.{IsRunOf}
 use Rattle.machine_core.specs.Runs.{IsPath}
+use Rattle.machine_core.specs.Walks.{LeadsAlong}
+use Rattle.machine_core.specs.WalkLaws.{along_walk}
 use Rattle.machine_core.specs.Lists.{slice_get-contains}
 use Rattle.std.proofs.lemmas.Bool.Decides.{nat_tests}
 use Rattle.farkas_check.specs.declared.net.NetEdge.{NetEdge}
 use Rattle.farkas_check.specs.Systems.{Reached, reached_start, reached_edge}
 use Rattle.parikh_flow.specs.Counts.{occurrences, total_count, to_of, edge_counts, end_counts}
 use Rattle.parikh_flow.specs.Balance.{one_at, AreBalanced}
-use Rattle.parikh_flow.specs.Flows.{LeadsAlong, IsFlow}
+use Rattle.parikh_flow.specs.Flows.{IsFlow}
 use Rattle.parikh_flow.specs.Nets.{net_edge, net_edges, net_of, counted, AreJoined, AreApart}
 use Rattle.parikh_flow.specs.Tours.{Balances}
-use Rattle.parikh_flow.proofs.Gets.{slice_get-below, slice_get-in}
-use Rattle.parikh_flow.proofs.CountLemmas.{counts_at-fall, counts_at-none, total-fall, index-fall, occurs, occurs-at, one_at-same}
+use Rattle.parikh_flow.proofs.CountLemmas.{rest-length, counts_at-fall, counts_at-none, total-fall, index-fall, occurs, occurs-at, one_at-same}
 use Rattle.parikh_flow.proofs.RunLemmas.{net-in, net-out, index-take, index-drop}
-
--- edges that lead along are a walk
-pub leads-walk : (edges : List Edge) (s : ℕ) (ps us word : List ℕ) (costs : List (List ℕ)) (t : ℕ) → LeadsAlong edges s ps us word costs t → IsWalk edges s ps t
-leads-walk edges s [] [] [] [] t l = l
-leads-walk edges s [] [] [] (x ∷ costs) t l = absurd l
-leads-walk edges s [] [] (x ∷ word) costs t l = absurd l
-leads-walk edges s [] (x ∷ us) word costs t l = absurd l
-leads-walk edges s (q ∷ ps) [] word costs t l = absurd l
-leads-walk edges s (q ∷ ps) (x ∷ us) [] costs t l = absurd l
-leads-walk edges s (q ∷ ps) (x ∷ us) (y ∷ word) [] t l = absurd l
-leads-walk edges s (q ∷ ps) (x ∷ us) (y ∷ word) (z ∷ costs) t l =
-    (l.0, l.1, l.2, subst (λ n. IsWalk edges n ps t) (sym l.3.2) (leads-walk edges x ps us word costs t l.4))
 
 -- counts fall by one where their tally loses its first place
 module _ (f : List ℕ) (q : ℕ) (ps : List ℕ) (tally : (p : ℕ) → slice_index f p ≡ occurrences p (q ∷ ps)) where
@@ -67,20 +58,8 @@ walk-within edges s [] t p w h = absurd (omega arith)
 walk-within edges s (q ∷ ps) t p w h = by_head (nat_eq q p) refl (walk-within edges w.0.to ps t p w.3)
   where
     by_head : (b : Bool) → nat_eq q p ≡ b → (0 < occurrences p ps → p < length edges) → p < length edges
-    by_head true e rec = let same : q ≡ p = grind (arith, nat_tests) in let b = slice_get-below edges q w.0 w.1 in omega arith
+    by_head true e rec = let same : q ≡ p = grind (arith, nat_tests) in let b = slice_get_within edges q w.0 w.1 in omega arith
     by_head false e rec = let g : 0 < cond false 1 0 + occurrences p ps = subst (λ b. 0 < cond b 1 0 + occurrences p ps) e h in rec (omega arith)
-
-index-past : (f : List ℕ) (p : ℕ) → length f ≤ p → slice_index f p ≡ 0
-index-past [] zero h = refl
-index-past [] (suc p) h = refl
-index-past (x ∷ f) zero h = absurd (omega arith)
-index-past (x ∷ f) (suc p) h = index-past f p (omega arith)
-
-length-drop : (f : List ℕ) (n k : ℕ) → length f ≡ n + k → length (drop n f) ≡ k
-length-drop [] zero k h = omega arith
-length-drop [] (suc n) k h = absurd (omega arith)
-length-drop (x ∷ f) zero k h = omega arith
-length-drop (x ∷ f) (suc n) k h = length-drop f n k (omega arith)
 
 take-past : (f : List ℕ) (n p : ℕ) → n ≤ p → slice_index (take n f) p ≡ 0
 take-past [] zero zero h = refl
@@ -102,8 +81,8 @@ none-or-some zero = inl refl
 none-or-some (suc n) = inr (omega arith)
 
 module _ (m : Graph) (run : Run ℕ) (f : List ℕ) (flow : IsFlow m run f) where
-  flow-walk : IsWalk m.edges 0 flow.places flow.goes.stop
-  flow-walk = leads-walk m.edges 0 flow.places flow.goes.after run.word run.costs flow.goes.stop flow.goes.leads
+  flow-walk : IsWalk m.edges 0 flow.places flow.goes.along.stop
+  flow-walk = along_walk m.edges flow.places run flow.goes.along
 
   pub edge-tally : (p : ℕ) → slice_index (edge_counts m f) p ≡ occurrences p flow.places
   edge-tally p = by_less p (length m.edges)
@@ -111,15 +90,15 @@ module _ (m : Graph) (run : Run ℕ) (f : List ℕ) (flow : IsFlow m run f) wher
       (λ le. let z = take-past f (length m.edges) p le in
       elim (none-or-some (occurrences p flow.places)) [
         | inl o ↦ z ∙ sym o
-        | inr some ↦ absurd (let b = walk-within m.edges 0 flow.places flow.goes.stop p flow-walk some in omega arith)
+        | inr some ↦ absurd (let b = walk-within m.edges 0 flow.places flow.goes.along.stop p flow-walk some in omega arith)
       ])
 
   pub end-tally : (q : ℕ) → slice_index (end_counts m f) q ≡ occurrences q (flow.last ∷ [])
   end-tally q = by_less q (length m.ends)
       (λ lt. index-drop f (length m.edges) q ∙ flow.tally.of_ends q lt)
-      (λ le. let size = length-drop f (length m.edges) (length m.ends) flow.tally.size in
-      let z = index-past (end_counts m f) q (omega arith) in
-      let b = slice_get-below m.ends flow.last flow.goes.ending flow.goes.is_end in
+      (λ le. let size = rest-length f (length m.edges) (length m.ends) flow.tally.size in
+      let z = get_or_past (end_counts m f) q 0 (omega arith) in
+      let b = slice_get_within m.ends flow.last flow.goes.ending flow.goes.is_end in
       elim (none-or-some (occurrences q (flow.last ∷ []))) [
         | inl o ↦ z ∙ sym o
         | inr some ↦ absurd (let at = occurs-at q (flow.last ∷ []) some in last-only at.0 q at.1 b le)
@@ -139,7 +118,7 @@ module _ (m : Graph) (run : Run ℕ) (f : List ℕ) (flow : IsFlow m run f) wher
         size = flow.tally.size;
         one_end = omega arith;
         at_each = λ s.
-            let b = walk-balances m.edges flow.places 0 flow.goes.stop (edge_counts m f) flow-walk edge-tally s in
+            let b = walk-balances m.edges flow.places 0 flow.goes.along.stop (edge_counts m f) flow-walk edge-tally s in
             let e = counts_at-fall at_of s m.ends (end_counts m f) flow.last 0 flow.goes.ending flow.goes.is_end first in
             let z = counts_at-none at_of s m.ends (slice_set (end_counts m f) flow.last 0) (λ p x g k. rest p) in
             let same = ap (one_at s) flow.goes.at in
@@ -164,7 +143,7 @@ module _ (m : Graph) (run : Run ℕ) (f : List ℕ) (flow : IsFlow m run f) wher
   place-used : (i p : ℕ) → slice_get flow.places i ≡ Some p → pos 0 <ℤ counted f (0 + p)
   place-used i p a =
       let o = occurs p flow.places i a in
-      let b = walk-within m.edges 0 flow.places flow.goes.stop p flow-walk o in
+      let b = walk-within m.edges 0 flow.places flow.goes.along.stop p flow-walk o in
       let c = flow.tally.of_edges p b in
       let z : p ≡ 0 + p = omega arith in
       subst (λ n. pos 0 <ℤ pos (slice_index f n)) z (omega (arith, ints))
@@ -172,19 +151,19 @@ module _ (m : Graph) (run : Run ℕ) (f : List ℕ) (flow : IsFlow m run f) wher
   edge-reached : (d : NetEdge) → Contains (net_edges 0 m.edges) d → pos 0 <ℤ counted f d.unknown → Reaches d.«from»
   edge-reached d c used =
       let e = net-out 0 m.edges d c in
-      let b = slice_get-below m.edges e.0 e.1 e.2 in
+      let b = slice_get_within m.edges e.0 e.1 e.2 in
       let count = flow.tally.of_edges e.0 b in
       let z : 0 + e.0 ≡ e.0 = omega arith in
       let used' = subst (λ n. pos 0 <ℤ pos (slice_index f n)) z (subst (λ (x : NetEdge). pos 0 <ℤ counted f x.unknown) e.3 used) in
       let at = occurs-at e.0 flow.places (omega (arith, ints)) in
       subst (λ (x : NetEdge). Reaches x.«from») (sym e.3)
-      (left-reached flow.places 0 flow.goes.stop reached_start flow-walk place-used at.0 e.0 e.1 at.1 e.2)
+      (left-reached flow.places 0 flow.goes.along.stop reached_start flow-walk place-used at.0 e.0 e.1 at.1 e.2)
 
   pub flow-joined : AreJoined m f
   flow-joined = record {
     not_negative = λ k d lt. (let e : pos 0 ≤ℤ pos (slice_index f (get_or (net_edges 0 m.edges) k d).unknown) = omega (arith, ints) in e);
     reached = λ k d lt used. edge-reached (get_or (net_edges 0 m.edges) k d)
-        (slice_get-contains (net_edges 0 m.edges) k (get_or (net_edges 0 m.edges) k d) (slice_get-in (net_edges 0 m.edges) k d lt)) used;
+        (slice_get-contains (net_edges 0 m.edges) k (get_or (net_edges 0 m.edges) k d) (slice_get-get_or (net_edges 0 m.edges) k d lt)) used;
   }
 
 -- counts that lie apart aren't joined
@@ -228,7 +207,7 @@ path-leads edges s (v ∷ us) (x ∷ word) [] t h = absurd h
 path-leads edges s (v ∷ us) (x ∷ word) (y ∷ costs) t h =
     let step = h.0 in
     let rest = path-leads edges v us word costs t h.1 in
-    (step.0 ∷ rest.0, (step.1, slice_get-in edges step.0 step.1 step.2 ∙ ap Some step.3, step.4.0, step.4.1, rest.1))
+    (step.0 ∷ rest.0, (step.1, slice_get-get_or edges step.0 step.1 step.2 ∙ ap Some step.3, step.4.0, step.4.1, rest.1))
 
 pub run-flow : (m : Graph) (run : Run ℕ) → IsRunOf m run → (f : List ℕ) × IsFlow m run f
 run-flow m run r =
@@ -243,12 +222,9 @@ run-flow m run r =
         places = path.0;
         last = end.0;
         goes = record {
-          after = r.after;
-          stop = r.stop;
+          along = record { after = r.after; stop = r.stop; states = r.states; leads = path.1 };
           ending = end.1;
-          states = r.states;
-          leads = path.1;
-          is_end = slice_get-in m.ends end.0 end.1 end.2 ∙ ap Some end.3;
+          is_end = slice_get-get_or m.ends end.0 end.1 end.2 ∙ ap Some end.3;
           at = end.4.0;
           cost = end.4.1;
         };

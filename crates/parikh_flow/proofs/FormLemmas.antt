@@ -1,7 +1,7 @@
 -- Terms that are added to forms, one after another, and machines in their order.
 use Rattle.std.proofs.Common.{◌≡◌, ℕ, zero, suc, ◌+◌, ◌<◌, ◌≤◌, ℤ, pos, ◌+ℤ◌, Bool, true, false, cond, nat_eq, List, [], ◌∷◌, ◌++◌, length, map, take, get_or, replicate, unsigned_abs, append_assoc, negsuc, refl, ap, sym, ◌∙◌, subst, arith}
 use Rattle.std.proofs.lemmas.Int.{ints}
-use Rattle.std.proofs.lemmas.List.{take_more}
+use Rattle.std.proofs.lemmas.List.{take_all, take_more}
 use Rattle.sv_linear.specs.Terms.{coefficient, AscendsWithin}
 use Rattle.sv_linear.specs.declared.form.Form.{Form}
 use Rattle.machine_core.specs.declared.graph.Graph.{Graph}
@@ -114,14 +114,8 @@ module _ (base : ℕ) (ms : List Graph) (i : ℕ) (m : Graph) (lt : i < length m
   pub nets-more : nets_of base (take (i + 1) ms) ≡ nets_of base (take i ms) ++ net_of (unknowns_after base (take i ms)) m ∷ []
   nets-more = ap (nets_of base) one-more ∙ nets-push base (take i ms) m
 
-take-all : {X : Type 0} (xs : List X) (i : ℕ) → length xs ≤ i → take i xs ≡ xs
-take-all [] zero h = refl
-take-all [] (suc i) h = refl
-take-all (x ∷ xs) zero h = absurd (omega arith)
-take-all (x ∷ xs) (suc i) h = ap (λ l. x ∷ l) (take-all xs i (omega arith))
-
 pub all-taken : {X : Type 0} (xs : List X) (i : ℕ) → length xs ≤ i → i ≤ length xs → (take i xs ≡ xs) × (i ≡ length xs)
-all-taken xs i le ge = (take-all xs i le, omega arith)
+all-taken xs i le ge = (take_all i xs le, omega arith)
 
 -- the edges of a net, one more
 net-push : (base : ℕ) (es : List Edge) (e : Edge) → net_edges base (es ++ e ∷ []) ≡ net_edges base es ++ net_edge (base + length es) e ∷ []
@@ -139,7 +133,3 @@ pub added-next : (base i unknown : ℕ) (cs : List ℤ) (c : ℤ) (f g h : Form)
 added-next base i unknown cs c f g h lt next read a b =
     subst (λ ts. AreTermsAdded ts f h) (ap (λ n. numbered base (take i cs) ++ (n, c) ∷ []) next ∙ sym (terms-more (λ z. z) base cs i c (pos 0) lt read))
     (added-join (numbered base (take i cs)) ((unknown, c) ∷ []) f g h a b)
-
--- terms of edges, of ends and of machines, from coefficients that were listed
-pub added-as : (ts us : List (ℕ × ℤ)) (f g : Form) → ts ≡ us → AreTermsAdded ts f g → AreTermsAdded us f g
-added-as ts us f g e a = subst (λ l. AreTermsAdded l f g) e a

@@ -11,18 +11,20 @@ use Rattle.machine_core.specs.declared.graph.Graph.{Graph}
 use Rattle.machine_core.specs.declared.run.Run.{Run}
 use Rattle.machine_core.specs.Costs.{entry_total}
 use Rattle.machine_core.specs.CostLaws.{add_costs-entry, add_costs-length, total_of-entry, total_of-length, zeros-length, zeros-entry}
+use Rattle.machine_core.specs.EdgeLaws.{formed_run}
 use Rattle.machine_core.specs.Runs.{run_total}
-use Rattle.machine_core.specs.Lists.{slice_get-contains}
+use Rattle.machine_core.specs.Walks.{LeadsAlong}
+use Rattle.machine_core.specs.WalkLaws.{along_size}
 use Rattle.farkas_check.specs.declared.system.System.{System}
 use Rattle.farkas_check.specs.Systems.{Constraint, constraint_of, constraint_value, Meets, Joined, Solves, rows_of}
 use Rattle.farkas_check.specs.RowLaws.{meets_row}
 use Rattle.search_hits.specs.UnknownLaws.{terms-below}
 use Rattle.search_hits.specs.Hits.{IsHit, HaveRegisters, AreRunsOf, runs_total, characters}
 use Rattle.parikh_flow.specs.Counts.{occurrences, total_count, size_of, edge_counts, end_counts}
-use Rattle.parikh_flow.specs.Flows.{LeadsAlong, IsFlow}
+use Rattle.parikh_flow.specs.Flows.{IsFlow}
 use Rattle.parikh_flow.specs.Rows.{unknowns_after, inequality, register_row, not_negative_row, family_rows, family_terms, machine_terms, reach_rows, edge_cost, end_cost, IsSystemOf}
 use Rattle.parikh_flow.specs.Solutions.{HaveFlowsAt, HaveJoinedCounts}
-use Rattle.parikh_flow.proofs.CountLemmas.{total-fall}
+use Rattle.parikh_flow.proofs.CountLemmas.{front-length, total-fall}
 use Rattle.parikh_flow.proofs.FlowLemmas.{tally-first, tally-rest, edge-tally, end-tally, total-none}
 use Rattle.parikh_flow.proofs.RunLemmas.{goes-run}
 use Rattle.parikh_flow.proofs.ValueLemmas.{value-append}
@@ -98,32 +100,13 @@ leads-cost k edges s (q ∷ ps) (x ∷ us) (y ∷ word) (z ∷ costs) t n f l ta
     let own : slice_index l.0.cost k ≡ slice_index z k = ap (λ c. slice_index c k) l.3.1 in
     omega (arith, ints, rest, w, own)
 
--- how long a walk is
-leads-length : (edges : List Edge) (s : ℕ) (ps us word : List ℕ) (costs : List (List ℕ)) (t : ℕ) (f : List ℕ) → LeadsAlong edges s ps us word costs t
-    → ((p : ℕ) → slice_index f p ≡ occurrences p ps) → total_count f ≡ length word
-leads-length edges s [] [] [] [] t f l tally = total-none f tally
-leads-length edges s [] [] [] (x ∷ costs) t f l tally = absurd l
-leads-length edges s [] [] (x ∷ word) costs t f l tally = absurd l
-leads-length edges s [] (x ∷ us) word costs t f l tally = absurd l
-leads-length edges s (q ∷ ps) [] word costs t f l tally = absurd l
-leads-length edges s (q ∷ ps) (x ∷ us) [] costs t f l tally = absurd l
-leads-length edges s (q ∷ ps) (x ∷ us) (y ∷ word) [] t f l tally = absurd l
-leads-length edges s (q ∷ ps) (x ∷ us) (y ∷ word) (z ∷ costs) t f l tally =
-    let rest = leads-length edges x ps us word costs t (slice_set f q (occurrences q ps)) l.4 (tally-rest f q ps tally) in
+-- how many places are counted
+places-total : (ps f : List ℕ) → ((p : ℕ) → slice_index f p ≡ occurrences p ps) → total_count f ≡ length ps
+places-total [] f tally = total-none f tally
+places-total (q ∷ ps) f tally =
+    let rest = places-total ps (slice_set f q (occurrences q ps)) (tally-rest f q ps tally) in
     let w = total-fall f q (occurrences q ps) (tally-first f q ps tally) in
     omega arith
-
-leads-widths : (m : Graph) (s : ℕ) (ps us word : List ℕ) (costs : List (List ℕ)) (t : ℕ) → LeadsAlong m.edges s ps us word costs t → All (λ k. length k ≡ m.registers) costs
-leads-widths m s [] [] [] [] t l = All-nil (λ k. length k ≡ m.registers)
-leads-widths m s [] [] [] (x ∷ costs) t l = absurd l
-leads-widths m s [] [] (x ∷ word) costs t l = absurd l
-leads-widths m s [] (x ∷ us) word costs t l = absurd l
-leads-widths m s (q ∷ ps) [] word costs t l = absurd l
-leads-widths m s (q ∷ ps) (x ∷ us) [] costs t l = absurd l
-leads-widths m s (q ∷ ps) (x ∷ us) (y ∷ word) [] t l = absurd l
-leads-widths m s (q ∷ ps) (x ∷ us) (y ∷ word) (z ∷ costs) t l =
-    All-cons (λ k. length k ≡ m.registers) z costs (sym (ap length l.3.1) ∙ (m.formed.edge l.0 (slice_get-contains m.edges q l.0 l.1)).cost)
-    (leads-widths m x ps us word costs t l.4)
 
 total-parts : (f : List ℕ) (n : ℕ) → total_count f ≡ total_count (take n f) + total_count (drop n f)
 total-parts [] zero = refl
@@ -132,19 +115,16 @@ total-parts (x ∷ f) zero = omega arith
 total-parts (x ∷ f) (suc n) = let r = total-parts f n in omega arith
 
 module _ (m : Graph) (run : Run ℕ) (f : List ℕ) (flow : IsFlow m run f) where
-  last-width : length run.last ≡ m.registers
-  last-width = sym (ap length flow.goes.cost) ∙ (m.formed.ending flow.goes.ending (slice_get-contains m.ends flow.last flow.goes.ending flow.goes.is_end)).cost
-
-  widths : All (λ k. length k ≡ m.registers) run.costs
-  widths = leads-widths m 0 flow.places flow.goes.after run.word run.costs flow.goes.stop flow.goes.leads
+  formed : All (λ s. s < m.states) run.states × All (λ k. length k ≡ m.registers) run.costs × (length run.last ≡ m.registers)
+  formed = formed_run m.states m.registers m.edges m.ends m.formed 0 m.started run (goes-run m run flow.places flow.last flow.goes)
 
   pub flow-width : length (run_total run) ≡ m.registers
-  flow-width = total_of-length run.costs run.last m.registers widths last-width
+  flow-width = total_of-length run.costs run.last m.registers formed.1 formed.2
 
   pub flow-cost : (k : ℕ) → pos (slice_index (run_total run) k) ≡ weighted (edge_cost k) m.edges (edge_counts m f) +ℤ weighted (end_cost k) m.ends (end_counts m f)
   flow-cost k =
-      let entry = total_of-entry run.costs run.last k (λ i d lt. widths i d lt ∙ sym last-width) in
-      let walk = leads-cost k m.edges 0 flow.places flow.goes.after run.word run.costs flow.goes.stop (slice_index run.last k) (edge_counts m f) flow.goes.leads (edge-tally m run f flow) in
+      let entry = total_of-entry run.costs run.last k (λ i d lt. formed.1 i d lt ∙ sym formed.2) in
+      let walk = leads-cost k m.edges 0 flow.places flow.goes.along.after run.word run.costs flow.goes.along.stop (slice_index run.last k) (edge_counts m f) flow.goes.along.leads (edge-tally m run f flow) in
       let tally = end-tally m run f flow in
       let e = weighted-fall (end_cost k) m.ends (end_counts m f) flow.last 0 flow.goes.ending flow.goes.is_end (tally-first (end_counts m f) flow.last [] tally) in
       let z = weighted-none (end_cost k) m.ends (slice_set (end_counts m f) flow.last 0) (tally-rest (end_counts m f) flow.last [] tally) in
@@ -152,7 +132,7 @@ module _ (m : Graph) (run : Run ℕ) (f : List ℕ) (flow : IsFlow m run f) wher
       ap pos entry ∙ omega (arith, ints, walk, e, z, own)
 
   pub flow-length : total_count (edge_counts m f) ≡ length run.word
-  flow-length = leads-length m.edges 0 flow.places flow.goes.after run.word run.costs flow.goes.stop (edge_counts m f) flow.goes.leads (edge-tally m run f flow)
+  flow-length = places-total flow.places (edge_counts m f) (edge-tally m run f flow) ∙ sym (along_size m.edges flow.places run flow.goes.along)
 
   -- one for each character, and one for the end
   pub flow-total : total_count f ≡ suc (length run.word)
@@ -203,17 +183,11 @@ runs-length x (m ∷ ms) (r ∷ rs) base flows =
     let rest = runs-length x ms rs (base + size_of m) flows.1 in
     let f = flows.0.0 in
     let v = machine_value x base m flows.0.0 flows.0.1 (λ _. pos 1) (λ _. pos 0) in
-    let one = weighted-one m.edges (edge_counts m flows.0.0) (length-take flows.0.0 (length m.edges) (length m.ends) flows.0.1.size) in
+    let one = weighted-one m.edges (edge_counts m flows.0.0) (front-length flows.0.0 (length m.edges) (length m.ends) flows.0.1.size) in
     let none = weighted-zero m.ends (end_counts m flows.0.0) in
     let l = flow-length m r flows.0.0 flows.0.2 in
     value-append x (machine_terms (λ _. pos 1) (λ _. pos 0) base m) (family_terms (λ _. pos 1) (λ _. pos 0) (base + size_of m) ms)
     ∙ omega (arith, ints, rest, v, one, none, l)
-  where
-    length-take : (f : List ℕ) (n k : ℕ) → length f ≡ n + k → length (take n f) ≡ n
-    length-take [] zero k h = refl
-    length-take [] (suc n) k h = absurd (omega arith)
-    length-take (x ∷ f) zero k h = refl
-    length-take (x ∷ f) (suc n) k h = ap suc (length-take f n k (omega arith))
 
 -- values that agree on the unknowns of a row
 terms-agree : (x y : ℕ → ℤ) (n : ℕ) (ts : List (ℕ × ℤ)) → All (λ t. t.0 < n) ts → ((u : ℕ) → u < n → x u ≡ y u) → terms_value x ts ≡ terms_value y ts

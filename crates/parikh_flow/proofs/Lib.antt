@@ -1,4 +1,3 @@
-pub mod Gets
 pub mod FillLemmas
 pub mod PlaceLemmas
 pub mod CountLemmas

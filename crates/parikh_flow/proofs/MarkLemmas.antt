@@ -1,5 +1,7 @@
 -- Lists that grow in order, marks, and the one count that is used.
-use Rattle.std.proofs.Common.{◌≡◌, ℕ, zero, suc, ◌+◌, ◌<◌, ◌≤◌, ◌⊎◌, ◌↔◌, inl, inr, Bool, true, false, cond, nat_eq, List, [], ◌∷◌, ◌++◌, length, length-append, take, drop, replicate, Contains, slice_get, get_or, slice_index, slice_set, Some, refl, ap, sym, ◌∙◌, subst, arith}
+use Rattle.std.proofs.Common.{◌≡◌, ℕ, zero, suc, ◌+◌, ◌<◌, ◌≤◌, ◌⊎◌, ◌↔◌, inl, inr, Bool, true, false, cond, nat_eq, List, [], ◌∷◌, ◌++◌, length, length-append, take, drop, Contains, slice_get, get_or, slice_index, slice_set, Some, refl, ap, sym, ◌∙◌, subst, arith}
+use Rattle.std.proofs.lemmas.List.{take_all, take_more}
+use Rattle.std.proofs.lemmas.Option.{slice_get-get_or}
 use Rattle.std.proofs.lemmas.Bool.Decides.{nat_tests}
 use Rattle.std.specs.List.Sorted.{IsStrictlyIncreasing}
 use Rattle.machine_core.specs.declared.edge.Edge.{Edge}
@@ -8,7 +10,6 @@ use Rattle.machine_core.specs.Lists.{slice_get-push_cases, slice_get-append, sli
 use Rattle.parikh_flow.specs.Counts.{total_count}
 use Rattle.parikh_flow.specs.Balance.{one_at}
 use Rattle.parikh_flow.specs.Tours.{IsMet}
-use Rattle.parikh_flow.proofs.Gets.{slice_get-in}
 use Rattle.parikh_flow.proofs.CountLemmas.{length-set}
 
 by_less : {P : Type 0} (m n : ℕ) → (m < n → P) → (n ≤ m → P) → P
@@ -23,18 +24,6 @@ by_same (suc m) zero f g = g (λ e. absurd (omega arith))
 by_same (suc m) (suc n) f g = by_same m n (λ e. f (ap suc e)) (λ ne. g (λ e. ne (omega arith)))
 
 -- the used count
-pub used-below : (f : List ℕ) (i : ℕ) → total_count (drop i f) ≡ 1 → i < length f
-used-below [] zero h = absurd (omega arith)
-used-below [] (suc i) h = absurd (omega arith)
-used-below (n ∷ f) zero h = omega arith
-used-below (n ∷ f) (suc i) h = let r = used-below f i h in omega arith
-
-pub used-next : (f : List ℕ) (i : ℕ) → total_count (drop i f) ≡ 1 → slice_index f i ≡ 0 → total_count (drop (suc i) f) ≡ 1
-used-next [] zero h z = absurd (omega arith)
-used-next [] (suc i) h z = absurd (omega arith)
-used-next (n ∷ f) zero h z = omega arith
-used-next (n ∷ f) (suc i) h z = used-next f i h z
-
 total-zero : (f : List ℕ) (k : ℕ) → total_count f ≡ 0 → slice_index f k ≡ 0
 total-zero [] zero h = refl
 total-zero [] (suc k) h = refl
@@ -74,7 +63,7 @@ module _ (set new : List ℕ) (n : ℕ) (push : new ≡ set ++ n ∷ []) where
   index-new (x ∷ xs) = index-new xs
 
   contains-index : (xs : List ℕ) (k : ℕ) → k < length xs → Contains xs (slice_index xs k)
-  contains-index xs k lt = slice_get-contains xs k (slice_index xs k) (slice_get-in xs k 0 lt)
+  contains-index xs k lt = slice_get-contains xs k (slice_index xs k) (slice_get-get_or xs k 0 lt)
 
   pub rising-push : IsStrictlyIncreasing set → ((s : ℕ) → Contains set s → s < n) → IsStrictlyIncreasing new
   rising-push r below k lt = rw push (go (let size = ap length push in let more : length (set ++ n ∷ []) ≡ length set + 1 = length-append set (n ∷ []) in omega arith))
@@ -145,28 +134,6 @@ set-keeps (x ∷ xs) zero (suc k) e = e
 set-keeps (x ∷ xs) (suc i) zero e = e
 set-keeps (x ∷ xs) (suc i) (suc k) e = set-keeps xs i k e
 
-replicate-get : (n k : ℕ) → slice_get (replicate n false) k ≡ Some true → ⊥
-replicate-get zero k e = cc
-replicate-get (suc n) zero e = cc
-replicate-get (suc n) (suc k) e = replicate-get n k e
-
-length-replicate' : (n : ℕ) → length (replicate n false) ≡ n
-length-replicate' zero = refl
-length-replicate' (suc n) = ap suc (length-replicate' n)
-
-pub marked-start : (edges : List Edge) (states : ℕ) (met : List Bool) → 0 < states → met ≡ slice_set (replicate states false) 0 true
-    → (length met ≡ states) × Marked edges states [] met
-marked-start edges states met some e = rw e (
-  length-set (replicate states false) 0 true ∙ length-replicate' states,
-  λ s lt. (
-    (λ m. elim (get-set (replicate states false) 0 s true m) [ inl h ↦ absurd (replicate-get states s h) | inr h ↦ inl h.0 ]),
-    (λ m. elim m [
-      | inl z ↦ subst (λ n. slice_get (slice_set (replicate states false) 0 true) n ≡ Some true) (sym z) (set-get (replicate states false) 0 (let l = length-replicate' states in omega arith))
-      | inr h ↦ (let none = h.3 in cc)
-    ]),
-  ),
-)
-
 pub marked-push : (edges : List Edge) (states : ℕ) (back : List ℕ) (met new : List Bool) (p : ℕ) (e : Edge) → slice_get edges p ≡ Some e → length met ≡ states → e.to < states
     → new ≡ slice_set met e.to true → Marked edges states back met → (length new ≡ states) × Marked edges states (back ++ p ∷ []) new
 marked-push edges states back met new p e is size inside push m = rw push (
@@ -194,7 +161,7 @@ marked-push edges states back met new p e is size inside push m = rw push (
 -- the edge at a place of the list
 pub mark-edge : (m : Graph) (back : List ℕ) (all : List Edge) (i : ℕ) (d : Edge) → all ≡ m.edges → i < length back → ((i p : ℕ) → slice_get back i ≡ Some p → p < length m.edges)
     → slice_get m.edges (get_or back i 0) ≡ Some (get_or all (get_or back i 0) d)
-mark-edge m back all i d e lt places = rw e (slice_get-in m.edges (get_or back i 0) d (places i (get_or back i 0) (slice_get-in back i 0 lt)))
+mark-edge m back all i d e lt places = rw e (slice_get-get_or m.edges (get_or back i 0) d (places i (get_or back i 0) (slice_get-get_or back i 0 lt)))
 
 pub mark-to : (m : Graph) (back : List ℕ) (all : List Edge) (i : ℕ) (d : Edge) → all ≡ m.edges → i < length back → ((i p : ℕ) → slice_get back i ≡ Some p → p < length m.edges)
     → (get_or all (get_or back i 0) d).to < m.states
@@ -202,26 +169,15 @@ mark-to m back all i d e lt places =
     let is = mark-edge m back all i d e lt places in
     (m.formed.edge (get_or all (get_or back i 0) d) (slice_get-contains m.edges (get_or back i 0) (get_or all (get_or back i 0) d) is)).to
 
-take-more : {X : Type 0} (xs : List X) (i : ℕ) (d : X) → i < length xs → take (suc i) xs ≡ take i xs ++ get_or xs i d ∷ []
-take-more [] i d h = absurd (omega arith)
-take-more (x ∷ xs) zero d h = refl
-take-more (x ∷ xs) (suc i) d h = ap (λ l. x ∷ l) (take-more xs i d (omega arith))
-
-take-full : {X : Type 0} (xs : List X) (i : ℕ) → length xs ≤ i → take i xs ≡ xs
-take-full [] zero h = refl
-take-full [] (suc i) h = refl
-take-full (x ∷ xs) zero h = absurd (omega arith)
-take-full (x ∷ xs) (suc i) h = ap (λ l. x ∷ l) (take-full xs i (omega arith))
-
 pub mark-step : (m : Graph) (back : List ℕ) (all : List Edge) (i : ℕ) (d : Edge) (met new : List Bool) → all ≡ m.edges → i < length back → ((i p : ℕ) → slice_get back i ≡ Some p → p < length m.edges)
     → length met ≡ m.states → new ≡ slice_set met (get_or all (get_or back i 0) d).to true → Marked m.edges m.states (take i back) met
     → (length new ≡ m.states) × Marked m.edges m.states (take (i + 1) back) new
 mark-step m back all i d met new e lt places size push marked =
-    let more : take (i + 1) back ≡ take i back ++ get_or back i 0 ∷ [] = ap (λ n. take n back) (let z : i + 1 ≡ suc i = omega arith in z) ∙ take-more back i 0 lt in
+    let more : take (i + 1) back ≡ take i back ++ get_or back i 0 ∷ [] = take_more back i 0 lt in
     rw more (marked-push m.edges m.states (take i back) met new (get_or back i 0) (get_or all (get_or back i 0) d) (mark-edge m back all i d e lt places) size (mark-to m back all i d e lt places) push marked)
 
 pub mark-end : (m : Graph) (back : List ℕ) (i : ℕ) (met : List Bool) → length back ≤ i → Marked m.edges m.states (take i back) met → Marked m.edges m.states back met
-mark-end m back i met le h = subst (λ l. Marked m.edges m.states l met) (take-full back i le) h
+mark-end m back i met le h = subst (λ l. Marked m.edges m.states l met) (take_all i back le) h
 
 -- the states that aren't marked are those that aren't met
 pub unmet-members : (m : Graph) (back : List ℕ) (met : List Bool) (set : List ℕ) → Marked m.edges m.states back met
@@ -237,8 +193,4 @@ above-zero (suc n) h = omega arith
 
 -- a list of places that reads a mark
 pub mark-read : (marks : List Bool) (at : ℕ) (d b : Bool) → at < length marks → get_or marks at d ≡ b → slice_get marks at ≡ Some b
-mark-read marks at d b lt e = slice_get-in marks at d lt ∙ ap Some e
-
-pub not-true : (b : Bool) → (b ≡ true → ⊥) → b ≡ false
-not-true true h = absurd (h refl)
-not-true false h = refl
+mark-read marks at d b lt e = slice_get-get_or marks at d lt ∙ ap Some e

@@ -1,5 +1,6 @@
 -- A hit and counts of its runs are a solution.
 use Rattle.std.proofs.Common.{◌≡◌, ℕ, zero, suc, ◌+◌, ◌-◌, ◌<◌, ◌≤◌, ℤ, pos, neg_ℤ, ◌+ℤ◌, ◌-ℤ◌, ◌≤ℤ◌, ◌<ℤ◌, List, [], ◌∷◌, ◌++◌, length, map, All, Contains, Option, Some, None, IfSome, slice_get, get_or, slice_index, nat_eq, Bool, true, false, cond, refl, ap, sym, ◌∙◌, subst, arith}
+use Rattle.std.proofs.lemmas.Option.{slice_get_within, slice_get-get_or}
 use Rattle.std.specs.List.{range_with_len}
 use Rattle.std.proofs.lemmas.Int.{ints}
 use Rattle.std.proofs.lemmas.List.Elements.{All-nil, All-cons, All-head, All-tail, All-append, All-map}
@@ -22,11 +23,11 @@ use Rattle.parikh_flow.specs.Balance.{one_at, AreBalanced}
 use Rattle.sv_linear.specs.Points.{unit}
 use Rattle.machine_core.specs.Edges.{from_of, at_of}
 use Rattle.farkas_check.specs.declared.net.NetEdge.{NetEdge}
-use Rattle.parikh_flow.proofs.Gets.{slice_get-below, slice_get-in}
 use Rattle.parikh_flow.proofs.FlowLemmas.{run-flow, flow-balanced, flow-joined, index-first, index-second}
 use Rattle.parikh_flow.proofs.RunLemmas.{net-in, net-out}
 use Rattle.parikh_flow.proofs.ValueLemmas.{same-value}
-use Rattle.parikh_flow.proofs.WeightLemmas.{weighted, weighted-balance, weighted-ends, weighted-one, machine_value, end_value, length-drop}
+use Rattle.parikh_flow.proofs.WeightLemmas.{weighted, weighted-balance, weighted-ends, weighted-one, machine_value, end_value}
+use Rattle.parikh_flow.proofs.CountLemmas.{rest-length}
 use Rattle.parikh_flow.proofs.HitLemmas.{constraints-agree, runs-cost, runs-length, runs-width, get-first, get-second, get-pos}
 
 pub range-all : (P : ℕ → Type 0) (a n : ℕ) → ((k : ℕ) → k < n → P (a + k)) → All P (range_with_len a n)
@@ -61,7 +62,7 @@ machine-met x base m f counts balanced =
     end-met : Meets x (end_row base m)
     end-met =
         let v = end_value x base m f counts (λ _. pos 1) in
-        let w = weighted-one m.ends (end_counts m f) (length-drop f (length m.edges) (length m.ends) counts.size) in
+        let w = weighted-one m.ends (end_counts m f) (rest-length f (length m.edges) (length m.ends) counts.size) in
         let one = balanced.one_end in
         record { at_most = omega (arith, ints, v, w); equal = λ _. omega (arith, ints, v, w) }
 
@@ -85,7 +86,7 @@ machine-met x base m f counts balanced =
 -- a net that is joined by the counts is joined by the values
 module _ (x : ℕ → ℤ) (base : ℕ) (m : Graph) (f : List ℕ) (counts : AreCountsAt x base m f) (joined : AreJoined m f) where
   back-value : (p : ℕ) (e : Edge) → slice_get m.edges p ≡ Some e → counted f (0 + p) ≡ x (base + p)
-  back-value p e is = let b = slice_get-below m.edges p e is in sym (counts.values p (omega arith) ∙ ap (λ n. pos (slice_index f n)) (let z : p ≡ 0 + p = omega arith in z))
+  back-value p e is = let b = slice_get_within m.edges p e is in sym (counts.values p (omega arith) ∙ ap (λ n. pos (slice_index f n)) (let z : p ≡ 0 + p = omega arith in z))
 
   back-reached : (s : ℕ) → Reached (counted f) (net_of 0 m) s → Reached x (net_of base m) s
   back-reached s reached_start = reached_start
@@ -114,8 +115,8 @@ module _ (x : ℕ → ℤ) (base : ℕ) (m : Graph) (f : List ℕ) (counts : Are
 
   pub values-joined : Joined x (net_of base m)
   values-joined = record {
-    not_negative = λ k d lt. back-low (get_or (net_edges base m.edges) k d) (slice_get-contains (net_edges base m.edges) k (get_or (net_edges base m.edges) k d) (slice_get-in (net_edges base m.edges) k d lt));
-    reached = λ k d lt used. back-edge (get_or (net_edges base m.edges) k d) (slice_get-contains (net_edges base m.edges) k (get_or (net_edges base m.edges) k d) (slice_get-in (net_edges base m.edges) k d lt)) used;
+    not_negative = λ k d lt. back-low (get_or (net_edges base m.edges) k d) (slice_get-contains (net_edges base m.edges) k (get_or (net_edges base m.edges) k d) (slice_get-get_or (net_edges base m.edges) k d lt));
+    reached = λ k d lt used. back-edge (get_or (net_edges base m.edges) k d) (slice_get-contains (net_edges base m.edges) k (get_or (net_edges base m.edges) k d) (slice_get-get_or (net_edges base m.edges) k d lt)) used;
   }
 
 -- counts of all runs, one machine's after another's

@@ -1,22 +1,23 @@
 -- One step of a search of a net.
-use Rattle.std.proofs.Common.{◌≡◌, ℕ, ℤ, pos, zero, suc, ◌+◌, ◌<◌, ◌≤◌, ◌<ℤ◌, ◌≤ℤ◌, ◌⊎◌, ◌↔◌, inl, inr, Bool, true, false, List, [], ◌∷◌, ◌++◌, length, length-append, Contains, All, slice_get, slice_set, get_or, Some, replicate, take, refl, ap, sym, ◌∙◌, subst, arith, add-one}
+use Rattle.std.proofs.Common.{◌≡◌, ℕ, ℤ, pos, zero, suc, ◌+◌, ◌<◌, ◌≤◌, ◌<ℤ◌, ◌⊎◌, ◌↔◌, inl, inr, Bool, true, false, List, [], ◌∷◌, ◌++◌, length, length-append, Contains, All, slice_get, slice_set, get_or, Some, replicate, take, refl, ap, sym, ◌∙◌, subst, arith}
+use Rattle.std.proofs.lemmas.List.{take_all, take_more}
+use Rattle.std.proofs.lemmas.Option.{slice_get_within, slice_get-get_or}
 use Rattle.std.specs.List.Sorted.{IsStrictlyIncreasing}
 use Rattle.machine_core.specs.Places.{places, add_to, IsIndex}
 use Rattle.machine_core.specs.Lists.{slice_get-append, slice_get-push_cases, slice_get-end, slice_get-contains}
-use Rattle.farkas_check.specs.Systems.{Reached, Joined, reached_start, reached_edge}
+use Rattle.farkas_check.specs.Systems.{Reached, reached_start, reached_edge}
 use Rattle.farkas_check.specs.Cuts.{IsNetWithin, IsUnreached}
 use Rattle.farkas_check.specs.declared.net.Net.{Net}
 use Rattle.farkas_check.specs.declared.net.NetEdge.{NetEdge}
 use Rattle.parikh_flow.specs.Reaching.{source_of, unmarked_count, Traverses, IsReaching}
-use Rattle.parikh_flow.proofs.Gets.{slice_get-below, slice_get-in}
 use Rattle.parikh_flow.proofs.PlaceLemmas.{places-in, places-all}
 use Rattle.machine_core.specs.PlaceLaws.{index-add, length-add_to}
 
 -- what a property of all elements says of the one at a place
 pub all-at : {X : Type 0} (P : X → Type 0) (xs : List X) (p : ℕ) (x : X) → All P xs → slice_get xs p ≡ Some x → P x
 all-at P xs p x h e =
-    let lt = slice_get-below xs p x e in
-    let is = slice_get-in xs p x lt in
+    let lt = slice_get_within xs p x e in
+    let is = slice_get-get_or xs p x lt in
     let same : get_or xs p x ≡ x = cc in
     subst P same (h p x lt)
 
@@ -52,7 +53,7 @@ count-set (true ∷ bs) (suc i) e = count-set bs i e
 count-set (false ∷ bs) (suc i) e = ap suc (count-set bs i e)
 
 get-lt : {X : Type 0} (xs : List X) (i : ℕ) (x : X) → slice_get xs i ≡ Some x → i < length xs
-get-lt = slice_get-below
+get-lt = slice_get_within
 
 module _ (x : ℕ → ℤ) (net : Net) (found : List ℕ) (seen : List Bool) (at : ℕ) (done : List ℕ) (h : IsReaching x net found seen at done)
     (s : ℕ) (here : slice_get found at ≡ Some s) (p : ℕ) (d : NetEdge) (edge : slice_get net.edges p ≡ Some d) (from : d.from ≡ s) (inside : d.to < net.states) where
@@ -114,17 +115,6 @@ module _ (x : ℕ → ℤ) (net : Net) (found : List ℕ) (seen : List Bool) (at
   step-here new now (inr (used, inl r)) = rw r.1 here
   step-here new now (inr (used, inr r)) = rw r.1 (slice_get-append found (d.to ∷ []) at s here)
 
-take-more : {X : Type 0} (xs : List X) (i : ℕ) (d : X) → i < length xs → take (suc i) xs ≡ take i xs ++ get_or xs i d ∷ []
-take-more [] i d h = absurd (omega arith)
-take-more (x ∷ xs) zero d h = refl
-take-more (x ∷ xs) (suc i) d h = ap (λ l. x ∷ l) (take-more xs i d (omega arith))
-
-take-full : {X : Type 0} (xs : List X) (i : ℕ) → length xs ≤ i → take i xs ≡ xs
-take-full [] zero h = refl
-take-full [] (suc i) h = refl
-take-full (x ∷ xs) zero h = absurd (omega arith)
-take-full (x ∷ xs) (suc i) h = ap (λ l. x ∷ l) (take-full xs i (omega arith))
-
 -- the state that is visited, and its row
 abbrev pub Visits : Net → List ℕ → List ℕ → ℕ → Type 0
 Visits net found row at = (s : ℕ) × (slice_get found at ≡ Some s) × (row ≡ places source_of s net.edges)
@@ -133,12 +123,12 @@ Visits net found row at = (s : ℕ) × (slice_get found at ≡ Some s) × (row �
 pub row-edge : (net : Net) (found row : List ℕ) (at i : ℕ) (v : Visits net found row at) → i < length row
     → (d : NetEdge) × (slice_get net.edges (get_or row i 0) ≡ Some d) × (d.from ≡ v.0)
 row-edge net found row at i v lt =
-    let r = places-in source_of v.0 0 net.edges i (get_or row i 0) (subst (λ l. slice_get l i ≡ Some (get_or row i 0)) v.2 (slice_get-in row i 0 lt)) in
+    let r = places-in source_of v.0 0 net.edges i (get_or row i 0) (subst (λ l. slice_get l i ≡ Some (get_or row i 0)) v.2 (slice_get-get_or row i 0 lt)) in
     let same : r.0 ≡ get_or row i 0 = (let b = r.2 in omega arith) in
     (r.1, subst (λ n. slice_get net.edges n ≡ Some r.1) same r.3, r.4)
 
 pub row-below : (net : Net) (found row : List ℕ) (at i : ℕ) → Visits net found row at → i < length row → get_or row i 0 < length net.edges
-row-below net found row at i v lt = let r = row-edge net found row at i v lt in slice_get-below net.edges (get_or row i 0) r.0 r.1
+row-below net found row at i v lt = let r = row-edge net found row at i v lt in slice_get_within net.edges (get_or row i 0) r.0 r.1
 
 pub edge-within : (n : ℕ) (net : Net) (p : ℕ) (d : NetEdge) → IsNetWithin n net → slice_get net.edges p ≡ Some d → (d.unknown < n) × (d.from < net.states) × (d.to < net.states)
 edge-within n net p d w e = let a = all-at (λ (e : NetEdge). e.unknown < n) net.edges p d w.unknowns e in
@@ -153,7 +143,7 @@ visit-step x net n found new seen now at i row d w v h lt e f =
     let from : d.from ≡ v.0 = subst (λ (y : NetEdge). y.from ≡ v.0) same r.2 in
     let inside = (edge-within n net (get_or row i 0) d w e).2 in
     let next = step-traverse x net found seen at (take i row) h v.0 v.1 (get_or row i 0) d e from inside new now f in
-    (rw (add-one, take-more row i 0 lt) next, (v.0, step-here x net found seen at (take i row) h v.0 v.1 (get_or row i 0) d e from inside new now f, v.2))
+    (rw (take_more row i 0 lt) next, (v.0, step-here x net found seen at (take i row) h v.0 v.1 (get_or row i 0) d e from inside new now f, v.2))
 
 pub visit-end : (x : ℕ → ℤ) (net : Net) (found : List ℕ) (seen : List Bool) (at i : ℕ) (row : List ℕ) → Visits net found row at
     → IsReaching x net found seen at (take i row) → length row ≤ i → IsReaching x net found seen (suc at) []
@@ -175,7 +165,7 @@ visit-end x net found seen at i row v h le = record {
     compare (suc m) (suc n) l f g = compare m n (omega arith) (λ x. f (omega arith)) (λ x. g (ap suc x))
 
     all : take i row ≡ places source_of v.0 net.edges
-    all = take-full row i le ∙ v.2
+    all = take_all i row le ∙ v.2
 
     by_place : (j u p : ℕ) (e : NetEdge) → j < suc at → slice_get found j ≡ Some u → slice_get net.edges p ≡ Some e → e.from ≡ u → pos 0 <ℤ x e.unknown → slice_get seen e.to ≡ Some true
     by_place j u p e lt g k m used = compare j at lt (λ b. h.closed j u p e b g k m used)
@@ -231,17 +221,9 @@ reach-done x net found seen at h le s = ((λ g. let r = h.known s g in h.reached
     marked s (reached_edge e is used r) =
         let k = h.known e.from (marked e.from r) in
         let lt = get-lt found k.0 e.from k.1 in
-        h.closed k.0 e.from is.0 e (omega arith) k.1 (slice_get-in net.edges is.0 e is.1 ∙ ap Some is.2) refl used
+        h.closed k.0 e.from is.0 e (omega arith) k.1 (slice_get-get_or net.edges is.0 e is.1 ∙ ap Some is.2) refl used
 
 -- the answer
-pub joined-all : (x : ℕ → ℤ) (net : Net) (seen : List Bool) → All (λ e. pos 0 ≤ℤ x e.unknown) net.edges
-    → ((s : ℕ) → s < net.states → (slice_get seen s ≡ Some true) ↔ Reached x net s) → ((p : ℕ) (e : NetEdge) → slice_get net.edges p ≡ Some e → e.from < net.states)
-    → ((p : ℕ) (e : NetEdge) → slice_get net.edges p ≡ Some e → pos 0 <ℤ x e.unknown → slice_get seen e.from ≡ Some true) → Joined x net
-joined-all x net seen low exact within all = record {
-  not_negative = low;
-  reached = λ k d lt used. (let e = slice_get-in net.edges k d lt in (exact (get_or net.edges k d).from (within k (get_or net.edges k d) e)).0 (all k (get_or net.edges k d) e used));
-}
-
 pub left-all : (x : ℕ → ℤ) (net : Net) (seen : List Bool) (set : List ℕ) → IsStrictlyIncreasing set
     → ((s : ℕ) → s < net.states → (slice_get seen s ≡ Some true) ↔ Reached x net s) → ((p : ℕ) (e : NetEdge) → slice_get net.edges p ≡ Some e → e.from < net.states)
     → ((s : ℕ) → Contains set s ↔ ((s < net.states) × (slice_get seen s ≡ Some true → ⊥)))
@@ -263,7 +245,7 @@ pub source-step : (edges : List NetEdge) (i : ℕ) (d : NetEdge) (old new : List
 source-step edges i d old new lt h e =
     let size : length (take i edges) ≡ i = take-length edges i (omega arith) in
     let add = index-add source_of (take i edges) (get_or edges i d) old h in
-    (rw e (length-add_to (get_or edges i d).from i old), rw (e, add-one, take-more edges i d lt) (subst (λ n. IsIndex source_of (take i edges ++ get_or edges i d ∷ []) (add_to (get_or edges i d).from n old)) size add))
+    (rw e (length-add_to (get_or edges i d).from i old), rw (e, take_more edges i d lt) (subst (λ n. IsIndex source_of (take i edges ++ get_or edges i d ∷ []) (add_to (get_or edges i d).from n old)) size add))
   where
     take-length : (xs : List NetEdge) (i : ℕ) → i ≤ length xs → length (take i xs) ≡ i
     take-length [] zero h = refl
@@ -273,13 +255,13 @@ source-step edges i d old new lt h e =
 
 -- what is listed, and the row of a listed state
 pub listed-below : (x : ℕ → ℤ) (net : Net) (found all : List ℕ) (seen : List Bool) (at : ℕ) → all ≡ found → at < length found → IsReaching x net found seen at [] → get_or all at 0 < net.states
-listed-below x net found all seen at e lt h = rw e (h.inside at (get_or found at 0) (slice_get-in found at 0 lt))
+listed-below x net found all seen at e lt h = rw e (h.inside at (get_or found at 0) (slice_get-get_or found at 0 lt))
 
 pub row-found : (net : Net) (found all row : List ℕ) (index : List (List ℕ)) (edges : List NetEdge) (at : ℕ) → all ≡ found → edges ≡ net.edges → at < length found → IsIndex source_of edges index
     → slice_get index (get_or all at 0) ≡ Some row → Visits net found row at
 row-found net found all row index edges at e f lt h is = (
   get_or found at 0,
-  slice_get-in found at 0 lt,
+  slice_get-get_or found at 0 lt,
   subst (λ l. row ≡ places source_of (get_or found at 0) l) f (subst (λ l. row ≡ places source_of (get_or l at 0) edges) e (h (get_or all at 0) row is)),
 )
 

@@ -1,5 +1,6 @@
 -- The nets of a system name its unknowns and their own states.
 use Rattle.std.proofs.Common.{ℕ, ◌+◌, ◌<◌, ◌≤◌, List, [], ◌∷◌, All, Option, get_or, sym, subst, arith}
+use Rattle.std.proofs.lemmas.Option.{slice_get_within, slice_get-get_or}
 use Rattle.std.proofs.lemmas.List.Elements.{All-nil, All-cons}
 use Rattle.sv_linear.specs.declared.row.Row.{Row}
 use Rattle.machine_core.specs.declared.graph.Graph.{Graph}
@@ -10,18 +11,17 @@ use Rattle.farkas_check.specs.Cuts.{IsNetWithin}
 use Rattle.parikh_flow.specs.Counts.{size_of}
 use Rattle.parikh_flow.specs.Nets.{net_edges, net_of, nets_of}
 use Rattle.parikh_flow.specs.Rows.{unknowns_after, IsSystemOf}
-use Rattle.parikh_flow.proofs.Gets.{slice_get-below, slice_get-in}
 use Rattle.parikh_flow.proofs.RunLemmas.{net-out}
 
 net-within : (m : Graph) (base n : ℕ) → base + size_of m ≤ n → IsNetWithin n (net_of base m)
 net-within m base n le = record {
   start = m.started;
   unknowns = λ k d lt.
-      let e = net-out base m.edges (get_or (net_edges base m.edges) k d) (slice_get-contains (net_edges base m.edges) k (get_or (net_edges base m.edges) k d) (slice_get-in (net_edges base m.edges) k d lt)) in
-      let b = slice_get-below m.edges e.0 e.1 e.2 in
+      let e = net-out base m.edges (get_or (net_edges base m.edges) k d) (slice_get-contains (net_edges base m.edges) k (get_or (net_edges base m.edges) k d) (slice_get-get_or (net_edges base m.edges) k d lt)) in
+      let b = slice_get_within m.edges e.0 e.1 e.2 in
       subst (λ (x : NetEdge). x.unknown < n) (sym e.3) (omega arith);
   states = λ k d lt.
-      let e = net-out base m.edges (get_or (net_edges base m.edges) k d) (slice_get-contains (net_edges base m.edges) k (get_or (net_edges base m.edges) k d) (slice_get-in (net_edges base m.edges) k d lt)) in
+      let e = net-out base m.edges (get_or (net_edges base m.edges) k d) (slice_get-contains (net_edges base m.edges) k (get_or (net_edges base m.edges) k d) (slice_get-get_or (net_edges base m.edges) k d lt)) in
       let f = m.formed.edge e.1 (slice_get-contains m.edges e.0 e.1 e.2) in
       subst (λ (x : NetEdge). (x.«from» < m.states) × (x.to < m.states)) (sym e.3) (f.from, f.to);
 }

@@ -1,78 +1,28 @@
--- Runs over the edges of a tour, and states that a tour doesn't meet.
-use Rattle.std.proofs.Common.{◌≡◌, ℕ, zero, suc, ◌+◌, ◌-◌, ◌<◌, ◌≤◌, ◌↔◌, inl, inr, pos, ◌<ℤ◌, List, [], ◌∷◌, ◌++◌, length, take, drop, reverse, Contains, slice_get, get_or, slice_index, Some, IsTrue, refl, ap, sym, ◌∙◌, subst, arith}
+-- The run of a tour, and states that a tour doesn't meet.
+use Rattle.std.proofs.Common.{◌≡◌, ℕ, zero, suc, ◌+◌, ◌-◌, ◌<◌, ◌↔◌, inl, inr, pos, ◌<ℤ◌, List, [], ◌∷◌, length, take, drop, reverse, Contains, slice_get, slice_index, Some, refl, ap, sym, ◌∙◌, subst, arith}
+use Rattle.std.proofs.lemmas.Option.{slice_get_within}
 use Rattle.std.proofs.lemmas.Int.{ints}
-use Rattle.std.proofs.lemmas.List.{reverse-append, append_assoc, append-nil}
 use Rattle.std.specs.List.Sorted.{IsStrictlyIncreasing}
-use Rattle.sv_word.specs.Ranges.{least_of, in_ranges}
 use Rattle.machine_core.specs.declared.edge.Edge.{Edge}
 use Rattle.machine_core.specs.declared.graph.Graph.{Graph}
 use Rattle.machine_core.specs.declared.run.Run.{Run}
-use Rattle.machine_core.specs.Moves.{Moves}
-use Rattle.machine_core.specs.Edges.{StepsBy, move_of, IsWalk}
+use Rattle.machine_core.specs.Edges.{IsWalk}
 use Rattle.machine_core.specs.Graphs.{IsRunOf}
-use Rattle.machine_core.specs.Runs.{IsPath}
-use Rattle.machine_core.specs.Lists.{slice_get-contains, Contains-here, Contains-there}
+use Rattle.machine_core.specs.WalkLaws.{along_run}
+use Rattle.machine_core.specs.Lists.{slice_get-contains, Contains-here, Contains-there, slice_get-some}
 use Rattle.farkas_check.specs.declared.net.NetEdge.{NetEdge}
 use Rattle.farkas_check.specs.Systems.{Reached, reached_start, reached_edge, Joined}
 use Rattle.farkas_check.specs.Cuts.{IsUnreached}
 use Rattle.parikh_flow.specs.Balance.{one_at}
-use Rattle.parikh_flow.specs.Flows.{LeadsAlong, GoesAlong, CountsPlaces}
+use Rattle.parikh_flow.specs.Flows.{GoesAlong, CountsPlaces}
 use Rattle.parikh_flow.specs.Nets.{net_edge, net_edges, net_of, counted}
 use Rattle.parikh_flow.specs.Tours.{IsDrained, IsToured, IsMet}
-use Rattle.parikh_flow.proofs.Gets.{slice_get-below, slice_get-some}
 use Rattle.parikh_flow.proofs.CountLemmas.{occurs, occurs-at, occurrences-reverse}
-
-abbrev parts : List ℕ → List ℕ → List (List ℕ) → List ℕ → Run ℕ
-parts word states costs last = record { word = word; states = states; costs = costs; last = last }
-
--- runs of the same parts
-pub run-parts : (w v s t : List ℕ) (k j : List (List ℕ)) (last : List ℕ) → w ≡ v → s ≡ t → k ≡ j
-    → parts w s k last ≡ parts v t j last
-run-parts w v s t k j last e f g = ap (λ x. parts x s k last) e ∙ ap (λ x. parts v x k last) f ∙ ap (λ x. parts v t x last) g
-
--- a walk stops in one state
-pub walk-stop : (edges : List Edge) (s : ℕ) (ps : List ℕ) (t u : ℕ) → IsWalk edges s ps t → IsWalk edges s ps u → t ≡ u
-walk-stop edges s [] t u a b = sym a ∙ b
-walk-stop edges s (p ∷ ps) t u a b =
-    let same : b.0 ≡ a.0 = (let x = a.1 in let y = b.1 in cc) in
-    walk-stop edges a.0.to ps t u a.3 (subst (λ (d : Edge). IsWalk edges d.to ps u) same b.3)
-
-pub leads-push : (edges : List Edge) (s : ℕ) (ps us word : List ℕ) (costs : List (List ℕ)) (t p c : ℕ) (k : List ℕ) (u : ℕ) (e : Edge)
-    → LeadsAlong edges s ps us word costs t → slice_get edges p ≡ Some e → e.from ≡ t → Moves c k u (move_of e)
-    → LeadsAlong edges s (ps ++ p ∷ []) (us ++ u ∷ []) (word ++ c ∷ []) (costs ++ k ∷ []) u
-leads-push edges s [] [] [] [] t p c k u e l g f m = (e, g, f ∙ sym l, m, refl)
-leads-push edges s [] [] [] (x ∷ costs) t p c k u e l g f m = absurd l
-leads-push edges s [] [] (x ∷ word) costs t p c k u e l g f m = absurd l
-leads-push edges s [] (x ∷ us) word costs t p c k u e l g f m = absurd l
-leads-push edges s (q ∷ ps) [] word costs t p c k u e l g f m = absurd l
-leads-push edges s (q ∷ ps) (x ∷ us) [] costs t p c k u e l g f m = absurd l
-leads-push edges s (q ∷ ps) (x ∷ us) (y ∷ word) [] t p c k u e l g f m = absurd l
-leads-push edges s (q ∷ ps) (x ∷ us) (y ∷ word) (z ∷ costs) t p c k u e l g f m =
-    (l.0, l.1, l.2, l.3, leads-push edges x ps us word costs t p c k u e l.4 g f m)
-
--- edges that lead along are a path
-pub leads-path : (edges : List Edge) (s : ℕ) (ps us word : List ℕ) (costs : List (List ℕ)) (t : ℕ) → LeadsAlong edges s ps us word costs t → IsPath (StepsBy edges) s us word costs t
-leads-path edges s [] [] [] [] t l = l
-leads-path edges s [] [] [] (x ∷ costs) t l = absurd l
-leads-path edges s [] [] (x ∷ word) costs t l = absurd l
-leads-path edges s [] (x ∷ us) word costs t l = absurd l
-leads-path edges s (q ∷ ps) [] word costs t l = absurd l
-leads-path edges s (q ∷ ps) (x ∷ us) [] costs t l = absurd l
-leads-path edges s (q ∷ ps) (x ∷ us) (y ∷ word) [] t l = absurd l
-leads-path edges s (q ∷ ps) (x ∷ us) (y ∷ word) (z ∷ costs) t l =
-    let at = slice_get-contains edges q l.0 l.1 in
-    ((at.0, l.0, at.1, at.2, (l.2, l.3)), leads-path edges x ps us word costs t l.4)
 
 pub goes-run : (m : Graph) (run : Run ℕ) (places : List ℕ) (last : ℕ) → GoesAlong m run places last → IsRunOf m run
 goes-run m run places last g =
     let at = slice_get-contains m.ends last g.ending g.is_end in
-    record {
-      after = g.after;
-      stop = g.stop;
-      states = g.states;
-      path = leads-path m.edges 0 places g.after run.word run.costs g.stop g.leads;
-      last = (at.0, g.ending, at.1, at.2, (g.at, g.cost));
-    }
+    along_run m places run g.along (at.0, g.ending, at.1, at.2, (g.at, g.cost))
 
 -- edges of the net of a machine
 pub net-in : (base : ℕ) (edges : List Edge) (p : ℕ) (e : Edge) → slice_get edges p ≡ Some e → Contains (net_edges base edges) (net_edge (base + p) e)
@@ -115,10 +65,10 @@ module _ (m : Graph) (f g : List ℕ) (same : (p : ℕ) → p < length m.edges �
   met-drained s (inr (i, p, e, a, b, c)) = subst (IsDrained m.edges left) c (t.settled i p e a b)
 
   used-count : (p : ℕ) (e : Edge) → slice_get m.edges p ≡ Some e → pos 0 <ℤ counted g (0 + p) → 0 < slice_index f p
-  used-count p e is h = let b = slice_get-below m.edges p e is in let s = same p b in let z : 0 + p ≡ p = omega arith in let u = subst (λ n. pos 0 <ℤ pos (slice_index g n)) z h in omega (arith, ints)
+  used-count p e is h = let b = slice_get_within m.edges p e is in let s = same p b in let z : 0 + p ≡ p = omega arith in let u = subst (λ n. pos 0 <ℤ pos (slice_index g n)) z h in omega (arith, ints)
 
   count-used : (p : ℕ) (e : Edge) → slice_get m.edges p ≡ Some e → 0 < slice_index f p → pos 0 <ℤ counted g (0 + p)
-  count-used p e is h = let b = slice_get-below m.edges p e is in let s = same p b in let z : p ≡ 0 + p = omega arith in subst (λ n. pos 0 <ℤ pos (slice_index g n)) z (omega (arith, ints))
+  count-used p e is h = let b = slice_get_within m.edges p e is in let s = same p b in let z : p ≡ 0 + p = omega arith in subst (λ n. pos 0 <ℤ pos (slice_index g n)) z (omega (arith, ints))
 
   met-next : (p : ℕ) (e : Edge) → slice_get m.edges p ≡ Some e → 0 < slice_index f p → IsMet m.edges back e.from → IsMet m.edges back e.to
   met-next p e is used met =
@@ -197,78 +147,3 @@ module _ (m : Graph) (f g : List ℕ) (same : (p : ℕ) → p < length m.edges �
     of_edges = λ p lt. (let s = same p lt in let n = none p in let c = t.counted p in let r = occurrences-reverse p back in omega arith);
     of_ends = λ q lt. (let d = index-drop g (length m.edges) q in let e = ends q in omega arith);
   }
-
-reverse-push : {X : Type 0} (xs : List X) (x : X) → reverse (xs ++ x ∷ []) ≡ x ∷ reverse xs
-reverse-push xs x = reverse-append xs (x ∷ [])
-
-take-more : {X : Type 0} (xs : List X) (i : ℕ) (d : X) → i < length xs → take (suc i) xs ≡ take i xs ++ get_or xs i d ∷ []
-take-more [] i d h = absurd (omega arith)
-take-more (x ∷ xs) zero d h = refl
-take-more (x ∷ xs) (suc i) d h = ap (λ l. x ∷ l) (take-more xs i d (omega arith))
-
-take-full : {X : Type 0} (xs : List X) (i : ℕ) → length xs ≤ i → take i xs ≡ xs
-take-full [] zero h = refl
-take-full [] (suc i) h = refl
-take-full (x ∷ xs) zero h = absurd (omega arith)
-take-full (x ∷ xs) (suc i) h = ap (λ l. x ∷ l) (take-full xs i (omega arith))
-
-reverse-take : {X : Type 0} (xs : List X) (k : ℕ) (d : X) → k < length xs → reverse (take (suc k) xs) ≡ get_or xs k d ∷ reverse (take k xs)
-reverse-take xs k d lt = ap reverse (take-more xs k d lt) ∙ reverse-push (take k xs) (get_or xs k d)
-
--- the run so far, and the edges that are still to come, the last first
-abbrev pub RunsAlong : List Edge → List ℕ → ℕ → List ℕ → List ℕ → List (List ℕ) → Type 0
-RunsAlong edges back k states word costs = (gone visited : List ℕ) × (s t : ℕ) × (states ≡ 0 ∷ visited) × LeadsAlong edges 0 gone visited word costs s
-    × IsWalk edges s (reverse (take k back)) t × (gone ++ reverse (take k back) ≡ reverse back) × IsWalk edges 0 (reverse back) t
-
-module _ (edges : List Edge) (back : List ℕ) where
-  pub along-start : (ss word : List ℕ) (costs : List (List ℕ)) → (t : ℕ) × IsWalk edges 0 (reverse back) t → ss ≡ [] ++ 0 ∷ [] → word ≡ [] → costs ≡ []
-      → RunsAlong edges back (length back) ss word costs
-  along-start ss word costs w a b g =
-      let full = take-full back (length back) (omega arith) in
-      rw (b, g) ([], [], 0, w.0, a, refl, subst (λ l. IsWalk edges 0 (reverse l) w.0) (sym full) w.1, ap reverse full, w.1)
-
-  next-edge : (k : ℕ) (ss word : List ℕ) (costs : List (List ℕ)) → k < length back → RunsAlong edges back (suc k) ss word costs
-      → (e : Edge) × (slice_get edges (get_or back k 0) ≡ Some e)
-  next-edge k ss word costs lt f = let w = subst (λ l. IsWalk edges f.2 l f.3) (reverse-take back k 0 lt) f.6 in (w.0, w.1)
-
-  one-more : (k : ℕ) → 0 < k → suc (k - 1) ≡ k
-  one-more k h = omega arith
-
-  pub along-below : (all : List Edge) (k : ℕ) (ss word : List ℕ) (costs : List (List ℕ)) → all ≡ edges → 0 < k → k ≤ length back → RunsAlong edges back k ss word costs
-      → get_or back (k - 1) 0 < length all
-  along-below all k ss word costs e some lt f =
-      let r = next-edge (k - 1) ss word costs (omega arith) (subst (λ n. RunsAlong edges back n ss word costs) (sym (one-more k some)) f) in
-      rw e (slice_get-below edges (get_or back (k - 1) 0) r.0 r.1)
-
-  pub along-step : (formed : (e : Edge) → Contains edges e → IsTrue (in_ranges e.on (least_of e.on))) (all : List Edge) (k : ℕ) (ss word : List ℕ) (costs : List (List ℕ)) (d : Edge) (new_ss new_word : List ℕ) (new_costs : List (List ℕ))
-      → all ≡ edges → 0 < k → k ≤ length back → slice_get all (get_or back (k - 1) 0) ≡ Some d → RunsAlong edges back k ss word costs
-      → new_word ≡ word ++ least_of d.on ∷ [] → new_costs ≡ costs ++ d.cost ∷ [] → new_ss ≡ ss ++ d.to ∷ []
-      → RunsAlong edges back (k - 1) new_ss new_word new_costs
-  along-step formed all k ss word costs d new_ss new_word new_costs e some lt read f0 a b g =
-      let f = subst (λ n. RunsAlong edges back n ss word costs) (sym (one-more k some)) f0 in
-      let rt = reverse-take back (k - 1) 0 (omega arith) in
-      let w = subst (λ l. IsWalk edges f.2 l f.3) rt f.6 in
-      let read' = subst (λ l. slice_get l (get_or back (k - 1) 0) ≡ Some d) e read in
-      let same : w.0 ≡ d = (let x = w.1 in cc) in
-      let at = slice_get-contains edges (get_or back (k - 1) 0) d read' in
-      let from = subst (λ (x : Edge). x.from ≡ f.2) same w.2 in
-      let rest = subst (λ (x : Edge). IsWalk edges x.to (reverse (take (k - 1) back)) f.3) same w.3 in
-      let sum = subst (λ l. f.0 ++ l ≡ reverse back) rt f.7 in
-      rw (a, b) (
-        f.0 ++ get_or back (k - 1) 0 ∷ [],
-        f.1 ++ d.to ∷ [],
-        d.to,
-        f.3,
-        g ∙ ap (λ l. l ++ d.to ∷ []) f.4,
-        leads-push edges 0 f.0 f.1 word costs f.2 (get_or back (k - 1) 0) (least_of d.on) d.cost d.to d f.5 read' from (formed d at, refl, refl),
-        rest,
-        append_assoc f.0 (get_or back (k - 1) 0 ∷ []) (reverse (take (k - 1) back)) ∙ sum,
-        f.8,
-      )
-
-  pub along-end : (k : ℕ) (ss word : List ℕ) (costs : List (List ℕ)) → k ≡ 0 → RunsAlong edges back k ss word costs
-      → (t : ℕ) × IsWalk edges 0 (reverse back) t × (after : List ℕ) × (ss ≡ 0 ∷ after) × LeadsAlong edges 0 (reverse back) after word costs t
-  along-end k ss word costs z f0 =
-      let f = subst (λ n. RunsAlong edges back n ss word costs) z f0 in
-      let whole : f.0 ≡ reverse back = sym (append-nil f.0) ∙ f.7 in
-      (f.3, f.8, f.1, f.4, subst (λ l. LeadsAlong edges 0 l f.1 word costs f.3) whole (subst (λ u. LeadsAlong edges 0 f.0 f.1 word costs u) f.6 f.5))

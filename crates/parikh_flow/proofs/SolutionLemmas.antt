@@ -1,5 +1,6 @@
 -- Solutions of the system of machines and rows are hits with their counts.
 use Rattle.std.proofs.Common.{◌≡◌, ℕ, zero, suc, ◌+◌, ◌<◌, ◌≤◌, ℤ, pos, neg_ℤ, ◌+ℤ◌, ◌-ℤ◌, ◌≤ℤ◌, ◌<ℤ◌, List, [], ◌∷◌, ◌++◌, length, map, nat_eq, Bool, true, false, cond, All, Contains, Option, Some, slice_get, get_or, slice_index, refl, ap, sym, ◌∙◌, subst, unsigned_abs, arith}
+use Rattle.std.proofs.lemmas.Option.{slice_get_within, slice_get-get_or}
 use Rattle.std.specs.List.{range_with_len}
 use Rattle.std.proofs.lemmas.Int.{ints}
 use Rattle.std.proofs.lemmas.Bool.Decides.{nat_tests}
@@ -18,10 +19,9 @@ use Rattle.parikh_flow.specs.Balance.{one_at, AreBalanced}
 use Rattle.parikh_flow.specs.Nets.{net_edge, net_edges, net_of, nets_of, counted, AreJoined}
 use Rattle.parikh_flow.specs.Rows.{unknowns_after, end_row, state_row, machine_rows, family_rows, run_rows, edge_balance, end_balance, IsSameRow, AreSameRows, IsSystemOf}
 use Rattle.parikh_flow.specs.Solutions.{AreCountsAt, HaveJoinedCounts}
-use Rattle.parikh_flow.proofs.Gets.{slice_get-below, slice_get-in}
-use Rattle.parikh_flow.proofs.CountLemmas.{counts_at-none}
+use Rattle.parikh_flow.proofs.CountLemmas.{counts_at-none, rest-length}
 use Rattle.parikh_flow.proofs.ValueLemmas.{same-value}
-use Rattle.parikh_flow.proofs.WeightLemmas.{machine_value, end_value, weighted, weighted-balance, weighted-ends, weighted-one, length-drop}
+use Rattle.parikh_flow.proofs.WeightLemmas.{machine_value, end_value, weighted, weighted-balance, weighted-ends, weighted-one}
 use Rattle.parikh_flow.proofs.RunLemmas.{net-in, net-out}
 
 module _ {X : Type 0} (P : X → Type 0) where
@@ -76,7 +76,7 @@ module _ (x : ℕ → ℤ) (base : ℕ) (m : Graph) (f : List ℕ) (counts : Are
       omega (arith, ints, v, w, e)
     where
       end-size : length (end_counts m f) ≡ length m.ends
-      end-size = length-drop f (length m.edges) (length m.ends) counts.size
+      end-size = rest-length f (length m.edges) (length m.ends) counts.size
 
   balanced-within : (s : ℕ) → s < m.states → counts_at to_of s m.edges (edge_counts m f) + one_at s 0 ≡ counts_at from_of s m.edges (edge_counts m f) + counts_at at_of s m.ends (end_counts m f)
   balanced-within s lt =
@@ -122,7 +122,7 @@ module _ (x : ℕ → ℤ) (base : ℕ) (m : Graph) (f : List ℕ) (counts : Are
 -- a net that is joined by the values is joined by the counts
 module _ (x : ℕ → ℤ) (base : ℕ) (m : Graph) (f : List ℕ) (counts : AreCountsAt x base m f) (joined : Joined x (net_of base m)) where
   shift-value : (p : ℕ) (e : Edge) → slice_get m.edges p ≡ Some e → x (base + p) ≡ counted f (0 + p)
-  shift-value p e is = let b = slice_get-below m.edges p e is in counts.values p (omega arith) ∙ ap (λ n. pos (slice_index f n)) (omega arith)
+  shift-value p e is = let b = slice_get_within m.edges p e is in counts.values p (omega arith) ∙ ap (λ n. pos (slice_index f n)) (omega arith)
 
   shift-reached : (s : ℕ) → Reached x (net_of base m) s → Reached (counted f) (net_of 0 m) s
   shift-reached s reached_start = reached_start
@@ -146,7 +146,7 @@ module _ (x : ℕ → ℤ) (base : ℕ) (m : Graph) (f : List ℕ) (counts : Are
   counts-joined = record {
     not_negative = λ k d lt. (let e : pos 0 ≤ℤ pos (slice_index f (get_or (net_edges 0 m.edges) k d).unknown) = omega (arith, ints) in e);
     reached = λ k d lt used. shift-edge (get_or (net_edges 0 m.edges) k d)
-        (slice_get-contains (net_edges 0 m.edges) k (get_or (net_edges 0 m.edges) k d) (slice_get-in (net_edges 0 m.edges) k d lt)) used;
+        (slice_get-contains (net_edges 0 m.edges) k (get_or (net_edges 0 m.edges) k d) (slice_get-get_or (net_edges 0 m.edges) k d lt)) used;
   }
 
 -- the counts that not negative values are

@@ -1,11 +1,11 @@
 -- What the steps of a tour keep.
 use Rattle.std.proofs.Common.{◌≡◌, ℕ, zero, suc, ◌+◌, ◌-◌, ◌<◌, ◌≤◌, ◌⊎◌, inl, inr, List, [], ◌∷◌, ◌++◌, length, reverse, slice_get, get_or, slice_index, slice_set, Some, None, replicate, refl, ap, sym, ◌∙◌, subst, arith}
+use Rattle.std.proofs.lemmas.Option.{slice_get-get_or, slice_get_within}
 use Rattle.std.proofs.lemmas.List.{reverse-append}
 use Rattle.machine_core.specs.declared.edge.Edge.{Edge}
 use Rattle.machine_core.specs.Edges.{from_of, IsWalk}
 use Rattle.machine_core.specs.Lists.{slice_get-push_cases}
 use Rattle.machine_core.specs.Places.{places}
-use Rattle.parikh_flow.proofs.Gets.{slice_get-in, slice_get-below}
 use Rattle.parikh_flow.proofs.PlaceLemmas.{places-in, places-all}
 use Rattle.parikh_flow.specs.Counts.{counts_at, to_of}
 use Rattle.parikh_flow.specs.Balance.{one_at}
@@ -123,7 +123,7 @@ retreat-done edges states f stop left next way back new_way new_back at p e is i
 pub row-edge : (edges all : List Edge) (row : List ℕ) (s i : ℕ) → all ≡ edges → row ≡ places from_of s edges → i < length row
     → (e : Edge) × (slice_get all (get_or row i 0) ≡ Some e) × (e.from ≡ s)
 row-edge edges all row s i a r lt =
-    let p = places-in from_of s 0 edges i (get_or row i 0) (subst (λ l. slice_get l i ≡ Some (get_or row i 0)) r (slice_get-in row i 0 lt)) in
+    let p = places-in from_of s 0 edges i (get_or row i 0) (subst (λ l. slice_get l i ≡ Some (get_or row i 0)) r (slice_get-get_or row i 0 lt)) in
     let same : p.0 ≡ get_or row i 0 = (let b = p.2 in omega arith) in
     (p.1, rw a (subst (λ n. slice_get edges n ≡ Some p.1) same p.3), p.4)
 
@@ -213,7 +213,7 @@ toured-edge edges f stop left back t i p g =
     let r = occurrences-reverse p back in
     let at = occurs-at p (reverse back) (omega arith) in
     let e = walk-at edges 0 (reverse back) stop at.0 p t.home at.1 in
-    slice_get-below edges p e.0 e.1
+    slice_get_within edges p e.0 e.1
 
 -- one step of a tour
 module _ (edges all : List Edge) (states : ℕ) (f : List ℕ) (stop : ℕ) (left next way back lefts nexts row : List ℕ) (at : ℕ)
@@ -221,32 +221,32 @@ module _ (edges all : List Edge) (states : ℕ) (f : List ℕ) (stop : ℕ) (lef
   pub step-places : (i p : ℕ) → slice_get row i ≡ Some p → p < length lefts
   step-places i p g =
       let r = places-in from_of at 0 edges i p (subst (λ l. slice_get l i ≡ Some p) er g) in
-      let b = slice_get-below edges r.0 r.1 r.3 in
+      let b = slice_get_within edges r.0 r.1 r.3 in
       let e = r.2 in
       let size = t.size in
       let l = ap length el in
       omega arith
 
   from-is : slice_get next at ≡ Some (slice_index nexts at)
-  from-is = let w = t.within in let r = t.rows in rw en (slice_get-in next at 0 (omega arith))
+  from-is = let w = t.within in let r = t.rows in rw en (slice_get-get_or next at 0 (omega arith))
 
   pub step-inside : (i : ℕ) → IsNextLeft row (slice_index nexts at) lefts (Some i) → i < length row
-  step-inside i h = slice_get-below row i h.0 h.1
+  step-inside i h = slice_get_within row i h.0 h.1
 
   pub step-used : (i : ℕ) → IsNextLeft row (slice_index nexts at) lefts (Some i) → 0 < slice_index left (get_or row i 0)
   step-used i h =
-      let g = slice_get-in row i 0 (slice_get-below row i h.0 h.1) in
+      let g = slice_get-get_or row i 0 (slice_get_within row i h.0 h.1) in
       let same : h.0 ≡ get_or row i 0 = (let x = h.1 in cc) in
       subst (λ l. 0 < slice_index l (get_or row i 0)) el (subst (λ p. 0 < slice_index lefts p) same h.2)
 
   pub step-edge : (i : ℕ) → IsNextLeft row (slice_index nexts at) lefts (Some i) → (e : Edge) × (slice_get all (get_or row i 0) ≡ Some e) × (e.from ≡ at)
-  step-edge i h = row-edge edges all row at i ea er (slice_get-below row i h.0 h.1)
+  step-edge i h = row-edge edges all row at i ea er (slice_get_within row i h.0 h.1)
 
   pub step-from : (i : ℕ) → IsNextLeft row (slice_index nexts at) lefts (Some i) → (e : Edge) → slice_get all (get_or row i 0) ≡ Some e → e.from ≡ at
   step-from i h e g = let r = step-edge i h in let same : r.0 ≡ e = (let x = r.1 in cc) in subst (λ (d : Edge). d.from ≡ at) same r.2
 
   pub step-below : (i : ℕ) → IsNextLeft row (slice_index nexts at) lefts (Some i) → get_or row i 0 < length all
-  step-below i h = let r = step-edge i h in slice_get-below all (get_or row i 0) r.0 r.1
+  step-below i h = let r = step-edge i h in slice_get_within all (get_or row i 0) r.0 r.1
 
   pub step-some : (i : ℕ) (new : List ℕ) → IsNextLeft row (slice_index nexts at) lefts (Some i) → new ≡ slice_set next at i → IsTour edges states f stop left new way back at
   step-some i new h push =
@@ -262,4 +262,4 @@ module _ (edges all : List Edge) (states : ℕ) (f : List ℕ) (stop : ℕ) (lef
   step-drained h = row-drained edges left next row at (slice_index nexts at) er from-is (λ k q a c. subst (λ l. slice_index l q ≡ 0) el (h k q a c)) t.passed
 
   pub step-way : (i p : ℕ) → slice_get way i ≡ Some p → p < length all
-  step-way i p g = let e = walk-at edges 0 way at i p t.out g in let b = slice_get-below edges p e.0 e.1 in rw ea b
+  step-way i p g = let e = walk-at edges 0 way at i p t.out g in let b = slice_get_within edges p e.0 e.1 in rw ea b

@@ -1,5 +1,5 @@
 -- Sums over counts: the value of the terms of a machine.
-use Rattle.std.proofs.Common.{◌≡◌, ℕ, zero, suc, ◌+◌, ◌<◌, ℤ, pos, neg_ℤ, ◌+ℤ◌, ◌-ℤ◌, ◌*ℤ◌, List, [], ◌∷◌, length, take, drop, nat_eq, Bool, true, false, cond, slice_get, slice_index, slice_set, Some, refl, ap, sym, ◌∙◌, subst, arith}
+use Rattle.std.proofs.Common.{◌≡◌, ℕ, zero, suc, ◌+◌, ◌<◌, ℤ, pos, neg_ℤ, ◌+ℤ◌, ◌-ℤ◌, ◌*ℤ◌, List, [], ◌∷◌, length, nat_eq, Bool, true, false, cond, slice_get, slice_index, slice_set, Some, refl, ap, sym, ◌∙◌, subst, arith}
 use Rattle.std.proofs.lemmas.Int.{ints}
 use Rattle.sv_linear.specs.Terms.{terms_value}
 use Rattle.sv_linear.specs.Integers.{mul-add}
@@ -11,6 +11,7 @@ use Rattle.parikh_flow.specs.Counts.{counts_at, total_count, to_of, edge_counts,
 use Rattle.parikh_flow.specs.Rows.{terms_by, machine_terms, edge_balance, end_balance}
 use Rattle.parikh_flow.specs.Solutions.{AreCountsAt}
 use Rattle.parikh_flow.proofs.ValueLemmas.{value-append}
+use Rattle.parikh_flow.proofs.CountLemmas.{front-length, rest-length}
 use Rattle.parikh_flow.proofs.RunLemmas.{index-take, index-drop}
 
 -- each element's number times its count, added up
@@ -29,26 +30,14 @@ terms-weighted by x base (y ∷ ys) (n ∷ f) e h =
     let rest = terms-weighted by x (suc base) ys f (omega arith) (λ k lt. subst (λ b. x b ≡ pos (slice_index f k)) (omega arith) (h (suc k) (omega arith))) in
     ap (λ v. by y *ℤ v +ℤ terms_value x (terms_by by (suc base) ys)) here ∙ ap (λ v. by y *ℤ pos n +ℤ v) rest
 
-length-take : (f : List ℕ) (n k : ℕ) → length f ≡ n + k → length (take n f) ≡ n
-length-take [] zero k h = refl
-length-take [] (suc n) k h = absurd (omega arith)
-length-take (x ∷ f) zero k h = refl
-length-take (x ∷ f) (suc n) k h = ap suc (length-take f n k (omega arith))
-
-pub length-drop : (f : List ℕ) (n k : ℕ) → length f ≡ n + k → length (drop n f) ≡ k
-length-drop [] zero k h = omega arith
-length-drop [] (suc n) k h = absurd (omega arith)
-length-drop (x ∷ f) zero k h = omega arith
-length-drop (x ∷ f) (suc n) k h = length-drop f n k (omega arith)
-
 -- the value of a machine's terms at its counts
 module _ (x : ℕ → ℤ) (base : ℕ) (m : Graph) (f : List ℕ) (counts : AreCountsAt x base m f) where
   pub edge_value : (by : Edge → ℤ) → terms_value x (terms_by by base m.edges) ≡ weighted by m.edges (edge_counts m f)
-  edge_value by = terms-weighted by x base m.edges (edge_counts m f) (length-take f (length m.edges) (length m.ends) counts.size)
+  edge_value by = terms-weighted by x base m.edges (edge_counts m f) (front-length f (length m.edges) (length m.ends) counts.size)
       (λ k lt. counts.values k (omega arith) ∙ ap pos (sym (index-take f (length m.edges) k lt)))
 
   pub end_value : (by : End → ℤ) → terms_value x (terms_by by (base + length m.edges) m.ends) ≡ weighted by m.ends (end_counts m f)
-  end_value by = terms-weighted by x (base + length m.edges) m.ends (end_counts m f) (length-drop f (length m.edges) (length m.ends) counts.size)
+  end_value by = terms-weighted by x (base + length m.edges) m.ends (end_counts m f) (rest-length f (length m.edges) (length m.ends) counts.size)
       (λ k lt. subst (λ b. x b ≡ pos (slice_index (end_counts m f) k)) (omega arith)
       (counts.values (length m.edges + k) (omega arith) ∙ ap pos (sym (index-drop f (length m.edges) k))))
 

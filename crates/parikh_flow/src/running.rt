@@ -1,25 +1,18 @@
-ghost use Rattle.std.specs.Prelude.{◌≡◌, ℕ, ◌+◌, ◌<◌, ◌≤◌, ◌↔◌, true, false, List, [], ◌∷◌, ◌++◌, length, reverse, slice_get, slice_index, Some, IfOk, OnOk, Err, Contains};
+ghost use Rattle.std.specs.Prelude.{◌≡◌, ℕ, ◌<◌, ◌≤◌, ◌↔◌, true, false, List, length, slice_get, slice_index, Some, IfOk, Err, Contains};
 ghost use Rattle.std.specs.List.Sorted.{IsStrictlyIncreasing};
-ghost use Rattle.machine_core.specs.declared.edge.Edge.{Edge};
-ghost use Rattle.machine_core.specs.declared.run.Run.{Run};
-ghost use Rattle.sv_word.specs.Ranges.{least_of};
-ghost use Rattle.sv_word.specs.Words.{greatest_character};
 ghost use Rattle.machine_core.specs.Graphs.{IsRunOf};
 ghost use Rattle.parikh_flow.specs.declared.flow_fault.FlowFault.TheVariants.{Apart};
 ghost use Rattle.parikh_flow.specs.Counts.{total_count};
 ghost use Rattle.parikh_flow.specs.Balance.{AreBalanced, one_at};
-ghost use Rattle.parikh_flow.specs.Flows.{IsFlow, LeadsAlong};
+ghost use Rattle.parikh_flow.specs.Flows.{IsFlow};
 ghost use Rattle.parikh_flow.specs.Nets.{AreApart};
 ghost use Rattle.parikh_flow.specs.Tours.{IsMet};
-ghost use Rattle.machine_core.specs.Edges.{IsWalk};
 
 use crate::flow_fault::FlowFault;
-use crate::items::item_at;
 use crate::tour::tour_of;
-use machine_core::{Cost, Edge, Explicit, Run};
+use machine_core::{Explicit, Run};
 use std::alloc::{AllocError, Global};
-use sv_list::{Copied, Items};
-use sv_word::{Ranges, Word};
+use sv_list::Items;
 
 /// A run of the machine that uses each edge and each end as often as the counts say: those of the edges
 /// come first, in the order of `edges`, and then those of the ends, in the order of `finals`.
@@ -39,7 +32,7 @@ pub fn run_of(alloc: Global, machine: &Explicit, counts: &[u64]) -> Result<Run<u
     let end = &machine.finals()[last];
     let walked = tour_of(alloc, machine, of_edges, end.at)?;
     if is_spent(walked.left.as_slice()) {
-        Ok(run_along(alloc, machine, walked.back.as_slice(), &end.cost)?)
+        Ok(Run::along(alloc, machine, walked.back.as_slice(), &end.cost)?)
     } else {
         let set = unmet_states(alloc, machine, walked.back.as_slice())?;
         Err(FlowFault::Apart(set))
@@ -113,66 +106,4 @@ pub fn unmarked_states(alloc: Global, marks: &[bool], states: u32) -> Result<Ite
         }
     }
     Ok(set)
-}
-
-// The least character; 0 where there is none.
-fn least(on: &Ranges) -> u32
-    ensures { result ≡ least_of on.now }
-{
-    match on.least() {
-        Some(c) => c,
-        None => 0,
-    }
-}
-
-// The run of no characters, with this last cost and room for so many steps.
-fn open_run(alloc: Global, steps: usize, last: Cost) -> Result<Run<u32>, AllocError>
-    ensures { IfOk result (λ run. run ≡ record { word = []; states = 0 ∷ []; costs = []; last = last }) }
-{
-    let room = Vec::with_capacity(alloc, steps.saturating_add(1))?;
-    let mut states = Items::from_vec(room);
-    states.push(0)?;
-    let room = Vec::with_capacity(alloc, steps)?;
-    Ok(Run {
-        word: Word::new(alloc),
-        states,
-        costs: Items::from_vec(room),
-        last,
-    })
-}
-
-// One step more, along this edge.
-fn add_step(alloc: Global, run: &mut Run<u32>, edge: &Edge) -> Result<(), AllocError>
-    requires { least_of edge.now.on ≤ greatest_character }
-    ensures { OnOk result (run.new ≡ record {
-      word = run.old.word ++ least_of edge.now.on ∷ [];
-      states = run.old.states ++ edge.now.to ∷ [];
-      costs = run.old.costs ++ edge.now.cost ∷ [];
-      last = run.old.last;
-    }) }
-{
-    run.word.push(least(&edge.on))?;
-    run.costs.push(edge.cost.copy(alloc)?)?;
-    run.states.push(edge.to)
-}
-
-// The run along these edges, of which the last comes first, with this last cost.
-fn run_along(
-    alloc: Global,
-    machine: &Explicit,
-    back: &[usize],
-    last: &Cost,
-) -> Result<Run<u32>, AllocError>
-    requires { (t : ℕ) × IsWalk machine.now.edges 0 (reverse back.now) t }
-    ensures leads { IfOk result (λ run. (t : ℕ) × IsWalk machine.now.edges 0 (reverse back.now) t
-        × (after : List ℕ) × (run.states ≡ 0 ∷ after) × LeadsAlong machine.now.edges 0 (reverse back.now) after run.word run.costs t) }
-    ensures last { IfOk result (λ run. run.last ≡ last.now) }
-{
-    let mut run = open_run(alloc, back.len(), last.copy(alloc)?)?;
-    let mut k = back.len();
-    while k > 0 {
-        k -= 1;
-        add_step(alloc, &mut run, item_at(machine.edges(), back[k]))?;
-    }
-    Ok(run)
 }

@@ -1,10 +1,9 @@
 use Rattle.std.proofs.Common.{◌≡◌, ◌∙◌, ◌+◌, ◌<◌, ◌<ℤ◌, inl, inr, pos, rules, false, ℕ, List, Some, true, ap, arith, subst, sym}
 use Rattle.std.specs.Prelude.{slice_get}
 use Rattle.std.proofs.lemmas.Bool.{cases_lt}
-use Rattle.std.proofs.lemmas.Option.{slice_get-get_or}
+use Rattle.std.proofs.lemmas.Option.{slice_get-get_or, slice_get_within}
 use Rattle.farkas_check.specs.Cuts.{values_of}
 use Rattle.farkas_check.specs.declared.net.NetEdge.{NetEdge}
-use Rattle.parikh_flow.proofs.Gets.{slice_get-below}
 use Rattle.parikh_flow.proofs.reaching.is_joined.Goals as goal
 use Rattle.parikh_flow.proofs.reaching.is_joined.Goals.{else-point-edge-gt0-via-then-point-edge-gt0+else-not-seen-edge, else-point-edge-gt0-via-else-point-edge-gt0}
 
@@ -41,6 +40,6 @@ returns-clause-left c = λ e. true-no-false e
 
 pub returns-clause-joined : goal.returns-clause-joined
 returns-clause-joined c = λ _ p e g.
-    let below = slice_get-below c.args.edges.now p e g in
+    let below = slice_get_within c.args.edges.now p e g in
     let test = c.loop-at-test.false in
     c.loop-at.invariant p e (omega arith) g

@@ -1,7 +1,7 @@
 use Rattle.std.proofs.Common.{◌≤ℤ◌, All, length, pos, subst, sym, ap, arith}
+use Rattle.std.proofs.lemmas.Option.{slice_get-get_or}
 use Rattle.farkas_check.specs.Cuts.{IsNetWithin, values_of}
 use Rattle.farkas_check.specs.declared.net.Net.{Net}
-use Rattle.parikh_flow.proofs.Gets.{slice_get-in}
 use Rattle.parikh_flow.proofs.net_cutter.NetCutterCutter.cut.Goals as goal
 
 pub unreached_states-requires-clause-within : goal.unreached_states-requires-clause-within
@@ -14,4 +14,4 @@ pub returns : goal.returns
 returns c = λ i d lt.
     let test = c.loop-net-test.false in
     let size = ap length c.as_slice-net-items.ensures in
-    c.loop-net.invariant.joined i _ (omega arith) (rw c.as_slice-net-items.ensures (slice_get-in c.args.self.now.system.now.nets i d lt))
+    c.loop-net.invariant.joined i _ (omega arith) (rw c.as_slice-net-items.ensures (slice_get-get_or c.args.self.now.system.now.nets i d lt))
