@@ -1,5 +1,5 @@
 -- When two regular expressions of one form are one: where their parts are.
-use Rattle.std.proofs.Common.{◌≡◌, sym, ap, ◌∙◌, Bool, IsTrue, List, ℕ}
+use Rattle.std.proofs.Common.{◌≡◌, sym, ap, ◌∙◌, Bool, IsTrue, List}
 use Rattle.std.specs.Prelude.{◌↔◌}
 use Rattle.sv_terms.specs.declared.regex.Regex.{Regex, roll-Regex}
 use Rattle.sv_terms.specs.declared.regex.Regex.TheVariants as v

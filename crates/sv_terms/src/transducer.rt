@@ -3,7 +3,7 @@ use sv_list::{Copied, Items, Same};
 use sv_word::Word;
 
 /// What an edge writes.
-#[derive(Debug, Drop)]
+#[derive(Drop)]
 pub enum Item {
     /// This word.
     Text(Word),
@@ -14,7 +14,7 @@ pub enum Item {
 
 /// An edge of a transducer: in the state `from` it reads a character from `lo` to `hi`, writes its
 /// items in their order, and leads to the state `to`.
-#[derive(Debug, Drop)]
+#[derive(Drop)]
 pub struct TransEdge {
     pub from: u32,
     pub lo: u32,
@@ -28,7 +28,6 @@ pub struct TransEdge {
 ///
 /// The states are the numbers below `states`. `ends` lists pairs of a state and the word that is
 /// written there at the end.
-#[derive(Debug)]
 pub struct Transducer {
     pub states: u32,
     pub start: u32,
