@@ -171,7 +171,10 @@ pub(crate) fn head_of<'a>(
         Sexpr::List(items) => match items.as_slice() {
             [] => Err(CheckFault::Shape),
             [under, parts @ ..] => match opening(under) {
-                Opening::Identifier => Ok(Head::Theory(find_function(alloc, symbols, parts)?)),
+                Opening::Identifier => match find_function(alloc, symbols, parts) {
+                    Ok(function) => Ok(Head::Theory(function)),
+                    Err(fault) => Err(fault),
+                },
                 _ => Err(CheckFault::Shape),
             },
         },

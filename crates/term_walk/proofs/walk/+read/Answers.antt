@@ -138,32 +138,16 @@ pub read_annotated-returns-in-len1-up : goal.read_annotated-returns-in-len1-up
 read_annotated-returns-in-len1-up t c = λ s b. annotated-read c.args.symbols.now s c.args.walk.now c.read.new.walk c.read.result (forms (map seen c.args.parts.now)) (forms (map seen (take (length c.args.parts.now - 1) (drop 1 c.args.parts.now)))) (seen c.term-item.result) (rest-seen c.args.parts.now c.term-item.result c.in-len1-up.len_at_least c.term-item.is) (c.read.ensures s b)
 
 pub read_let-returns-in_default : goal.read_let-returns-in_default
-read_let-returns-in_default t c =
-    λ s b.
-    let few = let-few any_size c.args.symbols.now s c.args.parts.now in
-    let many = let-many any_size c.args.symbols.now s c.args.parts.now in
-    grind (arith, common_steps, few, many)
+read_let-returns-in_default t c = λ s b. let-few any_size c.args.symbols.now s c.args.parts.now c.in_default.len_below
 
 pub read_let-returns-in_default-2 : goal.read_let-returns-in_default-2
-read_let-returns-in_default-2 t c =
-    λ s b.
-    let few = let-few any_size c.args.symbols.now s c.args.parts.now in
-    let many = let-many any_size c.args.symbols.now s c.args.parts.now in
-    grind (arith, common_steps, few, many)
+read_let-returns-in_default-2 t c = λ s b. let-many any_size c.args.symbols.now s c.args.parts.now c.in_default.len_at_least
 
 pub read_quantifier-returns-in_default : goal.read_quantifier-returns-in_default
-read_quantifier-returns-in_default t c =
-    λ s b.
-    let few = quantifier-few any_size c.args.symbols.now s c.args.parts.now in
-    let many = quantifier-many any_size c.args.symbols.now s c.args.parts.now in
-    grind (arith, common_steps, few, many)
+read_quantifier-returns-in_default t c = λ s b. quantifier-few any_size c.args.symbols.now s c.args.parts.now c.in_default.len_below
 
 pub read_quantifier-returns-in_default-2 : goal.read_quantifier-returns-in_default-2
-read_quantifier-returns-in_default-2 t c =
-    λ s b.
-    let few = quantifier-few any_size c.args.symbols.now s c.args.parts.now in
-    let many = quantifier-many any_size c.args.symbols.now s c.args.parts.now in
-    grind (arith, common_steps, few, many)
+read_quantifier-returns-in_default-2 t c = λ s b. quantifier-many any_size c.args.symbols.now s c.args.parts.now c.in_default.len_at_least
 
 pub read_quantifier-returns-in-List : goal.read_quantifier-returns-in-List
 read_quantifier-returns-in-List t c =
