@@ -171,10 +171,7 @@ pub(crate) fn head_of<'a>(
         Sexpr::List(items) => match items.as_slice() {
             [] => Err(CheckFault::Shape),
             [under, parts @ ..] => match opening(under) {
-                Opening::Identifier => match find_function(alloc, symbols, parts) {
-                    Ok(function) => Ok(Head::Theory(function)),
-                    Err(fault) => Err(fault),
-                },
+                Opening::Identifier => Ok(Head::Theory(find_function(alloc, symbols, parts)?)),
                 _ => Err(CheckFault::Shape),
             },
         },

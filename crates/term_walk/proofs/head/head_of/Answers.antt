@@ -7,9 +7,8 @@ use Rattle.smt_names.specs.declared.check_fault.CheckFault.{CheckFault}
 use Rattle.smt_names.specs.declared.check_fault.CheckFault.TheVariants as fault
 use Rattle.smt_names.specs.declared.opening.Opening.{Opening}
 use Rattle.smt_names.specs.declared.opening.Opening.TheVariants as o
-use Rattle.smt_names.specs.Answering.{fault-passes}
 use Rattle.smt_names.specs.Faults.{Answers, made_of}
-use Rattle.smt_names.specs.Form.{Forms, forms, group, seen}
+use Rattle.smt_names.specs.Form.{Form, Forms, forms, group, seen}
 use Rattle.smt_names.specs.Shapes.{none-seen, seen-Atom, seen-List}
 use Rattle.smt_names.specs.Tokens.{is_identifier, opening, symbol}
 use Rattle.term_walk.specs.Heads.{kept}
@@ -60,15 +59,10 @@ returns-in-None c = head_token c.args.symbols.now c.args.first.now c.in-Atom.fie
 pub returns-in-empty : goal.returns-in-empty
 returns-in-empty c = head_empty c.args.symbols.now c.args.first.now c.in-List.items c.as_slice.result.now c.in-List.is c.as_slice.ensures c.in-empty.len_below
 
-pub returns-in-Ok : goal.returns-in-Ok
-returns-in-Ok c =
+pub returns-in_ok-find_function-in-Identifier : goal.returns-in_ok-find_function-in-Identifier
+returns-in_ok-find_function-in-Identifier c =
     head_identifier c.args.symbols.now c.args.first.now c.in-List.items c.as_slice.result.now c.in-List.is c.as_slice.ensures c.under-item.result c.in-len1-up.len_at_least c.under-item.is c.opening.result c.opening.ensures c.in-Identifier.is
-    ∙ ap of_theory c.in-Ok.ensures
-
-pub returns-in-Err : goal.returns-in-Err
-returns-in-Err c =
-    fault-passes (identified c.args.symbols.now (forms (map seen (take (length c.as_slice.result.now - 1) (drop 1 c.as_slice.result.now))))) (head c.args.symbols.now (seen c.args.first.now)) c.in-Err.fault
-    (λ e. head_identifier c.args.symbols.now c.args.first.now c.in-List.items c.as_slice.result.now c.in-List.is c.as_slice.ensures c.under-item.result c.in-len1-up.len_at_least c.under-item.is c.opening.result c.opening.ensures c.in-Identifier.is ∙ ap of_theory e) c.in-Err.ensures
+    ∙ ap of_theory c.in_ok-find_function-in-Identifier.ensures
 
 pub returns-in_default : goal.returns-in_default
 returns-in_default c = head_other c.args.symbols.now c.args.first.now c.in-List.items c.as_slice.result.now c.in-List.is c.as_slice.ensures c.under-item.result c.in-len1-up.len_at_least c.under-item.is c.opening.result c.opening.ensures c.in_default.not-Identifier
