@@ -6,8 +6,8 @@ ghost use Rattle.search_hits.specs.Hits.{AreRunsOf};
 ghost use Rattle.backward.specs.Leaves.{machines_of};
 ghost use Rattle.cube_search.specs.Spreads.{IsSpread};
 
-use backward::LeafState;
 use crate::found::FoundRuns;
+use backward::LeafState;
 use machine_core::{Explicit, Run};
 use search_hits::Hit;
 use std::alloc::{AllocError, Global};

@@ -7,8 +7,8 @@ ghost use Rattle.cube_search.specs.declared.reason.OpenReason.TheVariants.{Fragm
 ghost use Rattle.decide.specs.Jobs.{IsAskedCube, IsOutcome, refused_answer};
 
 use assertion_parts::complete;
-use cube_search::{CubeAnswer, OpenReason, Shown, cube_answer};
 use cube_bounds::numbers;
+use cube_search::{CubeAnswer, OpenReason, Shown, cube_answer};
 use flat_cubes::{Flat, FlatFault};
 use literal_forms::Cube;
 use par_phase::Job;

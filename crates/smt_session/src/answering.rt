@@ -8,9 +8,9 @@ ghost use Rattle.smt_session.specs.Awaiting.{AddsReplies, IsAnswering, IsFaulty,
 use crate::log::ReplyLog;
 use crate::status::Status;
 use crate::transfer::write_reply;
+use crate::{Reply, Session};
 use reply_text::ErrorKind;
 use sexpr_reader::{Reader, Sexpr, SyntaxFault, more_bytes_may_follow};
-use crate::{Reply, Session};
 use std::alloc::{AllocError, Global};
 use std::thread::Threads;
 use sv_io::Sink;

@@ -3,9 +3,9 @@ ghost use Rattle.std.specs.Prelude.{◌≡◌};
 ghost use Rattle.smt_session.specs.Verdicts.{cause_of, of_evidence, of_reason};
 
 use cube_search::OpenReason;
+use decide::Open;
 use lia_branch::Evidence;
 use reply_text::{Cause, CubeCause};
-use decide::Open;
 
 fn of_evidence(evidence: &Evidence) -> CubeCause
     ensures { result ≡ of_evidence evidence.now }

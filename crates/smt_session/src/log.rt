@@ -3,9 +3,9 @@ ghost use Rattle.smt_session.specs.declared.reply.Reply.{Reply as AnyReply};
 ghost use Rattle.smt_session.specs.Generated.{counted, is_sat, is_unknown, is_unsat, tally_of};
 ghost use Rattle.smt_session.specs.Scripts.{has_error};
 
+use crate::Reply;
 use crate::status::Status;
 use generated_script::VerdictCounts;
-use crate::Reply;
 use std::marker::Model;
 
 /// The replies of a run, in order. Contracts see the list of them; in memory stands only whether one is an error,

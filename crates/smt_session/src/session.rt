@@ -13,6 +13,7 @@ use crate::check::verdict_of;
 use crate::reply::Reply;
 use crate::values::{definitions, values};
 use assert_stack::{Stack, StackFault};
+use decide::Verdict;
 use reply_text::{Cause, ErrorKind, Info};
 use sexpr_reader::Sexpr;
 use sort_check::{
@@ -23,7 +24,6 @@ use std::alloc::{AllocError, Global};
 use std::thread::Threads;
 use sv_list::Items;
 use sv_terms::{Entry, Model, Name, Term};
-use decide::Verdict;
 
 /// The verdict of the last `check-sat`, until something changes what it was on.
 #[derive(Drop)]
