@@ -8,7 +8,7 @@ use crate::words_fault::WordsFault;
 use std::alloc::Global;
 
 /// What a command line asks for.
-#[derive(Clone, Copy, PartialEq, Eq)]
+#[derive(Clone, Copy)]
 pub enum Task<'a> {
     /// To answer the script of this file, or where there is none that of standard input.
     Answer(Option<&'a str>),
@@ -17,7 +17,7 @@ pub enum Task<'a> {
 }
 
 /// A command line: what is asked for, and by how many workers.
-#[derive(Clone, Copy, PartialEq, Eq)]
+#[derive(Clone, Copy)]
 pub struct CommandLine<'a> {
     /// From 1 to 64; 1 where the words don't say.
     pub workers: u64,

@@ -13,7 +13,7 @@ use std::alloc::{AllocError, Global};
 use sv_linear::{Column, Row};
 
 /// What multipliers show of some rows.
-#[derive(Clone, Copy, PartialEq, Eq)]
+#[derive(Clone, Copy)]
 pub enum LeafTest {
     /// The leaf closes the rows: its rule is met, and no sum leaves 128 bits.
     Closes,

@@ -1,7 +1,7 @@
 use sv_list::Items;
 
 /// An edge between two states, taken as often as the value of its unknown says.
-#[derive(Clone, Copy, PartialEq, Eq)]
+#[derive(Clone, Copy)]
 pub struct NetEdge {
     pub from: u32,
     pub to: u32,

@@ -7,7 +7,7 @@ use std::alloc::AllocError;
 type Text = Vec<u8>;
 
 /// What a block asks, in which it has a number from 1 to 50.
-#[derive(Clone, Copy, PartialEq, Eq)]
+#[derive(Clone, Copy)]
 pub enum Shape {
     /// A power of `"ab"` that has its own length: `sat`.
     Power,

@@ -6,7 +6,7 @@ use itoa::Buffer;
 use std::alloc::{AllocError, Global};
 
 /// How many verdicts there were of each kind.
-#[derive(Clone, Copy, PartialEq, Eq)]
+#[derive(Clone, Copy)]
 pub struct VerdictCounts {
     pub sat: u64,
     pub unsat: u64,

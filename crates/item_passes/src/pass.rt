@@ -1,5 +1,5 @@
 /// What is looked for over a whole item before its terms are walked.
-#[derive(Clone, Copy, PartialEq, Eq)]
+#[derive(Clone, Copy)]
 pub enum Pass {
     /// Names that stand twice in one `let`.
     Names,

@@ -5,7 +5,7 @@ use sv_linear::{Form, Row, RowKind};
 use sv_list::Items;
 
 /// Which bound of an unknown.
-#[derive(Clone, Copy, PartialEq, Eq)]
+#[derive(Clone, Copy)]
 pub(crate) enum BoundSide {
     Lower,
     Upper,

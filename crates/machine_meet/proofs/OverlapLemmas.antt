@@ -4,7 +4,7 @@ use Rattle.std.specs.Cmp.{and_equiv, on_equiv, nat_eq_equiv, IsEquivalence}
 use Rattle.std.specs.List.{dedup}
 use Rattle.std.specs.List.Retain.{IsFiltered, DiffersFromLast}
 use Rattle.std.specs.List.Sorted.{IsPartitionPoint, IsPermutation}
-use Rattle.std.specs.Prelude.{nat_lt, nat_le}
+use Rattle.std.specs.Prelude.{◌==◌, nat_lt, nat_le}
 use Rattle.std.proofs.lemmas.Bool.Decides.{nat_tests}
 use Rattle.std.proofs.lemmas.List.{get_or-take, get_or-drop, length-take, length-drop, take_more, take_all}
 use Rattle.std.proofs.lemmas.List.Elements.{Contains-append_left, Contains-append_right, Contains-append_cases}
@@ -13,7 +13,6 @@ use Rattle.std.proofs.lemmas.List.Folds.{Any-from_list_any, list_any-from_Any}
 use Rattle.std.proofs.lemmas.List.Kept.{Contains-dedup, Contains-from_dedup}
 use Rattle.std.proofs.lemmas.List.Sorted.{Contains-permutation, IsPermutation-sym}
 use Rattle.std.proofs.lemmas.Option.{slice_get_within}
-use Rattle.sv_word.specs.Pairs.{pair_eq}
 use Rattle.sv_word.specs.Ranges.{in_ranges, IsApartFrom, IsInhabited}
 use Rattle.machine_core.specs.Lists.{Any-none, Any-append_left, Any-append_right, Any-push_cases, Any-here, Any-contains, Any-map, Any-from_map, contained, Contains-here}
 use Rattle.machine_core.specs.declared.machine.Move.{Move}
@@ -236,6 +235,9 @@ module _ {S T : Type 0} (heads : List (Move S)) (tails : List (Move T)) (hs ts :
 
 abbrev pub swapped : ℕ × ℕ → ℕ × ℕ
 swapped p = (p.1, p.0)
+
+abbrev pair_eq : ℕ × ℕ → ℕ × ℕ → Bool
+pair_eq p q = p.0 == q.0 && p.1 == q.1
 
 pair-equal : IsEquivalence pair_eq
 pair-equal = and_equiv (on_equiv (λ (t : ℕ × ℕ). t.0) nat_eq_equiv) (on_equiv (λ (t : ℕ × ℕ). t.1) nat_eq_equiv)

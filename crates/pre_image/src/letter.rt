@@ -1,5 +1,5 @@
 /// What an edge of a transducer writes at one place.
-#[derive(Clone, Copy, PartialEq, Eq)]
+#[derive(Clone, Copy)]
 pub enum Letter {
     /// This character.
     Fixed(u32),

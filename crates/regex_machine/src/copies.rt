@@ -125,23 +125,19 @@ impl<'a> Machine for Copies<'a> {
         let (copy, state) = *at;
         if copy == self.most {
             let enough = self.are_enough(0);
-            let start = ends_if(alloc, enough)?;
-            return Ok(start);
+            return ends_if(alloc, enough);
         }
         if !may_end(self.part, state) {
-            let none = ends_if(alloc, false)?;
-            return Ok(none);
+            return ends_if(alloc, false);
         }
         let last = self.are_enough(copy + 1);
-        let costs = ends_if(alloc, last)?;
-        Ok(costs)
+        ends_if(alloc, last)
     }
 
     fn moves(&self, alloc: Global, at: &Place) -> Result<Items<Move<Place>>, AllocError> {
         let (copy, state) = *at;
         if copy == self.most {
-            let first = steps_of(alloc, self.part, 0, 0)?;
-            return Ok(first);
+            return steps_of(alloc, self.part, 0, 0);
         }
         let mut all = steps_of(alloc, self.part, state, copy)?;
         if !may_end(self.part, state) {

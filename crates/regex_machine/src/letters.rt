@@ -75,8 +75,7 @@ pub fn any_character(alloc: Global) -> Result<Explicit, AllocError>
     ensures states { IfOk result (λ m. m.states ≤ 2) }
 {
     let on = Ranges::all(alloc)?;
-    let machine = one_of(alloc, on)?;
-    Ok(machine)
+    one_of(alloc, on)
 }
 
 // The number, or the last character where it is above that.
@@ -103,8 +102,7 @@ pub fn range(alloc: Global, lo: u32, hi: u32) -> Result<Explicit, AllocError>
 {
     let top = cut_off_at_last(hi);
     let on = Ranges::of(alloc, lo, top)?;
-    let machine = one_of(alloc, on)?;
-    Ok(machine)
+    one_of(alloc, on)
 }
 
 /// The empty word alone.

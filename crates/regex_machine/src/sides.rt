@@ -98,25 +98,21 @@ impl<'a> Machine for MeetSide<'a> {
         let others = self.others;
         if others {
             let subset = Subset::of(self.part, true);
-            let known = subset.ends(alloc, at)?;
-            return Ok(known);
+            return subset.ends(alloc, at);
         }
         let list = at.as_slice();
         let may = may_end(self.part, list[0]);
-        let costs = ends_if(alloc, may)?;
-        Ok(costs)
+        ends_if(alloc, may)
     }
 
     fn moves(&self, alloc: Global, at: &Items<u32>) -> Result<Items<Move<Items<u32>>>, AllocError> {
         let others = self.others;
         if others {
             let subset = Subset::of(self.part, true);
-            let next = subset.moves(alloc, at)?;
-            return Ok(next);
+            return subset.moves(alloc, at);
         }
         let list = at.as_slice();
         let steps = self.part.moves(alloc, &list[0])?;
-        let all = to_lists(alloc, steps)?;
-        Ok(all)
+        to_lists(alloc, steps)
     }
 }

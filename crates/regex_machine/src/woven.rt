@@ -75,14 +75,12 @@ impl<'a> Machine for Woven<'a> {
     fn ends(&self, alloc: Global, at: &u32) -> Result<Items<Cost>, AllocError> {
         let states = self.states;
         let onward = &states[*at as usize];
-        let costs = ends_if(alloc, onward.may_end)?;
-        Ok(costs)
+        ends_if(alloc, onward.may_end)
     }
 
     fn moves(&self, alloc: Global, at: &u32) -> Result<Items<Move<u32>>, AllocError> {
         let states = self.states;
         let onward = &states[*at as usize];
-        let moves = onward.moves.copy(alloc)?;
-        Ok(moves)
+        onward.moves.copy(alloc)
     }
 }

@@ -25,7 +25,7 @@ fn rank(r: &Regex) -> u32 {
 #[cycle(order)]
 pub(crate) fn order(a: &Regex, b: &Regex) -> Ordering {
     match (a, b) {
-        (Regex::Text(s), Regex::Text(t)) => s.cmp(t),
+        (Regex::Text(s), Regex::Text(t)) => s.as_slice().cmp(&t.as_slice()),
         (Regex::Range(i, j), Regex::Range(k, l)) => order_two(*i, *j, *k, *l),
         (Regex::Concat(xs), Regex::Concat(ys))
         | (Regex::Union(xs), Regex::Union(ys))

@@ -1,7 +1,7 @@
 //! What is told of an answer `unknown`.
 
 /// Why a cube is open, one variant for each word that is printed.
-#[derive(Clone, Copy, PartialEq, Eq)]
+#[derive(Clone, Copy)]
 pub enum CubeCause {
     /// It isn't straight, or it has values and some assertion has an opaque part.
     Fragment,
@@ -23,7 +23,7 @@ pub enum CubeCause {
 }
 
 /// What is told of an answer `unknown`.
-#[derive(Clone, Copy, PartialEq, Eq)]
+#[derive(Clone, Copy)]
 pub enum Cause {
     /// There are more than 1,048,576 cubes.
     Cubes,

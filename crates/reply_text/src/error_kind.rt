@@ -8,7 +8,7 @@ use std::alloc::AllocError;
 use term_eval::EvalFault;
 
 /// Why a command was refused, one variant for each text that is printed.
-#[derive(Clone, Copy, PartialEq, Eq)]
+#[derive(Clone, Copy)]
 pub enum ErrorKind {
     /// A symbol, index or token that stands for no function, constant or sort.
     Unknown,

@@ -1,7 +1,7 @@
 use sv_terms::{Op, Sort};
 
 /// Which arguments a function takes.
-#[derive(Clone, Copy, PartialEq, Eq)]
+#[derive(Clone, Copy)]
 pub enum ArgumentSorts {
     /// None: a constant.
     Nothing,
@@ -22,7 +22,7 @@ pub enum ArgumentSorts {
 }
 
 /// What a function is at arguments that it takes.
-#[derive(Clone, Copy, PartialEq, Eq)]
+#[derive(Clone, Copy)]
 pub enum Interpretation {
     /// This truth value.
     Truth(bool),
@@ -68,7 +68,7 @@ pub enum Interpretation {
 
 /// A function of the theories, with its indices: which arguments it takes, the sort of what it
 /// gives (of `ite` the sort of the second argument), and what it is.
-#[derive(Clone, Copy, PartialEq, Eq)]
+#[derive(Clone, Copy)]
 pub struct Function {
     pub takes: ArgumentSorts,
     pub gives: Sort,

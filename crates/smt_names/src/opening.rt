@@ -1,5 +1,5 @@
 /// What the first item of a list makes of it, as a term (SMT-LIB 2.6, section 3.6).
-#[derive(Clone, Copy, PartialEq, Eq)]
+#[derive(Clone, Copy)]
 pub enum Opening {
     /// `let`
     Let,

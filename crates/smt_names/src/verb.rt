@@ -1,5 +1,5 @@
 /// The word of a command whose parts are looked at.
-#[derive(Clone, Copy, PartialEq, Eq)]
+#[derive(Clone, Copy)]
 pub enum CommandName {
     SetLogic,
     SetInfo,

@@ -3,7 +3,7 @@ use std::alloc::{AllocError, Global};
 use sv_list::Copied;
 
 /// What a row says of its form.
-#[derive(Clone, Copy, Debug, PartialEq, Eq)]
+#[derive(Clone, Copy, Debug)]
 pub enum RowKind {
     /// The form is at most 0.
     Le,

@@ -53,13 +53,6 @@ impl<T> Items<T> {
         self.items.as_slice()
     }
 
-    /// The `Vec` that holds the elements.
-    pub fn vec(&self) -> &Vec<T>
-        ensures { result.now.items ≡ self.now }
-    {
-        &self.items
-    }
-
     /// How many elements there are.
     pub fn len(&self) -> usize
         ensures { result ≡ length self.now }

@@ -13,38 +13,8 @@ pub trait Same {
         ensures { IsTrue result ↔ (self.now ≡ other.now) };
 }
 
-impl Same for bool {
-    fn same(&self, other: &bool) -> bool {
-        *self == *other
-    }
-}
-
 impl Same for u32 {
     fn same(&self, other: &u32) -> bool {
-        *self == *other
-    }
-}
-
-impl Same for i32 {
-    fn same(&self, other: &i32) -> bool {
-        *self == *other
-    }
-}
-
-impl Same for u64 {
-    fn same(&self, other: &u64) -> bool {
-        *self == *other
-    }
-}
-
-impl Same for usize {
-    fn same(&self, other: &usize) -> bool {
-        *self == *other
-    }
-}
-
-impl Same for i128 {
-    fn same(&self, other: &i128) -> bool {
         *self == *other
     }
 }

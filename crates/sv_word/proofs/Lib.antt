@@ -7,7 +7,6 @@ pub mod JoinLemmas
 pub mod MeetLemmas
 pub mod PrintLemmas
 pub mod ReadLemmas
-pub mod SameLemmas
 pub mod SearchLemmas
 pub mod Slices
 pub mod Utf8Lemmas

@@ -2,7 +2,6 @@ ghost use Rattle.std.specs.Prelude.{◌≡◌, ◌↔◌, [], ◌∷◌, ◌++�
 ghost use Rattle.sv_word.specs.Words.{IsWord, greatest_character};
 
 use std::alloc::{AllocError, Global};
-use std::cmp::Ordering;
 use std::marker::Model;
 use sv_list::{Copied, Same};
 
@@ -12,9 +11,8 @@ pub const GREATEST_CHARACTER: u32 = 0x2FFFF;
 
 /// A word: a list of characters (theory UnicodeStrings of SMT-LIB 2.6).
 ///
-/// Contracts see the list. A character takes four bytes. Equality and order are those of the
-/// lists, character by character from the first.
-#[derive(Debug, Drop)]
+/// Contracts see the list. A character takes four bytes.
+#[derive(Drop)]
 pub struct Word {
     characters: Vec<u32>,
 }
@@ -132,57 +130,5 @@ impl Copied for Word {
 impl Same for Word {
     fn same(&self, other: &Word) -> bool {
         self.same(other)
-    }
-}
-
-impl PartialEq for Word {
-    ghost use Rattle.std.specs.Prelude.{nat_eq};
-    ghost use Rattle.std.specs.Cmp.Lexicographic.{pointwise, nat_list_eq_equiv};
-    ghost use Rattle.std.specs.Cmp.{partial_equiv_from_equiv};
-
-    ghost eq = { pointwise nat_eq };
-
-    ghost laws = { partial_equiv_from_equiv nat_list_eq_equiv };
-
-    fn eq(&self, other: &Word) -> bool {
-        self.characters.as_slice() == other.characters.as_slice()
-    }
-}
-
-impl Eq for Word {
-    ghost use Rattle.std.specs.Cmp.Lexicographic.{nat_list_eq_equiv};
-
-    ghost laws = { nat_list_eq_equiv };
-}
-
-impl PartialOrd for Word {
-    ghost use Rattle.std.specs.Prelude.{Some};
-    ghost use Rattle.std.specs.Ordering.{nat_cmp};
-    ghost use Rattle.std.specs.Cmp.Lexicographic.{slice_cmp, texts_po};
-
-    ghost partial_cmp = { λ v w. Some (slice_cmp nat_cmp v w) };
-
-    ghost laws = { texts_po };
-
-    fn partial_cmp(&self, other: &Word) -> Option<Ordering> {
-        Some(self.cmp(other))
-    }
-}
-
-impl Ord for Word {
-    ghost use Rattle.std.specs.Prelude.{refl};
-    ghost use Rattle.std.specs.Ordering.{nat_cmp};
-    ghost use Rattle.std.specs.Cmp.Lexicographic.{slice_cmp, nat_list_cmp_total, texts_ties};
-
-    ghost cmp = { slice_cmp nat_cmp };
-
-    ghost total = { nat_list_cmp_total };
-
-    ghost matches_partial_cmp = { λ v w. refl };
-
-    ghost matches_eq = { texts_ties };
-
-    fn cmp(&self, other: &Word) -> Ordering {
-        self.characters.as_slice().cmp(&other.characters.as_slice())
     }
 }

@@ -9,7 +9,7 @@ use literal_forms::{Joint, Role, role_of};
 use sv_terms::{Op, Sort, Term};
 
 /// Whether a term of sort Int has a written form, and whether an unknown stands in it.
-#[derive(Clone, Copy, PartialEq, Eq)]
+#[derive(Clone, Copy)]
 pub enum Linearity {
     /// No unknown stands in it.
     Constant,
@@ -20,7 +20,7 @@ pub enum Linearity {
 }
 
 /// How a function of sort Int joins what its arguments are.
-#[derive(Clone, Copy, PartialEq, Eq)]
+#[derive(Clone, Copy)]
 pub enum Joining {
     Sum,
     Product,

@@ -8,14 +8,14 @@ use literal_forms::{Build as Built, Role, role_of};
 use sv_terms::{Op, Sort, Term};
 
 /// Which occurrences of a word are replaced.
-#[derive(Clone, Copy, PartialEq, Eq)]
+#[derive(Clone, Copy)]
 pub enum Occurrences {
     First,
     All,
 }
 
 /// What a function builds a string term of.
-#[derive(Clone, Copy, PartialEq, Eq)]
+#[derive(Clone, Copy)]
 pub enum PlaceBuild {
     /// Pieces.
     Concat,

@@ -1,4 +1,5 @@
 use Rattle.std.proofs.Common.{[]}
+use Rattle.std.proofs.lemmas.Result.{IfOk-weaker}
 use Rattle.machine_core.specs.Edges.{EndsAt}
 use Rattle.regex_machine.proofs.WordLemmas.{surely, never}
 use Rattle.regex_machine.proofs.CopyMoves.{own-moves, copy-stays, copy-goes_on, in-copy}
@@ -8,7 +9,7 @@ pub returns-then-copy-self-clause-exact : goal.returns-then-copy-self-clause-exa
 returns-then-copy-self-clause-exact c =
     let s = c.args.self.now in
     let at = c.args.at.now in
-    own-moves s.part.now s.least s.most s.again s.reads_empty at.0 at.1 c.in_ok-first.first c.if-copy-self.true c.in_ok-first.ensures.exact
+    IfOk-weaker c.steps_of.result _ _ (λ first. own-moves s.part.now s.least s.most s.again s.reads_empty at.0 at.1 first c.if-copy-self.true) c.steps_of.ensures.exact
 
 pub returns-then-not-may_end-clause-exact : goal.returns-then-not-may_end-clause-exact
 returns-then-not-may_end-clause-exact c =

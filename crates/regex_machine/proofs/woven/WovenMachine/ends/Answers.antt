@@ -1,3 +1,4 @@
+use Rattle.std.proofs.lemmas.Result.{IfOk-weaker}
 use Rattle.regex_machine.proofs.WovenLemmas.{woven-ends, stands-at}
 use Rattle.regex_machine.proofs.woven.WovenMachine.ends.Goals as goal
 
@@ -6,4 +7,4 @@ returns c =
     let states = c.args.self.now.states.now in
     let o = c.index-states-at.result in
     let at = stands-at states c.args.at.now o c.requires c.index-states-at.is in
-    woven-ends states c.args.at.now o at c.in_ok-costs.costs c.in_ok-costs.ensures
+    IfOk-weaker c.ends_if.result _ _ (woven-ends states c.args.at.now o at) c.ends_if.ensures

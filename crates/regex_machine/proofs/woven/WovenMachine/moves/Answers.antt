@@ -1,3 +1,4 @@
+use Rattle.std.proofs.lemmas.Result.{IfOk-weaker}
 use Rattle.regex_machine.proofs.WovenLemmas.{woven-inhabited, woven-moves, stands-at}
 use Rattle.regex_machine.proofs.woven.WovenMachine.moves.Goals as goal
 
@@ -6,11 +7,11 @@ returns-clause-inhabited c =
     let states = c.args.self.now.states.now in
     let o = c.index-states-at.result in
     let at = stands-at states c.args.at.now o c.requires c.index-states-at.is in
-    woven-inhabited states c.args.self.now.closed c.args.at.now o at c.in_ok-moves.moves c.in_ok-moves.ensures
+    IfOk-weaker c.copy.result _ _ (woven-inhabited states c.args.self.now.closed c.args.at.now o at) c.copy.ensures
 
 pub returns-clause-exact : goal.returns-clause-exact
 returns-clause-exact c =
     let states = c.args.self.now.states.now in
     let o = c.index-states-at.result in
     let at = stands-at states c.args.at.now o c.requires c.index-states-at.is in
-    woven-moves states c.args.at.now o at c.in_ok-moves.moves c.in_ok-moves.ensures
+    IfOk-weaker c.copy.result _ _ (woven-moves states c.args.at.now o at) c.copy.ensures
