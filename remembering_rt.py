@@ -3,7 +3,7 @@
 
     python3 remembering_rt.py lib --jobs 1        in a crate's folder, with rt's own words
 
-rt asks for a checksum of each crate below by each way that leads to it in crates.txt: 3,500 ways from `smt_session`, each
+rt asks for a checksum of each crate below by each way that leads to it in crates.txt: 2,300 ways from `smt_session`, each
 a look at all files of the crate, some minutes in all before the prover begins. Here a crate's checksum is kept while the
 command runs; that of the crate in whose folder it runs isn't, since rt compares it behind the proof with that before.
 

@@ -2,9 +2,9 @@
 """Lists the definitions that the contract of the top call rests on.
 
 It begins with the definitions that the clauses of `run` name (crates/smt_session/src/top.rt), follows
-what each definition of a specs/ folder names, and what the public ghost fields of the types that it
-names say, and those of the types in their fields. It prints one row a file: how many lines of it are
-reached, and what it restates, which is the first comment of the file.
+what each definition of a specs/ folder names, the constants of sources among it, and what the public
+ghost fields of the types that it names say, and those of the types in their fields. It prints one row a
+file: how many lines of it are reached, and what it restates, which is the first comment of the file.
 
     docs/trusted.py           prints the table
     docs/trusted.py --check   compares it with docs/TRUST.md, prints what differs, and ends with 1 if something does
@@ -122,11 +122,35 @@ class Types:
                 waiting += [(home, inner) for home in homes if home == at[0] or at[0] not in homes]
 
 
+class Constants:
+    """The constants of a file of sources, one line each."""
+
+    def __init__(self, path):
+        self.path = path
+        self.lines = path.read_text().splitlines()
+        self.blocks = {}
+        for number, line in enumerate(self.lines):
+            found = re.match(r"pub const (\w+):", line)
+            if found:
+                self.blocks[found.group(1)] = [number]
+        self.imports, self.names = {}, {name: name for name in self.blocks}
+
+    def words(self, name):
+        return []
+
+    def head(self):
+        said = [line[3:].strip() for line in self.lines if line.startswith("//!")]
+        return " ".join(said)
+
+
 def load():
     specs = {}
     for path in sorted((ROOT / "crates").glob("*/specs/*.antt")):
         if path.name != "Lib.antt":
             specs[(path.parts[-3], path.stem)] = Spec(path)
+    for path in sorted((ROOT / "crates").glob("*/src/*.rt")):
+        if re.search(r"^pub const ", path.read_text(), re.M):
+            specs[(path.parts[-3], f"declared.{path.stem}.TheConstants")] = Constants(path)
     return specs
 
 
@@ -173,7 +197,7 @@ def table():
         spec = specs[key]
         lines = sum(len(spec.blocks[name]) for name in reached[key])
         total += lines
-        rows.append(f"| `crates/{key[0]}/specs/{key[1]}.antt` | {lines} | {spec.head()} |")
+        rows.append(f"| `{spec.path.relative_to(ROOT)}` | {lines} | {spec.head()} |")
     top = ["| File | Lines | What it says |", "|---|---|---|"]
     return top + rows + ["", f"{total} lines of {len(rows)} files, comments and imports left out."]
 
