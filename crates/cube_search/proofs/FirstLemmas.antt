@@ -2,7 +2,8 @@
 use Rattle.std.proofs.Common.{◌≡◌, ℕ, zero, suc, ◌<◌, ◌≤◌, ◌+◌, false, cond, nat_eq, List, [], ◌∷◌, length, map, take, Some, None, slice_get, get_or, refl, sym, ap, ◌∙◌, subst, arith, inl, inr, ne_eqb}
 use Rattle.std.specs.List.{AllByRecursion, AllZip, range_with_len}
 use Rattle.std.proofs.lemmas.Bool.Decides.{eqb_tells}
-use Rattle.std.proofs.lemmas.Option.{none-some, same_Some}
+use Rattle.std.proofs.lemmas.Option.{none-some, same_Some, slice_get_within}
+use Rattle.std.proofs.Math.Seq.{take-length}
 use Rattle.sv_terms.specs.Language.{Word}
 use Rattle.machine_core.specs.Costs.{add_costs, zeros}
 use Rattle.machine_core.specs.Edges.{EndsAt, StepsBy}
@@ -26,7 +27,7 @@ use Rattle.cube_search.specs.Models.{all_words}
 use Rattle.cube_search.specs.Searches.{AreFoundRuns, Obey}
 use Rattle.cube_search.specs.declared.found.FoundRuns.{FoundRuns}
 use Rattle.cube_search.proofs.FoundLemmas.{comes-agree}
-use Rattle.cube_search.proofs.OrderLemmas.{get-below, get-there}
+use Rattle.cube_search.proofs.OrderLemmas.{get-there}
 
 -- what the words from k on, n of them, cost at the register of u
 abbrev own_entry : Words → ℕ → ℕ → ℕ → ℕ
@@ -69,7 +70,7 @@ map-below f n (u ∷ us) h = let here = entry-at f 0 n u (omega arith) (omega (a
 
 own-full : (flat : Flat) (ms : Family) → IsOwnFamily flat ms → (v : ℕ) → slice_get ms v ≡ Some None → ⊥
 own-full flat ms own v e =
-    let below = get-below ms v None e in
+    let below = slice_get_within ms v None e in
     let size = own.size in
     let there = get-there flat.variables v (omega arith) in
     let m = own.each v there.0 there.1 in
@@ -77,7 +78,7 @@ own-full flat ms own v e =
 
 own-reads : (flat : Flat) (ms : Family) → IsOwnFamily flat ms → (v : ℕ) (m : Graph) → HasMachine ms v m → (variable : Variable) × (slice_get flat.variables v ≡ Some variable) × ReadsOwn flat v variable m
 own-reads flat ms own v m h =
-    let below = get-below ms v (Some m) h in
+    let below = slice_get_within ms v (Some m) h in
     let size = own.size in
     let there = get-there flat.variables v (omega arith) in
     let n = own.each v there.0 there.1 in
@@ -159,10 +160,6 @@ zip-at R (y ∷ xs) [] d z i x e = absurd z
 zip-at R (y ∷ xs) (w ∷ ys) d z zero x e = let equal : y ≡ x = cc in subst (λ a. R a w) equal z.0
 zip-at R (y ∷ xs) (w ∷ ys) d z (suc i) x e = zip-at R xs ys d z.1 i x e
 
-pub take-all : {X : Type 0} (xs : List X) → take (length xs) xs ≡ xs
-take-all [] = refl
-take-all (x ∷ xs) = ap (λ l. x ∷ l) (take-all xs)
-
 -- a family to which no definition was carried yet comes of a first one by steps that keep the configurations
 pub led-first : (n : ℕ) (ds : List Definition) (states : ℕ → ℕ) (First : Family → Type 0) (left : ℕ) (ms : Family) → IsLed n ds states First left ms → left ≡ length ds
     → (ns : Family) × First ns × SameConf n ns ms
@@ -170,8 +167,8 @@ led-first n ds states First left ms (begun {ms = ns} own) e = (ns, own, λ words
 led-first n ds states First left ms (same {left = k} {ms = ns} before is) e =
     let r = led-first n ds states First k ns before e in
     (r.0, r.1, λ words totals. (λ c. (is words totals).0 ((r.2 words totals).0 c), λ c. (r.2 words totals).1 ((is words totals).1 c)))
-led-first n ds states First left ms (cut {left = k} {ms = ns} x pieces cuts m before at there few is) e = absurd (let below = get-below ds k _ at in omega (arith, below, e))
-led-first n ds states First left ms (through {left = k} {ms = ns} x v b m before at reads there few is) e = absurd (let below = get-below ds k _ at in omega (arith, below, e))
+led-first n ds states First left ms (cut {left = k} {ms = ns} x pieces cuts m before at there few is) e = absurd (let below = slice_get_within ds k _ at in omega (arith, below, e))
+led-first n ds states First left ms (through {left = k} {ms = ns} x v b m before at reads there few is) e = absurd (let below = slice_get_within ds k _ at in omega (arith, below, e))
 
 -- what satisfies the cube is read by a first family, and obeys the definitions
 own-conf : (flat : Flat) (ms : Family) → IsStraight flat → IsOwnFamily flat ms → (ws : List Word) → SatisfiesWords flat ws → Conf (width flat) ms (word_at ws) (lengths_of flat.registers ws)
@@ -192,7 +189,7 @@ satisfies-conf flat ms straight led ws s =
     (first.2 (word_at ws) (lengths_of flat.registers ws)).0 (own-conf flat first.0 straight first.1 ws s)
 
 pub satisfies-obey : (flat : Flat) (ws : List Word) → SatisfiesWords flat ws → Obey (take (length flat.definitions) flat.definitions) (word_at ws)
-satisfies-obey flat ws s = subst (λ ds. Obey ds (word_at ws)) (sym (take-all flat.definitions)) s.definitions
+satisfies-obey flat ws s = subst (λ ds. Obey ds (word_at ws)) (sym (take-length flat.definitions)) s.definitions
 
 -- runs of a family are read by it
 runs-conf : (n : ℕ) (ms : Family) (rs : Runs) → AreRuns ms rs → (f : Words) → ((v : ℕ) → f v ≡ run_words rs v) → Conf n ms f (run_totals n rs)
@@ -247,7 +244,7 @@ found-satisfies flat ms found straight led whole is =
             let a = conf-accepts (width flat) first.0 f (run_totals (width flat) found.runs) conf v m.0 m.1 in
             let here : v ≡ 0 + v = omega arith in
             subst (λ j. MeetsParts x (f j)) here ((m.2 (f v) a.0).0 a.1).0);
-        definitions = obeyed ws f n at flat.definitions straight.order (subst (λ ds. Obey ds f) (take-all flat.definitions) is.obey);
+        definitions = obeyed ws f n at flat.definitions straight.order (subst (λ ds. Obey ds f) (take-length flat.definitions) is.obey);
       };
       rows = record { count = met.count; rows = met.each };
       whole = whole;

@@ -1,21 +1,9 @@
--- Definitions in order, and places of a list.
-use Rattle.std.proofs.Common.{◌≡◌, ℕ, zero, suc, ◌<◌, List, [], ◌∷◌, length, take, drop, Some, slice_get, refl, subst, arith}
+-- Definitions that are obeyed up to one of them, and places of a list.
+use Rattle.std.proofs.Common.{◌≡◌, ℕ, zero, suc, ◌<◌, List, [], ◌∷◌, length, take, Some, slice_get, refl, subst, arith}
 use Rattle.flat_cubes.specs.Satisfying.{ComesBy}
-use Rattle.flat_cubes.specs.Straight.{InOrder, StandsBefore}
 use Rattle.flat_cubes.specs.declared.definition.Definition.{Definition}
 use Rattle.backward.specs.Families.{Words}
 use Rattle.cube_search.specs.Searches.{Obey}
-
--- what a definition in order keeps of those behind it
-pub stands-at : (n : ℕ) (ds : List Definition) (at : ℕ) (d : Definition) → InOrder n ds → slice_get ds at ≡ Some d → StandsBefore n d (drop (suc at) ds)
-stands-at n [] at d h e = cc
-stands-at n (c ∷ ds) zero d h e = let same : c ≡ d = cc in subst (λ x. StandsBefore n x ds) same h.0
-stands-at n (c ∷ ds) (suc at) d h e = stands-at n ds at d h.1 e
-
-pub get-below : {X : Type 0} (xs : List X) (i : ℕ) (x : X) → slice_get xs i ≡ Some x → i < length xs
-get-below [] i x e = cc
-get-below (y ∷ ys) zero x e = omega arith
-get-below (y ∷ ys) (suc i) x e = let r = get-below ys i x e in omega arith
 
 pub get-there : {X : Type 0} (xs : List X) (i : ℕ) → i < length xs → (x : X) × (slice_get xs i ≡ Some x)
 get-there [] i h = absurd (omega arith)

@@ -2,6 +2,7 @@
 use Rattle.std.proofs.Common.{◌≡◌, ℕ, suc, ◌≤◌, ◌+◌, ◌*◌, Bool, true, false, not, cond, List, [], ◌∷◌, length, map, filter, All, Some, None, slice_get, refl, sym, ap, ◌∙◌, subst, arith, add-one}
 use Rattle.std.specs.List.{AllZip, range_with_len}
 use Rattle.std.proofs.lemmas.List.Elements.{All-nil, All-cons}
+use Rattle.std.proofs.lemmas.Option.{slice_get_within}
 use Rattle.machine_core.specs.Costs.{add_costs}
 use Rattle.machine_core.specs.Edges.{EndsAt, StepsBy}
 use Rattle.machine_core.specs.RunLaws.{accepted_run}
@@ -20,7 +21,7 @@ use Rattle.backward.specs.States.{IsState}
 use Rattle.backward.specs.declared.leaf_state.LeafState.{LeafState}
 use Rattle.cube_search.specs.LeafAnswers.{words_of}
 use Rattle.cube_search.specs.Causes.{HaveRunsOn}
-use Rattle.cube_search.proofs.OrderLemmas.{get-below, get-there}
+use Rattle.cube_search.proofs.OrderLemmas.{get-there}
 
 -- the variables that have a machine, counted from k
 abbrev pub places_from : ℕ → Family → List ℕ
@@ -100,7 +101,7 @@ machines-all P (Some m ∷ ms) h = All-cons P m (machines_of ms) (h 0 m refl) (m
 
 pub few-states : StatesAreSolved → StatesAreBounded → (flat : Flat) → IsStraight flat → (s : LeafState) → IsState flat 0 s → (v : ℕ) (m : Graph) → HasMachine s.machines v m → m.states ≤ states flat
 few-states solved bounded flat straight s state v m h =
-    let below = get-below s.machines v (Some m) h in
+    let below = slice_get_within s.machines v (Some m) h in
     let x = get-there flat.variables v (omega (arith, below, state.size)) in
     let few : m.states ≤ own_bound x.0 * product_by (factor flat v) flat.definitions = state.bounded v x.0 m x.1 h in
     let all : states_at flat v ≡ own_bound x.0 * product_by (factor flat v) flat.definitions = solved flat straight v x.0 x.1 in

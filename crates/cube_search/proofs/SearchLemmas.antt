@@ -1,6 +1,7 @@
 -- The steps of the search, as its calls meet them.
 use Rattle.std.proofs.Common.{◌≡◌, ℕ, zero, suc, ◌<◌, ◌+◌, ◌↔◌, List, [], ◌∷◌, ◌++◌, length, Option, Some, None, Contains, slice_get, refl, sym, ap, ◌∙◌, subst, arith, inl, inr, length-append}
 use Rattle.std.proofs.lemmas.Bool.Decides.{eqb_tells}
+use Rattle.std.proofs.lemmas.Option.{slice_get_within}
 use Rattle.machine_core.specs.declared.graph.Graph.{Graph}
 use Rattle.search_hits.specs.declared.region.Region.{Region}
 use Rattle.flat_cubes.specs.Straight.{IsStraight}
@@ -14,17 +15,17 @@ use Rattle.backward.specs.Chains.{width, ConfBefore}
 use Rattle.backward.specs.Pieces.{ConfCut}
 use Rattle.backward.specs.Steps.{CanPassAt, IsMadeAt, IsMadeBy}
 use Rattle.backward.specs.declared.leaf_state.LeafState.{LeafState}
+use Rattle.backward.proofs.OrderLemmas.{stands-at}
 use Rattle.cube_search.specs.declared.tally.LeafTally.{LeafTally}
 use Rattle.cube_search.specs.Steps.{AreExact, CanStep, IsCutting}
 use Rattle.cube_search.specs.Tallies.{Keeps, IsCovered, AreCoveredFrom, IsCoveredBelow}
 use Rattle.cube_search.proofs.CoverLemmas.{covered-all, covered-concat, covered-through, covered-whole, covered-from-kept}
 use Rattle.cube_search.proofs.Measures.{weight, pieces_of}
-use Rattle.cube_search.proofs.OrderLemmas.{get-below, stands-at}
 
 pub step-below : (flat : Flat) (at : ℕ) (ms : Family) (cuts : List ℕ) → CanStep flat at ms cuts → at < length flat.definitions
 step-below flat at ms cuts h = elim h [
-  | inl c ↦ get-below flat.definitions at (definition c.variable (by.Concat c.pieces)) c.defined
-  | inr p ↦ get-below flat.definitions at (definition p.variable p.how) p.defined
+  | inl c ↦ slice_get_within flat.definitions at (definition c.variable (by.Concat c.pieces)) c.defined
+  | inr p ↦ slice_get_within flat.definitions at (definition p.variable p.how) p.defined
 ]
 
 -- whole cuts: the family below them covers them
@@ -102,7 +103,7 @@ cutting-machine flat at pieces ms cuts cutting d e =
     (cutting.machine, subst (λ x. HasMachine ms x.variable cutting.machine) same cutting.has)
 
 pub cutting-below : (flat : Flat) (at : ℕ) (pieces : List ℕ) (ms : Family) (cuts : List ℕ) → IsCutting flat at pieces ms cuts → at < length flat.definitions
-cutting-below flat at pieces ms cuts cutting = get-below flat.definitions at (definition cutting.variable (by.Concat pieces)) cutting.defined
+cutting-below flat at pieces ms cuts cutting = slice_get_within flat.definitions at (definition cutting.variable (by.Concat pieces)) cutting.defined
 
 -- how much is left falls
 pub weight-next : (ds : List Definition) (left at : ℕ) → left ≡ suc at → weight ds left ≡ suc (suc (pieces_of (slice_get ds at) + weight ds at))
