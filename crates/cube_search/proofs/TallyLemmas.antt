@@ -79,14 +79,11 @@ module _ (flat : Flat) (region : Region) (machines : List Graph) (leafs : All Ha
     undecided = is.undecided;
   }
 
-some-kept : {X : Type 0} (o : Option X) (x : X) → IsSome o → IsSome (first_some o x)
-some-kept o x h = some-first o x
-
 pub settled-keeps : (machines : List Graph) (a : LeafAnswer) (t : LeafTally) → Keeps t (settled machines a t)
 settled-keeps machines (leaf.Sat hit) t = keeps-same t
 settled-keeps machines (leaf.Closed c) t = record { given = λ h. h; long = λ h. h }
-settled-keeps machines (leaf.Long shown) t = record { given = λ h. h; long = some-kept t.long (record { machines = machines; shown = shown }) }
-settled-keeps machines (leaf.Open system evidence) t = record { given = some-kept t.given (record { machines = machines; system = system; evidence = evidence }); long = λ h. h }
+settled-keeps machines (leaf.Long shown) t = record { given = λ h. h; long = λ h. some-first t.long (record { machines = machines; shown = shown }) }
+settled-keeps machines (leaf.Open system evidence) t = record { given = λ h. some-first t.given (record { machines = machines; system = system; evidence = evidence }); long = λ h. h }
 
 -- what is read meets the rows as a hit
 hit-read : (n : ℕ) (flat : Flat) (machines : List Graph) (words : List (List ℕ)) (totals : List ℕ) (ints : List ℤ) → (r : HaveRunsOn n machines words totals)

@@ -32,10 +32,8 @@ answer_machines-requires-clause-reachable c = c.requires.search.reachable
 pub answer_machines-requires-clause-machines : goal.answer_machines-requires-clause-machines
 answer_machines-requires-clause-machines c =
     let flat = c.args.search.now.flat.now in
-    let region = c.args.search.now.region in
     let q = c.requires.search in
     let s = c.args.state.now in
-    let ms = s.machines in
     let ts = c.in_ok-trims.trims in
     let z = c.in_ok-trims.ensures in
     let own : c.in_ok-machines.machines ≡ map machine_of ts = c.in_ok-machines.ensures ∙ ap (map machine_of) c.as_slice.ensures in
@@ -82,7 +80,6 @@ pub spread-requires : goal.spread-requires
 spread-requires c =
     let flat = c.args.search.now.flat.now in
     let region = c.args.search.now.region in
-    let q = c.requires.search in
     let s = c.args.state.now in
     let ms = s.machines in
     let ts = c.in_ok-trims.trims in
@@ -116,9 +113,7 @@ pub returns-clause-found : goal.returns-clause-found
 returns-clause-found c =
     let flat = c.args.search.now.flat.now in
     let region = c.args.search.now.region in
-    let q = c.requires.search in
     let s = c.args.state.now in
-    let ms = s.machines in
     let ts = c.in_ok-trims.trims in
     let z = c.in_ok-trims.ensures in
     let own : c.in_ok-machines.machines ≡ map machine_of ts = c.in_ok-machines.ensures ∙ ap (map machine_of) c.as_slice.ensures in
