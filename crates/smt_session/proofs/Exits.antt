@@ -1,6 +1,6 @@
 -- Little is read behind an answered `exit`: it is a list, whole with its last byte, and wasn't whole before the last bytes that were read.
 use Rattle.std.proofs.Common.{◌≡◌, ℕ, ◌≤◌, List, [], ◌∷◌, ◌++◌, Bool, true, false, Result, Ok, Err, Some, refl, sym, ap, ◌∙◌, subst, length, append-nil, append_assoc, arith, length-append, inl, inr}
-use Rattle.std.proofs.lemmas.Bool.{cases_lt}
+use Rattle.std.proofs.lemmas.Bool.{cases_lt, false≢true}
 use Rattle.std.specs.declared.option.Option.{Option}
 use Rattle.assert_stack.specs.Levels.{symbols_of}
 use Rattle.decide.specs.declared.verdict.Verdict.{Verdict}
@@ -27,9 +27,6 @@ use Rattle.smt_session.specs.declared.reply.Reply.TheVariants.{Success, Unsuppor
 use Rattle.smt_session.specs.Runs.{IsPrompt, StopsAtExit}
 use Rattle.smt_session.specs.Scripts.{FollowsScript, none, next}
 use Rattle.smt_session.proofs.Turns.{replies_count}
-
-differ : false ≡ true → ⊥
-differ e = cc
 
 -- the session behind a command is told by its reply
 same_kept : (r : Reply) (a b : Verdict) → Tells r a → Tells r b → kept_of a ≡ kept_of b
@@ -99,7 +96,7 @@ Ends item = (s t : State) (r : Reply) → Steps s item r t → s.ended ≡ false
 ends_layer : (x : Sexpr-F Sexpr) → Ends (roll-Sexpr x)
 ends_layer (Sexpr-F.Atom kind bs) s t r h goes over =
     let atom = subst (λ (f : Form). Performs s (checked (symbols_of s.levels) f) r t) (fold-roll-Sexpr Form form_layer (Sexpr-F.Atom kind bs)) h in
-    absurd (differ (sym goes ∙ sym (ap (λ (x : State). x.ended) atom.2.1) ∙ over))
+    absurd (false≢true (sym goes ∙ sym (ap (λ (x : State). x.ended) atom.2.1) ∙ over))
 ends_layer (Sexpr-F.List inner) s t r h goes over = (inner, v.rolls-List inner)
 
 ends : (item : Sexpr) → Ends item
@@ -113,7 +110,7 @@ record Last (items : List Sexpr) : Type 0 where
 
 stopped : (s t : State) (items : List Sexpr) (log : List Reply) → FollowsScript s items log t → s.ended ≡ true → items ≡ []
 stopped s t items log (none a) e = refl
-stopped s t items log (next a b c i q is l goes step rest) e = absurd (differ (sym goes ∙ e))
+stopped s t items log (next a b c i q is l goes step rest) e = absurd (false≢true (sym goes ∙ e))
 
 one_last : (i : Sexpr) (is : List Sexpr) → is ≡ [] → (inner : List Sexpr) × (i ≡ v.List inner) → Last (i ∷ is)
 one_last i is e h = let k = h.1 in record { early = []; inner = h.0; is = cc }
@@ -127,7 +124,7 @@ last_here s t i is r step goes over on true e = one_last i is (over e) (ends i s
 last_here s t i is r step goes over on false e = more_last i is (on e)
 
 last_of : (s t : State) (items : List Sexpr) (log : List Reply) → FollowsScript s items log t → s.ended ≡ false → t.ended ≡ true → Last items
-last_of s t items log (none a) goes over = absurd (differ (sym goes ∙ over))
+last_of s t items log (none a) goes over = absurd (false≢true (sym goes ∙ over))
 last_of s t items log (next a b c i q is l going step rest) goes over = last_here a b i is q step going (λ e. stopped b c is l rest e) (λ e. last_of b c is l rest e over) b.ended refl
 
 -- the bytes end in what is left
@@ -186,7 +183,7 @@ module _ (l0 l : Option (List ℕ)) (read : Option ℕ) (t0 t : Option (List ℕ
       let logs : log ≡ p.early = p.replies ∙ ap (λ (x : List Reply). p.early ++ x) no_more ∙ append-nil p.early in
       let other : FollowsScript opened items log p.right.session = subst (λ (x : List Sexpr). FollowsScript opened x log p.right.session) (sym same) (subst (λ (x : List Reply). FollowsScript opened p.right.items x p.right.session) (sym logs) p.right.follows) in
       let ends_so : session ≡ p.right.session = same_session opened session p.right.session items log follows other in
-      differ (sym p.right.goes_on ∙ sym (ap (λ (x : State). x.ended) ends_so) ∙ over)
+      false≢true (sym p.right.goes_on ∙ sym (ap (λ (x : State). x.ended) ends_so) ∙ over)
 
   few : length rest ≤ 4095
   few = elim (cases_lt (length rest) (length p.piece)) [

@@ -1,6 +1,7 @@
 -- What stands where nothing was read and written, and what the words say.
 use Rattle.std.proofs.Common.{◌≡◌, ℕ, List, [], ◌∷◌, ◌++◌, true, false, Some, refl, sym, ap, ◌∙◌, subst, arith, inl, inr}
 use Rattle.std.proofs.KnownBytes.{Consumes-nil, Appends-nil}
+use Rattle.std.proofs.lemmas.Bool.{false≢true}
 use Rattle.std.specs.declared.option.Option.{Option}
 use Rattle.std.specs.Io.KnownBytes.{Appends}
 use Rattle.command_words.specs.Asked.{IsAskedLine, IsTaskOf}
@@ -18,9 +19,6 @@ use Rattle.smt_session.proofs.Counts.{nothing_waits, within_none}
 use Rattle.smt_session.proofs.Turns.{cut_here, nothing_written}
 use Rattle.smt_session.proofs.Verdicts.{verdict_true}
 
-differ : false ≡ true → ⊥
-differ e = cc
-
 unanswered : NoMemory ≡ Answered → ⊥
 unanswered e = cc
 
@@ -29,7 +27,7 @@ unwritten e = cc
 
 -- words are in the form, or they aren't
 pub not_both : (v w : List (List ℕ)) → v ≡ w → is_in_form v ≡ true → is_in_form w ≡ false → ⊥
-not_both v w is t f = differ (sym f ∙ sym (ap is_in_form is) ∙ t)
+not_both v w is t f = false≢true (sym f ∙ sym (ap is_in_form is) ∙ t)
 
 -- the seed and the size are those that the words ask for
 pub asked : (v w : List (List ℕ)) (line : CommandLine) (s n seed size : ℕ) → v ≡ w → IsAskedLine v line → line.task ≡ Generate s n → AskFor w seed size → (s ≡ seed) × (n ≡ size)
@@ -43,7 +41,7 @@ nothing_cut : (t : Option (List ℕ)) (log : List Reply) → log ≡ [] → IsLo
 nothing_cut t log e = cut_here false [] [] opened log t t (nothing_written opened log t refl e)
 
 pub nothing_front : (l t : Option (List ℕ)) (log : List Reply) → log ≡ [] → IsFront l l t t log
-nothing_front l t log e = record { ended = false; bytes = []; read = record { gave = Consumes-nil l; end = λ f. absurd (differ f) }; cut = nothing_cut t log e }
+nothing_front l t log e = record { ended = false; bytes = []; read = record { gave = Consumes-nil l; end = λ f. absurd (false≢true f) }; cut = nothing_cut t log e }
 
 nothing_whole : (log : List Reply) → log ≡ [] → AnswersWhole [] log
 nothing_whole log e = record { items = []; session = opened; waits = nothing_waits; follows = subst (λ (x : List Reply). FollowsScript opened [] x opened) (sym e) (none opened); goes_on = refl }

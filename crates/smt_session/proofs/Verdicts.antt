@@ -26,6 +26,7 @@ use Rattle.smt_session.specs.declared.session.LastVerdict.TheVariants as kept
 use Rattle.smt_session.specs.Scripts.{FollowsScript, none, next, AnswersBytes, to_end, to_exit, to_fault, AnswersFront, so_far, all, IsNotOwed, IsTrueOf}
 use Rattle.smt_session.specs.Runs.{IsTrueFor}
 use Rattle.sexpr_reader.specs.Reads.{Begins}
+use Rattle.std.proofs.lemmas.Bool.{false≢true}
 use Rattle.std.proofs.lemmas.List.{append-nil}
 
 is_verdict : Reply → Bool
@@ -34,11 +35,8 @@ is_verdict Unsat = true
 is_verdict (Unknown why) = true
 is_verdict _ = false
 
-differ : false ≡ true → ⊥
-differ e = cc
-
 other : (P : Type 0) (r x : Reply) → r ≡ x → is_verdict x ≡ false → is_verdict r ≡ true → P
-other P r x is plain told = absurd (differ (sym (ap is_verdict is ∙ plain) ∙ told))
+other P r x is plain told = absurd (false≢true (sym (ap is_verdict is ∙ plain) ∙ told))
 
 either : (b : Bool) (x y : Reply) → is_verdict x ≡ false → is_verdict y ≡ false → is_verdict (if b then x else y) ≡ false
 either true x y h g = h

@@ -1,11 +1,9 @@
 use Rattle.std.proofs.Common.{◌≡◌, ◌+◌, ◌-◌, ◌≤◌, ◌++◌, suc, true, false, [], None, refl, sym, ap, ◌∙◌, subst, arith}
+use Rattle.std.proofs.lemmas.Bool.{false≢true}
 use Rattle.generated_script.specs.Blocks.{blocks, script}
 use Rattle.generated_script.specs.Draws.{behind}
 use Rattle.smt_session.proofs.Scripted.{next-fed, all-fed, cut-front, here-front, stopped}
 use Rattle.smt_session.proofs.generating.answer_blocks.Goals as goal
-
-differ : false ≡ true → ⊥
-differ e = cc
 
 pub loop-block-init : goal.loop-block-init
 loop-block-init g c =
@@ -32,7 +30,7 @@ returns-in-Some g c =
     let i = c.loop-block.invariant in
     let less : c.args.size - c.loop-block._block ≡ suc (c.args.size - (c.loop-block._block + 1)) = omega (arith, c.loop-block-test.true) in
     let fed = next-fed (script c.args.seed c.args.size) i.0 c.deref.result.now c.loop-block.blocks (c.args.size - c.loop-block._block) (c.args.size - (c.loop-block._block + 1)) less (c.deref.ensures.value ∙ c.in-Ok.ensures.text) i.2 in
-    stopped (script c.args.seed c.args.size) (i.0 ++ c.deref.result.now) (blocks (behind c.loop-block.blocks) (c.args.size - (c.loop-block._block + 1))) c.answer_whole.new.self.replies false c.in-Some.status fed (λ e. absurd (differ e))
+    stopped (script c.args.seed c.args.size) (i.0 ++ c.deref.result.now) (blocks (behind c.loop-block.blocks) (c.args.size - (c.loop-block._block + 1))) c.answer_whole.new.self.replies false c.in-Some.status fed (λ e. absurd (false≢true e))
     (λ e. let rose : 1 ≤ 0 = c.in-Some.ensures.failed e in omega arith)
     (c.in-Some.ensures.went (i.0 ++ c.deref.result.now) None (c.in-Ok-feed.ensures.ok i.0 None None i.1.answering))
 
