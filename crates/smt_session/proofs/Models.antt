@@ -8,6 +8,8 @@ use Rattle.std.proofs.lemmas.Bool.{true≢false}
 use Rattle.assert_stack.specs.Levels.{Symbol}
 use Rattle.assertion_parts.specs.Constants.{AreOnly, ConstantsHaveOneSort}
 use Rattle.assertion_parts.specs.Filling.{default, or_default}
+use Rattle.assertion_parts.proofs.Fillings.{by-places, at-places}
+use Rattle.assertion_parts.proofs.Sorts.{same-is, same-self}
 use Rattle.decide.specs.Completeness.{IsComplete}
 use Rattle.decide.specs.Verdicts.{RightVerdict}
 use Rattle.decide.specs.declared.verdict.Verdict.TheVariants.{Sat}
@@ -26,7 +28,7 @@ use Rattle.smt_names.specs.Signature.{Name}
 use Rattle.smt_session.specs.Verdicts.{IsModelFor, constants_of, kinds_of}
 use Rattle.smt_session.specs.Models.{model_of}
 use Rattle.smt_session.proofs.Agreeing.{agrees}
-use Rattle.smt_session.proofs.Names.{same, one, one-more, parted, by-index, skip, cases, found-has}
+use Rattle.smt_session.proofs.Names.{same, one, one-more, parted, skip, cases, found-has}
 use mathlib.Core.Bool.{cond}
 
 pub model-joined : (words : Named) (xs ys : List Symbol) → model_of words (xs ++ ys) ≡ model_of words xs ++ model_of words ys
@@ -117,25 +119,6 @@ in-model words n s ((m, entry.Constant t) ∷ xs) h =
 in-model words n s ((m, entry.Macro ps b) ∷ xs) h = in-model words n s xs h
 in-model words n s ((m, entry.Machine t) ∷ xs) h = in-model words n s xs h
 
--- sorts that are the same
-same-is : (s t : Sort) → same_sort s t ≡ true → s ≡ t
-same-is sort.Bool sort.Bool h = refl
-same-is sort.Bool sort.Int h = absurd (cc)
-same-is sort.Bool sort.String h = absurd (cc)
-same-is sort.Bool sort.RegLan h = absurd (cc)
-same-is sort.Int sort.Bool h = absurd (cc)
-same-is sort.Int sort.Int h = refl
-same-is sort.Int sort.String h = absurd (cc)
-same-is sort.Int sort.RegLan h = absurd (cc)
-same-is sort.String sort.Bool h = absurd (cc)
-same-is sort.String sort.Int h = absurd (cc)
-same-is sort.String sort.String h = refl
-same-is sort.String sort.RegLan h = absurd (cc)
-same-is sort.RegLan sort.Bool h = absurd (cc)
-same-is sort.RegLan sort.Int h = absurd (cc)
-same-is sort.RegLan sort.String h = absurd (cc)
-same-is sort.RegLan sort.RegLan h = refl
-
 declared-constant : (s : Sort) (o : Option Entry) → is_constant_of s o ≡ true → o ≡ Some (entry.Constant s)
 declared-constant s None h = absurd (cc)
 declared-constant s (Some (entry.Constant t)) h = ap (λ z. Some (entry.Constant z)) (sym (same-is s t h))
@@ -204,11 +187,6 @@ worded-each values ((n, entry.Constant s) ∷ xs) w = (worded-or s (lookup (same
 worded-each values ((n, entry.Macro ps b) ∷ xs) w = worded-each values xs w
 worded-each values ((n, entry.Machine t) ∷ xs) w = worded-each values xs w
 
-by-place : {X : Type 0} (P : X → Type 0) (xs : List X) → AllByRecursion P xs → All P xs
-by-place P [] h k d l = absurd (omega arith)
-by-place P (x ∷ xs) h zero d l = h.0
-by-place P (x ∷ xs) h (suc k) d l = by-place P xs h.1 k d (omega arith)
-
 -- a value of its sort is kept
 kept-value : (s : Sort) (o : Option Value) → is_of s o ≡ true → Some (or_default s o) ≡ o
 kept-value s None h = absurd (cc)
@@ -228,7 +206,7 @@ abbrev pub Valued : Type 0
 Valued = (values : Named) (symbols : List Symbol) (term : Term) → AreGiven values symbols → IsTrue (constants_known symbols term) → IsTrue (is_valued values term)
 
 pub covers-all : Allowed → (symbols : List Symbol) (values : Named) → IsTrue (is_well_formed symbols) → kinds_of (model_of values symbols) ≡ constants_of symbols
-covers-all allowed symbols values formed = kinds-cover values symbols (all-suit values symbols symbols (by-index (λ (e : Symbol). IsTrue (is_entry symbols e.1)) symbols (allowed symbols formed)))
+covers-all allowed symbols values formed = kinds-cover values symbols (all-suit values symbols symbols (by-places (λ (e : Symbol). IsTrue (is_entry symbols e.1)) symbols (allowed symbols formed)))
 
 -- the values of a verdict make a model for the declared constants
 pub model-for : Allowed → (symbols : List Symbol) (live : List Term) (values : Named) → IsTrue (is_well_formed symbols) → AreOnly values live → IsModelFor symbols live (model_of values symbols)
@@ -238,12 +216,6 @@ model-for allowed symbols live values formed only = record {
 }
 
 -- a right model has a value for each declared constant
-same-self : (s : Sort) → same_sort s s ≡ true
-same-self sort.Bool = refl
-same-self sort.Int = refl
-same-self sort.String = refl
-same-self sort.RegLan = refl
-
 kind-found : (n : Name) (values : Named) (s : Sort) → lookup (same n) (kinds_of values) ≡ Some s → IsTrue (is_of s (lookup (same n) values))
 kind-found n [] s h = absurd (cc)
 kind-found n (v ∷ vs) s h =
@@ -280,7 +252,7 @@ valued-all : Allowed → Placed → Valued → (symbols : List Symbol) (live : L
 valued-all allowed placed valued symbols live values formed known k d l =
     valued (model_of values symbols) symbols (get_or live k d)
     (given placed (model_of values symbols) symbols formed (covers-all allowed symbols values formed))
-    (by-place (λ t. IsTrue (constants_known symbols t)) live known k d l)
+    (at-places (λ t. IsTrue (constants_known symbols t)) live known k d l)
 
 -- terms over well formed names have one sort for each name
 pub one-sort : Allowed → Placed → Valued → (symbols : List Symbol) (live : List Term) → IsTrue (is_well_formed symbols) → AllByRecursion (λ t. IsTrue (constants_known symbols t)) live → ConstantsHaveOneSort live
@@ -289,11 +261,11 @@ one-sort allowed placed valued symbols live formed known = (model_of [] symbols,
 -- what is true at the values of a verdict is true at the model
 pub true-at : Allowed → Placed → Valued → (symbols : List Symbol) (live : List Term) (values : Named) → IsTrue (is_well_formed symbols) → AllByRecursion (λ t. IsTrue (constants_known symbols t)) live → AreTrueAt values live → AreTrueAt (model_of values symbols) live
 true-at allowed placed valued symbols live values formed known h = record {
-  worded = by-place (λ (e : Name × Value). IsWorded e.1) (model_of values symbols) (worded-each values symbols (by-index (λ (e : Name × Value). IsWorded e.1) values h.worded));
+  worded = at-places (λ (e : Name × Value). IsWorded e.1) (model_of values symbols) (worded-each values symbols (by-places (λ (e : Name × Value). IsWorded e.1) values h.worded));
   valued = valued-all allowed placed valued symbols live values formed known;
   holds = λ k d l.
       agrees (model_of values symbols) values (is_declared symbols) (value-stays values symbols) (get_or live k d)
-      (by-place (λ t. IsTrue (constants_known symbols t)) live known k d l) (h.valued k d l)
+      (at-places (λ t. IsTrue (constants_known symbols t)) live known k d l) (h.valued k d l)
       ∙ h.holds k d l;
 }
 

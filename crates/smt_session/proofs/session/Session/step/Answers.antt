@@ -1,10 +1,10 @@
 use Rattle.std.proofs.Common.{ap, sym, ◌∙◌, subst}
+use Rattle.std.proofs.lemmas.Result.{IfOk-weaker}
 use Rattle.assert_stack.specs.Levels.{symbols_of}
 use Rattle.sort_check.specs.Checking.{checked}
 use Rattle.smt_names.specs.Form.{seen}
 use Rattle.smt_session.specs.Standing.{FitsLevels}
 use Rattle.smt_session.specs.Steps.{State, Performs}
-use Rattle.smt_session.proofs.Names.{if-ok}
 use Rattle.smt_session.proofs.Soundness.{fits}
 use Rattle.smt_session.proofs.session.Session.step.Goals as goal
 
@@ -19,4 +19,4 @@ pub returns-in-Ok-clause-ok : goal.returns-in-Ok-clause-ok
 returns-in-Ok-clause-ok g c =
     let at = c.symbols.ensures ∙ ap symbols_of (ap (λ (s : State). s.levels) c.self.view_is) in
     let is = sym (ap (λ z. checked z (seen c.args.item.now)) at) ∙ c.in-Ok.ensures in
-    if-ok _ _ c.perform.result (λ r does. subst (λ x. Performs c.args.self.now x r c.perform.new.self) (sym is) does) c.perform.ensures.ok
+    IfOk-weaker c.perform.result _ _ (λ r does. subst (λ x. Performs c.args.self.now x r c.perform.new.self) (sym is) does) c.perform.ensures.ok
