@@ -2,6 +2,7 @@
 use Rattle.std.proofs.Common.{◌≡◌, refl, sym, subst, ℕ, zero, suc, List, [], ◌∷◌, ◌++◌, drop, Some, IsTrue, append_assoc, append-nil}
 use Rattle.std.specs.List.{AllByRecursion}
 use Rattle.assert_stack.specs.Levels.{Level, Symbol, empty, symbols_of, live, pushed, declared, asserted}
+use Rattle.flat_cubes.proofs.Members.{all_push}
 use Rattle.sort_check.specs.WellFormed.{is_well_formed, IsAdded}
 use Rattle.sv_terms.specs.Sorting.{sort_of}
 use Rattle.sv_terms.specs.declared.entry.Entry.{Entry}
@@ -19,10 +20,6 @@ Prefixes = (xs ys : List Symbol) → IsTrue (is_well_formed (xs ++ ys)) → IsTr
 front : {X : Type 0} (P : X → Type 0) (xs ys : List X) → AllByRecursion P (xs ++ ys) → AllByRecursion P xs
 front P [] ys h = tt
 front P (x ∷ xs) ys h = (h.0, front P xs ys h.1)
-
-joined : {X : Type 0} (P : X → Type 0) (xs ys : List X) → AllByRecursion P xs → AllByRecursion P ys → AllByRecursion P (xs ++ ys)
-joined P [] ys h k = k
-joined P (x ∷ xs) ys h k = (h.0, joined P xs ys h.1 k)
 
 pub stands_opened : IsStanding (empty ∷ [])
 stands_opened = record { formed = refl; sorted = tt }
@@ -51,5 +48,5 @@ pub stands_asserted : (t : Term) (levels : List Level) → IsBool t → IsStandi
 stands_asserted t [] b h = h
 stands_asserted t (level ∷ levels) b h = record {
   formed = h.formed;
-  sorted = subst (AllByRecursion IsBool) (append_assoc (live levels) level.1 (t ∷ [])) (joined IsBool (live levels ++ level.1) (t ∷ []) h.sorted (b, tt));
+  sorted = subst (AllByRecursion IsBool) (append_assoc (live levels) level.1 (t ∷ [])) (all_push IsBool (live levels ++ level.1) t h.sorted b);
 }
