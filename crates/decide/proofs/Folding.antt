@@ -20,9 +20,6 @@ use Rattle.decide.specs.Completeness.{MustDecideCube}
 use Rattle.decide.specs.Jobs.{IsOutcome}
 
 module _ (terms : List Term) where
-  Outcomes : List Cube → List CubeAnswer → Type 0
-  Outcomes = AllZip (IsOutcome terms)
-
   -- the first model is that of some cube
   pub sat-at : (done : List Cube) (answers : List CubeAnswer) → AllZip (IsOutcome terms) done answers → (m : Named) → first_sat answers ≡ Some m
       → (k : ℕ) × (c : Cube) × (slice_get done k ≡ Some c) × AreTrueAtCube m c × AreValuesOf m (clear_of terms)

@@ -5,12 +5,14 @@ use Rattle.std.specs.List.{AllByRecursion}
 use Rattle.std.proofs.lemmas.Bool.{eqb-true, ltb-false, ltb-true}
 use Rattle.std.proofs.lemmas.List.{length-drop}
 use Rattle.std.proofs.lemmas.Nat.{div-mul-add}
+use Rattle.std.proofs.lemmas.Option.{slice_get_within}
 use Rattle.std.proofs.Math.Arith.{mod-mul}
 use Rattle.std.proofs.Math.Nat.{div-add-mod, div-div-eq-div-mul, div-eq_of_lt, mul-le-mul_left, mul_comm, mul_assoc, zero-div, zero-mod}
 use Rattle.sv_terms.specs.CutOff.{cut_off}
 use Rattle.sv_terms.specs.Sorting.{is_valued}
 use Rattle.sv_terms.specs.declared.term.Term.{Term}
 use Rattle.bool_cubes.specs.Cubes.{count, cube, cubes, cubes_of}
+use Rattle.flat_cubes.proofs.Members.{all_joined}
 use Rattle.literal_forms.specs.Literals.{IsTrueLiteral}
 use Rattle.bool_cubes.specs.Laws.{CubesAreCounted}
 use Rattle.bool_cubes.specs.Picking.{CubesArePicked, cube_at}
@@ -63,10 +65,6 @@ module _ (P : Literal → Type 0) where
   abbrev pub Holds : List Term → ℕ → Type 0
   Holds ts n = AllByRecursion P (cube_at (tree_of ts) n)
 
-  join : (xs ys : List Literal) → AllByRecursion P xs → AllByRecursion P ys → AllByRecursion P (xs ++ ys)
-  join [] ys a b = b
-  join (x ∷ xs) ys a b = (a.0, join xs ys a.1 b)
-
   below : (n a c : ℕ) → n < a * c → n % c < c
   below n a c h = let p = right-some n a c h in omega arith
 
@@ -84,7 +82,7 @@ module _ (P : Literal → Type 0) where
           let k = ap (λ j. j * count_of ts) (single-one t e) in
           let low : n < count_of ts = omega (arith, lt, k) in
           let at : n / count_of ts ≡ 0 / u = div-eq_of_lt low ∙ sym (zero-div u) in
-          join (cube_at (formula (seen t) true) (0 / u)) (cube_at (tree_of (shared_of 0 ts)) (0 % u))
+          all_joined P (cube_at (formula (seen t) true) (0 / u)) (cube_at (tree_of (shared_of 0 ts)) (0 % u))
           (subst (λ k. AllByRecursion P (cube_at (formula (seen t) true) k)) at own)
           (subst (λ k. Holds (shared_of 0 ts) k) (sym (zero-mod u)) rest)
 
@@ -109,16 +107,11 @@ module _ (P : Literal → Type 0) where
       let digits : n % c ≡ (n / m % p) * m + n % m = ap (λ k. n % k) split ∙ mod-mul n pp pm in
       let low'' : n % m < m = omega arith in
       let next : n % c / m ≡ n / m % p = ap (λ k. k / m) digits ∙ div-mul-add (n / m % p) m (n % m) low'' in
-      join (cube_at T (n / m / p)) (cube_at (tree_of (shared_of first ts)) (n / m % p))
+      all_joined P (cube_at T (n / m / p)) (cube_at (tree_of (shared_of first ts)) (n / m % p))
       (subst (λ k. AllByRecursion P (cube_at T k)) (sym at) parts.0)
       (subst (λ k. Holds (shared_of first ts) k) next (shared-within first ts (n % c) low parts.1))
 
 -- places in lists
-found-at : {X : Type 0} (xs : List X) (k : ℕ) (x : X) → slice_get xs k ≡ Some x → k < length xs
-found-at [] k x e = absurd (cc)
-found-at (y ∷ xs) zero x e = omega arith
-found-at (y ∷ xs) (suc k) x e = let h = found-at xs k x e in omega arith
-
 there : {X : Type 0} (xs : List X) (k : ℕ) → k < length xs → (x : X) × (slice_get xs k ≡ Some x)
 there [] k h = absurd (omega (arith, h))
 there (x ∷ xs) zero h = (x, refl)
@@ -153,7 +146,7 @@ module _ (counted : CubesAreCounted) (picked : CubesArePicked) where
   -- the cube of a number
   numbered : (ts : List Term) (n : ℕ) (c : Cube) → slice_get (cubes_of ts) n ≡ Some c → (n < count_of ts) × (c.literals ≡ cube_at (tree_of ts) n)
   numbered ts n c e =
-      let lt : n < count_of ts = subst (λ k. n < k) (counted ts) (found-at (cubes_of ts) n c e) in
+      let lt : n < count_of ts = subst (λ k. n < k) (counted ts) (slice_get_within (cubes_of ts) n c e) in
       let own : slice_get (cubes_of ts) n ≡ Some (cube (cube_at (tree_of ts) n)) = get-map cube (cubes (tree_of ts)) n (cube_at (tree_of ts) n) (picked (tree_of ts) n lt) in
       let both : Some c ≡ Some (cube (cube_at (tree_of ts) n)) = sym e ∙ own in
       let same : c ≡ cube (cube_at (tree_of ts) n) = cc in

@@ -1,5 +1,5 @@
 -- The tally of one answer more.
-use Rattle.std.proofs.Common.{◌≡◌, ℕ, zero, suc, ◌+◌, List, [], ◌∷◌, ◌++◌, length, map, Option, Some, None, Result, Ok, Err, OnOk, refl, sym, ap, ◌∙◌, subst, arith, length-append, append-nil, append_assoc}
+use Rattle.std.proofs.Common.{◌≡◌, ℕ, zero, suc, ◌+◌, List, [], ◌∷◌, ◌++◌, length, map, Option, Some, None, Result, Ok, refl, sym, ap, ◌∙◌, subst, arith, length-append, append-nil, append_assoc}
 use Rattle.std.proofs.lemmas.List.{map-append}
 use Rattle.std.specs.declared.alloc.AllocError.{AllocError}
 use Rattle.sv_terms.specs.CutOff.{cut_off}
@@ -46,10 +46,7 @@ pub found-behind : (opaque : List Term) (xs : List CubeAnswer) (a : CubeAnswer) 
 found-behind [] xs a = sat-behind xs a
 found-behind (t ∷ ts) xs a = refl
 
--- the tally with what one answer adds
-abbrev pub grown : CubeTally → Option Named → List (ℕ × OpenReason) → Refutation → CubeTally
-grown tally model list r = record tally { count = tally.count + 1; model = or_else tally.model model; open_cubes = tally.open_cubes ++ list; refuted = r }
-
+-- what one answer adds to a tally
 pub record Adds (opaque : List Term) (next : CubeAnswer) (old new : CubeTally) : Type 0 where
   pub first : new.opaque ≡ old.opaque
   pub count : new.count ≡ old.count + 1
@@ -82,10 +79,6 @@ some-opaque (u ∷ ts) t e = (ts, let s : u ≡ t = cc in ap (λ x. x ∷ ts) s)
 no-sat : (opaque : List Term) (o : Option Named) (a : CubeAnswer) → first_sat (a ∷ []) ≡ None → o ≡ or_else o (found opaque (a ∷ []))
 no-sat [] o a e = sym (ap (or_else o) e ∙ none-behind o)
 no-sat (t ∷ ts) o a e = sym (none-behind o)
-
-pub when-ok : {T E A B : Type 0} (r : Result T E) → OnOk r A → (A → B) → OnOk r B
-when-ok (Ok t) a f = f a
-when-ok (Err e) a f = a
 
 module _ (opaque : List Term) (before : List CubeAnswer) (old new : CubeTally) (h : IsTallyOf opaque before old) where
   pub with-unsat : (a : CubeAnswer) (r : Refutation) → a ≡ answer.Unsat r → new.opaque ≡ old.opaque → new.count ≡ old.count + 1 → new.model ≡ old.model → new.open_cubes ≡ old.open_cubes → new.refuted ≡ add old.refuted r → IsTallyOf opaque (before ++ a ∷ []) new

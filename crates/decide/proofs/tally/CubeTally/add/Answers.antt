@@ -1,5 +1,6 @@
 use Rattle.std.proofs.Common.{refl, ap}
-use Rattle.decide.proofs.Tallying.{when-ok, with-unsat, with-open}
+use Rattle.assertion_parts.proofs.Fillings.{when-ok}
+use Rattle.decide.proofs.Tallying.{with-unsat, with-open}
 use Rattle.decide.specs.declared.tally.CubeTally.{CubeTally}
 use Rattle.decide.proofs.tally.CubeTally.add.Goals as goal
 

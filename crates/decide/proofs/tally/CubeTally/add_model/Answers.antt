@@ -1,5 +1,6 @@
 use Rattle.std.proofs.Common.{sym, ap, ◌∙◌, Some}
-use Rattle.decide.proofs.Tallying.{when-ok, with-opaque, with-model}
+use Rattle.assertion_parts.proofs.Fillings.{when-ok}
+use Rattle.decide.proofs.Tallying.{with-opaque, with-model}
 use Rattle.decide.specs.declared.tally.CubeTally.{CubeTally}
 use Rattle.decide.proofs.tally.CubeTally.add_model.Goals as goal
 
