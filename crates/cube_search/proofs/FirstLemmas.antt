@@ -22,12 +22,12 @@ use Rattle.flat_cubes.specs.declared.variable.Variable.{Variable}
 use Rattle.backward.specs.Families.{Family, Words, after, HasMachine, Conf}
 use Rattle.backward.specs.Chains.{width, own_cost, ReadsOwn, IsOwnFamily, IsLed, begun, same, cut, through, IsLedFrom, SameConf}
 use Rattle.backward.specs.Runs.{Runs, AreRuns, run_words, run_totals}
+use Rattle.backward.proofs.StateLemmas.{get-there}
 use Rattle.cube_search.specs.Entries.{word_by}
 use Rattle.cube_search.specs.Models.{all_words}
 use Rattle.cube_search.specs.Searches.{AreFoundRuns, Obey}
 use Rattle.cube_search.specs.declared.found.FoundRuns.{FoundRuns}
 use Rattle.cube_search.proofs.FoundLemmas.{comes-agree}
-use Rattle.cube_search.proofs.OrderLemmas.{get-there}
 
 -- what the words from k on, n of them, cost at the register of u
 abbrev own_entry : Words → ℕ → ℕ → ℕ → ℕ

@@ -1,14 +1,9 @@
--- Definitions that are obeyed up to one of them, and places of a list.
-use Rattle.std.proofs.Common.{◌≡◌, ℕ, zero, suc, ◌<◌, List, [], ◌∷◌, length, take, Some, slice_get, refl, subst, arith}
+-- Definitions that are obeyed up to one of them.
+use Rattle.std.proofs.Common.{◌≡◌, ℕ, zero, suc, List, [], ◌∷◌, take, Some, slice_get, subst}
 use Rattle.flat_cubes.specs.Satisfying.{ComesBy}
 use Rattle.flat_cubes.specs.declared.definition.Definition.{Definition}
 use Rattle.backward.specs.Families.{Words}
 use Rattle.cube_search.specs.Searches.{Obey}
-
-pub get-there : {X : Type 0} (xs : List X) (i : ℕ) → i < length xs → (x : X) × (slice_get xs i ≡ Some x)
-get-there [] i h = absurd (omega arith)
-get-there (y ∷ ys) zero h = (y, refl)
-get-there (y ∷ ys) (suc i) h = get-there ys i (omega arith)
 
 -- the definitions up to one of them are those before it and that one
 pub obey-split : (ds : List Definition) (at : ℕ) (d : Definition) (words : Words) → slice_get ds at ≡ Some d → Obey (take (suc at) ds) words

@@ -19,9 +19,9 @@ use Rattle.backward.specs.Chains.{width}
 use Rattle.backward.specs.Leaves.{machines_of, source_words}
 use Rattle.backward.specs.States.{IsState}
 use Rattle.backward.specs.declared.leaf_state.LeafState.{LeafState}
+use Rattle.backward.proofs.StateLemmas.{get-there}
 use Rattle.cube_search.specs.LeafAnswers.{words_of}
 use Rattle.cube_search.specs.Causes.{HaveRunsOn}
-use Rattle.cube_search.proofs.OrderLemmas.{get-there}
 
 -- the variables that have a machine, counted from k
 abbrev pub places_from : ℕ → Family → List ℕ

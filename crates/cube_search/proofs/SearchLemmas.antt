@@ -10,12 +10,13 @@ use Rattle.flat_cubes.specs.declared.definition.By.TheVariants as by
 use Rattle.flat_cubes.specs.declared.definition.Definition.{Definition}
 use Rattle.flat_cubes.specs.declared.flat.Flat.{Flat}
 use Rattle.backward.specs.Families.{Family, Words, HasMachine, Conf}
-use Rattle.backward.specs.Definitions.{definition, reads}
+use Rattle.backward.specs.Definitions.{definition}
 use Rattle.backward.specs.Chains.{width, ConfBefore}
 use Rattle.backward.specs.Pieces.{ConfCut}
 use Rattle.backward.specs.Steps.{CanPassAt, IsMadeAt, IsMadeBy}
 use Rattle.backward.specs.declared.leaf_state.LeafState.{LeafState}
 use Rattle.backward.proofs.OrderLemmas.{stands-at}
+use Rattle.backward.proofs.StepLemmas.{one-definition}
 use Rattle.cube_search.specs.declared.tally.LeafTally.{LeafTally}
 use Rattle.cube_search.specs.Steps.{AreExact, CanStep, IsCutting}
 use Rattle.cube_search.specs.Tallies.{Keeps, IsCovered, AreCoveredFrom, IsCoveredBelow}
@@ -94,12 +95,9 @@ more-cuts flat at pieces ms cuts s bound cutting ne is lt =
 pub whole-can : (flat : Flat) (at : ℕ) (pieces : List ℕ) (ms : Family) (cuts : List ℕ) → IsCutting flat at pieces ms cuts → length cuts + 1 ≡ length pieces → CanStep flat at ms cuts
 whole-can flat at pieces ms cuts cutting full = inl (cutting.can cuts (record { count = omega (arith, full); states = cutting.states }))
 
-same-definition : (ds : List Definition) (at : ℕ) (d e : Definition) → slice_get ds at ≡ Some d → slice_get ds at ≡ Some e → d ≡ e
-same-definition ds at d e p q = cc
-
 pub cutting-machine : (flat : Flat) (at : ℕ) (pieces : List ℕ) (ms : Family) (cuts : List ℕ) → IsCutting flat at pieces ms cuts → (d : Definition) → slice_get flat.definitions at ≡ Some d → (m : Graph) × HasMachine ms d.variable m
 cutting-machine flat at pieces ms cuts cutting d e =
-    let same = same-definition flat.definitions at (definition cutting.variable (by.Concat pieces)) d cutting.defined e in
+    let same = one-definition flat.definitions at (definition cutting.variable (by.Concat pieces)) d cutting.defined e in
     (cutting.machine, subst (λ x. HasMachine ms x.variable cutting.machine) same cutting.has)
 
 pub cutting-below : (flat : Flat) (at : ℕ) (pieces : List ℕ) (ms : Family) (cuts : List ℕ) → IsCutting flat at pieces ms cuts → at < length flat.definitions
@@ -116,13 +114,6 @@ pub none-of : {X : Type 0} (o : Option X) → ((x : X) → o ≡ Some x → ⊥)
 none-of None h = refl
 none-of (Some x) h = absurd (h x refl)
 
--- a definition that is no concatenation reads one variable
-pub reads-one : (b : By) → ((vs : List ℕ) → b ≡ by.Concat vs → ⊥) → (v : ℕ) × (reads b ≡ Some v)
-reads-one (by.Concat vs) h = absurd (h vs refl)
-reads-one (by.First p u v) h = (v, refl)
-reads-one (by.All p u v) h = (v, refl)
-reads-one (by.Through t v) h = (v, refl)
-
 pub some-pieces : (flat : Flat) (at x : ℕ) (pieces : List ℕ) → IsStraight flat → slice_get flat.definitions at ≡ Some (definition x (by.Concat pieces)) → 0 < length pieces
 some-pieces flat at x pieces straight is = (stands-at (length flat.variables) flat.definitions at (definition x (by.Concat pieces)) straight.order is).some
 
@@ -132,7 +123,7 @@ concat-here ds at d pieces other e is same = e ∙ ap (λ b. Some (definition d.
 
 -- no concatenation stands where another definition does
 pub no-concat : (ds : List Definition) (at x : ℕ) (d : Definition) (pieces : List ℕ) → slice_get ds at ≡ Some d → ((vs : List ℕ) → d.by ≡ by.Concat vs → ⊥) → slice_get ds at ≡ Some (definition x (by.Concat pieces)) → ⊥
-no-concat ds at x d pieces e h is = h pieces (ap (λ (c : Definition). c.by) (same-definition ds at d (definition x (by.Concat pieces)) e is))
+no-concat ds at x d pieces e h is = h pieces (ap (λ (c : Definition). c.by) (one-definition ds at d (definition x (by.Concat pieces)) e is))
 
 -- cuts say nothing of a definition that is no concatenation
 made-by : (b : By) (x : ℕ) (cuts : List ℕ) (ms : Family) (ns : LeafState) → ((vs : List ℕ) → b ≡ by.Concat vs → ⊥) → IsMadeBy b x [] ms ns → IsMadeBy b x cuts ms ns
@@ -144,4 +135,4 @@ made-by (by.Through t v) x cuts ms ns h made = made
 pub made-any : (flat : Flat) (at : ℕ) (cuts : List ℕ) (ms : Family) (ns : LeafState) (d : Definition) → slice_get flat.definitions at ≡ Some d → ((vs : List ℕ) → d.by ≡ by.Concat vs → ⊥)
     → IsMadeAt flat at [] ms ns → IsMadeAt flat at cuts ms ns
 made-any flat at cuts ms ns d e h made c is =
-    made-by c.by c.variable cuts ms ns (λ vs p. h vs (ap (λ (x : Definition). x.by) (same-definition flat.definitions at d c e is) ∙ p)) (made c is)
+    made-by c.by c.variable cuts ms ns (λ vs p. h vs (ap (λ (x : Definition). x.by) (one-definition flat.definitions at d c e is) ∙ p)) (made c is)

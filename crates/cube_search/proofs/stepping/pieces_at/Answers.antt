@@ -2,7 +2,8 @@ use Rattle.std.proofs.Common.{subst, add-one, arith}
 use Rattle.flat_cubes.specs.declared.definition.By.TheVariants.{Concat}
 use Rattle.backward.specs.Definitions.{definition}
 use Rattle.backward.specs.States.{IsState}
-use Rattle.cube_search.proofs.SearchLemmas.{concat-here, reads-one, some-pieces}
+use Rattle.backward.proofs.StepLemmas.{reads-other}
+use Rattle.cube_search.proofs.SearchLemmas.{concat-here, some-pieces}
 use Rattle.cube_search.proofs.stepping.pieces_at.Goals as goal
 
 pub returns-in-Concat-clause-step : goal.returns-in-Concat-clause-step
@@ -31,7 +32,7 @@ returns-in_default c =
     let flat = c.args.search.now.flat.now in
     let at = c.args.at in
     let d = c.definition_at-definition.result.now in
-    let one = reads-one d.by c.in_default.not-Concat in
+    let one = reads-other d.by c.in_default.not-Concat in
     let state = subst (λ n. IsState flat n c.args.state.now) (add-one at) c.requires.state in
     record {
       step = c.next_can_be_carried.ensures.through flat at d.variable one.0 d.by s.straight s.formed s.little state c.definition_at-definition.ensures one.1;

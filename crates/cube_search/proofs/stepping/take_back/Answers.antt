@@ -1,7 +1,7 @@
 use Rattle.std.proofs.Common.{sym, subst, add-one, IfOk, IfSome}
+use Rattle.backward.proofs.StateLemmas.{get-there}
 use Rattle.cube_search.specs.Searches.{AreFoundRuns}
 use Rattle.cube_search.proofs.FoundLemmas.{lift-found}
-use Rattle.cube_search.proofs.OrderLemmas.{get-there}
 use Rattle.cube_search.proofs.stepping.take_back.Goals as goal
 
 pub returns-in_ok-runs-in-Some-clause-found : goal.returns-in_ok-runs-in-Some-clause-found
