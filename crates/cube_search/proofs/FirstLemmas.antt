@@ -2,7 +2,7 @@
 use Rattle.std.proofs.Common.{◌≡◌, ℕ, zero, suc, ◌<◌, ◌≤◌, ◌+◌, false, cond, nat_eq, List, [], ◌∷◌, length, map, take, Some, None, slice_get, get_or, refl, sym, ap, ◌∙◌, subst, arith, inl, inr, ne_eqb}
 use Rattle.std.specs.List.{AllByRecursion, AllZip, range_with_len}
 use Rattle.std.proofs.lemmas.Bool.Decides.{eqb_tells}
-use Rattle.std.proofs.lemmas.Option.{none-some, same_Some, slice_get_within}
+use Rattle.std.proofs.lemmas.Option.{none-some, slice_get_within}
 use Rattle.std.proofs.Math.Seq.{take-length}
 use Rattle.sv_terms.specs.Language.{Word}
 use Rattle.machine_core.specs.Costs.{add_costs, zeros}
@@ -22,6 +22,7 @@ use Rattle.flat_cubes.specs.declared.variable.Variable.{Variable}
 use Rattle.backward.specs.Families.{Family, Words, after, HasMachine, Conf}
 use Rattle.backward.specs.Chains.{width, own_cost, ReadsOwn, IsOwnFamily, IsLed, begun, same, cut, through, IsLedFrom, SameConf}
 use Rattle.backward.specs.Runs.{Runs, AreRuns, run_words, run_totals}
+use Rattle.backward.proofs.PlaceLemmas.{free-held, held-once}
 use Rattle.backward.proofs.StateLemmas.{get-there}
 use Rattle.cube_search.specs.Entries.{word_by}
 use Rattle.cube_search.specs.Models.{all_words}
@@ -74,7 +75,7 @@ own-full flat ms own v e =
     let size = own.size in
     let there = get-there flat.variables v (omega arith) in
     let m = own.each v there.0 there.1 in
-    none-some m.0 (same_Some None (Some m.0) (sym e ∙ m.1))
+    free-held m.0 (sym e ∙ m.1)
 
 own-reads : (flat : Flat) (ms : Family) → IsOwnFamily flat ms → (v : ℕ) (m : Graph) → HasMachine ms v m → (variable : Variable) × (slice_get flat.variables v ≡ Some variable) × ReadsOwn flat v variable m
 own-reads flat ms own v m h =
@@ -82,7 +83,7 @@ own-reads flat ms own v m h =
     let size = own.size in
     let there = get-there flat.variables v (omega arith) in
     let n = own.each v there.0 there.1 in
-    let same = same_Some n.0 m (same_Some (Some n.0) (Some m) (sym n.1 ∙ h)) in
+    let same = held-once n.0 m (sym n.1 ∙ h) in
     (there.0, there.1, subst (ReadsOwn flat v there.0) same n.2)
 
 pub range-at : (f : Words) (k n v : ℕ) → v < n → get_or (map f (range_with_len k n)) v [] ≡ f (k + v)
@@ -115,9 +116,9 @@ lengths-agree f g n agree (u ∷ us) h = let here = ap length (agree u h.0) in l
 -- each machine reads the word of its variable
 conf-accepts : (n : ℕ) (ms : Family) (g : Words) (totals : List ℕ) → Conf n ms g totals → (v : ℕ) (m : Graph) → HasMachine ms v m → (cost : List ℕ) × Accepts m (g v) cost
 conf-accepts n [] g totals c v m h = absurd (none-some (Some m) h)
-conf-accepts n (None ∷ ms) g totals c zero m h = absurd (none-some m (same_Some None (Some m) h))
+conf-accepts n (None ∷ ms) g totals c zero m h = absurd (free-held m h)
 conf-accepts n (None ∷ ms) g totals c (suc v) m h = conf-accepts n ms (after g) totals c v m h
-conf-accepts n (Some k ∷ ms) g totals c zero m h = let is = same_Some k m (same_Some (Some k) (Some m) h) in (c.0, subst (λ x. Accepts x (g 0) c.0) is c.2)
+conf-accepts n (Some k ∷ ms) g totals c zero m h = (c.0, subst (λ x. Accepts x (g 0) c.0) (held-once k m h) c.2)
 conf-accepts n (Some k ∷ ms) g totals c (suc v) m h = conf-accepts n ms (after g) c.1 c.3 v m h
 
 -- and the words of a first family cost their lengths

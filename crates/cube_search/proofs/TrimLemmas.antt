@@ -1,6 +1,7 @@
 -- A family with its machines cut down.
 use Rattle.std.proofs.Common.{◌≡◌, ℕ, zero, suc, ◌<◌, ◌≤◌, ◌+◌, List, [], ◌∷◌, ◌++◌, length, map, take, get_or, Contains, All, Option, Some, None, slice_get, refl, sym, ap, ◌∙◌, subst, arith}
 use Rattle.std.specs.List.{AllZip}
+use Rattle.std.proofs.lemmas.List.{take_all}
 use Rattle.machine_core.specs.declared.graph.Graph.{Graph}
 use Rattle.machine_core.specs.declared.run.Run.{Run}
 use Rattle.machine_core.specs.Costs.{add_costs, total_of}
@@ -18,6 +19,7 @@ use Rattle.backward.specs.Families.{Family, HasMachine}
 use Rattle.backward.specs.Leaves.{machines_of, IsLess, IsLessened}
 use Rattle.backward.specs.States.{IsState}
 use Rattle.backward.specs.declared.leaf_state.LeafState.{LeafState}
+use Rattle.backward.proofs.PlaceLemmas.{free-held, held-once}
 use Rattle.cube_bounds.specs.NumberLaws.{StatesAreBounded, StatesAreSolved}
 use Rattle.flat_cubes.specs.Straight.{IsStraight}
 use Rattle.cube_search.specs.LeafAnswers.{AreOfLeaf, words_of}
@@ -45,18 +47,12 @@ lessened-none (Some m ∷ ms) gs zero h = cc
 lessened-none (Some m ∷ ms) [] (suc v) h = lessened-none ms [] v h
 lessened-none (Some m ∷ ms) (g ∷ gs) (suc v) h = lessened-none ms gs v h
 
-same-machine : (k m : Graph) → Some (Some k) ≡ Some (Some m) → k ≡ m
-same-machine k m e = cc
-
-some-none : (m : Graph) → Some None ≡ Some (Some m) → ⊥
-some-none m e = cc
-
 lessened-each : (P : Graph → Graph → Type 0) (ms : Family) (gs : List Graph) → AllZip P (machines_of ms) gs → (v : ℕ) (m : Graph) → HasMachine ms v m → (n : Graph) × HasMachine (lessened ms gs) v n × P m n
 lessened-each P [] gs z v m h = cc
-lessened-each P (None ∷ ms) gs z zero m h = absurd (some-none m h)
+lessened-each P (None ∷ ms) gs z zero m h = absurd (free-held m h)
 lessened-each P (None ∷ ms) gs z (suc v) m h = lessened-each P ms gs z v m h
 lessened-each P (Some k ∷ ms) [] z v m h = absurd z
-lessened-each P (Some k ∷ ms) (g ∷ gs) z zero m h = (g, refl, subst (λ x. P x g) (same-machine k m h) z.0)
+lessened-each P (Some k ∷ ms) (g ∷ gs) z zero m h = (g, refl, subst (λ x. P x g) (held-once k m h) z.0)
 lessened-each P (Some k ∷ ms) (g ∷ gs) z (suc v) m h = lessened-each P ms gs z.1 v m h
 
 pub is-lessened : (ms : Family) (gs : List Graph) → AllZip IsLess (machines_of ms) gs → IsLessened ms (lessened ms gs)
@@ -200,11 +196,5 @@ lifted-push (x ∷ ts) (y ∷ runs) (z ∷ others) (suc i) t r o lt lu e f l is 
     let rest = lifted-push ts runs others i t r o (omega (arith, lt)) (omega (arith, lu)) e f l.1 is in
     subst (λ k. AreLifted (take k (x ∷ ts)) (take k (y ∷ runs)) (z ∷ others ++ o ∷ [])) (sym (next i)) (l.0, rest)
 
-take-whole : {X : Type 0} (xs : List X) (n : ℕ) → n ≡ length xs → take n xs ≡ xs
-take-whole [] zero e = refl
-take-whole [] (suc n) e = absurd (omega (arith, e))
-take-whole (x ∷ xs) zero e = absurd (omega (arith, e))
-take-whole (x ∷ xs) (suc n) e = ap (λ l. x ∷ l) (take-whole xs n (omega (arith, e)))
-
 pub lifted-whole : (ts : List (Built ℕ)) (runs others : List (Run ℕ)) (n : ℕ) → n ≡ length runs → length runs ≡ length ts → AreLifted (take n ts) (take n runs) others → AreLifted ts runs others
-lifted-whole ts runs others n e f l = subst (λ us. AreLifted us runs others) (take-whole ts n (e ∙ f)) (subst (λ rs. AreLifted (take n ts) rs others) (take-whole runs n e) l)
+lifted-whole ts runs others n e f l = subst (λ us. AreLifted us runs others) (take_all n ts (omega (arith, e, f))) (subst (λ rs. AreLifted (take n ts) rs others) (take_all n runs (omega (arith, e))) l)
