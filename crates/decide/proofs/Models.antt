@@ -1,5 +1,5 @@
 -- Values of a flat cube as values of its cube, and the other way round.
-use Rattle.std.proofs.Common.{◌≡◌, refl, sym, ap, ◌∙◌, subst, ℕ, ℤ, cond, map, filter, Bool, true, IsTrue, List, [], ◌∷◌, Option, Some, None, Err, IfOk}
+use Rattle.std.proofs.Common.{◌≡◌, refl, sym, ap, ◌∙◌, subst, ℕ, ℤ, cond, map, Bool, true, IsTrue, List, [], ◌∷◌, Option, Some, None, Err, IfOk}
 use Rattle.std.specs.List.{AllByRecursion, AllZip}
 use Rattle.sv_terms.specs.Language.{Word}
 use Rattle.sv_terms.specs.Meaning.{Named}
@@ -13,12 +13,10 @@ use Rattle.sv_terms.specs.declared.value.Value.TheVariants as value
 use Rattle.assertion_parts.specs.Filling.{AreChosen, IsFilledFrom, default, or_default, value_of}
 use Rattle.assertion_parts.proofs.Sorts.{same-self}
 use Rattle.bool_cubes.specs.Laws.{IsValuedCube}
-use Rattle.literal_forms.specs.Linear.{length_of}
-use Rattle.literal_forms.specs.Shapes.{Shape, seen}
+use Rattle.literal_forms.specs.Shapes.{seen}
 use Rattle.literal_forms.specs.declared.literal.Literal.{Literal}
 use Rattle.literal_forms.specs.declared.literal.Cube.{Cube}
-use Rattle.flat_cubes.specs.Flattening.{Bounded, HaveOneSort as LiteralsHaveOneSort, IsFlattened, IsFlattening, IsSortedBy, IsRowFor, all_bounded, has_column, unknowns_of, variable_of}
-use Rattle.flat_cubes.specs.Met.{met}
+use Rattle.flat_cubes.specs.Flattening.{HaveOneSort as LiteralsHaveOneSort, IsFlattened, IsFlattening, IsSortedBy}
 use Rattle.straight_line.specs.FormLaws.{AreNamesSorted, NamesAreSorted}
 use Rattle.straight_line.specs.Laws.{FlatIsExact, FlatIsOne, IsGood, IsRefusal, IsSpelled, RefusedHasNone}
 use Rattle.flat_cubes.specs.Satisfying.{Extends, HasValue, AreModelValues, NamesHave}
@@ -144,19 +142,3 @@ refused-outcome none terms cube (fault.Twice v) refused = record { right = refus
 refused-outcome none terms cube (fault.Cycle vs) refused = record { right = refused; decided = λ must. absurd (refused-of none cube (fault.Cycle vs) tt refused must) }
 refused-outcome none terms cube (fault.Wide n) refused = record { right = refused; decided = λ must. absurd (refused-of none cube (fault.Wide n) tt refused must) }
 refused-outcome none terms cube (fault.Memory e) refused = tt
-
--- without rows there are no registers
-no-columns : (rs : List (Shape × ℕ)) (bs : List Bounded) → bs ≡ [] → filter (λ (r : Shape × ℕ). has_column bs (length_of r.0)) rs ≡ []
-no-columns [] bs e = refl
-no-columns (r ∷ rs) bs e = ap (λ b. cond b (r ∷ filter (λ (q : Shape × ℕ). has_column bs (length_of q.0)) rs) (filter (λ (q : Shape × ℕ). has_column bs (length_of q.0)) rs)) (ap (λ l. has_column l (length_of r.0)) e) ∙ no-columns rs bs e
-
-none-zipped : {A B : Type 0} (R : A → B → Type 0) (xs : List A) (ys : List B) → AllZip R xs ys → ys ≡ [] → xs ≡ []
-none-zipped R [] ys z e = refl
-none-zipped R (x ∷ xs) [] z e = absurd z
-none-zipped R (x ∷ xs) (y ∷ ys) z e = absurd cc
-
-pub bare : (cube : Cube) (flat : Flat) → IsFlattening cube.literals flat → flat.rows ≡ [] → flat.registers ≡ []
-bare cube flat f e =
-    let d = met cube.literals in
-    let none = none-zipped (IsRowFor (unknowns_of d)) (all_bounded d) flat.rows f.of.rows e in
-    f.of.registers ∙ ap (map (λ (r : Shape × ℕ). variable_of d r.1)) (no-columns d.registers (all_bounded d) none)

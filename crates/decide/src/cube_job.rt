@@ -8,7 +8,7 @@ ghost use Rattle.decide.specs.Jobs.{IsAskedCube, IsOutcome, refused_answer};
 
 use assertion_parts::complete;
 use cube_bounds::numbers;
-use cube_search::{CubeAnswer, OpenReason, Shown, cube_answer};
+use cube_search::{CubeAnswer, OpenReason, Shown, cube_answer, rows_count};
 use flat_cubes::{Flat, FlatFault};
 use literal_forms::Cube;
 use par_phase::Job;
@@ -113,6 +113,7 @@ fn flat_answer(shared: &Shared<'_>, cube: &Cube, flat: &Flat) -> Result<CubeAnsw
     flat_cubes_are_unique();
     names_are_sorted();
     transducers_are_formed();
+    rows_count();
     let numbers = numbers(shared.alloc, flat)?;
     match cube_answer(shared.alloc, flat, &numbers, shared.kept)? {
         CubeAnswer::Sat(model) => {

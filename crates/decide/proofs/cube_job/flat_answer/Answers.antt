@@ -1,10 +1,10 @@
 use Rattle.std.proofs.Common.{subst}
 use Rattle.cube_search.specs.Answers.{IsCubeAnswer, IsDecidedCube}
-use Rattle.decide.proofs.Models.{bare, cause-of, must-of, none-of, sat-of}
+use Rattle.decide.proofs.Models.{cause-of, must-of, none-of, sat-of}
 use Rattle.decide.proofs.cube_job.flat_answer.Goals as goal
 
 pub cube_answer-requires-clause-bare : goal.cube_answer-requires-clause-bare
-cube_answer-requires-clause-bare c = bare c.args.cube.now c.args.flat.now c.requires.flattening
+cube_answer-requires-clause-bare c = c.rows_count.ensures c.args.cube.now.literals c.args.flat.now c.requires.flattening
 
 pub returns-in-Sat : goal.returns-in-Sat
 returns-in-Sat c = record {
