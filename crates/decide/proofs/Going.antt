@@ -113,7 +113,7 @@ module _ (terms : List Term) (cubes old new : List Cube) (jobs : List Job) (outc
   tallied = more (opaque_of terms) u.answers u.tallied
 
   -- the search goes on
-  pub step : length jobs ≡ batch → after.model ≡ None → IsUnderWay terms cubes new after
+  step : length jobs ≡ batch → after.model ≡ None → IsUnderWay terms cubes new after
   step size none =
       let r = answered terms jobs outcomes last old new taken yielded is in record {
         done = u.done ++ r.cubes;
@@ -129,7 +129,7 @@ module _ (terms : List Term) (cubes old new : List Cube) (jobs : List Job) (outc
       }
 
   -- the search ends
-  pub finish : (length jobs ≡ batch) ⊎ ((new ≡ []) × (length jobs ≤ batch)) → (new ≡ []) ⊎ (after.model ≢ None) → IsFoldOf terms cubes (verdict_of after)
+  finish : (length jobs ≡ batch) ⊎ ((new ≡ []) × (length jobs ≤ batch)) → (new ≡ []) ⊎ (after.model ≢ None) → IsFoldOf terms cubes (verdict_of after)
   finish size stops =
       let r = answered terms jobs outcomes last old new taken yielded is in record {
         done = u.done ++ r.cubes;
@@ -157,20 +157,20 @@ room terms cubes old new jobs outcomes tally u taken yielded few =
     omega (arith, a, b, d, few)
 
 -- where a whole batch was taken, fewer cubes are left
-pub fewer : (terms : List Term) (jobs : List Job) (old new : List Cube) → AreJobsOf terms jobs old new → length jobs ≡ batch → length new < length old
+fewer : (terms : List Term) (jobs : List Job) (old new : List Cube) → AreJobsOf terms jobs old new → length jobs ≡ batch → length new < length old
 fewer terms jobs old new taken size = let b = jobs-length terms jobs old new taken in omega (arith, b, size)
 
 module _ (new : List Cube) (jobs : List Job) (size : (length jobs ≡ batch) ⊎ ((new ≡ []) × (length jobs ≤ batch))) where
   -- a short batch is the last
-  pub no-more : length jobs < batch → new ≡ []
+  no-more : length jobs < batch → new ≡ []
   no-more short = elim size [ inl e ↦ absurd (omega (arith, short, e)) | inr p ↦ p.0 ]
 
   -- and one that isn't short is whole
-  pub whole-size : batch ≤ length jobs → length jobs ≡ batch
+  whole-size : batch ≤ length jobs → length jobs ≡ batch
   whole-size long = elim size [ inl e ↦ e | inr p ↦ omega (arith, p.1, long) ]
 
   -- whether it goes on
-  pub stops-of : (m : Option Named) → (nat_lt (length jobs) batch || is_some m) ≡ true → (new ≡ []) ⊎ (m ≢ None)
+  stops-of : (m : Option Named) → (nat_lt (length jobs) batch || is_some m) ≡ true → (new ≡ []) ⊎ (m ≢ None)
   stops-of m e = by (nat_lt (length jobs) batch) refl m e
     where
       by : (b : Bool) → nat_lt (length jobs) batch ≡ b → (m : Option Named) → (b || is_some m) ≡ true → (new ≡ []) ⊎ (m ≢ None)
@@ -178,13 +178,30 @@ module _ (new : List Cube) (jobs : List Job) (size : (length jobs ≡ batch) ⊎
       by false h None e = absurd cc
       by false h (Some x) e = inr (λ n. cc)
 
-  pub goes-on : (m : Option Named) → (nat_lt (length jobs) batch || is_some m) ≡ false → (length jobs ≡ batch) × (m ≡ None)
+  goes-on : (m : Option Named) → (nat_lt (length jobs) batch || is_some m) ≡ false → (length jobs ≡ batch) × (m ≡ None)
   goes-on m e = by (nat_lt (length jobs) batch) refl m e
     where
       by : (b : Bool) → nat_lt (length jobs) batch ≡ b → (m : Option Named) → (b || is_some m) ≡ false → (length jobs ≡ batch) × (m ≡ None)
       by true h m e = absurd cc
       by false h None e = (whole-size (ltb-false (length jobs) batch h), refl)
       by false h (Some x) e = absurd cc
+
+-- one turn of the search: a batch is taken, answered and put to the tally, which tells whether the search ends with it
+module _ (terms : List Term) (cubes old new : List Cube) (jobs : List Job) (outcomes : List (Result CubeAnswer AllocError)) (before after : CubeTally) (u : IsUnderWay terms cubes old before)
+    (taken : AreJobsOf terms jobs old new) (yielded : AllZip Yields jobs outcomes)
+    (more : (last : List CubeAnswer) × (outcomes ≡ map Ok last) × ((opaque : List Term) (xs : List CubeAnswer) → IsTallyOf opaque xs before → IsTallyOf opaque (xs ++ last) after))
+    (size : (length jobs ≡ batch) ⊎ ((new ≡ []) × (length jobs ≤ batch))) (n : ℕ) (len : n ≡ length jobs) (ends : Bool) (told : ends ≡ (nat_lt n batch || is_some after.model)) where
+  test : (nat_lt (length jobs) batch || is_some after.model) ≡ ends
+  test = ap (λ k. nat_lt k batch || is_some after.model) (sym len) ∙ sym told
+
+  pub ended : ends ≡ true → IsFoldOf terms cubes (verdict_of after)
+  ended e = finish terms cubes old new jobs outcomes before after u taken yielded more.0 more.1 more.2 size (stops-of new jobs size after.model (test ∙ e))
+
+  pub went-on : ends ≡ false → IsUnderWay terms cubes new after
+  went-on e = let on = goes-on new jobs size after.model (test ∙ e) in step terms cubes old new jobs outcomes before after u taken yielded more.0 more.1 more.2 on.0 on.1
+
+  pub fewer-left : ends ≡ false → length new < length old
+  fewer-left e = let on = goes-on new jobs size after.model (test ∙ e) in fewer terms jobs old new taken on.0
 
 all-dropped : {X : Type 0} (P : X → Type 0) (n : ℕ) (xs : List X) → AllByRecursion P xs → AllByRecursion P (drop n xs)
 all-dropped P zero xs h = h
