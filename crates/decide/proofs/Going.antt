@@ -15,7 +15,7 @@ use Rattle.sv_terms.specs.Truth.{opaque_of}
 use Rattle.decide.specs.CubeValues.{CubeHasNoValues}
 use Rattle.decide.specs.Folds.{found, with_first, without_sat}
 use Rattle.decide.specs.Passing.{PassesCubes, passed}
-use Rattle.decide.specs.Tallies.{IsTallyOf, batch, verdict_of}
+use Rattle.decide.specs.Tallies.{IsTallyOf, IsTallyWith, batch, verdict_of}
 use Rattle.decide.specs.declared.tally.CubeTally.{CubeTally}
 use Rattle.decide.proofs.Sharing.{LeftBy}
 use Rattle.decide.proofs.Tallying.{found-over, passed-length}
@@ -104,7 +104,7 @@ counted terms cubes left tally u =
 
 module _ (terms : List Term) (cubes old new : List Cube) (jobs : List Job) (outcomes : List (Result CubeAnswer AllocError)) (before after : CubeTally) (u : IsUnderWay terms cubes old before)
     (taken : AreJobsOf terms jobs old new) (yielded : AllZip Yields jobs outcomes) (last : List CubeAnswer) (is : outcomes ≡ map Ok last)
-    (more : (opaque : List Term) (xs : List CubeAnswer) → IsTallyOf opaque xs before → IsTallyOf opaque (xs ++ last) after) where
+    (more : IsTallyWith last before after) where
   pub as-many : length last ≡ length jobs
   as-many = let r = answered terms jobs outcomes last old new taken yielded is in
       omega (arith, zip-length (IsOutcome terms) r.cubes last r.each, jobs-length terms jobs old new taken, ap length r.both ∙ length-append r.cubes new)
@@ -189,7 +189,7 @@ module _ (new : List Cube) (jobs : List Job) (size : (length jobs ≡ batch) ⊎
 -- one turn of the search: a batch is taken, answered and put to the tally, which tells whether the search ends with it
 module _ (terms : List Term) (cubes old new : List Cube) (jobs : List Job) (outcomes : List (Result CubeAnswer AllocError)) (before after : CubeTally) (u : IsUnderWay terms cubes old before)
     (taken : AreJobsOf terms jobs old new) (yielded : AllZip Yields jobs outcomes)
-    (more : (last : List CubeAnswer) × (outcomes ≡ map Ok last) × ((opaque : List Term) (xs : List CubeAnswer) → IsTallyOf opaque xs before → IsTallyOf opaque (xs ++ last) after))
+    (more : (last : List CubeAnswer) × (outcomes ≡ map Ok last) × IsTallyWith last before after)
     (size : (length jobs ≡ batch) ⊎ ((new ≡ []) × (length jobs ≤ batch))) (n : ℕ) (len : n ≡ length jobs) (ends : Bool) (told : ends ≡ (nat_lt n batch || is_some after.model)) where
   test : (nat_lt (length jobs) batch || is_some after.model) ≡ ends
   test = ap (λ k. nat_lt k batch || is_some after.model) (sym len) ∙ sym told

@@ -1,5 +1,5 @@
 -- Cubes that need no work, by what they share.
-use Rattle.std.specs.Prelude.{◌≡◌, ℕ, zero, suc, ◌+◌, ◌*◌, ◌%◌, ◌≤◌, Bool, List, [], ◌∷◌, ◌++◌, length, drop, take, nat_eq, if◌then◌else◌}
+use Rattle.std.specs.Prelude.{◌≡◌, ℕ, zero, suc, ◌+◌, ◌*◌, ◌%◌, ◌≤◌, Bool, List, [], ◌∷◌, length, drop, take, nat_eq, if◌then◌else◌}
 use Rattle.std.specs.List.{AllByRecursion}
 use Rattle.sv_terms.specs.CutOff.{cut_off}
 use Rattle.sv_terms.specs.declared.term.Term.{Term}
@@ -10,7 +10,7 @@ use Rattle.cube_search.specs.declared.answer.CubeAnswer.{CubeAnswer}
 use Rattle.cube_search.specs.declared.answer.CubeAnswer.TheVariants as answer
 use Rattle.decide.specs.CubeValues.{CubeHasNoValues}
 use Rattle.decide.specs.Folds.{refutation}
-use Rattle.decide.specs.Tallies.{IsTallyOf, batch}
+use Rattle.decide.specs.Tallies.{IsTallyWith, batch}
 use Rattle.decide.specs.declared.tally.CubeTally.{CubeTally}
 
 -- whether a term leaves no choice
@@ -44,4 +44,4 @@ pub record PassesCubes (terms : List Term) (old new : List Cube) (before after :
   pub cubes : ℕ
   pub known : AreKnown terms before.count cubes
   pub left : new ≡ drop cubes old
-  pub tallied : (opaque : List Term) (answers : List CubeAnswer) → IsTallyOf opaque answers before → IsTallyOf opaque (answers ++ passed cubes) after
+  pub tallied : IsTallyWith (passed cubes) before after

@@ -1,5 +1,5 @@
 -- What a tally of answers holds, and the verdict that it comes to.
-use Rattle.std.specs.Prelude.{◌≡◌, ℕ, List, length}
+use Rattle.std.specs.Prelude.{◌≡◌, ℕ, List, ◌++◌, length}
 use Rattle.sv_terms.specs.declared.term.Term.{Term}
 use Rattle.assertion_parts.specs.Firsts.{first_of}
 use Rattle.cube_search.specs.declared.answer.CubeAnswer.{CubeAnswer}
@@ -14,6 +14,10 @@ pub record IsTallyOf (opaque : List Term) (answers : List CubeAnswer) (tally : C
   pub model : tally.model ≡ found opaque answers
   pub open_cubes : tally.open_cubes ≡ opens_from 0 opaque answers
   pub refuted : tally.refuted ≡ refuted_from (refutation 0 0 0) answers
+
+-- whatever the old tally is one of, the new one is that with these answers behind
+abbrev pub IsTallyWith : List CubeAnswer → CubeTally → CubeTally → Type 0
+IsTallyWith answers old new = (opaque : List Term) (before : List CubeAnswer) → IsTallyOf opaque before old → IsTallyOf opaque (before ++ answers) new
 
 -- the verdict that a tally comes to
 abbrev pub verdict_of : CubeTally → Verdict

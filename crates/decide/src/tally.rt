@@ -6,7 +6,7 @@ ghost use Rattle.sv_terms.specs.declared.term.Term.{Term as AnyTerm};
 ghost use Rattle.decide.specs.Folds.{add, or_else};
 ghost use Rattle.assertion_parts.specs.Firsts.{first_of};
 ghost use Rattle.decide.specs.Passing.{passed};
-ghost use Rattle.decide.specs.Tallies.{IsTallyOf, batch, verdict_of};
+ghost use Rattle.decide.specs.Tallies.{IsTallyOf, IsTallyWith, batch, verdict_of};
 ghost use Rattle.std.specs.Option.{is_some};
 
 use crate::verdict::{Open, Verdict};
@@ -77,7 +77,7 @@ impl CubeTally {
     /// Puts the answer for the next cube to the others.
     pub fn add(&mut self, alloc: Global, next: CubeAnswer) -> Result<(), AllocError>
         requires { self.old.count + 1 < 2 ^ 64 }
-        ensures tallied { OnOk result ((terms : List AnyTerm) (before : List AnyAnswer) → IsTallyOf terms before self.old → IsTallyOf terms (before ++ next ∷ []) self.new) }
+        ensures tallied { OnOk result (IsTallyWith (next ∷ []) self.old self.new) }
         ensures count { OnOk result (self.new.count ≡ self.old.count + 1) }
     {
         match next {
@@ -94,7 +94,7 @@ impl CubeTally {
     /// A cube with a model. Where an assertion is opaque the cube is open.
     fn add_model(&mut self, alloc: Global, model: Model) -> Result<(), AllocError>
         requires { self.old.count + 1 < 2 ^ 64 }
-        ensures tallied { OnOk result ((terms : List AnyTerm) (before : List AnyAnswer) → IsTallyOf terms before self.old → IsTallyOf terms (before ++ answer.Sat model ∷ []) self.new) }
+        ensures tallied { OnOk result (IsTallyWith (answer.Sat model ∷ []) self.old self.new) }
         ensures count { OnOk result (self.new.count ≡ self.old.count + 1) }
     {
         match &self.opaque {
@@ -112,7 +112,7 @@ impl CubeTally {
     /// The next cubes, so many, need no work: they have no values.
     pub fn pass(&mut self, cubes: u64)
         requires { self.old.count + cubes < 2 ^ 64 }
-        ensures { (terms : List AnyTerm) (before : List AnyAnswer) → IsTallyOf terms before self.old → IsTallyOf terms (before ++ passed cubes) self.new }
+        ensures { IsTallyWith (passed cubes) self.old self.new }
     {
         self.count += cubes;
     }
@@ -173,7 +173,7 @@ pub fn tally_all(
     outcomes: Vec<Result<CubeAnswer, AllocError>>,
 ) -> Result<(), AllocError>
     requires { tally.old.count + length outcomes.items < 2 ^ 64 }
-    ensures { OnOk result ((answers : List AnyAnswer) × (outcomes.items ≡ map Ok answers) × ((opaque : List AnyTerm) (before : List AnyAnswer) → IsTallyOf opaque before tally.old → IsTallyOf opaque (before ++ answers) tally.new)) }
+    ensures { OnOk result ((answers : List AnyAnswer) × (outcomes.items ≡ map Ok answers) × IsTallyWith answers tally.old tally.new) }
 {
     for outcome in outcomes {
         tally.add(alloc, outcome?)?;

@@ -1,8 +1,7 @@
 use Rattle.std.proofs.Common.{◌≡◌, ◌++◌, ◌+◌, ◌<◌, ◌^◌, List, map, length, Ok}
 use Rattle.std.specs.Vec.Iter.{into_iter_items}
-use Rattle.sv_terms.specs.declared.term.Term.{Term}
 use Rattle.cube_search.specs.declared.answer.CubeAnswer.{CubeAnswer}
-use Rattle.decide.specs.Tallies.{IsTallyOf}
+use Rattle.decide.specs.Tallies.{IsTallyWith}
 use Rattle.decide.proofs.tally.tally_all.Given as goal
 
 -- the answers so far
@@ -14,5 +13,5 @@ invariant-loop-outcome l = record {
   bound : l.tally.count + length (into_iter_items l.outcome-iterator) < 2 ^ 64;
   answers : List CubeAnswer;
   are : l.yielded ≡ map Ok answers;
-  tallied : (opaque : List Term) (before : List CubeAnswer) → IsTallyOf opaque before l.fn.tally → IsTallyOf opaque (before ++ answers) l.tally;
+  tallied : IsTallyWith answers l.fn.tally l.tally;
 }
