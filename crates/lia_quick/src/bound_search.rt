@@ -300,18 +300,18 @@ fn rounded_choice(rounding: &Rounding) -> Option<Choice> {
 ///
 /// Unknowns that equations hold come first: an equation that is left has no coefficient 1 or -1, so that whole numbers
 /// may fail to meet it. Of the others, counts of edges alone, 1 comes before 0, since an edge that is used joins what
-/// comes behind it.
+/// comes behind it. Else the side nearer to 0 comes first: an integer constant far below 0 may make words long.
 fn choose(bounds: &Bounds, unknowns: u32) -> Option<Choice> {
     match narrowest_cut(bounds, unknowns, true) {
         Some((_, cut)) => Some(Choice {
             cut,
-            low_first: true,
+            low_first: cut.at >= 0,
         }),
         None => {
             let (width, cut) = narrowest_cut(bounds, unknowns, false)?;
             Some(Choice {
                 cut,
-                low_first: width > 1,
+                low_first: width > 1 && cut.at >= 0,
             })
         }
     }
@@ -340,7 +340,8 @@ fn is_narrower(best: Option<(u128, BoundCut)>, width: u128) -> bool {
     }
 }
 
-/// How far a range reaches above one number, and where it is cut; one without an end is cut where it begins.
+/// How far a range reaches above one number, and where it is cut; one without an end is cut next to its number nearest
+/// to 0.
 fn middle(range: Range) -> Option<(u128, i128)> {
     match (range.lower, range.upper) {
         (Some(lower), Some(upper)) => {
@@ -351,8 +352,8 @@ fn middle(range: Range) -> Option<(u128, i128)> {
                 Some((width as u128, lower.amount.saturating_add(width / 2)))
             }
         }
-        (Some(lower), None) => Some((u128::MAX - 1, lower.amount)),
-        (None, Some(upper)) => Some((u128::MAX - 1, upper.amount.saturating_sub(1))),
+        (Some(lower), None) => Some((u128::MAX - 1, lower.amount.max(-1))),
+        (None, Some(upper)) => Some((u128::MAX - 1, upper.amount.saturating_sub(1).min(-1))),
         (None, None) => Some((u128::MAX, 0)),
     }
 }
