@@ -6,9 +6,9 @@
 The evaluator below says what SMT-LIB 2.6 and its theories Core, Ints and UnicodeStrings say of a term whose constants
 have values; it shares nothing with the program. Behind `sat` every assertion has to be true by it under the model that
 the program prints. Behind `unsat` no values may make all of them true, of those that are tried: short words over the
-letters of the script and one more, small numbers. A peer (such as "cvc5 --incremental --strings-exp --tlimit=2000 -q",
-with models) reads the same script without this project's own commands; where it says `sat` and the program `unsat`, the
-peer's model is looked at in the same way, and a peer's `unsat` against a `sat` is told.
+letters of the script and one more, small numbers. A peer reads each script without a transducer on its standard input,
+such as "cvc5 --lang smt2 --strings-exp --produce-models --tlimit=3000 -q -"; where it says `sat` and the program `unsat`,
+the peer's model is looked at in the same way, and a peer's `unsat` against a `sat` is told.
 Prints each script with a verdict that is shown to be wrong, and ends with 1 if there is one. A model with a word of more
 than 200 characters isn't looked at, and is counted apart.
 """
@@ -341,8 +341,9 @@ class Script:
     def assertion(self):
         return self.formula(self.draw.choice([0, 0, 1, 2]))
 
-    def text_for(self, solver):
-        lines = ["(set-logic ALL)", "(set-option :produce-models true)"][:: 1 if solver == "program" else -1]
+    def commands(self):
+        """The script's text. Other solvers want the option before the logic."""
+        lines = ["(set-option :produce-models true)", "(set-logic ALL)"]
         lines += [f"(declare-const {name} {SORTS[name[0]]})" for name in self.constants]
         if self.transducer:
             start, edges, ends = self.transducer
@@ -423,14 +424,14 @@ def main():
     counts, bad = collections.Counter(), 0
     for seed in range(given.seed, given.seed + given.scripts):
         script = Script(seed)
-        verdict, values = ask([given.program], script.text_for("program"))
-        peer = ask(given.peer.split(), script.text_for("peer")) if given.peer and not script.transducer else ("", None)
+        verdict, values = ask([given.program], script.commands())
+        peer = ask(given.peer.split(), script.commands()) if given.peer and not script.transducer else ("", None)
         is_long = verdict == "sat" and any(isinstance(it, tuple) and len(it) > LONGEST for it in values.values())
         counts[verdict + " with a long word" * is_long, peer[0] if peer[0] in ("", "sat", "unsat") else "other"] += 1
         why = None if is_long else wrong(script, verdict, values, peer)
         if why:
             bad += 1
-            print(f"; seed {seed}: {verdict}, but {why}\n{script.text_for('program')}")
+            print(f"; seed {seed}: {verdict}, but {why}\n{script.commands()}")
         elif (verdict, peer[0]) == ("sat", "unsat"):
             print(f"; seed {seed}: the peer says unsat, though {values} makes every assertion true")
     for (verdict, peer), count in sorted(counts.items()):
