@@ -7,10 +7,9 @@
 //! the literal of a word; both are linear, and what is printed reads back. UTF-8 in a literal is
 //! that of the standard library, to the byte.
 //!
-//! `Ranges` is a set of characters, kept as sorted pairs with a gap between any two, so that equal
-//! sets are one value. `meet`, `join` and `complement` are one walk over the pairs, `holds` is a
-//! binary search. `cuts` parts all characters so that each set of a list is a union of parts, by
-//! one sort of the n pairs' borders.
+//! `Ranges` is a set of characters, kept as sorted pairs with a gap between any two. `meet`, `join`
+//! and `complement` are one walk over the pairs, `holds` is a binary search. `cuts` parts all
+//! characters so that each set of a list is a union of parts, by one sort of the n pairs' borders.
 //!
 //! ```text
 //! let letters = Ranges::of(alloc, 'a' as u32, 'z' as u32)?;
