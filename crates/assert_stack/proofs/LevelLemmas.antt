@@ -2,6 +2,7 @@
 use Rattle.std.proofs.Common.{◌≡◌, ℕ, zero, suc, ◌+◌, ◌≤◌, List, [], ◌∷◌, ◌++◌, Result, Ok, Err, OnOk, OnErr, length, take, drop, reverse, replicate, refl, ap, sym, ◌∙◌, subst, arith, add-one}
 use Rattle.std.proofs.lemmas.List.{reverse-append, length-reverse, replicate_more, length-replicate, length-take-le, take-append-drop, take-append-le, drop-append-le, length-append}
 use Rattle.std.proofs.Math.Seq.{take-length, drop-length}
+use Rattle.sv_list.specs.Lists.{append-longer}
 use Rattle.sv_terms.specs.declared.entry.Entry.{Entry}
 use Rattle.sv_terms.specs.declared.term.Term.{Term}
 use Rattle.assert_stack.specs.declared.mark.Mark.{Mark}
@@ -18,9 +19,6 @@ below_last m ms ss ts are =
 further : (ms : List Mark) (i j k l : ℕ) → i ≤ k → j ≤ l → AreMarks ms i j → AreMarks ms k l
 further [] i j k l a b are = are
 further (m ∷ ms) i j k l a b are = (omega (arith, a, are.0), omega (arith, b, are.1), are.2)
-
-longer : {X : Type 0} (xs ys : List X) → length xs ≤ length (xs ++ ys)
-longer xs ys = omega (arith, length-append xs ys)
 
 pub symbols-at : (ms : List Mark) (ss : List Symbol) (ts : List Term) → AreMarks ms (length ss) (length ts) → symbols_of (levels_at ms ss ts) ≡ ss
 symbols-at [] ss ts are = refl
@@ -104,19 +102,15 @@ asserts (m ∷ ms) term ss ts are =
 
 -- marks stay right where a symbol or a term comes
 pub marks-declared : (ms : List Mark) (ss added : List Symbol) (terms : ℕ) → AreMarks ms (length ss) terms → AreMarks ms (length (ss ++ added)) terms
-marks-declared ms ss added terms are = further ms (length ss) terms (length (ss ++ added)) terms (longer ss added) (omega arith) are
+marks-declared ms ss added terms are = further ms (length ss) terms (length (ss ++ added)) terms (append-longer ss added) (omega arith) are
 
 pub marks-asserted : (ms : List Mark) (symbols : ℕ) (ts added : List Term) → AreMarks ms symbols (length ts) → AreMarks ms symbols (length (ts ++ added))
-marks-asserted ms symbols ts added are = further ms symbols (length ts) symbols (length (ts ++ added)) (omega arith) (longer ts added) are
+marks-asserted ms symbols ts added are = further ms symbols (length ts) symbols (length (ts ++ added)) (omega arith) (append-longer ts added) are
 
 -- after a call that adds to a list or leaves it
 pub either_way : {X T E : Type 0} (P : List X → Type 0) (r : Result T E) (old new added : List X) → OnOk r (new ≡ old ++ added) → OnErr r (new ≡ old) → P old → P (old ++ added) → P new
 either_way P (Ok t) old new added ok err p q = subst P (sym ok) q
 either_way P (Err e) old new added ok err p q = subst P (sym err) p
-
-pub when_ok : {T E A B : Type 0} (r : Result T E) → OnOk r A → (A → B) → OnOk r B
-when_ok (Ok t) a f = f a
-when_ok (Err e) a f = a
 
 -- there is one level more than marks
 pub count-kept : (ms : List Mark) (ss : List Symbol) (ts : List Term) (all : List Level) → levels_at (reverse ms) ss ts ≡ all → length all ≡ length ms + 1

@@ -1,11 +1,14 @@
 -- Values for the constants of terms, one after another.
-use Rattle.std.proofs.Common.{◌≡◌, refl, sym, ap, ◌∙◌, subst, ℕ, zero, suc, ◌+◌, ◌<◌, cond, not, Bool, true, false, ◌&&◌, ◌||◌, IsTrue, All, List, [], ◌∷◌, ◌++◌, length, take, get_or, Option, Some, None, Result, Ok, Err, OnOk, Bor, nat_eq, arith}
+use Rattle.std.proofs.Common.{◌≡◌, refl, sym, ap, ◌∙◌, subst, ℕ, suc, ◌+◌, ◌<◌, cond, not, Bool, true, false, ◌&&◌, ◌||◌, IsTrue, All, List, [], ◌∷◌, ◌++◌, length, take, get_or, Option, Some, None, Bor, nat_eq, arith}
 use Rattle.std.specs.List.{AllByRecursion, list_all, list_any}
 use Rattle.std.specs.Option.{is_some, option_copied}
-use Rattle.std.specs.Cmp.Lexicographic.{pointwise, same_text}
-use Rattle.std.proofs.lemmas.Slice.Eq.{bytes_eq-Decides}
+use Rattle.std.specs.Cmp.Lexicographic.{pointwise}
+use Rattle.std.proofs.lemmas.Bool.{and_parts, and_from, or_parts}
+use Rattle.std.proofs.lemmas.List.Elements.{recursion_from_All, All-from_recursion}
+use Rattle.sv_list.specs.Bools.{or-false, and-true}
 use Rattle.indexmap.specs.IndexMap.{insert_entry}
 use Rattle.sv_terms.specs.Meaning.{Named}
+use Rattle.sv_terms.specs.NamedLaws.{found-set, found-other, one-name}
 use Rattle.sv_terms.specs.Parts.{is_opaque}
 use Rattle.sv_terms.specs.Sorting.{is_of, is_valued, kind, same_sort}
 use Rattle.sv_terms.specs.Truth.{AreWorded, IsWorded, clear_of}
@@ -21,7 +24,7 @@ use Rattle.sv_terms.specs.declared.value.Value.TheVariants.{Truth, Number, Text}
 use Rattle.assertion_parts.specs.Constants.{mentions, is_mentioned, ConstantsHaveOneSort}
 use Rattle.assertion_parts.specs.Filling.{default, or_default, value_of, AreChosen, IsFilling, Grows, Fills, FillsAll, FillsOne, IsFilledFrom}
 use Rattle.assertion_parts.proofs.Listed.{take-more}
-use Rattle.assertion_parts.proofs.Sorts.{both, both-make, same-is, same-self, valued-kept, all-kept}
+use Rattle.assertion_parts.proofs.Sorts.{same-is, same-self, valued-kept, all-kept}
 use Rattle.assertion_parts.proofs.Terms.{every-Constant, every-Apply, every-InRe, every-Related, some-Constant, some-Apply, some-InRe, some-Related}
 
 abbrev Name : Type 0
@@ -29,44 +32,6 @@ Name = List ℕ
 
 abbrev same : Name → Name → Bool
 same = pointwise nat_eq
-
--- names that compare equal are one
-one-name : (n m : Name) → same n m ≡ true → n ≡ m
-one-name n m h = same_text n m (sym h)
-
-pub same-name : (n : Name) → same n n ≡ true
-same-name n = (bytes_eq-Decides n n).1 refl
-
--- the values of a model with one more
-set-same : (xs : Named) (k : Name) (x : Value) → same k k ≡ true → value_of (insert_entry same xs k x) k ≡ Some x
-set-same [] k x r = ap (λ b. cond b (Some x) None) r
-set-same (e ∷ es) k x r = by (same k e.0) refl (set-same es k x r)
-  where
-    by : (b : Bool) → same k e.0 ≡ b → value_of (insert_entry same es k x) k ≡ Some x → value_of (insert_entry same (e ∷ es) k x) k ≡ Some x
-    by true h rest = ap (λ b. value_of (cond b ((e.0, x) ∷ es) (e ∷ insert_entry same es k x)) k) h ∙ ap (λ b. cond b (Some x) (value_of es k)) h
-    by false h rest =
-        ap (λ b. value_of (cond b ((e.0, x) ∷ es) (e ∷ insert_entry same es k x)) k) h
-        ∙ ap (λ b. cond b (Some e.1) (value_of (insert_entry same es k x) k)) h
-        ∙ rest
-
-set-other : (xs : Named) (k : Name) (x : Value) (n : Name) → same n k ≡ false → value_of (insert_entry same xs k x) n ≡ value_of xs n
-set-other [] k x n f = ap (λ b. cond b (Some x) None) f
-set-other (e ∷ es) k x n f = by (same k e.0) refl (set-other es k x n f)
-  where
-    by : (b : Bool) → same k e.0 ≡ b → value_of (insert_entry same es k x) n ≡ value_of es n → value_of (insert_entry same (e ∷ es) k x) n ≡ value_of (e ∷ es) n
-    by true h rest =
-        let apart : same n e.0 ≡ false = subst (λ m. same n m ≡ false) (one-name k e.0 h) f in
-        ap (λ b. value_of (cond b ((e.0, x) ∷ es) (e ∷ insert_entry same es k x)) n) h
-        ∙ ap (λ b. cond b (Some x) (value_of es n)) apart
-        ∙ sym (ap (λ b. cond b (Some e.1) (value_of es n)) apart)
-    by false h rest =
-        ap (λ b. value_of (cond b ((e.0, x) ∷ es) (e ∷ insert_entry same es k x)) n) h
-        ∙ ap (λ o. cond (same n e.0) (Some e.1) o) rest
-
--- what is said where there is no error
-pub when-ok : {T E A B : Type 0} (r : Result T E) → OnOk r A → (A → B) → OnOk r B
-when-ok (Ok t) a f = f a
-when-ok (Err e) a f = a
 
 -- what is said of a value behind a reference
 pub copied-some : {X : Type 0} (o : Option (Bor X)) (p : Option X) → is_some o ≡ true → option_copied o ≡ p → (x : X) × (p ≡ Some x)
@@ -76,16 +41,6 @@ copied-some (Some b) p h e = (b.now, sym e)
 pub copied-none : {X : Type 0} (o : Option (Bor X)) (p : Option X) → is_some o ≡ false → option_copied o ≡ p → p ≡ None
 copied-none None p h e = sym e
 copied-none (Some b) p h e = absurd cc
-
--- lists of values by their places and by recursion
-pub by-places : {X : Type 0} (P : X → Type 0) (xs : List X) → All P xs → AllByRecursion P xs
-by-places P [] h = tt
-by-places P (x ∷ xs) h = (h 0 x (omega arith), by-places P xs (λ k d l. h (suc k) d (omega (arith, l))))
-
-pub at-places : {X : Type 0} (P : X → Type 0) (xs : List X) → AllByRecursion P xs → All P xs
-at-places P [] h k d l = absurd (omega (arith, l))
-at-places P (x ∷ xs) h zero d l = h.0
-at-places P (x ∷ xs) h (suc k) d l = at-places P xs h.1 k d (omega (arith, l))
 
 abbrev Worded : Named → Type 0
 Worded = AllByRecursion (λ (e : Name × Value). IsWorded e.1)
@@ -127,13 +82,13 @@ kind-or s f (Some x) = by (same_sort s (kind x)) refl
     by true g = ap (λ b. kind (cond b x (default s))) g ∙ sym (same-is s (kind x) g)
     by false g = ap (λ b. kind (cond b x (default s))) g ∙ kind-default s f
 
-worded-default : (s : Sort) → IsWorded (default s)
+pub worded-default : (s : Sort) → IsWorded (default s)
 worded-default sort.Bool = tt
 worded-default sort.Int = tt
 worded-default sort.String = tt
 worded-default sort.RegLan = tt
 
-worded-or : (s : Sort) (o : Option Value) → ((x : Value) → o ≡ Some x → IsWorded x) → IsWorded (or_default s o)
+pub worded-or : (s : Sort) (o : Option Value) → ((x : Value) → o ≡ Some x → IsWorded x) → IsWorded (or_default s o)
 worded-or s None f = worded-default s
 worded-or s (Some x) f = by (same_sort s (kind x)) refl
   where
@@ -153,15 +108,11 @@ grows-none sample given old test h = record { filling = h; kept = λ n x e. e; o
 pub grows-more : (sample given old new : Named) (test other : Name → Bool) → ((n : Name) → other n ≡ test n) → Grows sample given old new test → Grows sample given old new other
 grows-more sample given old new test other e g = record { filling = g.filling; kept = g.kept; others = λ n h. g.others n (sym (e n) ∙ h) }
 
-neither : (a b : Bool) → (a || b) ≡ false → (a ≡ false) × (b ≡ false)
-neither true b h = absurd cc
-neither false b h = (refl, h)
-
 pub grows-twice : (sample given old mid new : Named) (one two : Name → Bool) → Grows sample given old mid one → Grows sample given mid new two → Grows sample given old new (λ n. one n || two n)
 grows-twice sample given old mid new one two g h = record {
   filling = h.filling;
   kept = λ n x e. h.kept n x (g.kept n x e);
-  others = λ n e. let p = neither (one n) (two n) e in h.others n p.1 ∙ g.others n p.0;
+  others = λ n e. let p = or_parts (one n) (two n) e in h.others n p.1 ∙ g.others n p.0;
 }
 
 -- a constant that has a value
@@ -169,8 +120,8 @@ pub fills-there : (given : Named) (name : Name) (s : Sort) (old : Named) (u : Va
 fills-there given name s old u e sample of h = (grows-none sample given old (λ other. same other name) h, subst (λ o. is_of s o ≡ true) (sym e) (of-both s u (value_of sample name) of (h.of_sort name u e)))
 
 -- one that gets it
-pub fills-new : (given : Named) (name : Name) (s : Sort) (old new : Named) (x : Value) → value_of old name ≡ None → x ≡ or_default s (value_of given name) → new ≡ insert_entry same old name x → same name name ≡ true → FillsOne given name s old new
-fills-new given name s old new x none is set self sample of h = (
+pub fills-new : (given : Named) (name : Name) (s : Sort) (old new : Named) (x : Value) → value_of old name ≡ None → x ≡ or_default s (value_of given name) → new ≡ insert_entry same old name x → FillsOne given name s old new
+fills-new given name s old new x none is set sample of h = (
   record {
     filling = record { chosen = chosen; of_sort = of_sort; worded = worded };
     kept = kept;
@@ -186,10 +137,10 @@ fills-new given name s old new x none is set self sample of h = (
     kind-is = ap kind is ∙ kind-or s no-language (value_of given name)
 
     here : value_of new name ≡ Some x
-    here = ap (λ m. value_of m name) set ∙ set-same old name x self
+    here = ap (λ m. value_of m name) set ∙ found-set old name x
 
     other : (n : Name) → same n name ≡ false → value_of new n ≡ value_of old n
-    other n f = ap (λ m. value_of m n) set ∙ set-other old name x n f
+    other n f = ap (λ m. value_of m n) set ∙ found-other old name n x f
 
     -- what holds of the new value, and of each old one
     each : (P : Name → Value → Type 0) → P name x → ((n : Name) (y : Value) → value_of old n ≡ Some y → P n y) → (n : Name) (y : Value) → value_of new n ≡ Some y → P n y
@@ -211,10 +162,10 @@ fills-new given name s old new x none is set self sample of h = (
 
     worded : AreWorded given → AreWorded new
     worded w =
-        let p = by-places (λ (e : Name × Value). IsWorded e.1) given w in
-        let q = by-places (λ (e : Name × Value). IsWorded e.1) old (h.worded w) in
+        let p = recursion_from_All (λ (e : Name × Value). IsWorded e.1) given w in
+        let q = recursion_from_All (λ (e : Name × Value). IsWorded e.1) old (h.worded w) in
         let r = subst IsWorded (sym is) (worded-or s (value_of given name) (λ y e. worded-found given name y p e)) in
-        at-places (λ (e : Name × Value). IsWorded e.1) new (subst Worded (sym set) (worded-set old name x q r))
+        All-from_recursion (λ (e : Name × Value). IsWorded e.1) new (subst Worded (sym set) (worded-set old name x q r))
 
     kept : (n : Name) (y : Value) → value_of old n ≡ Some y → value_of new n ≡ Some y
     kept n y e = by (same n name) refl
@@ -225,9 +176,6 @@ fills-new given name s old new x none is set self sample of h = (
 
 -- the terms
 module _ (given old : Named) where
-  pub fills-none : (t : Term) → ((n : Name) → mentions n t ≡ false) → ((values : Named) → is_valued values t ≡ true) → Fills given t old old
-  fills-none t m w sample of h = (grows-none sample given old (λ n. mentions n t) h, w old)
-
   pub fills-Constant : (new : Named) (name : Name) (s : Sort) → FillsOne given name s old new → Fills given (v.Constant name s) old new
   fills-Constant new name s f sample of h =
       let g = λ (values : Named) (n : Name) (z : Sort). is_of z (value_of values n) in
@@ -259,12 +207,12 @@ module _ (given old : Named) where
   fills-Related mid new x t u e f sample of h =
       let g = λ (values : Named) (n : Name) (z : Sort). is_of z (value_of values n) in
       let m = λ (y : Transducer). true in
-      let p = both (is_valued sample t) (is_valued sample u) (sym (every-Related (g sample) m x t u) ∙ of) in
+      let p = and_parts (is_valued sample t) (is_valued sample u) (sym (every-Related (g sample) m x t u) ∙ of) in
       let r = e sample p.0 h in
       let q = f sample p.1 r.0.filling in (
         grows-more sample given old new (λ n. mentions n t || mentions n u) (λ n. mentions n (v.Related x t u)) (λ n. some-Related (λ other z. same n other) false x t u)
             (grows-twice sample given old mid new (λ n. mentions n t) (λ n. mentions n u) r.0 q.0),
-        every-Related (g new) m x t u ∙ both-make (is_valued new t) (is_valued new u) (valued-kept mid new q.0.kept t r.1) q.1,
+        every-Related (g new) m x t u ∙ and_from (is_valued new t) (is_valued new u) (valued-kept mid new q.0.kept t r.1) q.1,
       )
 
   pub fills-no-terms : FillsAll given [] old old
@@ -289,27 +237,19 @@ all-joined f (t ∷ ts) us = ap (λ b. f t && b) (all-joined f ts us) ∙ sym (a
 -- more terms
 pub fills-joined : (given old mid new : Named) (ts us : List Term) → FillsAll given ts old mid → FillsAll given us mid new → FillsAll given (ts ++ us) old new
 fills-joined given old mid new ts us e f sample of h =
-    let p = both (list_all (is_valued sample) ts) (list_all (is_valued sample) us) (sym (all-joined (is_valued sample) ts us) ∙ of) in
+    let p = and_parts (list_all (is_valued sample) ts) (list_all (is_valued sample) us) (sym (all-joined (is_valued sample) ts us) ∙ of) in
     let r = e sample p.0 h in
     let q = f sample p.1 r.0.filling in (
       grows-more sample given old new (λ n. is_mentioned n ts || is_mentioned n us) (λ n. is_mentioned n (ts ++ us)) (λ n. any-joined (mentions n) ts us)
           (grows-twice sample given old mid new (λ n. is_mentioned n ts) (λ n. is_mentioned n us) r.0 q.0),
-      all-joined (is_valued new) ts us ∙ both-make (list_all (is_valued new) ts) (list_all (is_valued new) us) (all-kept mid new q.0.kept ts r.1) q.1,
+      all-joined (is_valued new) ts us ∙ and_from (list_all (is_valued new) ts) (list_all (is_valued new) us) (all-kept mid new q.0.kept ts r.1) q.1,
     )
-
-or-none : (b : Bool) → (b || false) ≡ b
-or-none true = refl
-or-none false = refl
-
-and-none : (b : Bool) → (b && true) ≡ b
-and-none true = refl
-and-none false = refl
 
 pub fills-single : (given old new : Named) (t : Term) → Fills given t old new → FillsAll given (t ∷ []) old new
 fills-single given old new t f sample of h =
-    let r = f sample (sym (and-none (is_valued sample t)) ∙ of) h in (
-      grows-more sample given old new (λ n. mentions n t) (λ n. is_mentioned n (t ∷ [])) (λ n. or-none (mentions n t)) r.0,
-      and-none (is_valued new t) ∙ r.1,
+    let r = f sample (sym (and-true (is_valued sample t)) ∙ of) h in (
+      grows-more sample given old new (λ n. mentions n t) (λ n. is_mentioned n (t ∷ [])) (λ n. or-false (mentions n t)) r.0,
+      and-true (is_valued new t) ∙ r.1,
     )
 
 -- one term more
@@ -339,11 +279,11 @@ clear-plain t e = ap (λ b. cond (not b) (t ∷ []) []) e
 -- all terms, from nothing on
 all-true : (f : Term → Bool) (ts : List Term) → All (λ t. IsTrue (f t)) ts → IsTrue (list_all f ts)
 all-true f [] h = refl
-all-true f (t ∷ ts) h = both-make (f t) (list_all f ts) (h 0 t (omega arith)) (all-true f ts (λ k d l. h (suc k) d (omega (arith, l))))
+all-true f (t ∷ ts) h = and_from (f t) (list_all f ts) (h 0 t (omega arith)) (all-true f ts (λ k d l. h (suc k) d (omega (arith, l))))
 
 true-all : (f : Term → Bool) (ts : List Term) → IsTrue (list_all f ts) → AllByRecursion (λ t. IsTrue (f t)) ts
 true-all f [] h = tt
-true-all f (t ∷ ts) h = let p = both (f t) (list_all f ts) h in (p.0, true-all f ts p.1)
+true-all f (t ∷ ts) h = let p = and_parts (f t) (list_all f ts) h in (p.0, true-all f ts p.1)
 
 nothing : (sample given : Named) → IsFilling sample given []
 nothing sample given = record {
@@ -358,7 +298,7 @@ filled given ts full f one =
       chosen = r.0.filling.chosen;
       worded = r.0.filling.worded;
       just = record {
-        valued = at-places (λ t. IsTrue (is_valued full t)) ts (true-all (is_valued full) ts r.1);
+        valued = All-from_recursion (λ t. IsTrue (is_valued full t)) ts (true-all (is_valued full) ts r.1);
         only = λ n e. r.0.others n e;
       };
     }

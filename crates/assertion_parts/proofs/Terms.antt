@@ -1,7 +1,8 @@
 -- Terms, taken apart: what the tests of a term are by those of its parts, and induction.
-use Rattle.std.proofs.Common.{◌≡◌, refl, sym, ap, ◌∙◌, subst, ℕ, ℤ, map, Bool, true, false, ◌&&◌, ◌||◌, List, [], ◌∷◌}
+use Rattle.std.proofs.Common.{◌≡◌, refl, sym, ap, ◌∙◌, subst, ℕ, ℤ, map, Bool, true, ◌&&◌, ◌||◌, List, [], ◌∷◌}
 use Rattle.std.specs.Prelude.{nat_le}
 use Rattle.std.specs.List.{list_all, list_any}
+use Rattle.sv_list.specs.Lists.{list_any-map}
 use Rattle.sv_word.specs.Words.{greatest_character}
 use Rattle.sv_terms.specs.Language.{Word}
 use Rattle.sv_terms.specs.Parts.{every_part, every_step, some_part, some_step}
@@ -22,10 +23,6 @@ at {A} f t x e = ap (fold-Term A f) (sym e) ∙ fold-roll-Term A f x
 all-map : {X : Type 0} (f : X → Bool) (xs : List X) → list_all (λ b. b) (map f xs) ≡ list_all f xs
 all-map f [] = refl
 all-map f (x ∷ xs) = ap (λ b. f x && b) (all-map f xs)
-
-any-map : {X : Type 0} (f : X → Bool) (xs : List X) → list_any (λ b. b) (map f xs) ≡ list_any f xs
-any-map f [] = refl
-any-map f (x ∷ xs) = ap (λ b. f x || b) (any-map f xs)
 
 -- a test of each constant and of each transducer
 module _ (f : List ℕ → Sort → Bool) (g : Transducer → Bool) where
@@ -55,29 +52,17 @@ module _ (f : List ℕ → Sort → Bool) (g : Transducer → Bool) where
 
 -- a test of some constant
 module _ (f : List ℕ → Sort → Bool) (o : Bool) where
-  pub some-Truth : (b : Bool) → some_part f o (v.Truth b) ≡ false
-  some-Truth b = at (some_step f o) _ (Term-F.Truth b) (v.rolls-Truth b)
-
-  pub some-Number : (n : ℤ) → some_part f o (v.Number n) ≡ false
-  some-Number n = at (some_step f o) _ (Term-F.Number n) (v.rolls-Number n)
-
-  pub some-Text : (w : Word) → some_part f o (v.Text w) ≡ false
-  some-Text w = at (some_step f o) _ (Term-F.Text w) (v.rolls-Text w)
-
   pub some-Constant : (n : List ℕ) (s : Sort) → some_part f o (v.Constant n s) ≡ f n s
   some-Constant n s = at (some_step f o) _ (Term-F.Constant n s) (v.rolls-Constant n s)
 
   pub some-Apply : (p : Op) (ts : List Term) → some_part f o (v.Apply p ts) ≡ list_any (some_part f o) ts
-  some-Apply p ts = at (some_step f o) _ (Term-F.Apply p ts) (v.rolls-Apply p ts) ∙ any-map (some_part f o) ts
+  some-Apply p ts = at (some_step f o) _ (Term-F.Apply p ts) (v.rolls-Apply p ts) ∙ list_any-map (some_part f o) ts
 
   pub some-InRe : (t : Term) (r : Regex) → some_part f o (v.InRe t r) ≡ some_part f o t
   some-InRe t r = at (some_step f o) _ (Term-F.InRe t r) (v.rolls-InRe t r)
 
   pub some-Related : (m : Transducer) (t u : Term) → some_part f o (v.Related m t u) ≡ (some_part f o t || some_part f o u)
   some-Related m t u = at (some_step f o) _ (Term-F.Related m t u) (v.rolls-Related m t u)
-
-  pub some-Opaque : (s : Sort) → some_part f o (v.Opaque s) ≡ o
-  some-Opaque s = at (some_step f o) _ (Term-F.Opaque s) (v.rolls-Opaque s)
 
 -- words
 pub words-Truth : (b : Bool) → has_words (v.Truth b) ≡ true

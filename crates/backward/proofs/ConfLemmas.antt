@@ -31,9 +31,6 @@ first-machine k m ms h = cc
 -- with a machine that reads its words together with something else, that is read besides
 module _ (width : ℕ) (m n : Graph) (L : Word → List ℕ → Type 0)
     (both : (word cost : List ℕ) → Accepts n word cost ↔ ((a b : List ℕ) × Accepts m word a × L word b × (add_costs a b ≡ cost))) where
-  Besides : Family → ℕ → Words → List ℕ → Type 0
-  Besides ms v words totals = (a b : List ℕ) × L (words v) a × Conf width ms words b × (add_costs a b ≡ totals)
-
   pub grow-out : (ms : Family) (v : ℕ) → HasMachine ms v m → (words : Words) (totals : List ℕ) → Conf width (slice_set ms v (Some n)) words totals
       → (a b : List ℕ) × L (words v) a × Conf width ms words b × (add_costs a b ≡ totals)
   grow-out [] v h words totals c = absurd (no-machine v m h)
@@ -116,11 +113,6 @@ set-same [] i x y h = cc
 set-same (z ∷ zs) zero x y h = refl
 set-same (z ∷ zs) (suc i) x y h = set-same zs i x y h
 
-pub set-none : {X : Type 0} (xs : List X) (i : ℕ) (y : X) → slice_get xs i ≡ None → slice_get (slice_set xs i y) i ≡ None
-set-none [] i y h = refl
-set-none (z ∷ zs) zero y h = cc
-set-none (z ∷ zs) (suc i) y h = set-none zs i y h
-
 pub set-other : {X : Type 0} (xs : List X) (i j : ℕ) (y : X) → (j ≡ i → ⊥) → slice_get (slice_set xs i y) j ≡ slice_get xs j
 set-other [] i j y h = refl
 set-other (z ∷ zs) zero zero y h = absurd (h refl)
@@ -156,8 +148,3 @@ all-wide width (k ∷ ks) h zero m e =
     let same = first-machine k m (map Some ks) e in
     ap (λ (g : Graph). g.registers) (sym same) ∙ h k (zero, omega arith, refl)
 all-wide width (k ∷ ks) h (suc v) m e = all-wide width ks (λ n i. h n (suc i.0, omega (arith, i.1), i.2)) v m e
-
-pub set-length : {X : Type 0} (xs : List X) (i : ℕ) (x : X) → length (slice_set xs i x) ≡ length xs
-set-length [] i x = refl
-set-length (y ∷ ys) zero x = refl
-set-length (y ∷ ys) (suc i) x = ap suc (set-length ys i x)

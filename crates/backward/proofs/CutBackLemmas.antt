@@ -1,7 +1,10 @@
 -- Runs taken back over a concatenation: what was met, what is taken apart, and what is joined.
 use Rattle.std.proofs.Common.{◌≡◌, ℕ, zero, suc, ◌-◌, ◌<◌, ◌≤◌, cond, List, [], ◌∷◌, ◌++◌, length, map, take, drop, get_or, All, Contains, Option, Some, None, MatchOption, slice_get, slice_set, refl, sym, ap, ◌∙◌, subst, arith, inl, inr, append-nil, append_assoc, length-append, length-drop}
-use Rattle.std.proofs.lemmas.Bool.{eq-eqb, ne_eqb}
 use Rattle.std.proofs.lemmas.Bool.Decides.{eqb_tells}
+use Rattle.std.proofs.lemmas.Option.{slice_get_within, slice_get-get_or}
+use Rattle.std.proofs.lemmas.List.{drop_all}
+use Rattle.sv_list.specs.Lists.{drop-found}
+use Rattle.machine_meet.proofs.SplitLemmas.{path-end}
 use Rattle.machine_core.specs.declared.graph.Graph.{Graph}
 use Rattle.machine_core.specs.declared.run.Run.{Run}
 use Rattle.machine_core.specs.Costs.{add_costs, zeros}
@@ -10,7 +13,7 @@ use Rattle.machine_core.specs.Edges.{EndsAt, StepsBy}
 use Rattle.machine_core.specs.EdgeLaws.{step_target, step_cost, run_width}
 use Rattle.machine_core.specs.Graphs.{IsRunOf}
 use Rattle.machine_core.specs.RunLaws.{run_formed, run_accepted}
-use Rattle.machine_core.specs.Runs.{IsPath, run_total}
+use Rattle.machine_core.specs.Runs.{run_total}
 use Rattle.sv_terms.specs.Meaning.{joined}
 use Rattle.pre_image.specs.Slices.{SliceEnds}
 use Rattle.pre_image.specs.SliceLaws.{slice_end_cost}
@@ -28,7 +31,7 @@ use Rattle.backward.specs.declared.leaf_state.FamilyOrigin.TheVariants as made
 use Rattle.backward.specs.declared.meeting.Apart.{Apart}
 use Rattle.backward.specs.declared.meeting.MetPart.{MetPart}
 use Rattle.backward.proofs.ConfLemmas.{set-same, set-other, without-other}
-use Rattle.backward.proofs.LoopLemmas.{same-found, get-below, get-in, drop-at, drop-all, first-drop}
+use Rattle.backward.proofs.LoopLemmas.{same-found, first-drop}
 use Rattle.backward.proofs.PlaceLemmas.{same_Some, free-held, held-once}
 use Rattle.backward.proofs.RunsBack.{run-of, no-run, runs-back, totals-less, totals-more, word-there, word-other, word-of}
 
@@ -46,16 +49,6 @@ set-self : {X : Type 0} (xs : List X) (i : ℕ) (x : X) → slice_get xs i ≡ S
 set-self [] i x e = refl
 set-self (y ∷ ys) zero x e = let same : x ≡ y = cc in ap (λ z. z ∷ ys) same
 set-self (y ∷ ys) (suc i) x e = ap (λ zs. y ∷ zs) (set-self ys i x e)
-
--- the last state of a path
-path-last : {S : Type 0} (steps : S → ℕ → List ℕ → S → Type 0) (s : S) (us : List S) (word : List ℕ) (costs : List (List ℕ)) (t : S) → IsPath steps s us word costs t
-    → slice_get (s ∷ us) (length us) ≡ Some t
-path-last steps s [] [] [] t h = ap Some h
-path-last steps s [] [] (k ∷ costs) t h = absurd h
-path-last steps s [] (c ∷ word) costs t h = absurd h
-path-last steps s (u ∷ us) [] costs t h = absurd h
-path-last steps s (u ∷ us) (c ∷ word) [] t h = absurd h
-path-last steps s (u ∷ us) (c ∷ word) (k ∷ costs) t h = path-last steps u us word costs t h.1
 
 joined-same : (f g : Words) (ps : List ℕ) → ((p : ℕ) → Contains ps p → f p ≡ g p) → joined (map f ps) ≡ joined (map g ps)
 joined-same f g [] h = refl
@@ -178,12 +171,12 @@ is-next : (target : Graph) (base : Family) (starts pieces : List ℕ) (qs : List
 is-next target base starts pieces qs ns i p at met = by (slice_get starts i) refl
   where
     behind : AreMet target (drop i starts) (p ∷ drop (suc i) pieces) base qs ns
-    behind = subst (λ l. AreMet target (drop i starts) l base qs ns) (drop-at pieces i p at) met
+    behind = subst (λ l. AreMet target (drop i starts) l base qs ns) (drop-found pieces i p at) met
 
     by : (o : Option ℕ) → slice_get starts i ≡ o → IsNext target base starts pieces qs ns i p
     by None e = absurd (subst (λ l. AreMet target l (p ∷ drop (suc i) pieces) base qs ns) (drop-none starts i e) behind)
     by (Some s) e =
-        let h = subst (λ l. AreMet target l (p ∷ drop (suc i) pieces) base qs ns) (drop-at starts i s e) behind in
+        let h = subst (λ l. AreMet target l (p ∷ drop (suc i) pieces) base qs ns) (drop-found starts i s e) behind in
         record { from = s; begins = e; mid = h.0; k = h.1; q = h.2; rest = h.3; met = h.4; there = h.5; kept = h.6; last = h.7; now = h.8 }
 
 module _ (ms : Family) (x : ℕ) (target : Graph) (cuts pieces : List ℕ) (meetings : List MetPart) (old : Runs) (i : ℕ) (lt : i < length pieces) (rs : Runs) (whole : Run ℕ)
@@ -192,7 +185,7 @@ module _ (ms : Family) (x : ℕ) (target : Graph) (cuts pieces : List ℕ) (meet
   piece = get_or pieces i 0
 
   piece-at : slice_get pieces i ≡ Some piece
-  piece-at = get-in pieces i 0 lt
+  piece-at = slice_get-get_or pieces i 0 lt
 
   next : IsNext target (without ms x) (0 ∷ cuts) pieces b.left b.family i piece
   next = is-next target (without ms x) (0 ∷ cuts) pieces b.left b.family i piece piece-at b.met
@@ -216,7 +209,7 @@ module _ (ms : Family) (x : ℕ) (target : Graph) (cuts pieces : List ℕ) (meet
       omega arith
 
   pub meeting-below : length pieces - 1 - i < length meetings
-  meeting-below = get-below meetings (length pieces - 1 - i) next.q meeting-at
+  meeting-below = slice_get_within meetings (length pieces - 1 - i) next.q meeting-at
 
   -- the machine that it was met with
   machine-met : HasMet ms piece (drop (suc i) pieces) meetings next.k
@@ -240,7 +233,7 @@ module _ (ms : Family) (x : ℕ) (target : Graph) (cuts pieces : List ℕ) (meet
   run-there = (run-held.0, run-held.1)
 
   pub piece-below : piece < length rs
-  piece-below = get-below rs piece (Some run-held.0) run-held.1
+  piece-below = slice_get_within rs piece (Some run-held.0) run-held.1
 
   module _ (g : Graph) (mg : HasMet ms piece (drop (suc i) pieces) meetings g) (q : MetPart) (mq : slice_get meetings (length pieces - 1 - i) ≡ Some q)
       (r : Run ℕ) (mr : slice_get rs piece ≡ Some (Some r)) (from : ℕ) (mf : slice_get (0 ∷ cuts) i ≡ Some from) (to : Option ℕ) (mt : to ≡ slice_get cuts i) where
@@ -288,7 +281,7 @@ module _ (ms : Family) (x : ℕ) (target : Graph) (cuts pieces : List ℕ) (meet
           let e = ap length so-far.states in
           let n : length whole.states - 1 ≡ length so-far.after = omega arith in
           ap (slice_get whole.states) n ∙ ap (λ l. slice_get l (length so-far.after)) so-far.states
-          ∙ path-last (StepsBy target.edges) 0 so-far.after whole.word whole.costs so-far.stop so-far.path ∙ ap Some so-far.last.0 ∙ sym (ap (λ l. slice_get l 0) ap'.part.states)
+          ∙ path-end (StepsBy target.edges) 0 so-far.after whole.word whole.costs so-far.stop so-far.path ∙ ap Some so-far.last.0 ∙ sym (ap (λ l. slice_get l 0) ap'.part.states)
 
       pub join-first : All (λ k. length k ≡ length a.part.last) whole.costs
       join-first = λ j d below. whole-formed.0 j d below ∙ sym part-wide.1
@@ -349,7 +342,7 @@ module _ (ms : Family) (x : ℕ) (target : Graph) (cuts pieces : List ℕ) (meet
   some-pieces (p ∷ ps) h = omega arith
 
   first : IsNext target (without ms x) (0 ∷ cuts) pieces meetings ns 0 (get_or pieces 0 0)
-  first = is-next target (without ms x) (0 ∷ cuts) pieces meetings ns 0 (get_or pieces 0 0) (get-in pieces 0 0 (some-pieces pieces met)) met
+  first = is-next target (without ms x) (0 ∷ cuts) pieces meetings ns 0 (get_or pieces 0 0) (slice_get-get_or pieces 0 0 (some-pieces pieces met)) met
 
   nothing-more : (n : ℕ) → add_costs (zeros target.registers) (run_totals n rs) ≡ run_totals n rs
   nothing-more n =
@@ -391,7 +384,7 @@ module _ (ms : Family) (x : ℕ) (target : Graph) (there : HasMachine ms x targe
   all-done (s ∷ starts) h = absurd h
 
   ended : (drop (length pieces) (0 ∷ cuts) ≡ []) × (b.family ≡ without ms x)
-  ended = all-done (drop (length pieces) (0 ∷ cuts)) (subst (λ l. AreMet target (drop (length pieces) (0 ∷ cuts)) l (without ms x) b.left b.family) (drop-all pieces (length pieces) (omega arith)) b.met)
+  ended = all-done (drop (length pieces) (0 ∷ cuts)) (subst (λ l. AreMet target (drop (length pieces) (0 ∷ cuts)) l (without ms x) b.left b.family) (drop_all (length pieces) pieces (omega arith)) b.met)
 
   whole-run : IsRunOf target whole
   whole-run = subst (λ l. IsPartRun target 0 (first_of l) whole) ended.0 b.run
@@ -406,7 +399,7 @@ module _ (ms : Family) (x : ℕ) (target : Graph) (there : HasMachine ms x targe
   none-there = no-run (without ms x) x rs gone left-runs
 
   pub cut-below : x < length rs
-  cut-below = get-below rs x None none-there
+  cut-below = slice_get_within rs x None none-there
 
   module _ (new : Runs) (is : new ≡ slice_set rs x (Some whole)) where
     other-words : (v : ℕ) → (v ≡ x → ⊥) → run_words new v ≡ run_words old v
@@ -430,26 +423,8 @@ module _ (ms : Family) (x : ℕ) (target : Graph) (there : HasMachine ms x targe
         take-whole [] = refl
         take-whole (y ∷ ys) = ap (λ l. y ∷ l) (take-whole ys)
 
--- where the machine of a variable is found, from a piece on
-pub met-skip : (v : ℕ) (ps : List ℕ) (i p : ℕ) (qs : List MetPart) → slice_get ps i ≡ Some p → (p ≡ v → ⊥) → met_at v (drop i ps) qs ≡ met_at v (drop (suc i) ps) qs
-met-skip v ps i p qs at off =
-    ap (λ l. met_at v l qs) (drop-at ps i p at) ∙ ap (λ b. cond b (slice_get qs (length (drop (suc i) ps))) (met_at v (drop (suc i) ps) qs)) (ne_eqb p v off)
-
-pub met-here : (v : ℕ) (ps : List ℕ) (i p : ℕ) (qs : List MetPart) → slice_get ps i ≡ Some p → p ≡ v → met_at v (drop i ps) qs ≡ slice_get qs (length ps - 1 - i)
-met-here v ps i p qs at is =
-    let lt = get-below ps i p at in
-    let behind = length-drop (suc i) ps in
-    let n : length (drop (suc i) ps) ≡ length ps - 1 - i = omega arith in
-    ap (λ l. met_at v l qs) (drop-at ps i p at) ∙ ap (λ b. cond b (slice_get qs (length (drop (suc i) ps))) (met_at v (drop (suc i) ps) qs)) (eq-eqb p v is) ∙ ap (slice_get qs) n
-
 pub met-end : (v : ℕ) (ps : List ℕ) (i : ℕ) (qs : List MetPart) → length ps ≤ i → met_at v (drop i ps) qs ≡ None
-met-end v ps i qs h = ap (λ l. met_at v l qs) (drop-all ps i h)
+met-end v ps i qs h = ap (λ l. met_at v l qs) (drop_all i ps h)
 
 pub met-none : (ms : Family) (v : ℕ) (ps : List ℕ) (qs : List MetPart) (k : Graph) → met_at v ps qs ≡ None → HasMet ms v ps qs k → HasMachine ms v k
 met-none ms v ps qs k e h = subst (λ o. MatchOption o (HasMachine ms v k) (λ (q : MetPart). k ≡ q.small.machine)) e h
-
-pub none-met : (ms : Family) (v : ℕ) (ps : List ℕ) (qs : List MetPart) (k : Graph) → met_at v ps qs ≡ None → HasMachine ms v k → HasMet ms v ps qs k
-none-met ms v ps qs k e h = subst (λ o. MatchOption o (HasMachine ms v k) (λ (q : MetPart). k ≡ q.small.machine)) (sym e) h
-
-pub some-met : (ms : Family) (v : ℕ) (ps : List ℕ) (qs : List MetPart) (q : MetPart) → met_at v ps qs ≡ Some q → HasMet ms v ps qs q.small.machine
-some-met ms v ps qs q e = subst (λ o. MatchOption o (HasMachine ms v q.small.machine) (λ (r : MetPart). q.small.machine ≡ r.small.machine)) (sym e) refl

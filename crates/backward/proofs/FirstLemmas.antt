@@ -6,8 +6,9 @@ use Rattle.std.proofs.lemmas.Bool.{eq-eqb, eqb-true}
 use Rattle.std.proofs.lemmas.List.{length-map}
 use Rattle.std.proofs.Math.Nat.{pow-zero, pow-suc}
 use Rattle.machine_core.specs.declared.graph.Graph.{Graph}
-use Rattle.machine_core.specs.Lists.{slice_get-push_cases}
+use Rattle.sv_list.specs.Lists.{slice_get-push_cases, slice_get-some}
 use Rattle.sv_terms.specs.Language.{Word}
+use Rattle.sv_terms.specs.BoundLaws.{some-product}
 use Rattle.part_machines.specs.Parts.{IsOfParts, times}
 use Rattle.flat_cubes.specs.Using.{used}
 use Rattle.cube_bounds.specs.Bounds.{carried_all, own_bound, part_bound, product_by, states, states_at, states_of, through_states, times_all}
@@ -102,11 +103,6 @@ begun-more flat count machines new variable each m h at is of e = subst (AreBegu
 pub begun-all : (flat : Flat) (count : ℕ) (machines : List Graph) → length flat.variables ≡ count → AreBegun flat count machines → AreOwnMachines flat machines
 begun-all flat count machines size h = record { count = h.size ∙ sym size; each = λ v x m f g. (h.each v x m f g).0 }
 
-get-there : {X : Type 0} (xs : List X) (i : ℕ) → i < length xs → (x : X) × (slice_get xs i ≡ Some x)
-get-there [] i h = absurd (omega (arith, h))
-get-there (y ∷ ys) zero h = (y, refl)
-get-there (y ∷ ys) (suc i) h = get-there ys i (omega (arith, h))
-
 contained-at : (ms : List Graph) (i : ℕ) (m : Graph) → i < length ms → get_or ms i m ≡ m → slice_get ms i ≡ Some m
 contained-at [] i m lt e = absurd (omega (arith, lt))
 contained-at (x ∷ ms) zero m lt e = ap Some e
@@ -115,7 +111,7 @@ contained-at (x ∷ ms) (suc i) m lt e = contained-at ms i m (omega (arith, lt))
 pub begun-wide : (flat : Flat) (count : ℕ) (machines : List Graph) → length flat.variables ≡ count → AreBegun flat count machines → (m : Graph) → Contains machines m → m.registers ≡ width flat
 begun-wide flat count machines size h m (i, lt, e) =
     let s = h.size in
-    let v = get-there flat.variables i (omega (arith, lt, size, s)) in
+    let v = slice_get-some flat.variables i (omega (arith, lt, size, s)) in
     (h.each i v.0 m v.1 (contained-at machines i m lt e)).1
 
 -- no bound is 0
@@ -129,14 +125,11 @@ some-set (n ∷ ns) zero k h all (suc v) = all (suc v)
 some-set (n ∷ ns) (suc x) k h all zero = all zero
 some-set (n ∷ ns) (suc x) k h all (suc v) = some-set ns x k h (λ u. all (suc u)) v
 
-some-times : (a b : ℕ) → 1 ≤ a → 1 ≤ b → 1 ≤ a * b
-some-times a b h g = let p : 1 * 1 ≤ a * b = mul-le-mul h g in omega (arith, p)
-
 some-all : (k : ℕ) (vs ns : List ℕ) → 1 ≤ k → AreSome ns → AreSome (times_all k vs ns)
 some-all k [] ns h all = all
 some-all k (v ∷ vs) ns h all =
     let rest = some-all k vs ns h all in
-    some-set (times_all k vs ns) v (get_or (times_all k vs ns) v 1 * k) (some-times (get_or (times_all k vs ns) v 1) k (rest v) h) rest
+    some-set (times_all k vs ns) v (get_or (times_all k vs ns) v 1 * k) (some-product (get_or (times_all k vs ns) v 1) k (rest v) h) rest
 
 some-through : (b : By) → IsFormedBy b → 1 ≤ through_states b
 some-through (by.Concat vs) f = omega arith
@@ -149,7 +142,7 @@ some-carried [] ns f all = all
 some-carried (d ∷ ds) ns f all =
     let rest = some-carried ds ns f.1 all in
     let k = through_states d.by * get_or (carried_all ds ns) d.variable 1 in
-    some-all k (used d.by) (carried_all ds ns) (some-times (through_states d.by) (get_or (carried_all ds ns) d.variable 1) (some-through d.by f.0) (rest d.variable)) rest
+    some-all k (used d.by) (carried_all ds ns) (some-product (through_states d.by) (get_or (carried_all ds ns) d.variable 1) (some-through d.by f.0) (rest d.variable)) rest
 
 some-owns : ((parts : List (Own × Bool)) → 1 ≤ product_by part_bound parts) → (vs : List Variable) → AreSome (map own_bound vs)
 some-owns bounds [] v = omega arith
@@ -158,13 +151,13 @@ some-owns bounds (x ∷ vs) (suc v) = some-owns bounds vs v
 
 some-power : (a n : ℕ) → 1 ≤ a → 1 ≤ a ^ n
 some-power a zero h = let e = pow-zero a in omega (arith, e)
-some-power a (suc n) h = let e = pow-suc a n in let p = some-times (a ^ n) a (some-power a n h) h in omega (arith, e, p)
+some-power a (suc n) h = let e = pow-suc a n in let p = some-product (a ^ n) a (some-power a n h) h in omega (arith, e, p)
 
 some-factors : (flat : Flat) → AreSome (states_of flat) → (v : ℕ) (ds : List Definition) → AllByRecursion (λ (d : Definition). IsFormedBy d.by) ds → 1 ≤ product_by (factor flat v) ds
 some-factors flat all v [] f = omega arith
 some-factors flat all v (d ∷ ds) f =
-    some-times (factor flat v d) (product_by (factor flat v) ds)
-    (some-power (through_states d.by * states_at flat d.variable) (count_by (nat_eq v) (used d.by)) (some-times (through_states d.by) (states_at flat d.variable) (some-through d.by f.0) (all d.variable)))
+    some-product (factor flat v d) (product_by (factor flat v) ds)
+    (some-power (through_states d.by * states_at flat d.variable) (count_by (nat_eq v) (used d.by)) (some-product (through_states d.by) (states_at flat d.variable) (some-through d.by f.0) (all d.variable)))
     (some-factors flat all v ds f.1)
 
 -- the bound of a variable's own parts is within that of the cube

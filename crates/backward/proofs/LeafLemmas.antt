@@ -1,8 +1,11 @@
 -- Whatever a family that the text of a cube leads to reads extends to words of all variables that meet the cube.
 use Rattle.std.proofs.Common.{◌≡◌, ℕ, zero, suc, ◌<◌, ◌≤◌, ◌+◌, ◌*◌, ◌↔◌, Bool, true, false, not, cond, nat_eq, List, [], ◌∷◌, length, map, filter, drop, All, Option, Some, None, slice_get, get_or, refl, sym, ap, ◌∙◌, subst, arith, inl, inr}
 use Rattle.std.specs.List.{AllByRecursion, AllZip, range_with_len}
-use Rattle.std.proofs.lemmas.Bool.{ne_eqb}
+use Rattle.std.proofs.lemmas.Bool.{ne_eqb, or_parts}
 use Rattle.std.proofs.lemmas.Bool.Decides.{eqb_tells}
+use Rattle.std.proofs.lemmas.Option.{slice_get_within}
+use Rattle.std.proofs.lemmas.List.{drop_all}
+use Rattle.sv_list.specs.Lists.{drop-found, AllByRecursion-weaker, slice_get-some}
 use Rattle.sv_terms.specs.Language.{Word}
 use Rattle.sv_terms.specs.Meaning.{joined}
 use Rattle.sv_terms.specs.Replacement.{replace_first, replace_all}
@@ -23,22 +26,16 @@ use Rattle.flat_cubes.specs.declared.variable.Variable.{Variable}
 use Rattle.backward.specs.Families.{Family, Words, after, HasMachine, AreWide, put, Conf}
 use Rattle.backward.specs.Definitions.{definition}
 use Rattle.backward.specs.Chains.{width, own_cost, ReadsOwn, IsOwnFamily, IsLed, begun, same, cut, through, IsLedFrom}
-use Rattle.backward.specs.Leaves.{ExtendsTo, IsLeaf, IsLess, IsLessened, IsOverSources, IsUseful, machines_of}
+use Rattle.backward.specs.Leaves.{Obey, ExtendsTo, IsLeaf, IsLess, IsLessened, IsOverSources, IsUseful, machines_of}
 use Rattle.backward.specs.States.{IsState}
 use Rattle.backward.specs.declared.leaf_state.LeafState.{LeafState}
 use Rattle.backward.proofs.ConfLemmas.{put-same, put-other}
 use Rattle.backward.proofs.CutLemmas.{cuts-within}
-use Rattle.backward.proofs.LoopLemmas.{drop-at, drop-all, get-below}
-use Rattle.backward.proofs.OrderLemmas.{stands-at, not-of, or-false}
+use Rattle.backward.proofs.OrderLemmas.{stands-at, not-of}
 use Rattle.backward.proofs.PlaceLemmas.{none-some, free-held, held-once}
-use Rattle.backward.proofs.StateLemmas.{get-there}
-
--- the words by number come by the definitions
-abbrev Obey : List Definition → Words → Type 0
-Obey ds f = AllByRecursion (λ (d : Definition). ComesBy f (f d.variable) d.by) ds
 
 -- what the words from k on, n of them, cost at the register of u
-abbrev own_entry : Words → ℕ → ℕ → ℕ → ℕ
+abbrev pub own_entry : Words → ℕ → ℕ → ℕ → ℕ
 own_entry f k zero u = 0
 own_entry f k (suc n) u = cond (nat_eq u k) (length (f k)) 0 + own_entry f (suc k) n u
 
@@ -64,41 +61,41 @@ entry-at f k (suc n) u h g = elim (eqb_tells u k) [
       omega arith
 ]
 
-map-add : (a b : ℕ → ℕ) (us : List ℕ) → map (λ u. a u + b u) us ≡ add_costs (map a us) (map b us)
+pub map-add : (a b : ℕ → ℕ) (us : List ℕ) → map (λ u. a u + b u) us ≡ add_costs (map a us) (map b us)
 map-add a b [] = refl
 map-add a b (u ∷ us) = ap (λ l. (a u + b u) ∷ l) (map-add a b us)
 
-map-zero : (us : List ℕ) → map (λ u. 0) us ≡ zeros (length us)
+pub map-zero : (us : List ℕ) → map (λ u. 0) us ≡ zeros (length us)
 map-zero [] = refl
 map-zero (u ∷ us) = ap (λ l. 0 ∷ l) (map-zero us)
 
-map-below : (f : Words) (n : ℕ) (us : List ℕ) → AreBelow n us → map (own_entry f 0 n) us ≡ map (λ v. length (f v)) us
+pub map-below : (f : Words) (n : ℕ) (us : List ℕ) → AreBelow n us → map (own_entry f 0 n) us ≡ map (λ v. length (f v)) us
 map-below f n [] h = refl
 map-below f n (u ∷ us) h = let here = entry-at f 0 n u (omega arith) (omega (arith, h.0)) in let rest = map-below f n us h.1 in cc
 
-own-full : (flat : Flat) (ms : Family) → IsOwnFamily flat ms → (v : ℕ) → slice_get ms v ≡ Some None → ⊥
+pub own-full : (flat : Flat) (ms : Family) → IsOwnFamily flat ms → (v : ℕ) → slice_get ms v ≡ Some None → ⊥
 own-full flat ms own v e =
-    let below = get-below ms v None e in
+    let below = slice_get_within ms v None e in
     let size = own.size in
-    let there = get-there flat.variables v (omega arith) in
+    let there = slice_get-some flat.variables v (omega arith) in
     let m = own.each v there.0 there.1 in
     free-held m.0 (sym e ∙ m.1)
 
-own-reads : (flat : Flat) (ms : Family) → IsOwnFamily flat ms → (v : ℕ) (m : Graph) → HasMachine ms v m → (variable : Variable) × (slice_get flat.variables v ≡ Some variable) × ReadsOwn flat v variable m
+pub own-reads : (flat : Flat) (ms : Family) → IsOwnFamily flat ms → (v : ℕ) (m : Graph) → HasMachine ms v m → (variable : Variable) × (slice_get flat.variables v ≡ Some variable) × ReadsOwn flat v variable m
 own-reads flat ms own v m h =
-    let below = get-below ms v (Some m) h in
+    let below = slice_get_within ms v (Some m) h in
     let size = own.size in
-    let there = get-there flat.variables v (omega arith) in
+    let there = slice_get-some flat.variables v (omega arith) in
     let n = own.each v there.0 there.1 in
     let same = held-once n.0 m (sym n.1 ∙ h) in
     (there.0, there.1, subst (ReadsOwn flat v there.0) same n.2)
 
-range-at : (f : Words) (k n v : ℕ) → v < n → get_or (map f (range_with_len k n)) v [] ≡ f (k + v)
+pub range-at : (f : Words) (k n v : ℕ) → v < n → get_or (map f (range_with_len k n)) v [] ≡ f (k + v)
 range-at f k zero v h = absurd (omega arith)
 range-at f k (suc n) zero h = ap f (omega arith)
 range-at f k (suc n) (suc v) h = range-at f (k + 1) n v (omega arith) ∙ ap f (omega arith)
 
-zip-range : (f : Words) (k : ℕ) (xs : List Variable) → ((v : ℕ) (x : Variable) → slice_get xs v ≡ Some x → MeetsParts x (f (k + v))) → AllZip MeetsParts xs (map f (range_with_len k (length xs)))
+pub zip-range : (f : Words) (k : ℕ) (xs : List Variable) → ((v : ℕ) (x : Variable) → slice_get xs v ≡ Some x → MeetsParts x (f (k + v))) → AllZip MeetsParts xs (map f (range_with_len k (length xs)))
 zip-range f k [] h = tt
 zip-range f k (x ∷ xs) h = (
   subst (λ j. MeetsParts x (f j)) (omega arith) (h 0 x refl),
@@ -114,29 +111,25 @@ map-agree f g [] h = refl
 map-agree f g (v ∷ vs) h = let here = h.0 in let rest = map-agree f g vs h.1 in cc
 
 -- what comes by a definition depends on the words that it uses alone
-comes-agree : (b : By) (f g : Words) (v w : Word) → AllByRecursion (λ u. f u ≡ g u) (used b) → v ≡ w → ComesBy f v b → ComesBy g w b
+pub comes-agree : (b : By) (f g : Words) (v w : Word) → AllByRecursion (λ u. f u ≡ g u) (used b) → v ≡ w → ComesBy f v b → ComesBy g w b
 comes-agree (by.Concat vs) f g v w h e d = sym e ∙ d ∙ ap joined (map-agree f g vs h)
 comes-agree (by.First p u x) f g v w h e d = sym e ∙ d ∙ ap (replace_first p u) h.0
 comes-agree (by.All p u x) f g v w h e d = sym e ∙ d ∙ ap (replace_all p u) h.0
 comes-agree (by.Through t x) f g v w h e d = subst (λ a. Pairs t a w) h.0 (subst (Pairs t (f x)) e d)
 
-all-map : {X : Type 0} (P Q : X → Type 0) → ((x : X) → P x → Q x) → (xs : List X) → AllByRecursion P xs → AllByRecursion Q xs
-all-map P Q f [] h = tt
-all-map P Q f (x ∷ xs) h = (f x h.0, all-map P Q f xs h.1)
-
-obeyed : (ws : List Word) (f : Words) (n : ℕ) → ((v : ℕ) → v < n → f v ≡ word_at ws v) → (ds : List Definition) → InOrder n ds → Obey ds f → AllByRecursion (Defines ws) ds
+pub obeyed : (ws : List Word) (f : Words) (n : ℕ) → ((v : ℕ) → v < n → f v ≡ word_at ws v) → (ds : List Definition) → InOrder n ds → Obey ds f → AllByRecursion (Defines ws) ds
 obeyed ws f n agree [] o h = tt
 obeyed ws f n agree (d ∷ ds) o h = (
   comes-agree d.by f (word_at ws) (f d.variable) (word_at ws d.variable) (below-agree f (word_at ws) n agree (used d.by) o.0.uses) (agree d.variable o.0.defined) h.0,
   obeyed ws f n agree ds o.1 h.1,
 )
 
-lengths-agree : (f g : Words) (n : ℕ) → ((v : ℕ) → v < n → f v ≡ g v) → (us : List ℕ) → AreBelow n us → map (λ v. length (f v)) us ≡ map (λ v. length (g v)) us
+pub lengths-agree : (f g : Words) (n : ℕ) → ((v : ℕ) → v < n → f v ≡ g v) → (us : List ℕ) → AreBelow n us → map (λ v. length (f v)) us ≡ map (λ v. length (g v)) us
 lengths-agree f g n agree [] h = refl
 lengths-agree f g n agree (u ∷ us) h = let here = ap length (agree u h.0) in let rest = lengths-agree f g n agree us h.1 in cc
 
 -- each machine reads the word of its variable
-conf-accepts : (n : ℕ) (ms : Family) (g : Words) (totals : List ℕ) → Conf n ms g totals → (v : ℕ) (m : Graph) → HasMachine ms v m → (cost : List ℕ) × Accepts m (g v) cost
+pub conf-accepts : (n : ℕ) (ms : Family) (g : Words) (totals : List ℕ) → Conf n ms g totals → (v : ℕ) (m : Graph) → HasMachine ms v m → (cost : List ℕ) × Accepts m (g v) cost
 conf-accepts n [] g totals c v m h = absurd (none-some (Some m) h)
 conf-accepts n (None ∷ ms) g totals c zero m h = absurd (free-held m h)
 conf-accepts n (None ∷ ms) g totals c (suc v) m h = conf-accepts n ms (after g) totals c v m h
@@ -144,7 +137,7 @@ conf-accepts n (Some k ∷ ms) g totals c zero m h = (c.0, subst (λ x. Accepts 
 conf-accepts n (Some k ∷ ms) g totals c (suc v) m h = conf-accepts n ms (after g) c.1 c.3 v m h
 
 -- and the words of a first family cost their lengths
-conf-totals : (registers : List ℕ) (f : Words) (ms : Family) (k : ℕ) (g : Words) → ((v : ℕ) → g v ≡ f (k + v)) → ((v : ℕ) → slice_get ms v ≡ Some None → ⊥)
+pub conf-totals : (registers : List ℕ) (f : Words) (ms : Family) (k : ℕ) (g : Words) → ((v : ℕ) → g v ≡ f (k + v)) → ((v : ℕ) → slice_get ms v ≡ Some None → ⊥)
     → ((v : ℕ) (m : Graph) → HasMachine ms v m → (word cost : List ℕ) → Accepts m word cost → cost ≡ own_cost registers (k + v) word)
     → (totals : List ℕ) → Conf (length registers) ms g totals → totals ≡ map (own_entry f k (length ms)) registers
 conf-totals registers f [] k g agree full h totals c = c ∙ sym (map-zero registers)
@@ -179,7 +172,7 @@ own-extended flat ms straight own words totals conf = record {
       sym (map-below words (length ms) flat.registers (subst (λ k. AreBelow k flat.registers) (sym own.size) straight.registers))
       ∙ sym (conf-totals flat.registers words ms 0 words (λ v. ap words (omega arith)) (own-full flat ms own)
       (λ v m h w c a. let r = own-reads flat ms own v m h in ((r.2 w c).0 a).1 ∙ ap (λ j. own_cost flat.registers j w) (omega arith)) totals conf);
-  obey = subst (λ ds. Obey ds words) (sym (drop-all flat.definitions (length flat.definitions) (omega arith))) tt;
+  obey = subst (λ ds. Obey ds words) (sym (drop_all (length flat.definitions) flat.definitions (omega arith))) tt;
 }
 
 -- one definition more: its variable has the word that was put
@@ -188,12 +181,12 @@ step-extended : (flat : Flat) (left : ℕ) (d : Definition) → IsStraight flat 
 step-extended flat left d straight e words w totals defined ext =
     let behind = drop (suc left) flat.definitions in
     let stands = stands-at (length flat.variables) flat.definitions left d straight.order e in
-    let front = drop-at flat.definitions left d e in
+    let front = drop-found flat.definitions left d e in
     let others : (v : ℕ) → is_defined (d ∷ behind) v ≡ false → ext.all v ≡ words v =
-    λ v h. ext.agree v ((or-false (nat_eq d.variable v) (is_defined behind v) h).1) ∙ put-other words d.variable w v (not-of d behind v h) in
+    λ v h. ext.agree v ((or_parts (nat_eq d.variable v) (is_defined behind v) h).1) ∙ put-other words d.variable w v (not-of d behind v h) in
     let own : ext.all d.variable ≡ w = ext.agree d.variable stands.once ∙ put-same words d.variable w in
     let uses : AllByRecursion (λ u. words u ≡ ext.all u) (used d.by) =
-    all-map (λ v. is_defined (d ∷ behind) v ≡ false) (λ u. words u ≡ ext.all u) (λ v h. sym (others v h)) (used d.by) stands.apart in
+    AllByRecursion-weaker (λ v. is_defined (d ∷ behind) v ≡ false) (λ u. words u ≡ ext.all u) (λ v h. sym (others v h)) (used d.by) stands.apart in
     record {
       all = ext.all;
       agree = λ v h. others v (sym (ap (λ ds. is_defined ds v) front) ∙ h);
@@ -274,7 +267,7 @@ machines-all {P = P} (Some g ∷ ns) h = each (machines-all ns (λ v. h (suc v))
 
 -- a place of the lessened family is one of the family
 place-of : (ms ns : Family) → length ns ≡ length ms → (v : ℕ) (o : Option Graph) → slice_get ns v ≡ Some o → (x : Option Graph) × (slice_get ms v ≡ Some x)
-place-of ms ns size v o e = let below = get-below ns v o e in get-there ms v (omega (arith, size, below))
+place-of ms ns size v o e = let below = slice_get_within ns v o e in slice_get-some ms v (omega (arith, size, below))
 
 gone : (ms ns : Family) → IsLessened ms ns → (v : ℕ) → slice_get ns v ≡ Some None → slice_get ms v ≡ Some None
 gone ms ns less v e = go (place-of ms ns less.size v None e)
@@ -297,10 +290,10 @@ less-of ms ns less v g m e h = let n = less.each v m h in subst (IsLess m) (held
 lessened-wide : (width : ℕ) (ms ns : Family) → IsLessened ms ns → AreWide width ms → AreWide width ns
 lessened-wide width ms ns less wide v g e = let w = was ms ns less v g e in (less-of ms ns less v g w.0 e w.1).registers ∙ wide v w.0 w.1
 
-few-states : StatesAreSolved → StatesAreBounded → (flat : Flat) → IsStraight flat → (s : LeafState) → IsState flat 0 s → (v : ℕ) (m : Graph) → HasMachine s.machines v m → m.states ≤ states flat
+pub few-states : StatesAreSolved → StatesAreBounded → (flat : Flat) → IsStraight flat → (s : LeafState) → IsState flat 0 s → (v : ℕ) (m : Graph) → HasMachine s.machines v m → m.states ≤ states flat
 few-states solved bounded flat straight s state v m h =
-    let below = get-below s.machines v (Some m) h in
-    let x = get-there flat.variables v (omega (arith, below, state.size)) in
+    let below = slice_get_within s.machines v (Some m) h in
+    let x = slice_get-some flat.variables v (omega (arith, below, state.size)) in
     let few : m.states ≤ own_bound x.0 * product_by (factor flat v) flat.definitions = state.bounded v x.0 m x.1 h in
     let all : states_at flat v ≡ own_bound x.0 * product_by (factor flat v) flat.definitions = solved flat straight v x.0 x.1 in
     let most : states_at flat v ≤ states flat = bounded flat v in

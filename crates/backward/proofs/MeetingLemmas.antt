@@ -102,17 +102,11 @@ module _ (w p : Slice) (m target : Graph) (from : ℕ) (to : Option ℕ) (two : 
       between-width target from to word cost (slice-between p target from to two.part two.begins two.ends word cost r)
       ∙ sym two.registers ∙ ap (λ (g : Graph). g.registers) (sym two.whole)
 
-  states-within : (s : ℕ) → s < m.states → s < w.target.now.states
-  states-within s lt = subst (λ (g : Graph). s < g.states) (sym two.whole) lt
-
   whole-within : (register s d : ℕ) → IsCostWithin m register s d → IsCostWithin w.target.now register s d
   whole-within register s d h = subst (λ g. IsCostWithin g register s d) (sym two.whole) h
 
   part-within : (register s d : ℕ) → IsCostWithin target register s d → IsCostWithin p.target.now register s d
   part-within register s d h = subst (λ g. IsCostWithin g register s d) (sym two.part) h
-
-  same-registers : p.target.now.registers ≡ w.target.now.registers
-  same-registers = ap (λ (g : Graph). g.registers) two.part ∙ sym two.registers ∙ ap (λ (g : Graph). g.registers) (sym two.whole)
 
   pub meeting-is : IsMeeting m target from to small
   meeting-is = record {

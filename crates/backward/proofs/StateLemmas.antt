@@ -1,13 +1,14 @@
 -- What holds of a family while the definitions of a flat cube are carried: at first, and from step to step.
 use Rattle.std.proofs.Common.{◌≡◌, ℕ, zero, suc, ◌+◌, ◌*◌, ◌^◌, ◌<◌, ◌≤◌, ◌||◌, ◌↔◌, nat_eq, cond, true, false, List, [], ◌∷◌, length, map, drop, Contains, Option, Some, None, slice_get, refl, sym, ap, ◌∙◌, subst, arith, inl, inr, one-mul, mul-le-mul_left, mul-le-mul_right, mul_assoc, mul_comm}
 use Rattle.std.specs.List.{AllByRecursion, count_by}
-use Rattle.std.proofs.lemmas.Bool.{ne_eqb, false≢true}
+use Rattle.std.proofs.lemmas.Bool.{ne_eqb, false≢true, or_parts, or_right}
 use Rattle.std.proofs.lemmas.Bool.Decides.{eqb_tells}
-use Rattle.std.proofs.lemmas.List.{length-map}
+use Rattle.std.proofs.lemmas.List.{length-map, drop_all}
 use Rattle.std.proofs.Math.Nat.{pow-le-pow_left, pow-zero}
 use Rattle.std.proofs.lemmas.List.Sums.{sum_by-cons}
+use Rattle.std.proofs.lemmas.Option.{slice_get_within}
 use Rattle.machine_core.specs.declared.graph.Graph.{Graph}
-use Rattle.machine_core.specs.Lists.{slice_get-contains}
+use Rattle.sv_list.specs.Lists.{slice_get-contains, drop-found, slice_get-some, slice_get-mapped}
 use Rattle.sv_terms.specs.Transduction.{Pairs}
 use Rattle.sv_terms.specs.declared.transducer.Transducer.{Transducer}
 use Rattle.flat_cubes.specs.Using.{is_defined, used}
@@ -31,24 +32,8 @@ use Rattle.backward.specs.Steps.{CanCutAt, CanPassAt}
 use Rattle.backward.specs.declared.leaf_state.LeafState.{LeafState}
 use Rattle.backward.proofs.CarryLemmas.{first-power}
 use Rattle.backward.proofs.GrowthLemmas.{shape-back, past-within, grown-free, grown-first, grown-concat, grown-through, concat-fits, through-fits}
-use Rattle.backward.proofs.LoopLemmas.{drop-at, drop-all, get-below}
-use Rattle.backward.proofs.OrderLemmas.{stands-at, or-false, or-right, each-at, not-of, factors-behind, occurrences-count, sum-same}
+use Rattle.backward.proofs.OrderLemmas.{stands-at, each-at, not-of, factors-behind, occurrences-count, sum-same}
 use Rattle.backward.proofs.PlaceLemmas.{none-some, free-held, held-once}
-
-pub get-there : {X : Type 0} (xs : List X) (i : ℕ) → i < length xs → (x : X) × (slice_get xs i ≡ Some x)
-get-there [] i h = absurd (omega (arith, h))
-get-there (y ∷ ys) zero h = (y, refl)
-get-there (y ∷ ys) (suc i) h = get-there ys i (omega (arith, h))
-
-get-past : {X : Type 0} (xs : List X) (i : ℕ) → length xs ≤ i → slice_get xs i ≡ None
-get-past [] i h = refl
-get-past (y ∷ ys) zero h = absurd (omega (arith, h))
-get-past (y ∷ ys) (suc i) h = get-past ys i (omega (arith, h))
-
-get-map : {X Y : Type 0} (f : X → Y) (xs : List X) (i : ℕ) (x : X) → slice_get xs i ≡ Some x → slice_get (map f xs) i ≡ Some (f x)
-get-map f [] i x e = cc
-get-map f (y ∷ ys) zero x e = let same : y ≡ x = cc in ap (λ z. Some (f z)) same
-get-map f (y ∷ ys) (suc i) x e = get-map f ys i x e
 
 some-back : (ms : List Graph) (v : ℕ) (m : Graph) → HasMachine (map Some ms) v m → slice_get ms v ≡ Some m
 some-back [] v m e = absurd (none-some (Some m) e)
@@ -76,10 +61,10 @@ first-state bounds flat straight machines own s registers is = record {
   led = subst (λ ms. IsLedFrom flat (length flat.definitions) ms) (sym is) (begun (record {
     size = length-map machines Some ∙ own.count;
     each = λ v variable e.
-        let lt = get-below flat.variables v variable e in
+        let lt = slice_get_within flat.variables v variable e in
         let count = own.count in
-        let there = get-there machines v (omega arith) in
-        (there.0, get-map Some machines v there.0 there.1, (own.each v variable there.0 e there.1).reads);
+        let there = slice_get-some machines v (omega arith) in
+        (there.0, slice_get-mapped Some machines v there.0 there.1, (own.each v variable there.0 e there.1).reads);
   }));
   carried = λ v e. absurd (some-none machines v (subst (λ ms. slice_get ms v ≡ Some None) is e));
   standing = λ v m e. ap (λ ds. is_defined ds v) none;
@@ -92,16 +77,16 @@ first-state bounds flat straight machines own s registers is = record {
 }
   where
     none : drop (length flat.definitions) flat.definitions ≡ []
-    none = drop-all flat.definitions (length flat.definitions) (omega arith)
+    none = drop_all (length flat.definitions) flat.definitions (omega arith)
 
     at : (v : ℕ) (m : Graph) → HasMachine s.machines v m → slice_get machines v ≡ Some m
     at v m h = some-back machines v m (subst (λ ms. HasMachine ms v m) is h)
 
     variable-of : (v : ℕ) (m : Graph) → HasMachine s.machines v m → (variable : Variable) × (slice_get flat.variables v ≡ Some variable)
     variable-of v m h =
-        let lt = get-below machines v m (at v m h) in
+        let lt = slice_get_within machines v m (at v m h) in
         let count = own.count in
-        get-there flat.variables v (omega arith)
+        slice_get-some flat.variables v (omega arith)
 
     costs : (register : ℕ) (o : Option ℕ) → slice_get flat.registers register ≡ o → IsGrownWithin (growth_at flat) (growth flat) s.machines register
     costs register None e =
@@ -131,7 +116,7 @@ module _ (flat : Flat) (straight : IsStraight flat) (left : ℕ) (s : LeafState)
   stands = stands-at (length flat.variables) flat.definitions left d straight.order defined
 
   front : drop left flat.definitions ≡ d ∷ behind
-  front = drop-at flat.definitions left d defined
+  front = drop-found flat.definitions left d defined
 
   -- the machine of a variable that isn't carried
   machine-of : (v : ℕ) → v < length flat.variables → is_carried flat (suc left) v ≡ false → (m : Graph) × HasMachine s.machines v m
@@ -140,7 +125,7 @@ module _ (flat : Flat) (straight : IsStraight flat) (left : ℕ) (s : LeafState)
       go : (o : Option (Option Graph)) → slice_get s.machines v ≡ o → (m : Graph) × HasMachine s.machines v m
       go None e =
           let size = state.size in
-          let there = get-there s.machines v (omega arith) in
+          let there = slice_get-some s.machines v (omega arith) in
           absurd (none-some there.0 (sym e ∙ there.1))
       go (Some None) e = absurd (false≢true (sym free ∙ state.carried v e))
       go (Some (Some m)) e = (m, e)
@@ -150,7 +135,7 @@ module _ (flat : Flat) (straight : IsStraight flat) (left : ℕ) (s : LeafState)
   used-has v c =
       let apart = each-at (λ u. is_defined (d ∷ behind) u ≡ false) (used d.by) stands.apart v c in
       let below = each-at (λ u. u < length flat.variables) (used d.by) stands.uses v c in
-      (not-of d behind v apart, machine-of v below (or-false (nat_eq d.variable v) (is_defined behind v) apart).1)
+      (not-of d behind v apart, machine-of v below (or_parts (nat_eq d.variable v) (is_defined behind v) apart).1)
 
   pub target-has : (m : Graph) × HasMachine s.machines d.variable m
   target-has = machine-of d.variable stands.defined stands.once
@@ -158,7 +143,7 @@ module _ (flat : Flat) (straight : IsStraight flat) (left : ℕ) (s : LeafState)
   -- it has at most states(x) states
   pub target-few : StatesAreSolved → (m : Graph) → HasMachine s.machines d.variable m → m.states ≤ states_at flat d.variable
   target-few solved m there =
-      let x = get-there flat.variables d.variable stands.defined in
+      let x = slice_get-some flat.variables d.variable stands.defined in
       let few = state.bounded d.variable x.0 m x.1 there in
       let all = solved flat straight d.variable x.0 x.1 in
       let same = ap (λ n. own_bound x.0 * n) (factors-behind flat (length flat.variables) flat.definitions left d straight.order defined) in
@@ -183,7 +168,7 @@ module _ (flat : Flat) (straight : IsStraight flat) (left : ℕ) (s : LeafState)
     new-carried : (v : ℕ) → slice_get new.machines v ≡ Some None → is_carried flat left v ≡ true
     new-carried v e = ap (λ ds. is_defined ds v) front ∙ elim (eqb_tells d.variable v) [
       | inl is ↦ ap (λ b. b || is_defined behind v) is.0
-      | inr off ↦ or-right (nat_eq d.variable v) (is_defined behind v) (go (λ is. off.1 (sym is)) (slice_get s.machines v) refl)
+      | inr off ↦ or_right (nat_eq d.variable v) (is_defined behind v) (go (λ is. off.1 (sym is)) (slice_get s.machines v) refl)
     ]
       where
         go : (v ≡ d.variable → ⊥) → (o : Option (Option Graph)) → slice_get s.machines v ≡ o → is_carried flat (suc left) v ≡ true

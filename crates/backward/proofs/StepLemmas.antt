@@ -2,6 +2,7 @@
 use Rattle.std.proofs.Common.{◌≡◌, ℕ, ◌+◌, ◌*◌, ◌<◌, ◌≤◌, ◌↔◌, max, List, [], ◌∷◌, length, map, Some, slice_get, refl, sym, ap, ◌∙◌, subst, arith, mul-le-mul_left, mul_comm, add-mul, one-mul}
 use Rattle.std.specs.Prelude.{Result, Ok, Err, IfOk}
 use Rattle.std.proofs.Math.Nat.{max_comm}
+use Rattle.std.proofs.lemmas.Option.{same_Some, slice_get_within}
 use Rattle.sv_word.specs.Words.{IsWord}
 use Rattle.machine_core.specs.declared.graph.Graph.{Graph}
 use Rattle.machine_core.specs.Edges.{edges_top}
@@ -27,19 +28,11 @@ use Rattle.backward.specs.Made.{IsCut, IsPassed}
 use Rattle.backward.specs.Steps.{CanCutAt, CanPassAt, CanPassBy, IsCutAt, IsPassedAt, IsMadeAt, IsMadeBy, IsPassedBy, Either}
 use Rattle.backward.specs.declared.leaf_state.LeafState.{LeafState}
 use Rattle.backward.proofs.ConfLemmas.{take-out, put-other}
-use Rattle.backward.proofs.LoopLemmas.{get-below, same-found}
+use Rattle.backward.proofs.LoopLemmas.{same-found}
 use Rattle.backward.proofs.MeetingLemmas.{graph-words}
-
--- what follows from two clauses on one result
-pub IfOk-both : {X E : Type 0} (r : Result X E) (P Q R : X → Type 0) → IfOk r P → IfOk r Q → ((x : X) → P x → Q x → R x) → IfOk r R
-IfOk-both (Ok x) P Q R p q f = f x p q
-IfOk-both (Err e) P Q R p q f = tt
 
 same-pieces : (ps qs : List ℕ) → by.Concat ps ≡ by.Concat qs → ps ≡ qs
 same-pieces ps qs e = cc
-
-same-number : (a b : ℕ) → Some a ≡ Some b → a ≡ b
-same-number a b e = cc
 
 -- one definition stands at a place
 pub one-definition : (ds : List Definition) (at : ℕ) (d e : Definition) → slice_get ds at ≡ Some d → slice_get ds at ≡ Some e → d ≡ e
@@ -47,7 +40,7 @@ one-definition ds at d e f g = cc
 
 module _ (flat : Flat) (at : ℕ) (d : Definition) (there : slice_get flat.definitions at ≡ Some d) where
   pub place-below : at < length flat.definitions
-  place-below = get-below flat.definitions at d there
+  place-below = slice_get_within flat.definitions at d there
 
   pub can-cut-with : {ms : Family} {cuts : List ℕ} (ps : List ℕ) → CanCutAt flat at ms cuts → d.by ≡ by.Concat ps → (m : Graph) × CanCut ms d.variable m ps cuts
   can-cut-with {ms = ms} {cuts = cuts} ps can is =
@@ -94,7 +87,7 @@ module _ (flat : Flat) (at : ℕ) (d : Definition) (there : slice_get flat.defin
   can-pass-with {ms = ms} can v e =
       let same = one-definition flat.definitions at d (definition can.variable can.how) there can.defined in
       let f : reads d.by ≡ Some can.reader = ap (λ (z : Definition). reads z.by) same ∙ can.through in
-      let one = same-number can.reader v (sym f ∙ e) in
+      let one = same_Some can.reader v (sym f ∙ e) in
       (can.target, can.machine, subst (λ (z : Definition). CanPassBy ms z.variable can.target v can.machine z.by) (sym same) (subst (λ u. CanPassBy ms can.variable can.target u can.machine can.how) one can.can))
 
 pub can-pass-through : {ms : Family} {x v : ℕ} {m k : Graph} {b : By} {t : Transducer} → CanPassBy ms x m v k b → IsFor b t → CanPass ms x m v k t
@@ -138,7 +131,7 @@ made-by b x v ms ns t e g p = either-in (λ pieces. IsCut ms x pieces [] ns) (Is
 pub made-through : (b : By) (x v : ℕ) (cuts : List ℕ) (ms : Family) (ns : LeafState) → reads b ≡ Some v → IsMadeBy b x cuts ms ns → (t : Transducer) × RelatesBy b t × IsPassed ms x v t ns
 made-through b x v cuts ms ns e h =
     let o : IsPassedBy x ms ns b = either-out (λ pieces. IsCut ms x pieces cuts ns) (IsPassedBy x ms ns) b v e h in
-    (o.0, o.3, subst (λ n. IsPassed ms x n o.0 ns) (same-number o.1 v (sym o.2 ∙ e)) o.4)
+    (o.0, o.3, subst (λ n. IsPassed ms x n o.0 ns) (same_Some o.1 v (sym o.2 ∙ e)) o.4)
 
 module _ (flat : Flat) (at : ℕ) (d : Definition) (there : slice_get flat.definitions at ≡ Some d) (s new : LeafState) (v : ℕ) (reading : reads d.by ≡ Some v) (t : Transducer) (f : IsFor d.by t) where
   pub passed-made : IsPassed s.machines d.variable v t new → IsMadeAt flat at [] s.machines new

@@ -1,5 +1,6 @@
 -- Leaves of a flat cube: families of machines, one for each source variable, that backward steps lead to.
 use Rattle.std.specs.Prelude.{◌≡◌, ◌↔◌, ℕ, ◌<◌, ◌≤◌, true, false, List, [], ◌∷◌, length, map, All, Some, None, slice_get}
+use Rattle.std.specs.List.{AllByRecursion}
 use Rattle.machine_core.specs.declared.graph.Graph.{Graph}
 use Rattle.machine_core.specs.declared.run.Run.{Run}
 use Rattle.machine_core.specs.Graphs.{Accepts, IsRunOf}
@@ -7,7 +8,8 @@ use Rattle.sv_terms.specs.Language.{Word}
 use Rattle.trim_search.specs.Useful.{IsOnRun}
 use Rattle.flat_cubes.specs.Using.{is_defined}
 use Rattle.cube_bounds.specs.Bounds.{states, sources_of}
-use Rattle.flat_cubes.specs.Satisfying.{word_at, lengths_of, SatisfiesWords}
+use Rattle.flat_cubes.specs.Satisfying.{ComesBy, word_at, lengths_of, SatisfiesWords}
+use Rattle.flat_cubes.specs.declared.definition.Definition.{Definition}
 use Rattle.flat_cubes.specs.declared.flat.Flat.{Flat}
 use Rattle.backward.specs.Families.{Family, Words, HasMachine, Conf, AreWide}
 use Rattle.backward.specs.Chains.{width, IsLedFrom}
@@ -21,6 +23,10 @@ machines_of (Some m ∷ ms) = m ∷ machines_of ms
 -- the words of the source variables
 abbrev pub source_words : Flat → Words → List Word
 source_words flat words = map words (sources_of flat)
+
+-- the definitions hold at these words
+abbrev pub Obey : List Definition → Words → Type 0
+Obey ds words = AllByRecursion (λ (d : Definition). ComesBy words (words d.variable) d.by) ds
 
 -- a machine for each source variable, and for no other
 pub record IsOverSources (flat : Flat) (ms : Family) : Type 0 where

@@ -2,6 +2,7 @@
 use Rattle.std.proofs.Common.{◌≡◌, refl, ap, ◌∙◌, ◌+◌, ◌*◌, List, [], ◌∷◌, ◌++◌, map, length, inl, inr, ◌↔◌, length-append, arith}
 use Rattle.std.proofs.lemmas.List.{length-map}
 use Rattle.std.specs.List.{AllByRecursion}
+use Rattle.sv_list.specs.Lists.{AllByRecursion-append, AllByRecursion-first}
 use Rattle.sv_terms.specs.Meaning.{Named}
 use Rattle.sv_terms.specs.declared.term.Term.{Term}
 use Rattle.literal_forms.specs.declared.literal.Literal.{Literal}
@@ -11,14 +12,6 @@ use Rattle.literal_forms.specs.Literals.{IsTrueLiteral, AreTrueLiterals, SomeOf}
 use Rattle.literal_forms.specs.PastLaws.{some_left, some_right, some_cases}
 
 module _ {X : Type 0} (P : X → Type 0) where
-  pub all_join : (xs ys : List X) → AllByRecursion P xs → AllByRecursion P ys → AllByRecursion P (xs ++ ys)
-  all_join [] ys a b = b
-  all_join (x ∷ xs) ys a b = (a.0, all_join xs ys a.1 b)
-
-  pub all_first : (xs ys : List X) → AllByRecursion P (xs ++ ys) → AllByRecursion P xs
-  all_first [] ys a = tt
-  all_first (x ∷ xs) ys a = (a.0, all_first xs ys a.1)
-
   pub all_second : (xs ys : List X) → AllByRecursion P (xs ++ ys) → AllByRecursion P ys
   all_second [] ys a = a
   all_second (x ∷ xs) ys a = all_second xs ys a.1
@@ -27,12 +20,12 @@ module _ {X : Type 0} (P : X → Type 0) where
   -- of the lists that begin with c
   begun : (c : List X) (ds : List (List X)) → AllByRecursion P c → SomeOf (AllByRecursion P) ds → SomeOf (AllByRecursion P) (map (λ d. c ++ d) ds)
   begun c [] a h = absurd h
-  begun c (d ∷ ds) a (inl h) = inl (all_join P c d a h)
+  begun c (d ∷ ds) a (inl h) = inl (AllByRecursion-append P c d a h)
   begun c (d ∷ ds) a (inr h) = inr (begun c ds a h)
 
   begun_back : (c : List X) (ds : List (List X)) → SomeOf (AllByRecursion P) (map (λ d. c ++ d) ds) → AllByRecursion P c × SomeOf (AllByRecursion P) ds
   begun_back c [] h = absurd h
-  begun_back c (d ∷ ds) (inl h) = (all_first P c d h, inl (all_second P c d h))
+  begun_back c (d ∷ ds) (inl h) = (AllByRecursion-first P c d h, inl (all_second P c d h))
   begun_back c (d ∷ ds) (inr h) = let r = begun_back c ds h in (r.0, inr r.1)
 
   choose : (cs ds : List (List X)) → SomeOf (AllByRecursion P) cs → SomeOf (AllByRecursion P) ds → SomeOf (AllByRecursion P) (choices cs ds)

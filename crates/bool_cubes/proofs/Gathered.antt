@@ -60,15 +60,6 @@ module _ (ns : List CubeNode) (at : ℕ) (n : CubeNode) (left : ℕ) (p : IsPlan
   stored : (k : ℕ) (m : CubeNode) → k < length ns → m ≡ get_or ns k m → count (tree_at ns k) ≤ most_cubes → m.cubes ≡ count (tree_at ns k)
   stored k m l e h = (p.each k m l e).cubes ∙ uncut (count (tree_at ns k)) h
 
-  pub gathered_always : n.kind ≡ kind.Always → cube_at (tree_at ns at) left ≡ []
-  gathered_always e = ap (λ t. cube_at t left) (tree_is kind.Always e)
-
-  pub gathered_never : n.kind ≡ kind.Never → cube_at (tree_at ns at) left ≡ []
-  gathered_never e = ap (λ t. cube_at t left) (tree_is kind.Never e)
-
-  pub gathered_one : (l : Literal) → n.kind ≡ kind.One l → cube_at (tree_at ns at) left ≡ l ∷ []
-  gathered_one l e = ap (λ t. cube_at t left) (tree_is (kind.One l) e)
-
 -- a node of both, and one of either
 pub record AreBoth (ns : List CubeNode) (at left i j : ℕ) (m : CubeNode) : Type 0 where
   pub some : 0 < m.cubes
@@ -162,9 +153,6 @@ assertions_tree ts = ap every_of (same ts)
 
 pub planned_tree : (ts : List Term) (old new : List CubeNode) (s : NodePair) → IsPlanned old new s (conjunction (formulas_of ts)) → tree_at new s.holding ≡ tree_of ts
 planned_tree ts old new s h = h.stands.holds ∙ sym (assertions_tree ts)
-
-pub empty_plan : (ns : List CubeNode) → ns ≡ [] → IsPlan ns
-empty_plan ns e = subst IsPlan (sym e) (record { each = λ k n l g. absurd (omega arith) })
 
 -- the cubes that are still to be given
 abbrev pub rest_of : List CubeNode → ℕ → ℕ → List Cube

@@ -1,6 +1,8 @@
 -- The atoms of the cubes of assertions have no constants but those of the assertions.
 use Rattle.std.proofs.Common.{◌≡◌, refl, ap, sym, ◌∙◌, subst, Bool, true, false, not, ◌&&◌, IsTrue, List, [], ◌∷◌, map}
 use Rattle.std.specs.List.{AllByRecursion, list_all}
+use Rattle.std.proofs.lemmas.Bool.{and_parts}
+use Rattle.sv_list.specs.Lists.{AllByRecursion-append}
 use Rattle.sv_terms.specs.declared.op.Op.{Op}
 use Rattle.sv_terms.specs.declared.op.Op.TheVariants as op
 use Rattle.sv_terms.specs.declared.sort.Sort.{Sort}
@@ -9,6 +11,7 @@ use Rattle.sv_terms.specs.declared.term.Term.{Term}
 use Rattle.sv_terms.specs.declared.term.Term.TheVariants as term
 use Rattle.sv_terms.specs.Meaning.{Named}
 use Rattle.sv_terms.specs.Sorting.{is_valued}
+use Rattle.sv_terms.specs.SortingLaws.{valued-apply}
 use Rattle.literal_forms.specs.declared.literal.Literal.{Literal}
 use Rattle.bool_cubes.specs.Cubes.{cubes, cubes_of}
 use Rattle.bool_cubes.specs.Laws.{IsAssertion, IsPassedCube, IsPassedOn, LiteralsAreValued, LiteralsPass}
@@ -16,8 +19,6 @@ use Rattle.literal_forms.specs.Mirrors.{raw-seen}
 use Rattle.literal_forms.specs.Shapes.{Shape, Shapes, truth, number, text, constant, apply, member, related, opaque, end, ◌⨾◌, seen, raw, raws}
 use Rattle.bool_cubes.specs.Trees.{Tree, every_of, any_of, Formula, Part, fixed, negated, trees, conjunction, disjunction, agreement, choice, exclusive, exclusive_from, implied, neighbours, pairs, comparison, equal_numbers, equal_at, equal, chain, formulas, applied, formula, parts, tree_of}
 use Rattle.bool_cubes.proofs.Carried.{TreeAll, cubes_all, made_all}
-use Rattle.bool_cubes.proofs.Choosing.{all_join}
-use Rattle.bool_cubes.proofs.Meanings.{and_parts, valued_apply}
 
 module _ (p : Term → Bool) (passes : IsPassedOn p) where
   abbrev Fine : Term → Type 0
@@ -109,7 +110,7 @@ module _ (p : Term → Bool) (passes : IsPassedOn p) where
 
     fine_pairs : (ps : List Part) → AllByRecursion FinePart ps → AllByRecursion FineFormula (pairs R ps)
     fine_pairs [] a = tt
-    fine_pairs (p ∷ ps) a = all_join FineFormula (map (R p) ps) (pairs R ps) (fine_first p ps a.0 a.1) (fine_pairs ps a.1)
+    fine_pairs (p ∷ ps) a = AllByRecursion-append FineFormula (map (R p) ps) (pairs R ps) (fine_first p ps a.0 a.1) (fine_pairs ps a.1)
 
   fine_formulas : (ps : List Part) → AllByRecursion FinePart ps → AllByRecursion FineFormula (formulas ps)
   fine_formulas [] a = tt
@@ -182,8 +183,8 @@ module _ (values : Named) where
 
   valued_passes : IsPassedOn (is_valued values)
   valued_passes = record {
-    joined = λ o s t h k. valued_apply values o (s ∷ t ∷ []) ∙ (λ i. h i && (k i && true));
-    parts = λ o ts h. sym (valued_list ts) ∙ sym (valued_apply values o ts) ∙ h;
+    joined = λ o s t h k. valued-apply values o (s ∷ t ∷ []) ∙ (λ i. h i && (k i && true));
+    parts = λ o ts h. sym (valued_list ts) ∙ sym (valued-apply values o ts) ∙ h;
   }
 
   all_valued : (ts : List Term) → AllByRecursion (IsAssertion values) ts → IsTrue (list_all (is_valued values) ts)

@@ -1,5 +1,5 @@
 -- A term that has a truth value is a formula of that value.
-use Rattle.std.proofs.Common.{◌≡◌, refl, sym, ap, ◌∙◌, subst, map, Bool, true, false, not, ◌&&◌, ◌||◌, IsTrue, ℤ, pos, List, [], ◌∷◌, ◌++◌, ◌⊎◌, inl, inr, Option, Some, None, nat_eq, cond}
+use Rattle.std.proofs.Common.{◌≡◌, refl, sym, ap, ◌∙◌, subst, map, Bool, true, false, not, ◌&&◌, IsTrue, ℤ, pos, List, [], ◌∷◌, ◌++◌, ◌⊎◌, inl, inr, Option, Some, None, nat_eq, cond}
 use Rattle.std.specs.Prelude.{int_lt, int_le, if◌then◌else◌}
 use Rattle.std.specs.Ordering.{int_eq, is_eq}
 use Rattle.std.specs.declared.cmp.Ordering.TheVariants.{Less, Equal, Greater}
@@ -7,6 +7,10 @@ use Rattle.std.proofs.lemmas.List.Folds.{list_all-append, list_all-map}
 use Rattle.std.specs.List.{list_all, list_any, AllZip}
 use Rattle.std.specs.Option.{option_map}
 use Rattle.std.specs.Cmp.Lexicographic.{pointwise}
+use Rattle.std.proofs.lemmas.Bool.{and_parts, or_parts}
+use Rattle.std.proofs.lemmas.Option.{same_Some, none-some}
+use Rattle.sv_list.specs.Bools.{and-true}
+use Rattle.sv_list.specs.Lists.{AllZip-append}
 use Rattle.sv_terms.specs.declared.value.Value.{Value}
 use Rattle.sv_terms.specs.declared.value.Value.TheVariants.{Truth, Number, Text}
 use Rattle.sv_terms.specs.declared.op.Op.{Op}
@@ -17,62 +21,16 @@ use Rattle.sv_terms.specs.declared.term.Term.{Term}
 use Rattle.sv_terms.specs.declared.term.Term.TheVariants as term
 use Rattle.sv_terms.specs.declared.term.Term.TheOpen.{Term-F}
 use Rattle.sv_terms.specs.Meaning.{Named, all_of, each_of, truth_of, number_of, same_truth, same_value, chained, pairwise, exclusive, implied, applied, applied_if, of_truths, of_numbers, val, val_step}
-use Rattle.sv_terms.specs.SortingLaws.{fold-at}
-use Rattle.sv_terms.specs.Sorting.{kind, same_sort, applied_sort, applied_sort_if, tested_sort, related_sort, sort_step, sort_of, valued_step, is_valued, op_sort}
+use Rattle.sv_terms.specs.SortingLaws.{fold-at, val-apply, valued-apply}
+use Rattle.sv_terms.specs.Sorting.{kind, same_sort, applied_sort, applied_sort_if, tested_sort, related_sort, sort_step, sort_of, is_valued, op_sort}
 use Rattle.sv_terms.specs.Parts.{opaque_step, is_opaque}
+use Rattle.sv_terms.proofs.ValueSorts.{same_is, front}
 use Rattle.literal_forms.specs.Shapes.{Shape, Shapes, truth, number, text, constant, apply, member, related as pair, opaque, end, ◌⨾◌, raw, raws}
 use Rattle.literal_forms.specs.Shapes as shape
 use Rattle.bool_cubes.specs.Trees.{Formula, Part, negated, conjunction, disjunction, choice, comparison, equal_numbers, equal, equal_at, chain, formulas, neighbours, pairs, formula, parts}
 use Rattle.bool_cubes.specs.Trees as tree
 use Rattle.bool_cubes.proofs.Deciding.{Decides, dec_truth, dec_not, dec_atom, dec_all, dec_any, dec_same, dec_choice, dec_exclusive, dec_implied}
 use Rattle.bool_cubes.proofs.Ranked.{some_of_is, more_of_is, alike_is, result_sort}
-
-and_true : (a : Bool) → (a && true) ≡ a
-and_true true = refl
-and_true false = refl
-
-pub and_parts : (a b : Bool) → IsTrue (a && b) → IsTrue a × IsTrue b
-and_parts true b h = (refl, h)
-and_parts false b h = absurd (cc)
-
-or_parts : (a b : Bool) → (a || b) ≡ false → (a ≡ false) × (b ≡ false)
-or_parts true b h = absurd (cc)
-or_parts false b h = (refl, h)
-
-same_is : (s t : Sort) → IsTrue (same_sort s t) → t ≡ s
-same_is sort.Bool sort.Bool h = refl
-same_is sort.Bool sort.Int h = absurd (cc)
-same_is sort.Bool sort.String h = absurd (cc)
-same_is sort.Bool sort.RegLan h = absurd (cc)
-same_is sort.Int sort.Bool h = absurd (cc)
-same_is sort.Int sort.Int h = refl
-same_is sort.Int sort.String h = absurd (cc)
-same_is sort.Int sort.RegLan h = absurd (cc)
-same_is sort.String sort.Bool h = absurd (cc)
-same_is sort.String sort.Int h = absurd (cc)
-same_is sort.String sort.String h = refl
-same_is sort.String sort.RegLan h = absurd (cc)
-same_is sort.RegLan sort.Bool h = absurd (cc)
-same_is sort.RegLan sort.Int h = absurd (cc)
-same_is sort.RegLan sort.String h = absurd (cc)
-same_is sort.RegLan sort.RegLan h = refl
-
-front : {X : Type 0} (o : Option X) (os : List (Option X)) (rest : Option (List X)) (xs : List X) → all_of os ≡ rest → all_of (o ∷ os) ≡ Some xs → (y : X) × (ys : List X) × (o ≡ Some y) × (all_of os ≡ Some ys) × (y ∷ ys ≡ xs)
-front None os rest xs r e = absurd (cc)
-front (Some y) os None xs r e = let f : option_map (λ ys. y ∷ ys) None ≡ Some xs = sym (ap (option_map (λ ys. y ∷ ys)) r) ∙ e in absurd (cc)
-front (Some y) os (Some ys) xs r e = (y, ys, refl, r, let f : option_map (λ ys. y ∷ ys) (Some ys) ≡ Some xs = sym (ap (option_map (λ ys. y ∷ ys)) r) ∙ e in cc)
-
-some_is : {X : Type 0} (x y : X) → Some x ≡ Some y → x ≡ y
-some_is x y e = cc
-
-not_some : {X : Type 0} (x : X) → None ≡ Some x → ⊥
-not_some x e = cc
-
-join_zip : {A B : Type 0} (R : A → B → Type 0) (xs xs' : List A) (ys ys' : List B) → AllZip R xs ys → AllZip R xs' ys' → AllZip R (xs ++ xs') (ys ++ ys')
-join_zip R [] xs' [] ys' a b = b
-join_zip R [] xs' (y ∷ ys) ys' a b = absurd a
-join_zip R (x ∷ xs) xs' [] ys' a b = absurd a
-join_zip R (x ∷ xs) xs' (y ∷ ys) ys' a b = (a.0, join_zip R xs xs' ys ys' a.1 b)
 
 -- of each neighbouring pair, and of each pair, what a test gives
 abbrev near : {X : Type 0} → (X → X → Bool) → List X → List Bool
@@ -94,12 +52,9 @@ each_two_all R [] = refl
 each_two_all R (x ∷ xs) = list_all-append (λ b. b) (map (R x) xs) (each_two R xs) ∙ ap (λ b. b && list_all (λ c. c) (each_two R xs)) (list_all-map (λ b. b) (R x) xs) ∙ ap (λ b. list_all (R x) xs && b) (each_two_all R xs)
 
 module _ (values : Named) where
-  val_apply : (o : Op) (ts : List Term) → val values (term.Apply o ts) ≡ applied_if o (all_of (map (val values) ts))
-  val_apply o ts = fold-at (Option Value) (val_step values) _ (Term-F.Apply o ts) (term.rolls-Apply o ts)
-
   -- the value of a function of two terms that have values
   val_two : (o : Op) (s t : Term) (v w : Value) → val values s ≡ Some v → val values t ≡ Some w → val values (term.Apply o (s ∷ t ∷ [])) ≡ applied o (v ∷ w ∷ [])
-  val_two o s t v w e f = val_apply o (s ∷ t ∷ []) ∙ (λ i. applied_if o (all_of (e i ∷ f i ∷ [])))
+  val_two o s t v w e f = val-apply values o (s ∷ t ∷ []) ∙ (λ i. applied_if o (all_of (e i ∷ f i ∷ [])))
 
   -- a term with its value
   pub record IsMeantAt (p : Part) (v : Value) : Type 0 where
@@ -158,7 +113,7 @@ module _ (values : Named) where
     pairs_meant (p ∷ ps) [] m h = absurd m
     pairs_meant (p ∷ ps) (v ∷ vs) m h =
         let a = and_parts (same_sort s (kind v)) (list_all (same_sort s) (map kind vs)) h in
-        join_zip (Decides values) (map (F p) ps) (pairs F ps) (map (R v) vs) (each_two R vs) (first_meant p v ps vs (same_is s (kind v) a.0) m.0 m.1 a.1) (pairs_meant ps vs m.1 a.1)
+        AllZip-append (Decides values) (map (F p) ps) (pairs F ps) (map (R v) vs) (each_two R vs) (first_meant p v ps vs (same_is s (kind v) a.0) m.0 m.1 a.1) (pairs_meant ps vs m.1 a.1)
 
     near_all_meant : (ps : List Part) (vs : List Value) → Meant ps vs → IsTrue (list_all (same_sort s) (map kind vs)) → Decides values (conjunction (neighbours F ps)) (chained R vs)
     near_all_meant ps vs m h = subst (λ b. Decides values (conjunction (neighbours F ps)) b) (near_all R vs) (dec_all values (neighbours F ps) (near R vs) (near_meant ps vs m h))
@@ -186,7 +141,7 @@ module _ (values : Named) where
   module _ (o : Op) (R : ℤ → ℤ → Bool) (means : (m n : ℤ) → applied o (Number m ∷ Number n ∷ []) ≡ Some (Truth (R m n && true))) where
     two_ordered : (p q : Part) (v w : Value) → kind v ≡ sort.Int → kind w ≡ sort.Int → IsMeantAt p v → IsMeantAt q w → Decides values (comparison o p.raw q.raw) (R (int_of v) (int_of w))
     two_ordered p q (Number m) (Number n) k l d e =
-        dec_atom values (term.Apply o (p.raw ∷ q.raw ∷ [])) (R m n) (val_two o p.raw q.raw (Number m) (Number n) d.value e.value ∙ means m n ∙ ap (λ b. Some (Truth b)) (and_true (R m n)))
+        dec_atom values (term.Apply o (p.raw ∷ q.raw ∷ [])) (R m n) (val_two o p.raw q.raw (Number m) (Number n) d.value e.value ∙ means m n ∙ ap (λ b. Some (Truth b)) (and-true (R m n)))
     two_ordered p q (Truth b) w k l d e = absurd (cc)
     two_ordered p q (Text u) w k l d e = absurd (cc)
     two_ordered p q (Number m) (Truth b) k l d e = absurd (cc)
@@ -211,7 +166,7 @@ module _ (values : Named) where
   level false false e = (refl, refl)
 
   is_value : (o : Option Value) (a b : Bool) → o ≡ Some (Truth (a && true)) → o ≡ Some (Truth b) → a ≡ b
-  is_value o a b e f = let g : Some (Truth (a && true)) ≡ Some (Truth b) = sym e ∙ f in let h : (a && true) ≡ b = cc in sym (and_true a) ∙ h
+  is_value o a b e f = let g : Some (Truth (a && true)) ≡ Some (Truth b) = sym e ∙ f in let h : (a && true) ≡ b = cc in sym (and-true a) ∙ h
 
   numbers_equal : (s t : Term) (m n : ℤ) (b : Bool) → int_eq m n ≡ b → val values s ≡ Some (Number m) → val values t ≡ Some (Number n) → Decides values (equal_numbers s t) b
   numbers_equal s t m n true q e f =
@@ -236,7 +191,7 @@ module _ (values : Named) where
   two_equal k p q (Number m) (Number n) i j d e = subst (λ s. Decides values (equal_at s p q) (int_eq m n)) d.sorted (numbers_equal p.raw q.raw m n (int_eq m n) refl d.value e.value)
   two_equal k p q (Text u) (Text w) i j d e =
       subst (λ s. Decides values (equal_at s p q) (pointwise nat_eq u w)) d.sorted
-      (dec_atom values (term.Apply op.Equal (p.raw ∷ q.raw ∷ [])) (pointwise nat_eq u w) (val_two op.Equal p.raw q.raw (Text u) (Text w) d.value e.value ∙ ap (λ b. Some (Truth b)) (and_true (pointwise nat_eq u w))))
+      (dec_atom values (term.Apply op.Equal (p.raw ∷ q.raw ∷ [])) (pointwise nat_eq u w) (val_two op.Equal p.raw q.raw (Text u) (Text w) d.value e.value ∙ ap (λ b. Some (Truth b)) (and-true (pointwise nat_eq u w))))
   two_equal k p q (Truth a) (Number n) i j d e = absurd (let x : sort.Bool ≡ sort.Int = i ∙ sym j in cc)
   two_equal k p q (Truth a) (Text w) i j d e = absurd (let x : sort.Bool ≡ sort.String = i ∙ sym j in cc)
   two_equal k p q (Number m) (Truth b) i j d e = absurd (let x : sort.Int ≡ sort.Bool = i ∙ sym j in cc)
@@ -325,43 +280,40 @@ module _ (values : Named) where
   sort_apply : (o : Op) (ts : List Term) → sort_of (term.Apply o ts) ≡ applied_sort_if o (all_of (map sort_of ts))
   sort_apply o ts = fold-at (Option Sort) sort_step _ (Term-F.Apply o ts) (term.rolls-Apply o ts)
 
-  pub valued_apply : (o : Op) (ts : List Term) → is_valued values (term.Apply o ts) ≡ list_all (λ b. b) (map (is_valued values) ts)
-  valued_apply o ts = fold-at Bool (valued_step values) _ (Term-F.Apply o ts) (term.rolls-Apply o ts)
-
   opaque_apply : (o : Op) (ts : List Term) → is_opaque (term.Apply o ts) ≡ list_any (λ b. b) (map is_opaque ts)
   opaque_apply o ts = fold-at Bool opaque_step _ (Term-F.Apply o ts) (term.rolls-Apply o ts)
 
   sort_leaf : (s : Shape) (k : Sort) → IsGood (raw s) k → k ≡ shape.head_sort s
-  sort_leaf (truth b) k g = let e = sym (fold-at (Option Sort) sort_step _ (Term-F.Truth b) (term.rolls-Truth b)) ∙ g.sorted in sym (some_is sort.Bool k e)
-  sort_leaf (number n) k g = let e = sym (fold-at (Option Sort) sort_step _ (Term-F.Number n) (term.rolls-Number n)) ∙ g.sorted in sym (some_is sort.Int k e)
-  sort_leaf (text w) k g = let e = sym (fold-at (Option Sort) sort_step _ (Term-F.Text w) (term.rolls-Text w)) ∙ g.sorted in sym (some_is sort.String k e)
-  sort_leaf (constant name s) k g = let e = sym (fold-at (Option Sort) sort_step _ (Term-F.Constant name s) (term.rolls-Constant name s)) ∙ g.sorted in sym (some_is s k e)
+  sort_leaf (truth b) k g = let e = sym (fold-at (Option Sort) sort_step _ (Term-F.Truth b) (term.rolls-Truth b)) ∙ g.sorted in sym (same_Some sort.Bool k e)
+  sort_leaf (number n) k g = let e = sym (fold-at (Option Sort) sort_step _ (Term-F.Number n) (term.rolls-Number n)) ∙ g.sorted in sym (same_Some sort.Int k e)
+  sort_leaf (text w) k g = let e = sym (fold-at (Option Sort) sort_step _ (Term-F.Text w) (term.rolls-Text w)) ∙ g.sorted in sym (same_Some sort.String k e)
+  sort_leaf (constant name s) k g = let e = sym (fold-at (Option Sort) sort_step _ (Term-F.Constant name s) (term.rolls-Constant name s)) ∙ g.sorted in sym (same_Some s k e)
   sort_leaf (apply o ss) k g = applied_result o (all_of (map sort_of (raws ss))) k (sym (sort_apply o (raws ss)) ∙ g.sorted)
     where
       applied_result : (o : Op) (ks : Option (List Sort)) (k : Sort) → applied_sort_if o ks ≡ Some k → k ≡ op_sort o
-      applied_result o None k e = absurd (not_some k e)
+      applied_result o None k e = absurd (none-some k e)
       applied_result o (Some ks) k e = result_sort o ks k e
   sort_leaf (member s r) k g = tested_result (sort_of (raw s)) k (sym (fold-at (Option Sort) sort_step _ (Term-F.InRe (raw s) r) (term.rolls-InRe (raw s) r)) ∙ g.sorted)
     where
       tested_result : (o : Option Sort) (k : Sort) → tested_sort o ≡ Some k → k ≡ sort.Bool
-      tested_result None k e = absurd (not_some k e)
-      tested_result (Some sort.Bool) k e = absurd (not_some k e)
-      tested_result (Some sort.Int) k e = absurd (not_some k e)
-      tested_result (Some sort.String) k e = sym (some_is sort.Bool k e)
-      tested_result (Some sort.RegLan) k e = absurd (not_some k e)
+      tested_result None k e = absurd (none-some k e)
+      tested_result (Some sort.Bool) k e = absurd (none-some k e)
+      tested_result (Some sort.Int) k e = absurd (none-some k e)
+      tested_result (Some sort.String) k e = sym (same_Some sort.Bool k e)
+      tested_result (Some sort.RegLan) k e = absurd (none-some k e)
   sort_leaf (pair t s u) k g = related_result (sort_of (raw s)) (sort_of (raw u)) k (sym (fold-at (Option Sort) sort_step _ (Term-F.Related t (raw s) (raw u)) (term.rolls-Related t (raw s) (raw u))) ∙ g.sorted)
     where
       related_result : (o p : Option Sort) (k : Sort) → related_sort o p ≡ Some k → k ≡ sort.Bool
-      related_result None p k e = absurd (not_some k e)
-      related_result (Some sort.Bool) p k e = absurd (not_some k e)
-      related_result (Some sort.Int) p k e = absurd (not_some k e)
-      related_result (Some sort.RegLan) p k e = absurd (not_some k e)
-      related_result (Some sort.String) None k e = absurd (not_some k e)
-      related_result (Some sort.String) (Some sort.Bool) k e = absurd (not_some k e)
-      related_result (Some sort.String) (Some sort.Int) k e = absurd (not_some k e)
-      related_result (Some sort.String) (Some sort.RegLan) k e = absurd (not_some k e)
-      related_result (Some sort.String) (Some sort.String) k e = sym (some_is sort.Bool k e)
-  sort_leaf (opaque s) k g = let e = sym (fold-at (Option Sort) sort_step _ (Term-F.Opaque s) (term.rolls-Opaque s)) ∙ g.sorted in sym (some_is s k e)
+      related_result None p k e = absurd (none-some k e)
+      related_result (Some sort.Bool) p k e = absurd (none-some k e)
+      related_result (Some sort.Int) p k e = absurd (none-some k e)
+      related_result (Some sort.RegLan) p k e = absurd (none-some k e)
+      related_result (Some sort.String) None k e = absurd (none-some k e)
+      related_result (Some sort.String) (Some sort.Bool) k e = absurd (none-some k e)
+      related_result (Some sort.String) (Some sort.Int) k e = absurd (none-some k e)
+      related_result (Some sort.String) (Some sort.RegLan) k e = absurd (none-some k e)
+      related_result (Some sort.String) (Some sort.String) k e = sym (same_Some sort.Bool k e)
+  sort_leaf (opaque s) k g = let e = sym (fold-at (Option Sort) sort_step _ (Term-F.Opaque s) (term.rolls-Opaque s)) ∙ g.sorted in sym (same_Some s k e)
 
   -- every good term has a value of its sort
   abbrev pub Valued : Type 0
@@ -373,10 +325,10 @@ module _ (values : Named) where
       → (vs : List Value) × (all_of (map (val values) (raws ss)) ≡ Some vs) × (map kind vs ≡ ks) × Meant (parts ss) vs
 
   apply_decided : (o : Op) (ss : Shapes) (k : Sort) → Arguments ss → (ks : Option (List Sort)) → all_of (map sort_of (raws ss)) ≡ ks → applied_sort_if o ks ≡ Some k → IsTrue (list_all (λ b. b) (map (is_valued values) (raws ss))) → list_any (λ b. b) (map is_opaque (raws ss)) ≡ false → (b : Bool) → val values (raw (apply o ss)) ≡ Some (Truth b) → Decides values (formula (apply o ss)) b
-  apply_decided o ss k each None q a h n b e = absurd (not_some k a)
+  apply_decided o ss k each None q a h n b e = absurd (none-some k a)
   apply_decided o ss k each (Some ks) q a h n b e =
       let r = each ks q h n in
-      let f : applied o r.0 ≡ Some (Truth b) = sym (val_apply o (raws ss) ∙ ap (applied_if o) r.1) ∙ e in
+      let f : applied o r.0 ≡ Some (Truth b) = sym (val-apply values o (raws ss) ∙ ap (applied_if o) r.1) ∙ e in
       applied_meant o (parts ss) r.0 k (raw (apply o ss)) b r.3 (ap (applied_sort o) r.2 ∙ a) f e
 
   module _ (law : Valued) where
@@ -394,7 +346,7 @@ module _ (values : Named) where
       decided (opaque s) k g b e = dec_atom values (raw (opaque s)) b e
       decided (apply o ss) k g b e =
           apply_decided o ss k (λ ks q h n. each_meant ss ks q h n) (all_of (map sort_of (raws ss))) refl (sym (sort_apply o (raws ss)) ∙ g.sorted)
-          (sym (valued_apply o (raws ss)) ∙ g.valued) (sym (opaque_apply o (raws ss)) ∙ g.clear) b e
+          (sym (valued-apply values o (raws ss)) ∙ g.valued) (sym (opaque_apply o (raws ss)) ∙ g.clear) b e
 
       each_meant : (ss : Shapes) (ks : List Sort) → all_of (map sort_of (raws ss)) ≡ Some ks → IsTrue (list_all (λ b. b) (map (is_valued values) (raws ss))) → list_any (λ b. b) (map is_opaque (raws ss)) ≡ false
           → (vs : List Value) × (all_of (map (val values) (raws ss)) ≡ Some vs) × (map kind vs ≡ ks) × Meant (parts ss) vs

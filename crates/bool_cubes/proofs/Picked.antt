@@ -4,30 +4,17 @@ use Rattle.std.specs.Prelude.{nat_lt, if◌then◌else◌}
 use Rattle.std.proofs.lemmas.List.{length-map}
 use Rattle.std.proofs.lemmas.Bool.{cases_lt}
 use Rattle.std.proofs.Math.Nat.{mul-le-mul_left, mul_comm}
+use Rattle.std.proofs.lemmas.Option.{slice_get_within}
+use Rattle.sv_list.specs.Lists.{slice_get-append_left, slice_get-mapped}
 use borrow.Author.Tests.{ltb-true, ltb-false}
 use Rattle.bool_cubes.specs.Cubes.{choices, cubes, count}
 use Rattle.bool_cubes.specs.Picking.{cube_at, CubesArePicked}
 use Rattle.bool_cubes.specs.Trees.{Tree, always, never, one, both, either}
 use Rattle.bool_cubes.proofs.Choosing.{cubes_length}
 
-get_left : {X : Type 0} (xs ys : List X) (k : ℕ) → k < length xs → slice_get (xs ++ ys) k ≡ slice_get xs k
-get_left [] ys k h = absurd (omega arith)
-get_left (x ∷ xs) ys zero h = refl
-get_left (x ∷ xs) ys (suc k) h = get_left xs ys k (omega arith)
-
 get_right : {X : Type 0} (xs ys : List X) (k : ℕ) → slice_get (xs ++ ys) (length xs + k) ≡ slice_get ys k
 get_right [] ys k = let e : 0 + k ≡ k = omega arith in ap (slice_get ys) e
 get_right (x ∷ xs) ys k = let e : suc (length xs) + k ≡ suc (length xs + k) = omega arith in ap (slice_get (x ∷ (xs ++ ys))) e ∙ get_right xs ys k
-
-get_map : {X Y : Type 0} (f : X → Y) (xs : List X) (k : ℕ) (x : X) → slice_get xs k ≡ Some x → slice_get (map f xs) k ≡ Some (f x)
-get_map f [] k x e = absurd (cc)
-get_map f (y ∷ xs) zero x e = let g : y ≡ x = cc in ap (λ z. Some (f z)) g
-get_map f (y ∷ xs) (suc k) x e = get_map f xs k x e
-
-found : {X : Type 0} (xs : List X) (k : ℕ) (x : X) → slice_get xs k ≡ Some x → k < length xs
-found [] k x e = absurd (cc)
-found (y ∷ xs) zero x e = omega arith
-found (y ∷ xs) (suc k) x e = let h = found xs k x e in omega arith
 
 -- the choice of these two places
 get_choice : {X : Type 0} (cs ds : List (List X)) (q r : ℕ) (c d : List X) → slice_get cs q ≡ Some c → slice_get ds r ≡ Some d → slice_get (choices cs ds) (length ds * q + r) ≡ Some (c ++ d)
@@ -35,8 +22,8 @@ get_choice [] ds q r c d e f = absurd (cc)
 get_choice (b ∷ cs) ds zero r c d e f =
     let g : b ≡ c = cc in
     let i : length ds * 0 + r ≡ r = omega arith in
-    let l : r < length (map (λ x. b ++ x) ds) = rw (length-map ds (λ x. b ++ x)) (found ds r d f) in
-    ap (slice_get (choices (b ∷ cs) ds)) i ∙ get_left (map (λ x. b ++ x) ds) (choices cs ds) r l ∙ get_map (λ x. b ++ x) ds r d f ∙ ap (λ x. Some (x ++ d)) g
+    let l : r < length (map (λ x. b ++ x) ds) = rw (length-map ds (λ x. b ++ x)) (slice_get_within ds r d f) in
+    ap (slice_get (choices (b ∷ cs) ds)) i ∙ slice_get-append_left (map (λ x. b ++ x) ds) (choices cs ds) r l ∙ slice_get-mapped (λ x. b ++ x) ds r d f ∙ ap (λ x. Some (x ++ d)) g
 get_choice (b ∷ cs) ds (suc q) r c d e f =
     let m = length-map ds (λ x. b ++ x) in
     let i : length ds * suc q + r ≡ length (map (λ x. b ++ x) ds) + (length ds * q + r) = omega (arith, m) in
@@ -68,7 +55,7 @@ pick_either : (t u : Tree) → Picked t → Picked u → (k : ℕ) → k < count
 pick_either t u p q k h true e =
     let l : k < count t = ltb-true k (count t) e in
     let m : k < length (cubes t) = rw (cubes_length t) l in
-    get_left (cubes t) (cubes u) k m ∙ p k l
+    slice_get-append_left (cubes t) (cubes u) k m ∙ p k l
 pick_either t u p q k h false e =
     let l : count t ≤ k = ltb-false k (count t) e in
     let i : k ≡ length (cubes t) + (k - count t) = omega (arith, cubes_length t) in

@@ -2,20 +2,15 @@
 use Rattle.std.proofs.Common.{◌≡◌, refl, sym, ap, ◌∙◌, subst, ℕ, zero, suc, ◌+◌, ◌*◌, ◌<◌, ◌≤◌, true, false, List, [], ◌∷◌, ◌++◌, length, get_or, length-append, arith, ⊎_elim, IfOk, Result}
 use Rattle.std.proofs.lemmas.Bool.{cases_lt}
 use Rattle.std.proofs.lemmas.Result.{IfOk-weaker}
+use Rattle.std.proofs.lemmas.List.{get_or_append_left}
 use Rattle.bool_cubes.specs.Cubes.{count}
 use Rattle.bool_cubes.specs.Nodes.{AreOf, IsAddedNode, IsLonger, IsMade, IsOfEarlier, IsPlan, IsPlanned, HasBothTrees, listed_at, made, tree_at, trees_from, trees_of}
-use Rattle.sv_terms.specs.CutOff.{cut_off}
-use Rattle.bool_cubes.proofs.Tallies.{cut_product, cut_sum}
+use Rattle.sv_terms.specs.CutOff.{cut_off, cut-product, cut-sum}
 use Rattle.bool_cubes.specs.Trees.{Formula, Tree, both, either, negated, conjoined, disjoined, agreement, choice, fixed, implication}
 use Rattle.bool_cubes.specs.declared.node.CubeNode.{CubeNode}
 use Rattle.bool_cubes.specs.declared.node.NodeKind.{NodeKind}
 use Rattle.bool_cubes.specs.declared.node.NodeKind.TheVariants as kind
 use Rattle.bool_cubes.specs.declared.node.NodePair.{NodePair}
-
-pub got_left : {X : Type 0} (xs ys : List X) (k : ℕ) (x : X) → k < length xs → get_or (xs ++ ys) k x ≡ get_or xs k x
-got_left [] ys k x h = absurd (omega arith)
-got_left (z ∷ xs) ys zero x h = refl
-got_left (z ∷ xs) ys (suc k) x h = got_left xs ys k x (omega arith)
 
 pub got_last : {X : Type 0} (xs : List X) (y : X) (k : ℕ) (x : X) → k ≡ length xs → get_or (xs ++ y ∷ []) k x ≡ y
 got_last [] y zero x e = refl
@@ -73,7 +68,7 @@ module _ (ns : List CubeNode) (n : CubeNode) where
   }
 
   made_each : IsPlan ns → IsOfEarlier (length ns) n.kind → n.cubes ≡ cut_off (count (made (trees_of ns) n.kind)) → (k : ℕ) (m : CubeNode) → k < length new → m ≡ get_or new k m → IsMade new k m
-  made_each p e c k m h g = ⊎_elim (λ l. made_old k m l (p.each k m l (g ∙ got_left ns (n ∷ []) k m l))) (λ l. at_end (omega (arith, length-append ns (n ∷ [])))) (cases_lt k (length ns))
+  made_each p e c k m h g = ⊎_elim (λ l. made_old k m l (p.each k m l (g ∙ get_or_append_left ns (n ∷ []) m k l))) (λ l. at_end (omega (arith, length-append ns (n ∷ [])))) (cases_lt k (length ns))
     where
       at_end : k ≡ length ns → IsMade new k m
       at_end q =
@@ -196,10 +191,10 @@ pushed_at ns all m q k p e c a l =
 
 module _ (ns : List CubeNode) (l r : ℕ) (m n : CubeNode) (q : ℕ) (p : IsPlan ns) (a : l < length ns) (b : r < length ns) (d : m ≡ get_or ns l m) (e : n ≡ get_or ns r n) where
   pub both_cubes : q ≡ cut_off (m.cubes * n.cubes) → q ≡ cut_off (count (tree_at ns l) * count (tree_at ns r))
-  both_cubes c = c ∙ (λ i. cut_off ((p.each l m a d).cubes i * (p.each r n b e).cubes i)) ∙ cut_product (count (tree_at ns l)) (count (tree_at ns r))
+  both_cubes c = c ∙ (λ i. cut_off ((p.each l m a d).cubes i * (p.each r n b e).cubes i)) ∙ cut-product (count (tree_at ns l)) (count (tree_at ns r))
 
   pub either_cubes : q ≡ cut_off (m.cubes + n.cubes) → q ≡ cut_off (count (tree_at ns l) + count (tree_at ns r))
-  either_cubes c = c ∙ (λ i. cut_off ((p.each l m a d).cubes i + (p.each r n b e).cubes i)) ∙ cut_sum (count (tree_at ns l)) (count (tree_at ns r))
+  either_cubes c = c ∙ (λ i. cut_off ((p.each l m a d).cubes i + (p.each r n b e).cubes i)) ∙ cut-sum (count (tree_at ns l)) (count (tree_at ns r))
 
 pub plan_of : (a b : List CubeNode) → IsLonger a b → IsPlan b
 plan_of a b p = p.plan

@@ -1,22 +1,17 @@
 -- The numbers of cubes of formulas made of formulas.
 use Rattle.std.proofs.Common.{◌≡◌, refl, sym, ap, ◌∙◌, ℕ, suc, ◌+◌, ◌*◌, ◌-◌, ◌<◌, Bool, true, false, List, [], ◌∷◌, ◌++◌, map, length, take, drop, get_or, drop-cons, add-one, arith}
-use Rattle.std.proofs.lemmas.List.{take_more, map-append, length-take, take_all}
+use Rattle.std.proofs.lemmas.List.{map-append, length-take, take_all}
 use Rattle.std.proofs.Math.Nat.{mul_assoc}
 use Rattle.sv_terms.specs.declared.op.Op.{Op}
 use Rattle.sv_terms.specs.declared.sort.Sort.{Sort}
 use Rattle.sv_terms.specs.declared.term.Term.{Term}
 use Rattle.bool_cubes.specs.Cubes.{count}
-use Rattle.sv_terms.specs.CutOff.{cut_off, cut-add, cut-mul}
+use Rattle.sv_terms.specs.CutOff.{cut_off, cut-product, cut-sum}
 use Rattle.literal_forms.specs.Shapes.{seen, head_sort}
+use Rattle.literal_forms.proofs.Combined.{more}
 use Rattle.bool_cubes.specs.Trees.{Tree, every_of, any_of, Formula, Part, negated, conjoined, conjunction, disjoined, disjunction, agreement, choice, exclusive, exclusive_from, implied, neighbours, pairs, comparison, equal_at, equal, formula, formulas, trees}
 use Rattle.bool_cubes.specs.Counting.{part_of, parts_of, formulas_of, first_pairs, ordered_pairs, counts_of}
 use Rattle.bool_cubes.specs.declared.counts.Counts.{Counts}
-
-pub cut_product : (a b : ℕ) → cut_off (cut_off a * cut_off b) ≡ cut_off (a * b)
-cut_product a b = cut-mul 18446744073709551615 a b (omega arith)
-
-pub cut_sum : (a b : ℕ) → cut_off (cut_off a + cut_off b) ≡ cut_off (a + b)
-cut_sum a b = cut-add 18446744073709551615 a b
 
 -- the numbers of both ways
 abbrev pub both_of : ℕ → ℕ → Counts
@@ -40,10 +35,10 @@ pub negated_counted : (a : Counts) (f : Formula) → a ≡ counts_of f → both_
 negated_counted a f p = λ i. both_of (p i).failing (p i).holding
 
 pub product_counted : (a b m n x : ℕ) → a ≡ cut_off m → b ≡ cut_off n → x ≡ cut_off (a * b) → x ≡ cut_off (m * n)
-product_counted a b m n x p q e = e ∙ (λ i. cut_off (p i * q i)) ∙ cut_product m n
+product_counted a b m n x p q e = e ∙ (λ i. cut_off (p i * q i)) ∙ cut-product m n
 
 pub sum_counted : (a b m n x : ℕ) → a ≡ cut_off m → b ≡ cut_off n → x ≡ cut_off (a + b) → x ≡ cut_off (m + n)
-sum_counted a b m n x p q e = e ∙ (λ i. cut_off (p i + q i)) ∙ cut_sum m n
+sum_counted a b m n x p q e = e ∙ (λ i. cut_off (p i + q i)) ∙ cut-sum m n
 
 pub ways_counted : (a b c d m n k l u v x : ℕ) → a ≡ cut_off m → b ≡ cut_off n → c ≡ cut_off k → d ≡ cut_off l → u ≡ cut_off (a * b) → v ≡ cut_off (c * d) → x ≡ cut_off (u + v) → x ≡ cut_off (m * n + k * l)
 ways_counted a b c d m n k l u v x p q r s e f g = sum_counted u v (m * n) (k * l) x (product_counted a b m n u p q e) (product_counted c d k l v r s f) g
@@ -96,10 +91,6 @@ parts_formulas (t ∷ ts) = ap (λ fs. formula (seen t) ∷ fs) (parts_formulas 
 pub formulas_push : (ts : List Term) (t : Term) → formulas_of (ts ++ t ∷ []) ≡ formulas_of ts ++ formula (seen t) ∷ []
 formulas_push [] t = refl
 formulas_push (u ∷ ts) t = ap (λ fs. formula (seen u) ∷ fs) (formulas_push ts t)
-
--- one term more
-more : (ts : List Term) (i : ℕ) (t : Term) → i < length ts → t ≡ get_or ts i t → take (i + 1) ts ≡ take i ts ++ t ∷ []
-more ts i t h e = take_more ts i t h ∙ ap (λ x. take i ts ++ x ∷ []) (sym e)
 
 pub formulas_more : (ts : List Term) (i : ℕ) (t : Term) → i < length ts → t ≡ get_or ts i t → formulas_of (take (i + 1) ts) ≡ formulas_of (take i ts) ++ formula (seen t) ∷ []
 formulas_more ts i t h e = ap formulas_of (more ts i t h e) ∙ formulas_push (take i ts) t

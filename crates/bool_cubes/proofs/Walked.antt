@@ -1,5 +1,5 @@
 -- Marks of nodes, from a root down.
-use Rattle.std.proofs.Common.{◌≡◌, refl, sym, ap, ◌∙◌, subst, ℕ, zero, suc, ◌+◌, ◌-◌, ◌<◌, ◌≤◌, ℤ, Bool, true, false, List, [], ◌∷◌, ◌++◌, length, get_or, length-append, arith, ⊎_elim, ◌⊎◌, inl, inr}
+use Rattle.std.proofs.Common.{◌≡◌, refl, sym, ap, ◌∙◌, subst, ℕ, zero, suc, ◌+◌, ◌-◌, ◌<◌, ◌≤◌, ℤ, Bool, true, false, List, [], ◌∷◌, ◌++◌, length, get_or, length-append, arith, ⊎_elim, ◌⊎◌, inl, inr, length-set}
 use Rattle.std.specs.Prelude.{slice_set}
 use Rattle.std.proofs.lemmas.Bool.{cases_lt}
 use Rattle.literal_forms.specs.Literals.{SomeOf}
@@ -13,11 +13,6 @@ use Rattle.bool_cubes.specs.declared.node.NodeKind.{NodeKind}
 use Rattle.bool_cubes.specs.declared.node.NodeKind.TheVariants as kind
 use Rattle.literal_forms.specs.PastLaws.{some_left, some_right, some_cases}
 use Rattle.bool_cubes.proofs.Plans.{got_last}
-
-set_length : (m : List Bool) (i : ℕ) → length (slice_set m i true) ≡ length m
-set_length [] i = refl
-set_length (b ∷ m) zero = refl
-set_length (b ∷ m) (suc i) = ap suc (set_length m i)
 
 set_same : (m : List Bool) (i : ℕ) → i < length m → IsMarked (slice_set m i true) i
 set_same [] i l = absurd (omega arith)
@@ -120,7 +115,7 @@ module _ (ns : List CubeNode) (root : ℕ) where
     -- a node of two, by both of which its steps are
     two : (x y : ℕ) → x < i → y < i → tree_steps (tree_at ns i) ≡ tree_steps (tree_at ns x) ++ tree_steps (tree_at ns y) → IsWalked ns root (slice_set (slice_set m x true) y true) i
     two x y lx ly q = record {
-      size = set_length (slice_set m x true) y ∙ set_length m x ∙ h.size;
+      size = length-set (slice_set m x true) y true ∙ length-set m x true ∙ h.size;
       inside = λ j z l r s. ⊎_elim
           (λ w. up l r (some_right (IsPast l r) (tree_steps (tree_at ns x)) (tree_steps (tree_at ns y)) (subst (λ v. HasStep ns v l r) w s)))
           (λ w. ⊎_elim (λ v. up l r (some_left (IsPast l r) (tree_steps (tree_at ns x)) (tree_steps (tree_at ns y)) (subst (λ v. HasStep ns v l r) v s))) (λ v. h.inside j v l r s) (set_only m x j w))
@@ -129,7 +124,7 @@ module _ (ns : List CubeNode) (root : ℕ) where
           (λ a. (f.0, a, set_grows (slice_set m x true) y f.0 (set_grows m x f.0 f.2), f.3))
           (λ a. elim (some_cases (IsPast l r) (tree_steps (tree_at ns x)) (tree_steps (tree_at ns y)) (subst (λ v. SomeOf (IsPast l r) v) q (subst (λ v. HasStep ns v l r) a f.3))) [
             | inl u ↦ (x, lx, set_grows (slice_set m x true) y x (set_same m x (omega (arith, h.size))), u)
-            | inr u ↦ (y, ly, set_same (slice_set m x true) y (omega (arith, h.size, set_length m x)), u)
+            | inr u ↦ (y, ly, set_same (slice_set m x true) y (omega (arith, h.size, length-set m x true)), u)
           ])
           (below f.0 f.1);
     }

@@ -1,5 +1,5 @@
 -- Bounds of rows in a box.
-use Rattle.std.proofs.Common.{◌≡◌, ℕ, zero, suc, ◌+◌, ◌*◌, ◌^◌, ◌<◌, ◌≤◌, max, ℤ, pos, neg_ℤ, ◌+ℤ◌, ◌*ℤ◌, ◌≤ℤ◌, ◌<ℤ◌, int_le, FitsSigned, Bool, true, false, cond, List, [], ◌∷◌, length, drop, get_or, slice_get, Some, All, unsigned_abs, refl, ap, sym, ◌∙◌, subst, arith}
+use Rattle.std.proofs.Common.{◌≡◌, ℕ, zero, suc, ◌+◌, ◌*◌, ◌^◌, ◌<◌, ◌≤◌, max, ℤ, pos, neg_ℤ, ◌+ℤ◌, ◌*ℤ◌, ◌≤ℤ◌, ◌<ℤ◌, int_le, FitsSigned, Bool, true, false, cond, List, [], ◌∷◌, length, drop, get_or, slice_get, Some, All, unsigned_abs, refl, ap, sym, ◌∙◌, subst, arith, drop-cons}
 use Rattle.std.proofs.lemmas.Int.{ints, unsigned_abs-mul, fits_signed_mul, fits_signed_from_abs}
 use Rattle.std.proofs.Math.Nat.{mul-le-mul_left}
 use Rattle.std.specs.Int.{w128}
@@ -48,13 +48,6 @@ products-falling c v s h w =
     let high = mul_le (neg_ℤ c) s.0 v n w.0 in
     (omega (arith, ints, neg-mul c v, neg-mul c s.1), omega (arith, ints, neg-mul c v, neg-mul c s.0))
 
--- one term less
-drop-step : {X : Type 0} (xs : List X) (i : ℕ) (d : X) → i < length xs → drop i xs ≡ get_or xs i d ∷ drop (suc i) xs
-drop-step [] i d h = absurd (omega arith)
-drop-step (x ∷ []) zero d h = refl
-drop-step (x ∷ y ∷ xs) zero d h = refl
-drop-step (x ∷ xs) (suc i) d h = drop-step xs i d (omega arith)
-
 pub side-some : (sides : List (ℤ × ℤ)) (u : ℕ) (s : ℤ × ℤ) → All IsSide sides → slice_get sides u ≡ Some s → IsSide s
 side-some sides u s some e = subst IsSide (get_or_from_slice_get sides u s s e) (some u s (slice_get_within sides u s e))
 
@@ -96,7 +89,7 @@ high-step greatest high greatest' p rest all total e h v o = omega (arith, ints)
 
 module _ (sides : List (ℤ × ℤ)) (terms : List (ℕ × ℤ)) (i : ℕ) (t : ℕ × ℤ) (s : ℤ × ℤ) (d : ℕ × ℤ) (lt : i < length terms) (at : t ≡ get_or terms i d) (is : slice_get sides t.0 ≡ Some s) where
   here : drop i terms ≡ t ∷ drop (i + 1) terms
-  here = drop-step terms i d lt ∙ ap (λ (x : ℕ × ℤ). x ∷ drop (suc i) terms) (sym at) ∙ ap (λ n. t ∷ drop n terms) (let e : suc i ≡ i + 1 = omega arith in e)
+  here = drop-cons terms i d lt ∙ ap (λ (x : ℕ × ℤ). x ∷ drop (suc i) terms) (sym at) ∙ ap (λ n. t ∷ drop n terms) (let e : suc i ≡ i + 1 = omega arith in e)
 
   side : get_or sides t.0 (pos 0, pos 0) ≡ s
   side = get-side sides t.0 is

@@ -9,15 +9,16 @@ use Rattle.machine_core.specs.Costs.{add_costs, zeros, total_of}
 use Rattle.machine_core.specs.CostLaws.{add_costs-assoc, add_costs-length, add_costs-zeros, zeros-add_costs, zeros-length, total_of-append, total_of-length}
 use Rattle.machine_core.specs.Edges.{EndsAt, StepsBy}
 use Rattle.machine_core.specs.Graphs.{IsRunOf}
-use Rattle.machine_core.specs.Lists.{slice_get-push_cases}
+use Rattle.sv_list.specs.Lists.{slice_get-push_cases, slice_get-some}
 use Rattle.machine_core.specs.Runs.{IsPath, run_total}
 use Rattle.machine_core.specs.RunLaws.{path_push, path_lengths}
 use Rattle.sv_linear.specs.declared.row.Row.{Row}
 use Rattle.search_hits.specs.declared.region.Region.{Region}
 use Rattle.search_hits.specs.Hits.{HaveRegisters, AreRunsOf, runs_total, characters}
+use Rattle.search_hits.specs.HitLaws.{characters-push}
 use Rattle.box_layers.specs.declared.layer.Layer.{Layer}
 use Rattle.box_layers.specs.Layers.{layer, uppers_of, AreGoodTotals, LayerStep, Turns}
-use Rattle.box_layers.specs.LayerLaws.{layer-step_cost, get-some, same-graph}
+use Rattle.box_layers.specs.LayerLaws.{layer-step_cost, same-graph}
 use Rattle.box_layers.specs.Cuts.{IsRunOfAll, IsCutInto, IsOpened, AddsStep, BeginsNext, CutsBy}
 use Rattle.box_layers.specs.PathLaws.{path-last}
 
@@ -49,10 +50,6 @@ total-push costs k n e = total_of-append costs (k ∷ []) (zeros n) ∙ ap (tota
 runs-push : (n : ℕ) (rs : List (Run ℕ)) (r : Run ℕ) → length (run_total r) ≡ n → runs_total n (rs ++ r ∷ []) ≡ add_costs (runs_total n rs) (run_total r)
 runs-push n [] r e = add_costs-zeros (run_total r) n e ∙ sym (zeros-add_costs (run_total r) n e)
 runs-push n (x ∷ rs) r e = ap (add_costs (run_total x)) (runs-push n rs r e) ∙ sym (add_costs-assoc (run_total x) (runs_total n rs) (run_total r))
-
-characters-push : (rs : List (Run ℕ)) (r : Run ℕ) → characters (rs ++ r ∷ []) ≡ characters rs + length r.word
-characters-push [] r = omega arith
-characters-push (x ∷ rs) r = let h = characters-push rs r in omega arith
 
 each-run : (ms : List Graph) (rs : List (Run ℕ)) → length ms ≡ length rs → ((i : ℕ) (m : Graph) (r : Run ℕ) → slice_get ms i ≡ Some m → slice_get rs i ≡ Some r → IsRunOf m r) → AreRunsOf ms rs
 each-run [] [] e h = tt
@@ -238,7 +235,7 @@ module _ (machines : List Graph) (rows : List Row) (region : Region) (same : Hav
     where
       stop-at : slice_get run.states place ≡ Some is.stop
       stop-at =
-          let g = get-some run.states (length run.word) (let s = states-size in omega arith) in
+          let g = slice_get-some run.states (length run.word) (let s = states-size in omega arith) in
           let h = stop-is g.0 g.1 in
           subst (λ n. slice_get run.states n ≡ Some is.stop) (sym e) (g.1 ∙ ap Some (sym h))
 

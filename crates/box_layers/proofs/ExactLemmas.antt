@@ -8,7 +8,7 @@ use Rattle.machine_core.specs.declared.machine.Move.{Move}
 use Rattle.machine_core.specs.Costs.{add_costs}
 use Rattle.machine_core.specs.Edges.{EndsAt, StepsBy}
 use Rattle.machine_core.specs.EdgeLaws.{step_cost, end_cost}
-use Rattle.machine_core.specs.Lists.{Any-none, Any-here, Any-there, Any-cases, Any-contains, Any-append_left, Any-append_right, Any-append_cases}
+use Rattle.sv_list.specs.Lists.{Any-none, Any-here, Any-there, Any-cases, Any-contains, Any-append_left, Any-append_right, Any-append_cases}
 use Rattle.machine_core.specs.Moves.{Moves}
 use Rattle.box_layers.specs.declared.layer.Layer.{Layer}
 use Rattle.box_layers.specs.Layers.{layer, AreWithinGreatest, LayerStep, Turns}

@@ -1,10 +1,9 @@
 -- A box with another side at one place.
-use Rattle.std.proofs.Common.{◌≡◌, ℕ, zero, suc, ◌*◌, ◌<◌, ◌≤◌, ◌⊎◌, inl, inr, max, ℤ, pos, ◌+ℤ◌, ◌-ℤ◌, ◌≤ℤ◌, ◌<ℤ◌, List, [], ◌∷◌, length, get_or, slice_get, slice_set, Option, Some, None, All, map, int_le, Bool, true, false, cond, unsigned_abs, refl, ap, sym, subst, arith}
+use Rattle.std.proofs.Common.{◌≡◌, ℕ, zero, suc, ◌<◌, ◌≤◌, ◌⊎◌, inl, inr, max, ℤ, pos, ◌+ℤ◌, ◌-ℤ◌, ◌≤ℤ◌, ◌<ℤ◌, List, [], ◌∷◌, length, get_or, slice_get, slice_set, Option, Some, None, All, map, int_le, Bool, true, false, cond, unsigned_abs, refl, ap, sym, subst, arith}
 use Rattle.std.proofs.lemmas.Int.{ints, by_lt_z}
-use Rattle.std.proofs.Math.Nat.{mul-le-mul_left}
 use Rattle.std.proofs.lemmas.List.Elements.{All-head, All-tail, All-weaker, All-set}
-use Rattle.sv_linear.specs.Rows.{terms_weight}
 use Rattle.sv_linear.specs.declared.row.Row.{Row}
+use Rattle.sv_linear.specs.TermLaws.{weight-less}
 use Rattle.search_hits.specs.Regions.{IsWithin, AreWithin, greatest_amount, amounts}
 use Rattle.search_hits.specs.Boxes.{IsSide, HaveSides, FitsSides, IsBox, IsPointFound}
 use Rattle.box_layers.proofs.FindLemmas.{widths}
@@ -43,13 +42,6 @@ get-set-amount (r ∷ ss) zero zero s t d e le = let same : r ≡ s = cc in subs
 get-set-amount (r ∷ ss) zero (suc u) s t d e le = omega arith
 get-set-amount (r ∷ ss) (suc i) zero s t d e le = omega arith
 get-set-amount (r ∷ ss) (suc i) (suc u) s t d e le = get-set-amount ss i u s t d e le
-
-weight-less : (a b : ℕ → ℕ) → ((u : ℕ) → a u ≤ b u) → (ts : List (ℕ × ℤ)) → terms_weight a ts ≤ terms_weight b ts
-weight-less a b h [] = omega arith
-weight-less a b h (p ∷ ts) =
-    let m : unsigned_abs p.1 * a p.0 ≤ unsigned_abs p.1 * b p.0 = mul-le-mul_left (unsigned_abs p.1) (h p.0) in
-    let r = weight-less a b h ts in
-    omega arith
 
 -- rows fit where no amount is greater
 pub fits-less : (ss ts : List (ℤ × ℤ)) → ((u : ℕ) → amounts ss u ≤ amounts ts u) → (r : Row) → FitsSides ts r → FitsSides ss r

@@ -1,6 +1,7 @@
 -- What leaves a layer is what leaves the state of the machine at work, as long as it can be paid.
-use Rattle.std.proofs.Common.{◌≡◌, ℕ, zero, suc, ◌+◌, ◌<◌, ◌≤◌, Bool, true, false, cond, nat_lt, List, [], ◌∷◌, ◌++◌, length, map, take, get_or, refl, ap, sym, ◌∙◌, subst, arith}
+use Rattle.std.proofs.Common.{◌≡◌, ℕ, zero, suc, ◌+◌, ◌<◌, ◌≤◌, Bool, true, false, cond, nat_lt, List, [], ◌∷◌, ◌++◌, length, map, take, get_or, refl, ap, sym, ◌∙◌, subst, arith, take_all}
 use Rattle.std.proofs.lemmas.Bool.Decides.{nat_tests}
+use Rattle.std.proofs.lemmas.List.{take_more}
 use Rattle.machine_core.specs.Costs.{add_costs}
 use Rattle.machine_core.specs.declared.machine.Move.{Move}
 use Rattle.box_layers.specs.declared.layer.Layer.{Layer}
@@ -26,14 +27,6 @@ below-false (v ∷ vs) (u ∷ us) h = by_test (nat_lt u v) refl (below-false vs 
     by_test : (b : Bool) → nat_lt u v ≡ b → ((AreWithinGreatest vs us → ⊥) → is_below vs us ≡ false) → cond b false (is_below vs us) ≡ false
     by_test true e r = refl
     by_test false e r = r (λ low. h (grind (arith, nat_tests), low))
-
-pub take-more : {X : Type 0} (xs : List X) (i : ℕ) (d : X) → i < length xs → take (i + 1) xs ≡ take i xs ++ get_or xs i d ∷ []
-take-more {X = X} xs i d lt = ap (λ n. take n xs) (let e : i + 1 ≡ suc i = omega arith in e) ∙ more xs i lt
-  where
-    more : (xs : List X) (i : ℕ) → i < length xs → take (suc i) xs ≡ take i xs ++ get_or xs i d ∷ []
-    more [] i h = absurd (omega arith)
-    more (x ∷ xs) zero h = refl
-    more (x ∷ xs) (suc i) h = ap (λ l. x ∷ l) (more xs i (omega arith))
 
 -- one move more
 module _ (us : List ℕ) (at : Layer) where
@@ -94,12 +87,12 @@ module _ (us : List ℕ) (at : Layer) where
   pub steps-next : (ms : List (Move ℕ)) (i : ℕ) (m : Move ℕ) (all new : List (Move Layer)) → i < length ms → m ≡ get_or ms i m → all ≡ step_moves us at (take i ms) → new ≡ all ++ step_moves us at (m ∷ [])
       → new ≡ step_moves us at (take (i + 1) ms)
   steps-next ms i m all new lt is e f =
-      f ∙ ap (λ l. l ++ step_moves us at (m ∷ [])) e ∙ sym (ap (step_moves us at) (take-more ms i m lt ∙ ap (λ (x : Move ℕ). take i ms ++ x ∷ []) (sym is)) ∙ steps-more (take i ms) m)
+      f ∙ ap (λ l. l ++ step_moves us at (m ∷ [])) e ∙ sym (ap (step_moves us at) (take_more ms i m lt ∙ ap (λ (x : Move ℕ). take i ms ++ x ∷ []) (sym is)) ∙ steps-more (take i ms) m)
 
   pub ends-next : (single : List (ℕ × ℕ)) (ks : List (List ℕ)) (i : ℕ) (k : List ℕ) (all new : List (Move Layer)) → i < length ks → k ≡ get_or ks i k → all ≡ end_moves us single at (take i ks) → new ≡ all ++ end_moves us single at (k ∷ [])
       → new ≡ end_moves us single at (take (i + 1) ks)
   ends-next single ks i k all new lt is e f =
-      f ∙ ap (λ l. l ++ end_moves us single at (k ∷ [])) e ∙ sym (ap (end_moves us single at) (take-more ks i k lt ∙ ap (λ (x : List ℕ). take i ks ++ x ∷ []) (sym is)) ∙ ends-more single (take i ks) k)
+      f ∙ ap (λ l. l ++ end_moves us single at (k ∷ [])) e ∙ sym (ap (end_moves us single at) (take_more ks i k lt ∙ ap (λ (x : List ℕ). take i ks ++ x ∷ []) (sym is)) ∙ ends-more single (take i ks) k)
 
 -- what is paid up to a register
 pub pay-step : (vs ks : List ℕ) (ss : List (ℕ × ℕ)) (i : ℕ) (d e : ℕ) (f : ℕ × ℕ) (sum new : List ℕ) (n : ℕ) → length ks ≡ length vs → length ss ≡ length vs → i < length vs
@@ -132,15 +125,9 @@ pay-above (v ∷ vs) (k ∷ ks) [] i d e f lt never p q h = absurd (omega arith)
 pay-above (v ∷ vs) (k ∷ ks) (s ∷ ss) zero d e f lt never p q h = never h.0
 pay-above (v ∷ vs) (k ∷ ks) (s ∷ ss) (suc i) d e f lt never p q h = pay-above vs ks ss i d e f (omega arith) never (omega arith) (omega arith) h.1
 
-take-full : {X : Type 0} (xs : List X) (i : ℕ) → length xs ≤ i → take i xs ≡ xs
-take-full [] zero h = refl
-take-full [] (suc i) h = refl
-take-full (x ∷ xs) zero h = absurd (omega arith)
-take-full (x ∷ xs) (suc i) h = ap (λ l. x ∷ l) (take-full xs i (omega arith))
-
 pub pay-end : (vs ks : List ℕ) (ss : List (ℕ × ℕ)) (i : ℕ) (sum : List ℕ) → length ks ≡ length vs → length ss ≡ length vs → length vs ≤ i
     → sum ≡ add_costs (take i vs) (take i ks) → AreWithinGreatest sum (map (λ (s : ℕ × ℕ). s.1) (take i ss)) → (sum ≡ add_costs vs ks) × AreWithinGreatest sum (map (λ (s : ℕ × ℕ). s.1) ss)
 pay-end vs ks ss i sum p q le is low = (
-  is ∙ ap (λ l. add_costs l (take i ks)) (take-full vs i le) ∙ ap (add_costs vs) (take-full ks i (omega arith)),
-  subst (λ l. AreWithinGreatest sum (map (λ (s : ℕ × ℕ). s.1) l)) (take-full ss i (omega arith)) low,
+  is ∙ ap (λ l. add_costs l (take i ks)) (take_all i vs le) ∙ ap (add_costs vs) (take_all i ks (omega arith)),
+  subst (λ l. AreWithinGreatest sum (map (λ (s : ℕ × ℕ). s.1) l)) (take_all i ss (omega arith)) low,
 )

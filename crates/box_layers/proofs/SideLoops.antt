@@ -1,7 +1,8 @@
 -- Loops over the sides of a box, as far as they have come.
-use Rattle.std.proofs.Common.{◌≡◌, ℕ, zero, suc, ◌+◌, ◌<◌, ◌≤◌, ◌⊎◌, inl, inr, ℤ, ◌≤ℤ◌, ◌<ℤ◌, int_lt, true, false, List, [], ◌∷◌, ◌++◌, length, map, take, get_or, refl, ap, sym, ◌∙◌, subst, append-nil, arith}
+use Rattle.std.proofs.Common.{◌≡◌, ℕ, ◌+◌, ◌<◌, ◌≤◌, inl, inr, ℤ, ◌≤ℤ◌, ◌<ℤ◌, int_lt, true, false, List, [], ◌∷◌, ◌++◌, length, map, take, get_or, ap, sym, ◌∙◌, subst, append-nil, arith}
 use Rattle.std.proofs.lemmas.Int.{ints}
 use Rattle.std.proofs.lemmas.List.{get_or_default, map_more, take_all}
+use Rattle.sv_list.specs.Lists.{below-cases}
 
 pub below : (a b : ℤ) → int_lt a b ≡ true → a <ℤ b
 below a b e = grind (arith, ints)
@@ -12,15 +13,9 @@ not-below a b e = grind (arith, ints)
 pub same-ends : (a b : ℤ) → a ≤ℤ b → b ≤ℤ a → a ≡ b
 same-ends a b h g = omega (arith, ints)
 
-below-or-at : (k i : ℕ) → k < suc i → (k < i) ⊎ (k ≡ i)
-below-or-at zero zero h = inr refl
-below-or-at zero (suc i) h = inl (omega arith)
-below-or-at (suc k) zero h = absurd (omega arith)
-below-or-at (suc k) (suc i) h = elim (below-or-at k i (omega arith)) [ inl l ↦ inl (omega arith) | inr e ↦ inr (ap suc e) ]
-
 module _ {X : Type 0} (P : X → Type 0) (xs : List X) (i : ℕ) where
   pub holds-next : (e : X) → i < length xs → P (get_or xs i e) → ((k : ℕ) (d : X) → k < i → P (get_or xs k d)) → (k : ℕ) (d : X) → k < i + 1 → P (get_or xs k d)
-  holds-next e lt p before k d h = elim (below-or-at k i (omega arith)) [
+  holds-next e lt p before k d h = elim (below-cases k i (omega arith)) [
     | inl l ↦ before k d l
     | inr q ↦ subst (λ n. P (get_or xs n d)) (sym q) (subst P (get_or_default xs i e d lt) p)
   ]

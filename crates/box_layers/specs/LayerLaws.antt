@@ -1,5 +1,5 @@
 -- Laws of the machine of all machines in turn.
-use Rattle.std.specs.Prelude.{◌≡◌, ℕ, pos, zero, suc, ◌+◌, ◌*◌, ◌<◌, ◌≤◌, ◌⊎◌, List, [], ◌∷◌, length, map, slice_get, Some, Contains}
+use Rattle.std.specs.Prelude.{◌≡◌, ℕ, pos, suc, ◌+◌, ◌*◌, ◌<◌, ◌≤◌, ◌⊎◌, List, [], ◌∷◌, length, map, slice_get, Some, Contains}
 use Rattle.std.proofs.Common.{refl, sym, ap, ◌∙◌, subst, arith, inl, inr}
 use Rattle.std.proofs.lemmas.List.Elements.{All-contains}
 use Rattle.std.proofs.lemmas.Option.{same_Some, slice_get_within}
@@ -9,7 +9,7 @@ use Rattle.machine_core.specs.CostLaws.{top_by-at, IsCost-zeros, IsCost-weaker}
 use Rattle.machine_core.specs.Counts.{AreAtMost, at_most-weaker, at_most-one, at_most-made, at_most-either, at_most-pairs, at_most-below}
 use Rattle.machine_core.specs.EdgeLaws.{step_target, step_character, step_cost, end_cost}
 use Rattle.machine_core.specs.Graphs.{graph_top}
-use Rattle.machine_core.specs.Lists.{slice_get-contains}
+use Rattle.sv_list.specs.Lists.{slice_get-contains, slice_get-some, at_most-cases}
 use Rattle.sv_word.specs.Words.{greatest_character}
 use Rattle.sv_linear.specs.declared.row.Row.{Row}
 use Rattle.search_hits.specs.declared.region.Region.{Region}
@@ -35,9 +35,6 @@ totals-length (s ∷ ss) (n ∷ ns) h = let e = totals-length ss ns h.1 in omega
 
 pub good-length : (rows : List Row) (region : Region) (totals : List ℕ) → AreGoodTotals rows region totals → length totals ≡ length region.registers
 good-length rows region totals good = totals-length region.registers totals good.0
-
-not-first : (ms : List Graph) → (m : Graph) → slice_get ms 0 ≡ Some m → 0 ≡ length ms → ⊥
-not-first ms m e z = let lt = slice_get_within ms 0 m e in omega arith
 
 pub first-layer : (machines : List Graph) (region : Region) (good : List ℕ → Type 0) → IsLayerOf machines (uppers_of region) good (layer 0 0 (zeros (length region.registers)))
 first-layer machines region good = record {
@@ -132,17 +129,6 @@ few-spent (s ∷ ss) =
     parts [] h = absurd h
     parts (x ∷ v) h = let le = h.0 in ((x, v), (omega arith, h.1), refl)
 
-pub get-some : {X : Type 0} (xs : List X) (i : ℕ) → i < length xs → (x : X) × (slice_get xs i ≡ Some x)
-get-some [] i lt = absurd (omega arith)
-get-some (x ∷ xs) zero lt = (x, refl)
-get-some (x ∷ xs) (suc i) lt = get-some xs i (omega arith)
-
-below-or-at : (i n : ℕ) → i ≤ n → (i < n) ⊎ (i ≡ n)
-below-or-at zero zero h = inr refl
-below-or-at zero (suc n) h = inl (omega arith)
-below-or-at (suc i) zero h = absurd (omega arith)
-below-or-at (suc i) (suc n) h = elim (below-or-at i n (omega arith)) [ inl l ↦ inl (omega arith) | inr e ↦ inr (ap suc e) ]
-
 module _ (machines : List Graph) where
   -- a machine at work and one of its states, or behind the last machine
   abbrev IsTurn : ℕ × ℕ → Type 0
@@ -155,9 +141,9 @@ module _ (machines : List Graph) where
       (at_most-one (0, length machines))
 
   turn-of : (region : Region) (good : List ℕ → Type 0) (t : Layer) → IsLayerOf machines (uppers_of region) good t → IsTurn (t.state, t.machine)
-  turn-of region good t h = elim (below-or-at t.machine (length machines) h.inside) [
+  turn-of region good t h = elim (at_most-cases t.machine (length machines) h.inside) [
     | inl lt ↦
-        let m = get-some machines t.machine lt in
+        let m = slice_get-some machines t.machine lt in
         let own = h.state m.0 m.1 in
         let most = top_by-at (λ (g : Graph). g.states) machines m.0 (slice_get-contains machines t.machine m.0 m.1) in
         inl (less-than t.state m.0.states (greatest_states machines) own most, lt)

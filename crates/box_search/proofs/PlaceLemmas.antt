@@ -1,6 +1,6 @@
 -- Places of layers in a table.
-use Rattle.std.proofs.Common.{◌≡◌, ℕ, zero, suc, ◌+◌, ◌-◌, ◌*◌, ◌<◌, ◌≤◌, max, List, [], ◌∷◌, ◌++◌, length, map, take, drop, Some, slice_get, slice_index_or, get_or, refl, ap, sym, ◌∙◌, subst, arith}
-use Rattle.std.proofs.lemmas.List.{take_more, map-append}
+use Rattle.std.proofs.Common.{◌≡◌, ℕ, zero, suc, ◌+◌, ◌-◌, ◌*◌, ◌<◌, ◌≤◌, max, List, [], ◌∷◌, length, take, drop, Some, slice_get, slice_index_or, get_or, refl, ap, sym, ◌∙◌, subst, arith}
+use Rattle.std.proofs.lemmas.List.{take_more}
 use Rattle.std.proofs.lemmas.Option.{slice_get-get_or}
 use Rattle.std.proofs.lemmas.Nat.{mul-le}
 use Rattle.machine_core.specs.declared.graph.Graph.{Graph}
@@ -22,32 +22,13 @@ numbers-drop [] (suc i) = omega arith
 numbers-drop (u ∷ us) zero = omega arith
 numbers-drop (u ∷ us) (suc i) = let m = mul-le 1 (numbers_below (drop i us)) (u + 1) (numbers_below us) (omega arith) (numbers-drop us i) in omega arith
 
-pub below-length : (vs us : List ℕ) → AreWithinGreatest vs us → length vs ≡ length us
-below-length [] [] h = refl
-below-length [] (u ∷ us) h = absurd h
-below-length (v ∷ vs) [] h = absurd h
-below-length (v ∷ vs) (u ∷ us) h = ap suc (below-length vs us h.1)
-
 -- how many there are from one digit on
 pub numbers-step : (us : List ℕ) (i u : ℕ) → slice_get us i ≡ Some u → (u + 1) * numbers_below (drop (suc i) us) ≡ numbers_below (drop i us)
 numbers-step [] i u f = cc
 numbers-step (y ∷ us) zero u f = let same : y ≡ u = cc in rw same refl
 numbers-step (y ∷ us) (suc i) u f = numbers-step us i u f
 
--- digits from the end on
-pub digits-none : (vs us : List ℕ) → length vs ≡ length us → AreWithinGreatest (drop (length vs) vs) (drop (length vs) us) × (0 ≡ number_of (drop (length vs) vs) (drop (length vs) us))
-digits-none [] [] e = (tt, refl)
-digits-none [] (u ∷ us) e = absurd (omega arith)
-digits-none (v ∷ vs) [] e = absurd (omega arith)
-digits-none (v ∷ vs) (u ∷ us) e = digits-none vs us (omega arith)
-
 module _ (v u : ℕ) where
-  pub digit-at : (vs us : List ℕ) (i : ℕ) → slice_get vs i ≡ Some v → slice_get us i ≡ Some u → AreWithinGreatest vs us → v ≤ u
-  digit-at [] us i e f h = cc
-  digit-at (x ∷ vs) [] i e f h = cc
-  digit-at (x ∷ vs) (y ∷ us) zero e f h = let a : x ≡ v = cc in let b : y ≡ u = cc in let le = h.0 in omega arith
-  digit-at (x ∷ vs) (y ∷ us) (suc i) e f h = digit-at vs us i e f h.1
-
   pub digits-below : (vs us : List ℕ) (i : ℕ) → slice_get vs i ≡ Some v → slice_get us i ≡ Some u → v ≤ u → AreWithinGreatest (drop (suc i) vs) (drop (suc i) us) → AreWithinGreatest (drop i vs) (drop i us)
   digits-below [] us i e f le h = cc
   digits-below (x ∷ vs) [] i e f le h = cc
@@ -145,13 +126,6 @@ greatest-more ms i m lt is =
     ap greatest_states (take_more ms i m lt)
     ∙ top_by-push (λ (g : Graph). g.states) (take i ms) (get_or ms i m)
     ∙ ap (λ (g : Graph). max (greatest_states (take i ms)) g.states) (sym is)
-
--- the upper end of one side more
-pub uppers-more : (sides : List (ℕ × ℕ)) (i : ℕ) (s : ℕ × ℕ) → i < length sides → s ≡ get_or sides i s → map (λ (s : ℕ × ℕ). s.1) (take (i + 1) sides) ≡ map (λ (s : ℕ × ℕ). s.1) (take i sides) ++ s.1 ∷ []
-uppers-more sides i s lt is =
-    ap (map (λ (s : ℕ × ℕ). s.1)) (take_more sides i s lt)
-    ∙ map-append (λ (s : ℕ × ℕ). s.1) (take i sides) (get_or sides i s ∷ [])
-    ∙ ap (λ (t : ℕ × ℕ). map (λ (s : ℕ × ℕ). s.1) (take i sides) ++ t.1 ∷ []) (sym is)
 
 -- numbers that have too many from some digit on have too many
 module _ (us : List ℕ) (at : ℕ) (some : 0 < at) (within : at ≤ length us) where

@@ -1,5 +1,5 @@
 -- Marks on all pairs that are reached, and that there is no hit where no marked total behind the last machine is good.
-use Rattle.std.proofs.Common.{◌≡◌, ℕ, ℤ, pos, suc, ◌+◌, ◌*◌, ◌<◌, ◌≤◌, inl, inr, List, [], ◌∷◌, length, map, slice_get, Some, refl, ap, sym, ◌∙◌, subst, arith}
+use Rattle.std.proofs.Common.{◌≡◌, ℕ, ℤ, pos, suc, ◌+◌, ◌*◌, ◌<◌, ◌≤◌, inl, inr, List, [], ◌∷◌, length, map, refl, ap, sym, ◌∙◌, subst, arith}
 use Rattle.std.proofs.lemmas.Int.{ints}
 use Rattle.std.proofs.lemmas.List.Elements.{All-contains}
 use Rattle.machine_core.specs.declared.edge.Edge.{Edge}
@@ -8,7 +8,7 @@ use Rattle.machine_core.specs.declared.graph.Graph.{Graph}
 use Rattle.machine_core.specs.declared.run.Run.{Run}
 use Rattle.machine_core.specs.Costs.{add_costs, zeros}
 use Rattle.machine_core.specs.Language.{RunsFrom}
-use Rattle.machine_core.specs.Lists.{contained}
+use Rattle.sv_list.specs.Lists.{contained}
 use Rattle.machine_core.specs.Moves.{Moves}
 use Rattle.machine_core.specs.Edges.{move_of}
 use Rattle.sv_linear.specs.declared.row.Row.{Row}
@@ -26,11 +26,6 @@ one-cost : (k : List ℕ) → length k ≡ 1 → k ≡ charge k ∷ []
 one-cost [] e = absurd (omega arith)
 one-cost (x ∷ []) e = refl
 one-cost (x ∷ y ∷ k) e = absurd (omega arith)
-
-pub one-side : (sides : List (ℕ × ℕ)) (s : ℕ × ℕ) → length sides ≡ 1 → slice_get sides 0 ≡ Some s → sides ≡ s ∷ []
-one-side [] s e at = absurd (omega arith)
-one-side (x ∷ []) s e at = let same : x ≡ s = cc in ap (λ (y : ℕ × ℕ). y ∷ []) same
-one-side (x ∷ y ∷ sides) s e at = absurd (omega arith)
 
 module _ (machines : List Graph) (uppers : List ℕ) (good : List ℕ → Type 0) (words : List ℕ) (width states most : ℕ)
     (same : HaveRegisters 1 machines) (most-is : uppers ≡ most ∷ []) (closed : MarksAreClosed words width machines states most) where

@@ -1,5 +1,5 @@
 -- A run has a short run with the same cost: where a state comes twice with the same cost still to pay, what lies between is left out.
-use Rattle.std.proofs.Common.{◌≡◌, ℕ, zero, suc, ◌+◌, ◌*◌, ◌<◌, ◌≤◌, Bool, true, false, cond, unsigned_abs, ◌-ℤ◌, ◌||◌, eqb, List, [], ◌∷◌, length, map, Contains, ℤ, pos, refl, ap, sym, ◌∙◌, subst, arith}
+use Rattle.std.proofs.Common.{◌≡◌, ℕ, zero, suc, ◌+◌, ◌*◌, ◌<◌, ◌≤◌, Bool, true, false, cond, unsigned_abs, ◌-ℤ◌, eqb, List, [], ◌∷◌, length, map, Contains, ℤ, pos, refl, ap, sym, ◌∙◌, subst, arith}
 use Rattle.std.specs.List.{list_any, AllZip}
 use Rattle.std.proofs.lemmas.Int.{ints}
 use Rattle.std.proofs.lemmas.Bool.Decides.{nat_tests}
@@ -21,6 +21,7 @@ use Rattle.search_hits.specs.declared.region.Region.{Region}
 use Rattle.search_hits.specs.Hits.{AreRunsOf, HaveRegisters, runs_total, characters}
 use Rattle.search_hits.specs.Regions.{IsWithin, whole_side, register_points, side_points, integer_points, points, greatest_states, IsHitWithin, IsShortHit}
 use Rattle.std.specs.Prelude.{int_le}
+use Rattle.sv_list.specs.Bools.{or-elim}
 use Rattle.box_layers.specs.Layers.{AreWithinGreatest}
 use Rattle.box_layers.specs.LayerLaws.{length-uppers}
 use Rattle.box_search.specs.Places.{number_of, numbers_below}
@@ -69,21 +70,17 @@ module _ (m : Graph) (us : List ℕ) where
       let r = coded-run word h.1 h.2 ns h.7 in
       ((h.0, h.1, h.2, h.6, r.0, h.8), ap suc r.1)
 
-  either : (b d : Bool) {P : Type 0} → (b || d) ≡ true → (b ≡ true → P) → (d ≡ true → P) → P
-  either true d e f g = f refl
-  either false d e f g = g e
-
   -- a number of the run is that of some later run
   coded-at : (word : List ℕ) (s : ℕ) (cost ns : List ℕ) → Coded s word cost ns → AreDifferent ns → (q : ℕ) → list_any (eqb q) ns ≡ true
       → (t : ℕ) × (rest more ms : List ℕ) × Coded t more rest ms × AreDifferent ms × (q ≡ code t rest) × IsNode t rest
   coded-at [] s cost [] h d q e = absurd h
   coded-at [] s cost (n ∷ ns) h d q e =
-      either (eqb q n) (list_any (eqb q) ns) e
+      or-elim (eqb q n) (list_any (eqb q) ns) e
       (λ same. (s, cost, [], n ∷ ns, h, d, (let z : q ≡ n = grind (arith, nat_tests) in z ∙ h.0), (h.1, h.2)))
       (λ later. absurd (let z : list_any (eqb q) ns ≡ false = ap (list_any (eqb q)) h.3 in cc))
   coded-at (c ∷ word) s cost [] h d q e = absurd h
   coded-at (c ∷ word) s cost (n ∷ ns) h d q e =
-      either (eqb q n) (list_any (eqb q) ns) e
+      or-elim (eqb q n) (list_any (eqb q) ns) e
       (λ same. (s, cost, c ∷ word, n ∷ ns, h, d, (let z : q ≡ n = grind (arith, nat_tests) in z ∙ h.3), (h.4, h.5)))
       (coded-at word h.1 h.2 ns h.7 d.1 q)
 

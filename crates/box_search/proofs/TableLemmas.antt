@@ -6,9 +6,9 @@ use Rattle.std.specs.Ordering.{is_eq}
 use Rattle.std.proofs.lemmas.Cmp.{tied_itself, nat_cmp_total, nat_list_cmp_total}
 use Rattle.std.specs.declared.cmp.Ordering.{Ordering}
 use Rattle.std.specs.declared.cmp.Ordering.TheVariants.{Less, Equal, Greater}
-use Rattle.machine_core.specs.Lists.{slice_get-append, slice_get-end, slice_get-push_cases}
+use Rattle.sv_list.specs.Lists.{slice_get-append, slice_get-end, slice_get-push_cases, slice_get-set_same}
 use Rattle.trim_search.specs.Explored.{HasNoRepeat}
-use Rattle.trim_search.proofs.TableLemmas.{set-same, set-other}
+use Rattle.trim_search.proofs.TableLemmas.{set-other}
 use Rattle.box_layers.specs.declared.layer.Layer.{Layer}
 use Rattle.box_layers.specs.LayerOrder.{layer-same}
 use Rattle.box_search.specs.Places.{layer_cmp, HasPlace, place_of, IsLayerIndex}
@@ -68,7 +68,7 @@ module _ (uppers : List ℕ) (states machines : ℕ) where
       set = slice_set table (place_of uppers states s) (Some (length names))
 
       here : slice_get set (place_of uppers states s) ≡ Some (Some (length names))
-      here = set-same table (place_of uppers states s) (Some (length names)) lt
+      here = slice_get-set_same table (place_of uppers states s) (Some (length names)) lt
 
       found-set : (p n : ℕ) → slice_get set p ≡ Some (Some n) → (t : Layer) × (slice_get (names ++ s ∷ []) n ≡ Some t) × Placed t × (place_of uppers states t ≡ p)
       found-set p n e = elim (set-other table (place_of uppers states s) p (Some (length names))) [

@@ -1,7 +1,8 @@
 -- A machine that has a word has a short one: where a state comes twice, what lies between is left out.
-use Rattle.std.proofs.Common.{◌≡◌, ℕ, suc, ◌<◌, Bool, true, false, ◌||◌, eqb, List, [], ◌∷◌, length, refl, ap, sym, ◌∙◌, subst, arith}
+use Rattle.std.proofs.Common.{◌≡◌, ℕ, suc, ◌<◌, Bool, true, false, eqb, List, [], ◌∷◌, length, refl, ap, sym, ◌∙◌, subst, arith}
 use Rattle.std.specs.List.{list_any}
 use Rattle.std.proofs.lemmas.Bool.Decides.{nat_tests}
+use Rattle.sv_list.specs.Bools.{or-elim}
 use Rattle.machine_core.specs.declared.graph.Graph.{Graph}
 use Rattle.machine_core.specs.Costs.{add_costs}
 use Rattle.machine_core.specs.Edges.{EndsAt, StepsBy}
@@ -25,10 +26,6 @@ module _ (m : Graph) where
       let r = visits-run word h.1 ns h.5 in
       ((add_costs h.0 r.0.0, (h.0, h.1, r.0.0, h.4, r.0.1, refl)), ap suc r.1)
 
-  either : (b d : Bool) {P : Type 0} → (b || d) ≡ true → (b ≡ true → P) → (d ≡ true → P) → P
-  either true d e f g = f refl
-  either false d e f g = g e
-
   -- a run without a repeated state
   abbrev HasDifferent : ℕ → Type 0
   HasDifferent s = (word ns : List ℕ) × Visits s word ns × AreDifferent ns
@@ -37,13 +34,13 @@ module _ (m : Graph) where
   visits-at : (word : List ℕ) (s : ℕ) (ns : List ℕ) → Visits s word ns → AreDifferent ns → (q : ℕ) → list_any (eqb q) ns ≡ true → HasDifferent q × (q < m.states)
   visits-at [] s [] h d q e = absurd h
   visits-at [] s (n ∷ ns) h d q e =
-      either (eqb q n) (list_any (eqb q) ns) e
+      or-elim (eqb q n) (list_any (eqb q) ns) e
       (λ same. let z : q ≡ n = grind (arith, nat_tests) in let w = z ∙ h.0 in
       (subst HasDifferent (sym w) ([], n ∷ ns, h, d), subst (λ t. t < m.states) (sym w) h.1))
       (λ later. absurd (let z : list_any (eqb q) ns ≡ false = ap (list_any (eqb q)) h.2 in cc))
   visits-at (c ∷ word) s [] h d q e = absurd h
   visits-at (c ∷ word) s (n ∷ ns) h d q e =
-      either (eqb q n) (list_any (eqb q) ns) e
+      or-elim (eqb q n) (list_any (eqb q) ns) e
       (λ same. let z : q ≡ n = grind (arith, nat_tests) in let w = z ∙ h.2 in
       (subst HasDifferent (sym w) (c ∷ word, n ∷ ns, h, d), subst (λ t. t < m.states) (sym w) h.3))
       (visits-at word h.1 ns h.5 d.1 q)

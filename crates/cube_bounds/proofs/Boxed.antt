@@ -1,5 +1,5 @@
 -- The box: its sides one after another, and its points cut off at each step or in the end.
-use Rattle.std.proofs.Common.{◌≡◌, refl, sym, ap, ◌∙◌, ℕ, zero, suc, ◌+◌, ◌-◌, ◌*◌, ◌<◌, ◌≤◌, ℤ, List, map, length, get_or, take, drop, Option, Some, None, arith}
+use Rattle.std.proofs.Common.{◌≡◌, ap, ◌∙◌, ℕ, zero, suc, ◌+◌, ◌-◌, ◌*◌, ◌≤◌, ℤ, List, map, length, take, drop, Option, Some, None, arith}
 use Rattle.std.specs.List.{range_with_len}
 use Rattle.std.specs.Option.{option_map}
 use Rattle.std.proofs.lemmas.List.{drop-map, length-drop, take_all}
@@ -7,10 +7,8 @@ use Rattle.std.proofs.lemmas.List.FromFn.{take-map-range_with_len}
 use Rattle.std.proofs.lemmas.Simd.{map-map}
 use Rattle.sv_linear.specs.declared.row.Row.{Row}
 use Rattle.cube_bounds.specs.declared.bounding.ValueRange.{ValueRange}
-use Rattle.sv_terms.specs.CutOff.{cut_off}
-use Rattle.cube_bounds.specs.Sides.{Side, integer_side, points_of, register_side, span_in, spans_in, times, values_between}
-use Rattle.cube_bounds.proofs.Grown.{first_of}
-use Rattle.cube_bounds.proofs.Multiplied.{cut_product}
+use Rattle.sv_terms.specs.CutOff.{cut_off, cut-product}
+use Rattle.cube_bounds.specs.Sides.{integer_side, register_side, span_in, spans_in, times, values_between}
 
 drop_range : (n a m : ℕ) → drop n (range_with_len a (n + m)) ≡ range_with_len (a + n) m
 drop_range zero a m = let e : a ≡ a + 0 = omega arith in let z : 0 + m ≡ m = omega arith in (λ i. range_with_len (e i) (z i))
@@ -47,12 +45,4 @@ pub timed : (s : ℤ × ℤ) (n : Option ℕ) (p w : ℕ) → Some p ≡ option_
 timed s None p w e f = absurd (cc)
 timed s (Some m) p w e f =
     let g : p ≡ cut_off m = cc in
-    ap Some ((λ i. cut_off (f i * g i)) ∙ cut_product (values_between s) m)
-
-pub untimed : (s : Side) (n : Option ℕ) → None ≡ option_map cut_off n → None ≡ option_map cut_off (times s n)
-untimed None None e = refl
-untimed (Some s) None e = refl
-untimed s (Some m) e = absurd (cc)
-
-pub points_before : (ss : List Side) (s : Side) (i : ℕ) (p : Option ℕ) → 0 < i → i ≤ length ss → s ≡ get_or ss (i - 1) s → p ≡ option_map cut_off (times s (points_of (drop i ss))) → p ≡ option_map cut_off (points_of (drop (i - 1) ss))
-points_before ss s i p o l e f = f ∙ ap (λ x. option_map cut_off (points_of x)) (sym (first_of ss s i o l e))
+    ap Some ((λ i. cut_off (f i * g i)) ∙ cut-product (values_between s) m)

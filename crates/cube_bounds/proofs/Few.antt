@@ -1,5 +1,5 @@
 -- Whether a box is small, by numbers that are cut off.
-use Rattle.std.proofs.Common.{◌≡◌, refl, sym, ap, ◌∙◌, subst, Bool, true, false, IsTrue, T, Option, Some, None, pos, ◌≤ℤ◌, ℕ, ◌+◌, ◌-◌, ◌*◌, ◌<◌, ◌≤◌, min, ℤ, List, ◌++◌, length, get_or, take, drop, leb, unsigned_abs, arith}
+use Rattle.std.proofs.Common.{◌≡◌, refl, sym, ap, ◌∙◌, subst, Bool, true, false, IsTrue, T, Option, Some, None, pos, ◌≤ℤ◌, ℕ, ◌+◌, ◌-◌, ◌*◌, ◌<◌, ◌≤◌, ℤ, List, ◌++◌, length, take, drop, leb, arith}
 use Rattle.std.proofs.Math.Seq.{drop-append_seam, take-append_seam}
 use Rattle.std.proofs.lemmas.Bool.{leb-true}
 use Rattle.std.proofs.lemmas.List.{length-append, length-drop, take_all}
@@ -8,29 +8,20 @@ use Rattle.std.specs.List.{AllByRecursion}
 use Rattle.std.specs.Prelude.{◌↔◌}
 use Rattle.std.specs.Int.Signed.{le_z, le_z_yes}
 use Rattle.std.specs.Option.{option_map}
-use Rattle.sv_linear.specs.Rows.{RowFits, terms_weight}
-use Rattle.sv_terms.specs.CutOff.{cut_off, cut-add}
+use Rattle.sv_linear.specs.Rows.{RowFits}
+use Rattle.sv_terms.specs.CutOff.{cut_off, cut-product}
 use Rattle.cube_bounds.specs.Bounds.{sources, states}
 use Rattle.cube_bounds.specs.Growth.{reach}
 use Rattle.cube_bounds.specs.Sides.{CanSearch, IsSmall, Side, amount_of, points, integer_sides, register_side, register_sides, sides, span_in}
 use Rattle.flat_cubes.specs.declared.flat.Flat.{Flat}
-use Rattle.cube_bounds.proofs.Grown.{first_of}
-use Rattle.cube_bounds.proofs.Multiplied.{cut_product}
 
 pub work_cut : (a b c x y z : ℕ) → x ≡ cut_off a → y ≡ cut_off b → z ≡ cut_off c → cut_off (cut_off (x * y) * z) ≡ cut_off (a * b * c)
-work_cut a b c x y z e f g = (λ i. cut_off (cut_off (e i * f i) * g i)) ∙ ap (λ w. cut_off (w * cut_off c)) (cut_product a b) ∙ cut_product (a * b) c
+work_cut a b c x y z e f g = (λ i. cut_off (cut_off (e i * f i) * g i)) ∙ ap (λ w. cut_off (w * cut_off c)) (cut-product a b) ∙ cut-product (a * b) c
 
--- one term before those behind it
-pub weight_before : (f : ℕ → ℕ) (ts : List (ℕ × ℤ)) (t : ℕ × ℤ) (i m w p : ℕ) → 0 < i → i ≤ length ts → t ≡ get_or ts (i - 1) t → w ≡ min (terms_weight f (drop i ts)) m → p ≡ f t.0
-    → min (min (unsigned_abs t.1 * p) m + w) m ≡ min (terms_weight f (drop (i - 1) ts)) m
-weight_before f ts t i m w p o l e q g =
-    let d = first_of ts t i o l e in
-    ap (λ x. min (min (unsigned_abs t.1 * x) m + w) m) g ∙ ap (λ x. min (min (unsigned_abs t.1 * f t.0) m + x) m) q ∙ cut-add m (unsigned_abs t.1 * f t.0) (terms_weight f (drop i ts)) ∙ ap (λ x. min (terms_weight f x) m) (sym d)
-
-le_of : (a b : ℤ) → IsTrue (le_z a b) → a ≤ℤ b
+pub le_of : (a b : ℤ) → IsTrue (le_z a b) → a ≤ℤ b
 le_of a b e = le_z_yes (subst T (sym e) tt)
 
-of_le : (a b : ℤ) → a ≤ℤ b → IsTrue (le_z a b)
+pub of_le : (a b : ℤ) → a ≤ℤ b → IsTrue (le_z a b)
 of_le a b h = by_test (le_z a b) refl
   where
     by_test : (t : Bool) → le_z a b ≡ t → le_z a b ≡ true

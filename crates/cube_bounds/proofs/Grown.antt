@@ -1,17 +1,14 @@
 -- Growths, cut off at each step or in the end.
 use Rattle.std.proofs.Common.{◌≡◌, refl, sym, ap, ◌∙◌, ℕ, zero, suc, ◌+◌, ◌-◌, ◌*◌, ◌/◌, ◌<◌, ◌≤◌, max, inl, inr, List, [], ◌∷◌, ◌++◌, map, length, get_or, set, take, drop, drop-cons, arith}
 use Rattle.std.specs.List.{range_with_len}
-use Rattle.std.proofs.lemmas.List.{length-map, take_more}
-use Rattle.sv_terms.specs.CutOff.{cut_off, cut-add}
+use Rattle.std.proofs.lemmas.List.{take_more}
+use Rattle.sv_terms.specs.CutOff.{cut_off, cut-sum, cut-product}
 use Rattle.std.proofs.Math.Nat.{div-eq_of_lt}
 use Rattle.std.proofs.lemmas.Bool.{cases_lt}
 use Rattle.cube_bounds.specs.Bounds.{greatest}
 use Rattle.cube_bounds.specs.Growth.{growth_by, grown, longest_word}
 use Rattle.flat_cubes.specs.declared.definition.Definition.{Definition}
-use Rattle.cube_bounds.proofs.Multiplied.{cut_product, map_set}
-
-cut_sum : (a b : ℕ) → cut_off (cut_off a + cut_off b) ≡ cut_off (a + b)
-cut_sum a b = cut-add 18446744073709551615 a b
+use Rattle.cube_bounds.proofs.Multiplied.{map_set}
 
 cut_max : (a b : ℕ) → max (cut_off a) (cut_off b) ≡ cut_off (max a b)
 cut_max a b = omega arith
@@ -30,33 +27,13 @@ cut_at (m ∷ ms) (suc v) = cut_at ms v
 pub growth_here : (ns ms : List ℕ) (v n : ℕ) → ns ≡ map cut_off ms → n ≡ get_or ns v 1 → n ≡ cut_off (get_or ms v 1)
 growth_here ns ms v n e f = f ∙ ap (λ l. get_or l v 1) e ∙ cut_at ms v
 
--- the four ways
-pub first_growth : (g n p u : ℕ) → n ≡ cut_off g → cut_off (cut_off (n + p) + u) ≡ cut_off (g + p + u)
-first_growth g n p u e = ap (λ x. cut_off (cut_off (x + p) + u)) e ∙ omega arith
-
-pub all_growth : (g n p u : ℕ) → n ≡ cut_off g → u ≤ 18446744073709551615 → cut_off (cut_off (n + p) * max u 1) ≡ cut_off ((g + p) * max 1 u)
-all_growth g n p u e l =
-    let a : cut_off (cut_off g + p) ≡ cut_off (g + p) = omega arith in
-    let b : max u 1 ≡ cut_off (max 1 u) = omega arith in
-    ap (λ x. cut_off (cut_off (x + p) * max u 1)) e ∙ (λ i. cut_off (a i * b i)) ∙ cut_product (g + p) (max 1 u)
-
 pub through_growth : (g n a b x y : ℕ) → n ≡ cut_off g → x ≡ cut_off a → y ≡ cut_off b → max n (cut_off (cut_off (n * x) + y)) ≡ cut_off (max g (g * a + b))
 through_growth g n a b x y e p q =
-    (λ i. max (e i) (cut_off (cut_off (e i * p i) + q i))) ∙ ap (λ z. max (cut_off g) (cut_off (z + cut_off b))) (cut_product g a) ∙ ap (max (cut_off g)) (cut_sum (g * a) b) ∙ cut_max g (g * a + b)
-
-set_past : (xs : List ℕ) (i y : ℕ) → length xs ≤ i → set xs i y ≡ xs
-set_past [] i y h = refl
-set_past (x ∷ xs) zero y h = absurd (omega arith)
-set_past (x ∷ xs) (suc i) y h = ap (λ l. x ∷ l) (set_past xs i y (omega arith))
+    (λ i. max (e i) (cut_off (cut_off (e i * p i) + q i))) ∙ ap (λ z. max (cut_off g) (cut_off (z + cut_off b))) (cut-product g a) ∙ ap (max (cut_off g)) (cut-sum (g * a) b) ∙ cut_max g (g * a + b)
 
 -- one definition
 pub grown_here : (ns ms : List ℕ) (v n g : ℕ) → ns ≡ map cut_off ms → n ≡ cut_off g → set ns v n ≡ map cut_off (set ms v g)
 grown_here ns ms v n g e f = (λ i. set (e i) v (f i)) ∙ sym (map_set cut_off ms v g)
-
-pub grown_past : (ns ms : List ℕ) (v g : ℕ) → ns ≡ map cut_off ms → length ns ≤ v → ns ≡ map cut_off (set ms v g)
-grown_past ns ms v g e l =
-    let h : length ns ≡ length ms = ap length e ∙ length-map ms cut_off in
-    e ∙ ap (map cut_off) (sym (set_past ms v g (omega arith)))
 
 grown_push : (ds : List Definition) (d : Definition) (gs : List ℕ) → grown gs (ds ++ d ∷ []) ≡ set (grown gs ds) d.variable (growth_by (grown gs ds) d.by)
 grown_push [] d gs = refl

@@ -7,6 +7,7 @@ use Rattle.std.proofs.lemmas.Int.{ints}
 use Rattle.std.proofs.lemmas.List.{length-map}
 use Rattle.std.proofs.lemmas.List.Sums.{get_or-le-sum_by, sum_by-cons}
 use Rattle.std.proofs.Math.Nat.{mul-le-mul, mul-le-mul_left, mul-le-mul_right, mul-div-le}
+use Rattle.sv_list.specs.Lists.{AllByRecursion-both}
 use Rattle.sv_terms.specs.Language.{Word}
 use Rattle.sv_terms.specs.TransductionLaws.{within_weaker}
 use Rattle.sv_terms.specs.TransducerSizes.{edges_most, ends_most}
@@ -66,10 +67,6 @@ module _ (P : ℕ → Type 0) (n : ℕ) where
           by_test : (b : Bool) → nat_eq d.variable u ≡ b → P u
           by_test true e = subst P (eqb-true d.variable u e) here
           by_test false e = k u ((λ i. e i || is_defined ds u) ∙ f)
-
-all_both : {X : Type 0} (P Q : X → Type 0) (xs : List X) → AllByRecursion P xs → AllByRecursion Q xs → AllByRecursion (λ x. P x × Q x) xs
-all_both P Q [] p q = tt
-all_both P Q (x ∷ xs) p q = ((p.0, q.0), all_both P Q xs p.1 q.1)
 
 equations : (flat : Flat) → IsStraight flat → AllByRecursion (λ (d : Definition). growth_at flat d.variable ≡ growth_by (growth_of flat) d.by) flat.definitions
 equations flat s = grown_solves (length flat.variables) (map one_each flat.variables) flat.definitions s.order (let l = length-map flat.variables one_each in omega (arith, l))
@@ -149,8 +146,8 @@ module _ (flat : Flat) (words : List Word) (s : IsStraight flat) (f : HasFormed 
       (λ d ds o q a b. subst (λ n. length (word_at words d.variable) ≤ n * suc (source_length flat words)) (sym q.0)
       (defined_short (growth_of flat) (word_at words) (source_length flat words) d.by (word_at words d.variable) q.1.1 q.1.0 (low (used d.by) o.uses a)))
       flat.definitions s.order
-      (all_both (λ d. growth_at flat d.variable ≡ growth_by (growth_of flat) d.by) (λ d. Defines words d × IsFormedBy d.by) flat.definitions (equations flat s)
-      (all_both (Defines words) (λ d. IsFormedBy d.by) flat.definitions h f))
+      (AllByRecursion-both (λ d. growth_at flat d.variable ≡ growth_by (growth_of flat) d.by) (λ d. Defines words d × IsFormedBy d.by) flat.definitions (equations flat s)
+      (AllByRecursion-both (Defines words) (λ d. IsFormedBy d.by) flat.definitions h f))
       (λ v e l.
       let g = (solved flat s).free v e in
       let w = source_within flat (λ u. length (word_at words u)) v l e in

@@ -11,6 +11,7 @@ use Rattle.sv_terms.specs.Transduction.{IsFormed, Pairs}
 use Rattle.sv_terms.specs.TransducerSizes.{edges_most, ends_most}
 use Rattle.sv_terms.specs.TransducerSizeLaws.{within-most}
 use Rattle.sv_terms.specs.declared.transducer.Transducer.{Transducer}
+use Rattle.sv_terms.specs.TransductionLaws.{one_more}
 use Rattle.flat_cubes.specs.Using.{used}
 use Rattle.cube_bounds.specs.Growth.{growth_by}
 use Rattle.flat_cubes.specs.Satisfying.{ComesBy}
@@ -31,19 +32,16 @@ first_length p u (c ∷ w) = by_test (begins p (c ∷ w)) (first_length p u w)
     by_test true r = let a = length-append u (drop (length p) (c ∷ w)) in let b = length-drop (length p) (c ∷ w) in omega (arith, a, b)
     by_test false r = omega (arith, r)
 
-one_more : (m n : ℕ) → suc n * m ≡ m + n * m
-one_more m n = omega arith
-
 -- and one of every occurrence makes of each character a replacement at most
 from_length : (p u : Word) (skip : ℕ) (w : Word) → length (replace_from p u skip w) ≤ length w * max 1 (length u)
 from_length p u skip [] = omega arith
-from_length p u (suc skip) (c ∷ w) = let r = from_length p u skip w in let m = one_more (max 1 (length u)) (length w) in omega (arith, r, m)
+from_length p u (suc skip) (c ∷ w) = let r = from_length p u skip w in let m = one_more (length w) (max 1 (length u)) in omega (arith, r, m)
 from_length p u zero (c ∷ w) = by_test (begins p (c ∷ w)) (from_length p u (length p - 1) w) (from_length p u zero w)
   where
     by_test : (b : Bool) → length (replace_from p u (length p - 1) w) ≤ length w * max 1 (length u) → length (replace_from p u zero w) ≤ length w * max 1 (length u)
         → length (if b then u ++ replace_from p u (length p - 1) w else (c ∷ replace_from p u zero w)) ≤ length (c ∷ w) * max 1 (length u)
-    by_test true r s = let a = length-append u (replace_from p u (length p - 1) w) in let m = one_more (max 1 (length u)) (length w) in omega (arith, a, r, m)
-    by_test false r s = let m = one_more (max 1 (length u)) (length w) in omega (arith, s, m)
+    by_test true r s = let a = length-append u (replace_from p u (length p - 1) w) in let m = one_more (length w) (max 1 (length u)) in omega (arith, a, r, m)
+    by_test false r s = let m = one_more (length w) (max 1 (length u)) in omega (arith, s, m)
 
 all_length : (p u w : Word) → length (replace_all p u w) ≤ length w * max 1 (length u)
 all_length [] u w = let m : length w * 1 ≤ length w * max 1 (length u) = mul-le-mul_left (length w) (omega arith) in omega (arith, m)

@@ -1,30 +1,22 @@
 -- Numbers multiplied at places, cut off at the greatest number of 64 bits at each step or in the end.
 use Rattle.std.proofs.Common.{◌≡◌, refl, sym, ap, ◌∙◌, subst, ℕ, zero, suc, ◌-◌, ◌*◌, ◌<◌, ◌≤◌, List, [], ◌∷◌, map, length, get_or, set, drop, drop-cons, arith}
-use Rattle.std.proofs.lemmas.List.{length-map}
-use Rattle.sv_terms.specs.CutOff.{cut_off, cut-mul}
+use Rattle.std.proofs.lemmas.List.{length-map, get_or-map}
+use Rattle.sv_terms.specs.CutOff.{cut_off, cut-product}
 use Rattle.flat_cubes.specs.Using.{used}
 use Rattle.cube_bounds.specs.Bounds.{through_states, times_at, times_all, carried, carried_all}
 use Rattle.flat_cubes.specs.declared.definition.Definition.{Definition}
 use Rattle.cube_bounds.proofs.Solved.{carried_length, times_length}
 use Rattle.flat_cubes.specs.Straight.{AreBelow, HaveVariablesBelow, HasVariablesBelow}
 
-pub cut_product : (a b : ℕ) → cut_off (cut_off a * cut_off b) ≡ cut_off (a * b)
-cut_product a b = cut-mul 18446744073709551615 a b (omega arith)
-
 pub map_set : (f : ℕ → ℕ) (xs : List ℕ) (i y : ℕ) → map f (set xs i y) ≡ set (map f xs) i (f y)
 map_set f [] i y = refl
 map_set f (x ∷ xs) zero y = refl
 map_set f (x ∷ xs) (suc i) y = ap (λ l. f x ∷ l) (map_set f xs i y)
 
-map_at : (f : ℕ → ℕ) (xs : List ℕ) (i d e : ℕ) → i < length xs → get_or (map f xs) i d ≡ f (get_or xs i e)
-map_at f [] i d e h = absurd (omega arith)
-map_at f (x ∷ xs) zero d e h = refl
-map_at f (x ∷ xs) (suc i) d e h = map_at f xs i d e (omega arith)
-
 -- one place
 times_step : (ns ms : List ℕ) (k by v : ℕ) → by ≡ cut_off k → ns ≡ map cut_off ms → v < length ms → set ns v (cut_off (get_or ns v 1 * by)) ≡ map cut_off (times_at k v ms)
 times_step ns ms k by v b n h =
-    (λ i. set (n i) v (cut_off (get_or (n i) v 1 * b i))) ∙ ap (λ x. set (map cut_off ms) v (cut_off (x * cut_off k))) (map_at cut_off ms v 1 1 h) ∙ ap (set (map cut_off ms) v) (cut_product (get_or ms v 1) k) ∙ sym (map_set cut_off ms v (get_or ms v 1 * k))
+    (λ i. set (n i) v (cut_off (get_or (n i) v 1 * b i))) ∙ ap (λ x. set (map cut_off ms) v (cut_off (x * cut_off k))) (get_or-map cut_off ms v 1 1 h) ∙ ap (set (map cut_off ms) v) (cut-product (get_or ms v 1) k) ∙ sym (map_set cut_off ms v (get_or ms v 1 * k))
 
 below_at : (n : ℕ) (vs : List ℕ) (i d : ℕ) → AreBelow n vs → i < length vs → get_or vs i d < n
 below_at n [] i d a h = absurd (omega arith)
@@ -49,7 +41,7 @@ pub ruleset multiplied = (times_before)
 pub carried_once : (d : Definition) (ns new ms : List ℕ) (t k : ℕ) → HasVariablesBelow (length ms) d → ns ≡ map cut_off ms → t ≡ cut_off (through_states d.by) → k ≡ cut_off (t * get_or ns d.variable 0) → ((n : ℕ) (ls : List ℕ) → k ≡ cut_off n → ns ≡ map cut_off ls → AreBelow (length ls) (used d.by) → new ≡ map cut_off (times_all n (used d.by) ls)) → new ≡ map cut_off (carried d ms)
 carried_once d ns new ms t k w e p q f =
     let n = through_states d.by * get_or ms d.variable 1 in
-    let same : k ≡ cut_off (through_states d.by * get_or ms d.variable 1) = q ∙ (λ i. cut_off (p i * get_or (e i) d.variable 0)) ∙ ap (λ x. cut_off (cut_off (through_states d.by) * x)) (map_at cut_off ms d.variable 0 1 w.defined) ∙ cut_product (through_states d.by) (get_or ms d.variable 1) in
+    let same : k ≡ cut_off (through_states d.by * get_or ms d.variable 1) = q ∙ (λ i. cut_off (p i * get_or (e i) d.variable 0)) ∙ ap (λ x. cut_off (cut_off (through_states d.by) * x)) (get_or-map cut_off ms d.variable 1 0 w.defined) ∙ cut-product (through_states d.by) (get_or ms d.variable 1) in
     f (through_states d.by * get_or ms d.variable 1) ms same e w.uses
 
 within_at : (n : ℕ) (ds : List Definition) (i : ℕ) (d : Definition) → HaveVariablesBelow n ds → i < length ds → d ≡ get_or ds i d → HasVariablesBelow n d

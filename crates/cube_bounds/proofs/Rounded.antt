@@ -1,8 +1,8 @@
 -- Bounds of unknowns by the rows.
-use Rattle.std.proofs.Common.{◌≡◌, ◌≢◌, refl, sym, ap, ◌∙◌, subst, Bool, true, false, ℕ, zero, suc, ◌+◌, ◌^◌, ◌<◌, ◌≤◌, ℤ, pos, negsuc, List, [], ◌∷◌, ◌++◌, map, length, get_or, set, None, arith}
+use Rattle.std.proofs.Common.{◌≡◌, ◌≢◌, refl, sym, ap, ◌∙◌, subst, Bool, true, false, ℕ, ◌+◌, ◌^◌, ◌<◌, ◌≤◌, ℤ, pos, negsuc, List, [], ◌∷◌, ◌++◌, length, get_or, set, None, arith}
 use Rattle.std.specs.Prelude.{int_lt, unsigned_abs, nat_eq, if◌then◌else◌}
 use Rattle.std.specs.Int.{int_min, int_max}
-use Rattle.std.specs.List.{AllByRecursion, range_with_len}
+use Rattle.std.specs.List.{AllByRecursion}
 use Rattle.std.proofs.lemmas.Bool.{eq-eqb, eqb-true, ne_eqb}
 use Rattle.std.proofs.lemmas.List.{get_or-set_other, get_or-set_same}
 use Rattle.std.proofs.lemmas.List.FromFn.{fill_by_all, get_or-map-range_with_len, length-map-range_with_len, map-range_with_len_more}
@@ -12,7 +12,6 @@ use Rattle.sv_linear.specs.Terms.{AscendsWithin}
 use Rattle.sv_linear.specs.declared.row.Row.{Row}
 use Rattle.sv_linear.specs.declared.row.RowKind.{RowKind}
 use Rattle.cube_bounds.specs.Sides.{lower, lower_by, lower_of, of_both, rounded_down, span_by, span_in, spans_in, upper, upper_by, upper_of}
-use Rattle.flat_cubes.specs.Straight.{IsRowBelow}
 use Rattle.cube_bounds.specs.declared.bounding.ValueRange.{ValueRange}
 
 -- a quotient by a number above 0 isn't larger than the number
@@ -60,10 +59,6 @@ pub ruleset ofs = (upper_none, lower_none, upper_one, lower_one, factor_small, f
 -- an unknown that isn't the only one of a row keeps its span
 span_kept : (r : Row) (rs : List Row) (u : ℕ) → lower_of u r.kind r.form.coefficients r.form.constant ≡ None → upper_of u r.kind r.form.coefficients r.form.constant ≡ None → span_in (r ∷ rs) u ≡ span_in rs u
 span_kept r rs u l m = λ i. record { least = of_both int_max (l i) (lower u rs); most = of_both int_min (m i) (upper u rs) }
-
-pub narrow_none : (r : Row) (rs : List Row) (n : ℕ) → (length r.form.coefficients ≡ 1 → ⊥) → spans_in rs n ≡ spans_in (r ∷ rs) n
-narrow_none r rs n h =
-    sym (ap (λ (f : ℕ → ValueRange). map f (range_with_len 0 n)) (λ i u. span_kept r rs u (lower_none u r.kind r.form.coefficients r.form.constant h) (upper_none u r.kind r.form.coefficients r.form.constant h) i))
 
 abbrev first : Terms → ℕ × ℤ
 first ts = get_or ts 0 (0, pos 0)
@@ -116,12 +111,6 @@ narrow_past r rs ss n v d h e p l =
 
 pub open_more : (n : ℕ) → spans_in [] (n + 1) ≡ spans_in [] n ++ span_in [] n ∷ []
 open_more n = map-range_with_len_more (span_in []) 0 n n (omega arith)
-
--- a row of the cube
-pub row_at : (n : ℕ) (rs : List Row) (i : ℕ) (r : Row) → AllByRecursion (IsRowBelow n) rs → i < length rs → r ≡ get_or rs i r → IsRowBelow n r
-row_at n [] i r a h e = absurd (omega arith)
-row_at n (q ∷ rs) zero r a h e = subst (IsRowBelow n) (sym e) a.0
-row_at n (q ∷ rs) (suc i) r a h e = row_at n rs i r a.1 (omega arith) e
 
 pub spans_long : (rs : List Row) (ss : List ValueRange) (n : ℕ) → ss ≡ spans_in rs n → length ss ≡ n
 spans_long rs ss n e = ap length e ∙ length-map-range_with_len (span_in rs) 0 n

@@ -2,12 +2,13 @@
 use Rattle.std.proofs.Common.{◌≡◌, ◌≢◌, refl, sym, ap, ◌∙◌, Bool, true, false, ◌||◌, ℕ, zero, suc, ◌+◌, ◌*◌, ◌^◌, ◌<◌, ◌≤◌, max, List, [], ◌∷◌, map, length, get_or, set, cond, Some, arith}
 use Rattle.std.specs.Prelude.{nat_eq, slice_get}
 use Rattle.std.specs.List.{AllByRecursion, count_by, sum_by}
-use Rattle.std.proofs.lemmas.Bool.{eq-eqb, eqb-true}
+use Rattle.std.proofs.lemmas.Bool.{eq-eqb, eqb-true, or_parts, or_right}
 use Rattle.std.proofs.lemmas.List.{get_or-set_other, get_or-set_same, length-map}
 use Rattle.std.proofs.lemmas.List.Sums.{sum_by-cons}
 use Rattle.std.proofs.lemmas.Option.{slice_get_within}
 use Rattle.std.proofs.Math.ListN.{length-set}
 use Rattle.std.proofs.Math.Nat.{pow-suc, pow-zero, mul_comm, mul_assoc}
+use Rattle.sv_list.specs.Lists.{count_by-cons}
 use Rattle.sv_terms.specs.TransducerSizes.{edges_most, ends_most}
 use Rattle.flat_cubes.specs.Using.{is_defined, used}
 use Rattle.cube_bounds.specs.Bounds.{carried_all, greatest, own_bound, product_by, states_of, through_states, times_all, times_at}
@@ -19,19 +20,14 @@ use Rattle.flat_cubes.specs.declared.definition.By.TheVariants as by
 use Rattle.flat_cubes.specs.declared.definition.Definition.{Definition}
 use Rattle.flat_cubes.specs.declared.variable.Variable.{Variable}
 
--- a variable that none of the definitions defines
-pub or_false : (a b : Bool) → (a || b) ≡ false → (a ≡ false) × (b ≡ false)
-or_false true b e = absurd (cc)
-or_false false b e = (refl, e)
-
 pub not_first : (d : Definition) (ds : List Definition) (v : ℕ) → is_defined (d ∷ ds) v ≡ false → d.variable ≢ v
 not_first d ds v h e =
     let t = eq-eqb d.variable v e in
-    let f = or_false (nat_eq d.variable v) (is_defined ds v) h in
+    let f = or_parts (nat_eq d.variable v) (is_defined ds v) h in
     cc (t, f.0)
 
 pub not_behind : (d : Definition) (ds : List Definition) (v : ℕ) → is_defined (d ∷ ds) v ≡ false → is_defined ds v ≡ false
-not_behind d ds v h = (or_false (nat_eq d.variable v) (is_defined ds v) h).1
+not_behind d ds v h = (or_parts (nat_eq d.variable v) (is_defined ds v) h).1
 
 -- the growth of such a variable stays
 pub grown_apart : (gs : List ℕ) (ds : List Definition) (v : ℕ) → is_defined ds v ≡ false → get_or (grown gs ds) v 1 ≡ get_or gs v 1
@@ -84,9 +80,6 @@ pub carried_length : (ds : List Definition) (ns : List ℕ) → length (carried_
 carried_length [] ns = refl
 carried_length (d ∷ ds) ns = times_length (through_states d.by * get_or (carried_all ds ns) d.variable 1) (used d.by) (carried_all ds ns) ∙ carried_length ds ns
 
-count_more : (v u : ℕ) (vs : List ℕ) → count_by (nat_eq v) (u ∷ vs) ≡ cond (nat_eq v u) 1 0 + count_by (nat_eq v) vs
-count_more v u vs = sum_by-cons (λ x. cond (nat_eq v x) 1 0) u vs
-
 -- and at one of them: multiplied for each time that it comes
 times_here : (k : ℕ) (vs ns : List ℕ) (v : ℕ) → v < length ns → get_or (times_all k vs ns) v 1 ≡ get_or ns v 1 * k ^ count_by (nat_eq v) vs
 times_here k [] ns v h = let z : k ^ 0 ≡ 1 = pow-zero k in rw z (omega arith)
@@ -99,7 +92,7 @@ times_here k (u ∷ vs) ns v h = by_test (nat_eq v u) refl (times_here k vs ns v
         → get_or (times_all k (u ∷ vs) ns) v 1 ≡ get_or ns v 1 * k ^ count_by (nat_eq v) (u ∷ vs)
     by_test true e r =
         let low : v < length (times_all k vs ns) = (let l = times_length k vs ns in omega (arith, l)) in
-        let more : count_by (nat_eq v) (u ∷ vs) ≡ suc (count_by (nat_eq v) vs) = (let c = count_more v u vs ∙ ap (λ b. cond b 1 0 + count_by (nat_eq v) vs) e in omega (arith, c)) in
+        let more : count_by (nat_eq v) (u ∷ vs) ≡ suc (count_by (nat_eq v) vs) = (let c = count_by-cons v u vs ∙ ap (λ b. cond b 1 0 + count_by (nat_eq v) vs) e in omega (arith, c)) in
         ap (λ x. get_or (times_at k x (times_all k vs ns)) v 1) (sym (eqb-true v u e))
         ∙ get_or-set_same (times_all k vs ns) v (get_or (times_all k vs ns) v 1 * k) 1 low
         ∙ ap (λ x. x * k) r
@@ -108,7 +101,7 @@ times_here k (u ∷ vs) ns v h = by_test (nat_eq v u) refl (times_here k vs ns v
         ∙ ap (λ x. get_or ns v 1 * k ^ x) (sym more)
     by_test false e r =
         let ne : v ≢ u = λ q. (let t = eq-eqb v u q in cc (t, e)) in
-        let same : count_by (nat_eq v) (u ∷ vs) ≡ count_by (nat_eq v) vs = (let c = count_more v u vs ∙ ap (λ b. cond b 1 0 + count_by (nat_eq v) vs) e in omega (arith, c)) in
+        let same : count_by (nat_eq v) (u ∷ vs) ≡ count_by (nat_eq v) vs = (let c = count_by-cons v u vs ∙ ap (λ b. cond b 1 0 + count_by (nat_eq v) vs) e in omega (arith, c)) in
         get_or-set_other (times_all k vs ns) u v (get_or (times_all k vs ns) u 1 * k) 1 ne ∙ r ∙ ap (λ x. get_or ns v 1 * k ^ x) (sym same)
 
 abbrev pub factor_in : List ℕ → ℕ → Definition → ℕ
@@ -117,10 +110,6 @@ factor_in ms v d = (through_states d.by * get_or ms d.variable 1) ^ count_by (na
 product_same : (f g : Definition → ℕ) (ds : List Definition) → AllByRecursion (λ d. f d ≡ g d) ds → product_by f ds ≡ product_by g ds
 product_same f g [] h = refl
 product_same f g (d ∷ ds) h = λ i. h.0 i * product_same f g ds h.1 i
-
-or_right : (a b : Bool) → b ≡ true → (a || b) ≡ true
-or_right true b e = refl
-or_right false b e = e
 
 -- what holds of each variable that is defined
 each_defined : (P : ℕ → Type 0) (ds : List Definition) → ((x : ℕ) → is_defined ds x ≡ true → P x) → AllByRecursion (λ (d : Definition). P d.variable) ds

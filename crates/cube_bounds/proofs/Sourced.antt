@@ -4,6 +4,7 @@ use Rattle.std.specs.Prelude.{filter}
 use Rattle.std.specs.List.{AllByRecursion, Contains, range_with_len, sum_by}
 use Rattle.std.proofs.lemmas.Bool.{cases_lt}
 use Rattle.std.proofs.lemmas.List.Sums.{get_or-le-sum_by}
+use Rattle.sv_list.specs.Lists.{Contains-there}
 use Rattle.flat_cubes.specs.Using.{is_defined, used}
 use Rattle.cube_bounds.specs.Bounds.{sources_of}
 use Rattle.cube_bounds.specs.NumberLaws.{SourcesStand}
@@ -11,16 +12,13 @@ use Rattle.flat_cubes.specs.Straight.{AreBelow, InOrder}
 use Rattle.flat_cubes.specs.declared.definition.Definition.{Definition}
 use Rattle.flat_cubes.specs.declared.flat.Flat.{Flat}
 
-behind_first : {X : Type 0} (x y : X) (xs : List X) → Contains xs y → Contains (x ∷ xs) y
-behind_first x y xs (k, h, e) = (suc k, omega (arith, h), e)
-
 -- a number of a range that passes a test is kept by the filter
 kept : (p : ℕ → Bool) (k m v : ℕ) → k ≤ v → v < k + m → p v ≡ true → Contains (filter p (range_with_len k m)) v
 kept p k zero v l h t = absurd (omega arith)
 kept p k (suc m) v l h t = by_place (cases_lt k v) (λ g. kept p (k + 1) m v (omega arith) (omega arith) t)
   where
     with_first : (b : Bool) (rest : List ℕ) → Contains rest v → Contains (cond b (k ∷ rest) rest) v
-    with_first true rest c = behind_first k v rest c
+    with_first true rest c = Contains-there k rest v c
     with_first false rest c = c
 
     by_place : (k < v) ⊎ (v ≤ k) → (k < v → Contains (filter p (range_with_len (k + 1) m)) v) → Contains (filter p (range_with_len k (suc m))) v

@@ -1,33 +1,29 @@
 -- Powers and products cut off, and how many variables aren't defined.
-use Rattle.std.proofs.Common.{◌≡◌, refl, sym, ap, ◌∙◌, subst, Bool, true, false, not, ◌||◌, ℕ, zero, suc, ◌+◌, ◌-◌, ◌*◌, ◌^◌, ◌<◌, ◌≤◌, ◌⊎◌, inl, inr, List, [], ◌∷◌, map, length, get_or, drop, cond, arith}
+use Rattle.std.proofs.Common.{◌≡◌, refl, sym, ap, ◌∙◌, subst, Bool, true, false, not, ◌||◌, ℕ, zero, suc, ◌+◌, ◌-◌, ◌*◌, ◌^◌, ◌<◌, ◌≤◌, ◌⊎◌, inl, inr, List, [], ◌∷◌, length, get_or, drop, cond, arith}
 use Rattle.std.specs.Prelude.{filter, nat_eq}
 use Rattle.std.specs.List.{range_with_len}
 use Rattle.std.proofs.lemmas.Bool.{cases_lt, eq-eqb, ne_eqb}
 use Rattle.std.proofs.Math.Nat.{pow-suc}
-use Rattle.sv_terms.specs.CutOff.{cut_off}
+use Rattle.sv_terms.specs.CutOff.{cut_off, cut-product}
 use Rattle.flat_cubes.specs.Using.{is_defined}
 use Rattle.cube_bounds.specs.Bounds.{product_by, sources, splits_by}
 use Rattle.flat_cubes.specs.Straight.{InOrder}
 use Rattle.flat_cubes.specs.declared.definition.Definition.{Definition}
 use Rattle.flat_cubes.specs.declared.flat.Flat.{Flat}
-use Rattle.cube_bounds.proofs.Grown.{cut_at, first_of}
-use Rattle.cube_bounds.proofs.Multiplied.{cut_product}
+use Rattle.cube_bounds.proofs.Grown.{first_of}
 
 pub power_more : (m n k p : ℕ) → n ≡ cut_off m → p ≡ cut_off (m ^ k) → cut_off (p * n) ≡ cut_off (m ^ (k + 1))
 power_more m n k p e f =
     let s : m ^ suc k ≡ m ^ k * m = pow-suc m k in
     let u : k + 1 ≡ suc k = omega arith in
-    (λ i. cut_off (f i * e i)) ∙ cut_product (m ^ k) m ∙ ap cut_off (sym s) ∙ ap (λ x. cut_off (m ^ x)) (sym u)
-
-pub states_here : (ns ms : List ℕ) (v n : ℕ) → ns ≡ map cut_off ms → n ≡ get_or ns v 1 → n ≡ cut_off (get_or ms v 1)
-states_here ns ms v n e f = f ∙ ap (λ l. get_or l v 1) e ∙ cut_at ms v
+    (λ i. cut_off (f i * e i)) ∙ cut-product (m ^ k) m ∙ ap cut_off (sym s) ∙ ap (λ x. cut_off (m ^ x)) (sym u)
 
 abbrev pub splits_of : List ℕ → Definition → ℕ
 splits_of ms d = splits_by (get_or ms d.variable 1) d.by
 
 pub splits_before : (ms : List ℕ) (ds : List Definition) (d : Definition) (i n m : ℕ) → 0 < i → i ≤ length ds → d ≡ get_or ds (i - 1) d → n ≡ cut_off (product_by (splits_of ms) (drop i ds)) → m ≡ cut_off (splits_of ms d) → cut_off (m * n) ≡ cut_off (product_by (splits_of ms) (drop (i - 1) ds))
 splits_before ms ds d i n m o l e p q =
-    (λ j. cut_off (q j * p j)) ∙ cut_product (splits_of ms d) (product_by (splits_of ms) (drop i ds)) ∙ ap (λ x. cut_off (product_by (splits_of ms) x)) (sym (first_of ds d i o l e))
+    (λ j. cut_off (q j * p j)) ∙ cut-product (splits_of ms d) (product_by (splits_of ms) (drop i ds)) ∙ ap (λ x. cut_off (product_by (splits_of ms) x)) (sym (first_of ds d i o l e))
 
 -- the numbers of a range for which a test fails
 abbrev failing : (ℕ → Bool) → ℕ → ℕ → ℕ

@@ -1,5 +1,5 @@
 -- The row of a comparison.
-use Rattle.std.proofs.Common.{◌≡◌, refl, sym, ap, ◌∙◌, subst, Bool, true, false, ℕ, zero, suc, ◌^◌, ◌<◌, ◌≤◌, ◌⊎◌, inl, inr, ℤ, pos, negsuc, ◌+ℤ◌, ◌*ℤ◌, List, [], ◌∷◌, ◌++◌, map, take, length, get_or, slice_get, Option, Some, None, unsigned_abs, FitsSigned, nat_eq, arith}
+use Rattle.std.proofs.Common.{◌≡◌, refl, sym, ap, ◌∙◌, subst, Bool, true, false, ℕ, zero, suc, ◌^◌, ◌<◌, ◌≤◌, ◌⊎◌, inl, inr, ℤ, pos, negsuc, ◌+ℤ◌, ◌*ℤ◌, List, [], ◌∷◌, ◌++◌, map, take, length, get_or, slice_get, Option, Some, None, unsigned_abs, FitsSigned, nat_eq, arith, ne_eqb}
 use Rattle.std.specs.Prelude.{if◌then◌else◌, Err}
 use Rattle.std.specs.declared.alloc.AllocError.{AllocError}
 use Rattle.std.specs.List.{AllByRecursion}
@@ -7,6 +7,7 @@ use Rattle.std.specs.Int.{w128}
 use Rattle.std.specs.Option.{option_map}
 use Rattle.std.proofs.lemmas.Bool.{cases_lt, eq-eqb, eqb-true}
 use Rattle.std.proofs.lemmas.Int.{ints}
+use Rattle.std.proofs.lemmas.Option.{slice_get_within, same_Some}
 use Rattle.literal_forms.specs.CodeLaws.{place_got}
 use Rattle.literal_forms.specs.Alike.{code_is}
 use Rattle.literal_forms.specs.Flats.{flat}
@@ -18,6 +19,7 @@ use Rattle.literal_forms.specs.PastLaws.{some_left, some_right}
 use Rattle.literal_forms.specs.Shapes.{Shape}
 use Rattle.literal_forms.specs.declared.differences.Differences.{Differences}
 use Rattle.literal_forms.specs.declared.term_form.TermForm.{TermForm}
+use Rattle.literal_forms.proofs.Formed.{added_terms}
 use Rattle.sv_linear.specs.Combining.{IsSymmetric}
 use Rattle.sv_linear.specs.Rows.{HasSymmetricEntries}
 use Rattle.sv_linear.specs.Terms.{coefficient}
@@ -35,7 +37,7 @@ use Rattle.cube_draft.specs.declared.comparison.RowReading.TheVariants as bound
 use Rattle.cube_draft.specs.declared.meeting.DraftBuilder.{DraftBuilder}
 use Rattle.cube_draft.proofs.Fine.{fine_added, fine_less, fine_scaled}
 use Rattle.cube_draft.proofs.Gathering.{gathers_row}
-use Rattle.cube_draft.proofs.Inserted.{before_none, item_of, not_equal}
+use Rattle.cube_draft.proofs.Inserted.{before_none, item_of}
 use Rattle.sv_linear.specs.declared.fault.FormFault.{FormFault}
 use Rattle.sv_linear.specs.declared.fault.FormFault.TheVariants as fault
 
@@ -96,14 +98,6 @@ module _ (s t : Shape) where
 pub subtract_memory : (X : Type 0) (s t : Shape) (o : Op) (b : Bool) (f : FormFault) → ComparisonFits o s t b → IsPlainExactly {X = X} (equality_steps s t) (Err f) → (e : AllocError) × (f ≡ fault.Memory e)
 subtract_memory X s t o b f p h = plain_memory X (equality_steps s t) f (equality_plain s t (bound_by o b) p.plain) h
 
--- the entries of the form
-multiple_added : (u : Unknown) (xs ys : List (Unknown × ℤ)) → multiple_of u (xs ++ ys) ≡ multiple_of u xs +ℤ multiple_of u ys
-multiple_added u [] ys = omega (arith, ints)
-multiple_added u (x ∷ xs) ys = let h = multiple_added u xs ys in ap (λ z. (if same_unknown x.0 u then x.1 else pos 0) +ℤ z) h ∙ assoc (if same_unknown x.0 u then x.1 else pos 0) (multiple_of u xs) (multiple_of u ys)
-  where
-    assoc : (a b c : ℤ) → a +ℤ (b +ℤ c) ≡ (a +ℤ b) +ℤ c
-    assoc a b c = omega (arith, ints)
-
 multiple_scaled : (u : Unknown) (xs : List (Unknown × ℤ)) → multiple_of u (map (λ (t : Unknown × ℤ). (t.0, t.1 *ℤ minus_one)) xs) ≡ multiple_of u xs *ℤ minus_one
 multiple_scaled u [] = omega (arith, ints)
 multiple_scaled u (x ∷ xs) = ap (λ z. (if same_unknown x.0 u then x.1 *ℤ minus_one else pos 0) +ℤ z) (multiple_scaled u xs) ∙ by_test (same_unknown x.0 u) x.1 (multiple_of u xs)
@@ -113,7 +107,7 @@ multiple_scaled u (x ∷ xs) = ap (λ z. (if same_unknown x.0 u then x.1 *ℤ mi
     by_test false a z = omega (arith, ints)
 
 entry_added : (c : Place) (a b : Linear) → entry_at c (added a b) ≡ entry_at c a +ℤ entry_at c b
-entry_added (at_unknown u) a b = multiple_added u a.terms b.terms
+entry_added (at_unknown u) a b = added_terms u a.terms b.terms
 entry_added at_constant a b = refl
 
 entry_scaled : (c : Place) (a : Linear) → entry_at c (scaled a minus_one) ≡ entry_at c a *ℤ minus_one
@@ -202,14 +196,6 @@ index_found : (u : Unknown) (us : List Unknown) (k : ℕ) → index_of u us ≡ 
 index_found u [] k e = absurd (cc)
 index_found u (v ∷ us) k e = found_by u v us (λ j h. index_found u us j h) (same_unknown u v) refl (index_of u us) refl k e
 
-got_within : {X : Type 0} (xs : List X) (k : ℕ) (x : X) → slice_get xs k ≡ Some x → k < length xs
-got_within [] k x e = absurd (cc)
-got_within (y ∷ xs) zero x e = omega arith
-got_within (y ∷ xs) (suc k) x e = let h = got_within xs k x e in omega arith
-
-some_one : {X : Type 0} (x y : X) → Some x ≡ Some y → x ≡ y
-some_one x y e = cc
-
 abbrev HasNumber : List (List ℤ × ℕ) → Unknown → Type 0
 HasNumber ns u = (k : ℕ) × (number_at (flat (unknown_code u)) ns ≡ Some k)
 
@@ -228,7 +214,7 @@ found_multiple : (ns : List (List ℤ × ℕ)) (v : Unknown) (ts : List (Unknown
 found_multiple ns v [] a = inl refl
 found_multiple ns v (t ∷ ts) a = multiple_by ns v t ts a.0 (found_multiple ns v ts a.1) (same_unknown t.0 v) refl
 
-nonzero : (z : ℤ) → 0 < unsigned_abs z → z ≡ pos 0 → ⊥
+pub nonzero : (z : ℤ) → 0 < unsigned_abs z → z ≡ pos 0 → ⊥
 nonzero z h e = let k : 0 < unsigned_abs (pos 0) = subst (λ y. 0 < unsigned_abs y) e h in omega arith
 
 module _ (m : DraftBuilder) (d : DraftView) (g : Gathers m d) (us : List (List ℤ)) (a : Linear) (f : TermForm) (coded : AreNumbered us) (is : IsNumbered us a f) (known : Knows m.numbers a) where
@@ -281,7 +267,7 @@ module _ (m : DraftBuilder) (d : DraftView) (g : Gathers m d) (us : List (List �
   one_place v w n e h =
       let x = index_found v all n e in
       let y = index_found w all n h in
-      let same : x.0 ≡ y.0 = some_one x.0 y.0 (sym x.1 ∙ y.1) in
+      let same : x.0 ≡ y.0 = same_Some x.0 y.0 (sym x.1 ∙ y.1) in
       ap (λ c. place_of us (flat c)) (x.2 ∙ ap unknown_code same ∙ sym y.2)
 
   at_same : (n k : ℕ) (z : ℤ) (b : Bool) → nat_eq k n ≡ b → at_number n (Some k) z ≡ (if b then z else pos 0)
@@ -299,7 +285,7 @@ module _ (m : DraftBuilder) (d : DraftView) (g : Gathers m d) (us : List (List �
       by_test true q =
           let place : t.0 ≡ place_in us w = eqb-true t.0 (place_in us w) q in
           let codes : flat (unknown_code c.unknown) ≡ flat (unknown_code w) = sym c.code ∙ ap (λ k. get_or us k []) place ∙ place_got us (flat (unknown_code w)) [] (subst (λ k. k < length us) place c.within) in
-          let number : c.number ≡ n = some_one c.number n (sym c.index ∙ sym (g.numbers c.unknown) ∙ ap (λ k. number_at k m.numbers) codes ∙ g.numbers w ∙ e) in
+          let number : c.number ≡ n = same_Some c.number n (sym c.index ∙ sym (g.numbers c.unknown) ∙ ap (λ k. number_at k m.numbers) codes ∙ g.numbers w ∙ e) in
           at_same n c.number t.1 true (eq-eqb c.number n number)
       by_test false q = by_number q (nat_eq c.number n) refl
 
@@ -314,15 +300,15 @@ module _ (m : DraftBuilder) (d : DraftView) (g : Gathers m d) (us : List (List �
   sum_beyond n l [] h = refl
   sum_beyond n l (t ∷ xs) h =
       let x = index_found h.0.unknown all h.0.number h.0.index in
-      let w = got_within all h.0.number x.0 x.1 in
-      add_zeros _ _ (ap (λ o. at_number n o t.1) h.0.numbered ∙ ap (λ b. if b then t.1 else pos 0) (not_equal h.0.number n (λ q. omega arith))) (sum_beyond n l xs h.1)
+      let w = slice_get_within all h.0.number x.0 x.1 in
+      add_zeros _ _ (ap (λ o. at_number n o t.1) h.0.numbered ∙ ap (λ b. if b then t.1 else pos 0) (ne_eqb h.0.number n (λ q. omega arith))) (sum_beyond n l xs h.1)
 
   pub can_renumber : CanRenumber m.numbers us f.form
   can_renumber = record {
     known = λ i t l e. let c = coded_at i t l e in (c.within, (c.number, c.numbered));
     apart = λ i t n l e q.
         let c = coded_at i t l e in
-        let number : c.number ≡ n = some_one c.number n (sym c.numbered ∙ q) in
+        let number : c.number ≡ n = same_Some c.number n (sym c.numbered ∙ q) in
         sum_is c.unknown n (c.index ∙ ap Some number) (take i ts) (some_coded i ts all_coded) ∙ ap (λ k. coefficient k (take i ts)) c.place ∙ before_none 0 (2 ^ 32) i t ts f.form.ascending l e;
   }
 

@@ -2,8 +2,8 @@
 use Rattle.std.proofs.Common.{Bool, true, false, ℤ, ◌*ℤ◌, List, [], ◌∷◌, map}
 use Rattle.std.specs.Prelude.{if◌then◌else◌}
 use Rattle.std.specs.List.{AllByRecursion}
+use Rattle.sv_list.specs.Lists.{AllByRecursion-append}
 use Rattle.literal_forms.specs.Linear.{Linear, Unknown, added, difference_of, from_left, is_constant, less, minus_one, multiplied, scaled}
-use Rattle.flat_cubes.proofs.Members.{all_joined}
 
 module _ (P : Unknown → Type 0) where
   abbrev pub Fine : Linear → Type 0
@@ -17,7 +17,7 @@ module _ (P : Unknown → Type 0) where
       each (t ∷ ts) h = (h.0, each ts h.1)
 
   pub fine_added : (a b : Linear) → Fine a → Fine b → Fine (added a b)
-  fine_added a b h k = all_joined (λ (t : Unknown × ℤ). P t.0) a.terms b.terms h k
+  fine_added a b h k = AllByRecursion-append (λ (t : Unknown × ℤ). P t.0) a.terms b.terms h k
 
   pub fine_less : (a b : Linear) → Fine a → Fine b → Fine (less a b)
   fine_less a b h k = fine_added a (scaled b minus_one) h (fine_scaled b minus_one k)

@@ -1,10 +1,12 @@
 -- What is gathered is what was met: each step of a meeting keeps that.
-use Rattle.std.proofs.Common.{◌≡◌, refl, sym, ap, ◌∙◌, subst, Bool, true, false, ◌||◌, ℕ, zero, suc, ◌<◌, ◌≤◌, ℤ, pos, List, [], ◌∷◌, ◌++◌, map, length, get_or, slice_get, Option, Some, None, nat_eq, length-append, arith, ◌⊎◌, inl, inr}
+use Rattle.std.proofs.Common.{◌≡◌, refl, sym, ap, ◌∙◌, subst, Bool, true, false, ◌||◌, ℕ, zero, suc, ◌<◌, ℤ, pos, List, [], ◌∷◌, ◌++◌, map, length, get_or, slice_get, Option, Some, None, nat_eq, length-append, arith, inl, inr}
 use Rattle.std.specs.Prelude.{if◌then◌else◌}
 use Rattle.std.specs.List.{AllZip, AllByRecursion, list_any}
 use Rattle.std.specs.Option.{option_map}
 use Rattle.std.specs.Ordering.{int_eq}
 use Rattle.std.specs.Cmp.Lexicographic.{pointwise}
+use Rattle.std.proofs.lemmas.List.{map_push}
+use Rattle.sv_list.specs.Lists.{AllByRecursion-push, AllZip-push, slice_get-push_cases, slice_get-none}
 use Rattle.sv_linear.specs.Rows.{HasSymmetricEntries}
 use Rattle.sv_linear.specs.Terms.{coefficient}
 use Rattle.sv_linear.specs.declared.row.Row.{Row}
@@ -75,20 +77,6 @@ text_none (opaque s) w e = refl
 pub map_length : {X Y : Type 0} (f : X → Y) (xs : List X) → length (map f xs) ≡ length xs
 map_length f [] = refl
 map_length f (x ∷ xs) = ap suc (map_length f xs)
-
-pub map_push : {X Y : Type 0} (f : X → Y) (xs : List X) (x : X) → map f (xs ++ x ∷ []) ≡ map f xs ++ f x ∷ []
-map_push f [] x = refl
-map_push f (y ∷ xs) x = ap (λ l. f y ∷ l) (map_push f xs x)
-
-all_pushed : {X : Type 0} (P : X → Type 0) (xs : List X) (x : X) → AllByRecursion P xs → P x → AllByRecursion P (xs ++ x ∷ [])
-all_pushed P [] x a p = (p, tt)
-all_pushed P (y ∷ xs) x a p = (a.0, all_pushed P xs x a.1 p)
-
-zip_pushed : {X Y : Type 0} (R : X → Y → Type 0) (xs : List X) (ys : List Y) (x : X) (y : Y) → AllZip R xs ys → R x y → AllZip R (xs ++ x ∷ []) (ys ++ y ∷ [])
-zip_pushed R [] [] x y a r = (r, tt)
-zip_pushed R [] (z ∷ ys) x y a r = absurd a
-zip_pushed R (z ∷ xs) [] x y a r = absurd a
-zip_pushed R (z ∷ xs) (w ∷ ys) x y a r = (a.0, zip_pushed R xs ys x y a.1 r)
 
 zip_weaker : {X Y : Type 0} (R S : X → Y → Type 0) → ((x : X) (y : Y) → R x y → S x y) → (xs : List X) (ys : List Y) → AllZip R xs ys → AllZip S xs ys
 zip_weaker R S f [] [] a = tt
@@ -177,9 +165,6 @@ gathers_equality m d i j g = record { names = g.names; places = g.places; parts 
 pub gathers_broken : (m : DraftBuilder) (d : DraftView) (b : Bool) → Gathers m d → Gathers (record m { broken = m.broken || b }) (record d { broken = d.broken || b })
 gathers_broken m d b g = record { names = g.names; places = g.places; parts = g.parts; definitions = g.definitions; equalities = g.equalities; integers = g.integers; registers = g.registers; inside = g.inside; numbers = g.numbers; apart = g.apart; rows = g.rows; symmetric = g.symmetric; truths = g.truths; broken = ap (λ c. c || b) g.broken }
 
-pub gathers_truths : (m : DraftBuilder) (d : DraftView) (ts : List (List ℕ × Bool)) → Gathers m d → Gathers (record m { truths = m.truths ++ ts }) (record d { truths = d.truths ++ ts })
-gathers_truths m d ts g = record { names = g.names; places = g.places; parts = g.parts; definitions = g.definitions; equalities = g.equalities; integers = g.integers; registers = g.registers; inside = g.inside; numbers = g.numbers; apart = g.apart; rows = g.rows; symmetric = g.symmetric; truths = ap (λ l. l ++ ts) g.truths; broken = g.broken }
-
 pub gathers_row : (m : DraftBuilder) (d : DraftView) (c : Comparison) (r : Row) → Gathers m d → IsRowAmong (unknowns_at d.terms m.quantities) (bounded_of c) r → HasSymmetricEntries r.form
     → Gathers (record m { rows = m.rows ++ r ∷ [] }) (with_comparison c d)
 gathers_row m d c r g h k = record {
@@ -193,8 +178,8 @@ gathers_row m d c r g h k = record {
   inside = g.inside;
   numbers = g.numbers;
   apart = g.apart;
-  rows = subst (λ bs. AllZip (IsRowAmong (unknowns_at d.terms m.quantities)) bs (m.rows ++ r ∷ [])) (sym (map_push bounded_of d.comparisons c)) (zip_pushed (IsRowAmong (unknowns_at d.terms m.quantities)) (map bounded_of d.comparisons) m.rows (bounded_of c) r g.rows h);
-  symmetric = all_pushed (λ (x : Row). HasSymmetricEntries x.form) m.rows r g.symmetric k;
+  rows = subst (λ bs. AllZip (IsRowAmong (unknowns_at d.terms m.quantities)) bs (m.rows ++ r ∷ [])) (sym (map_push bounded_of d.comparisons c)) (AllZip-push (IsRowAmong (unknowns_at d.terms m.quantities)) (map bounded_of d.comparisons) m.rows (bounded_of c) r g.rows h);
+  symmetric = AllByRecursion-push (λ (x : Row). HasSymmetricEntries x.form) m.rows r g.symmetric k;
   truths = g.truths;
   broken = g.broken;
 }
@@ -240,13 +225,6 @@ length_there s ts [] = refl
 length_there s ts (Integer m ∷ qs) = there_if false (index_of (length_of s) (unknowns_at ts qs)) ∙ length_there s ts qs
 length_there s ts (Length i ∷ qs) = there_if (same s (term_at ts i)) (index_of (length_of s) (unknowns_at ts qs)) ∙ ap (λ b. same s (term_at ts i) || b) (length_there s ts qs)
 
--- at the end of a list
-get_push : {X : Type 0} (xs : List X) (x y : X) (k : ℕ) → slice_get (xs ++ x ∷ []) k ≡ Some y → (slice_get xs k ≡ Some y) ⊎ ((k ≡ length xs) × (x ≡ y))
-get_push [] x y zero e = inr (refl, cc)
-get_push [] x y (suc k) e = absurd (cc)
-get_push (z ∷ xs) x y zero e = inl e
-get_push (z ∷ xs) x y (suc k) e = elim (get_push xs x y k e) [ inl h ↦ inl h | inr h ↦ inr (ap suc h.0, h.1) ]
-
 where_same : (c : Bool) (n : ℕ) (ts : List (ℕ × ℤ)) → coefficient n ts ≡ pos 0 → coefficient_where (if c then Some n else None) ts ≡ pos 0
 where_same true n ts e = e
 where_same false n ts e = refl
@@ -288,7 +266,7 @@ module _ (m : DraftBuilder) (d : DraftView) (q : Quantity) (g : Gathers m d) (no
       ∙ (λ i. or_else (g.numbers v i) (if flat_same (unknown_code v) (unknown_code u) i then Some (sym many i) else None)) ∙ sym (index_push v u us)
 
   apart_pushed : (k : ℕ) (v : Unknown) → slice_get (us ++ u ∷ []) k ≡ Some v → index_of v (us ++ u ∷ []) ≡ Some k
-  apart_pushed k v e = elim (get_push us u v k e) [
+  apart_pushed k v e = elim (slice_get-push_cases us u k v e) [
     | inl h ↦ index_push v u us ∙ ap (λ o. or_else o (if same_unknown v u then Some (length us) else None)) (g.apart k v h)
     | inr h ↦ subst (λ w. index_of w (us ++ u ∷ []) ≡ Some k) h.1 (index_push u u us ∙ (λ i. or_else (not_there i) (if unknown_self u i then Some (length us) else None)) ∙ ap Some (sym h.0))
   ]
@@ -303,7 +281,7 @@ module _ (m : DraftBuilder) (d : DraftView) (q : Quantity) (g : Gathers m d) (no
     equalities = g.equalities;
     integers = e;
     registers = f;
-    inside = all_pushed (IsInside (length d.terms)) m.quantities q g.inside inside;
+    inside = AllByRecursion-push (IsInside (length d.terms)) m.quantities q g.inside inside;
     numbers = λ v. numbers_pushed v ∙ ap (index_of v) (sym pushed_unknowns);
     apart = λ k v h. ap (index_of v) pushed_unknowns ∙ apart_pushed k v (ap (λ ws. slice_get ws k) (sym pushed_unknowns) ∙ h);
     rows = subst (λ ws. AllZip (IsRowAmong ws) (map bounded_of d.comparisons) m.rows) (sym pushed_unknowns) (zip_weaker (IsRowAmong us) (IsRowAmong (us ++ u ∷ [])) (λ b r a. among_push us u b r a) (map bounded_of d.comparisons) m.rows g.rows);
@@ -312,17 +290,11 @@ module _ (m : DraftBuilder) (d : DraftView) (q : Quantity) (g : Gathers m d) (no
     broken = g.broken;
   }
 
--- what was gathered is held by a draft
-none_past : {X : Type 0} (xs : List X) (k : ℕ) → slice_get xs k ≡ None → length xs ≤ k
-none_past [] k e = omega arith
-none_past (x ∷ xs) zero e = absurd (cc)
-none_past (x ∷ xs) (suc k) e = let h = none_past xs k e in omega arith
-
 row_for : (us : List Unknown) → ((k : ℕ) (u : Unknown) → slice_get us k ≡ Some u → index_of u us ≡ Some k) → (b : Bounded) (r : Row) → IsRowAmong us b r → IsRowFor us b r
 row_for us apart b r a = record { kind = a.kind; constant = a.constant; coefficients = λ k. by_place k (slice_get us k) refl }
   where
     by_place : (k : ℕ) (o : Option Unknown) → slice_get us k ≡ o → coefficient k r.form.coefficients ≡ coefficient_at b.1 o
-    by_place k None e = a.beyond k (none_past us k e)
+    by_place k None e = a.beyond k (slice_get-none us k e)
     by_place k (Some u) e = sym (a.coefficients u ∙ ap (λ o. coefficient_where o r.form.coefficients) (apart k u e))
 
 pub holds_of : (m : DraftBuilder) (d : DraftView) (ts : List (List ℕ × Bool)) → ts ≡ m.truths → Gathers m d → HoldsDraft (record { names = m.names; parts = m.parts; definitions = m.definitions; equalities = m.equalities; quantities = m.quantities; rows = m.rows; truths = ts; broken = m.broken }) d

@@ -1,25 +1,18 @@
 -- A term that is put into those of a form.
-use Rattle.std.proofs.Common.{◌≡◌, refl, sym, ap, ◌∙◌, subst, Bool, true, false, ℕ, zero, suc, ◌+◌, ◌-◌, ◌^◌, ◌<◌, ◌≤◌, ℤ, pos, negsuc, ◌+ℤ◌, List, [], ◌∷◌, ◌++◌, take, drop, length, get_or, drop-cons, unsigned_abs, nat_eq, Some, inl, inr, arith}
+use Rattle.std.proofs.Common.{◌≡◌, refl, sym, ap, ◌∙◌, subst, ℕ, zero, suc, ◌+◌, ◌-◌, ◌^◌, ◌<◌, ◌≤◌, ℤ, pos, negsuc, ◌+ℤ◌, List, [], ◌∷◌, ◌++◌, take, drop, length, get_or, drop-cons, unsigned_abs, nat_eq, Some, inl, inr, arith, ne_eqb}
 use Rattle.std.specs.Prelude.{if◌then◌else◌}
 use Rattle.std.proofs.lemmas.Int.{ints}
 use Rattle.std.proofs.lemmas.List.{drop_all, take_more}
-use Rattle.std.proofs.lemmas.Bool.{cases_lt, eq-eqb, eqb-true}
+use Rattle.std.proofs.lemmas.Bool.{cases_lt, eq-eqb}
 use Rattle.sv_linear.specs.Terms.{AscendsWithin, coefficient}
 use Rattle.cube_draft.specs.Comparing.{IsPlaceIn, at_number, number_of, sum_at}
 use Rattle.cube_draft.specs.Gathered.{number_at}
-
-pub not_equal : (a b : ℕ) → (a ≡ b → ⊥) → nat_eq a b ≡ false
-not_equal a b h = by_test (nat_eq a b) refl
-  where
-    by_test : (t : Bool) → nat_eq a b ≡ t → t ≡ false
-    by_test true e = absurd (h (eqb-true a b e))
-    by_test false e = refl
 
 abbrev pub Terms : Type 0
 Terms = List (ℕ × ℤ)
 
 pub skipped : (t : ℕ × ℤ) (u : ℕ) (z : ℤ) → (t.0 ≡ u → ⊥) → (if nat_eq t.0 u then t.1 else pos 0) +ℤ z ≡ z
-skipped t u z n = ap (λ b. (if b then t.1 else pos 0) +ℤ z) (not_equal t.0 u n) ∙ omega (arith, ints)
+skipped t u z n = ap (λ b. (if b then t.1 else pos 0) +ℤ z) (ne_eqb t.0 u n) ∙ omega (arith, ints)
 
 pub taken : (t : ℕ × ℤ) (z : ℤ) → z ≡ pos 0 → (if nat_eq t.0 t.0 then t.1 else pos 0) +ℤ z ≡ t.1
 taken t z e = ap (λ b. (if b then t.1 else pos 0) +ℤ z) (eq-eqb t.0 t.0 refl) ∙ omega (arith, ints)
@@ -61,11 +54,6 @@ pub ascends_behind : (low high k : ℕ) (x : ℕ × ℤ) (ts : Terms) → Ascend
 ascends_behind low high k x [] a l e = absurd (omega arith)
 ascends_behind low high zero x (t ∷ ts) a l e = subst (λ y. AscendsWithin (y.0 + 1) high ts) (sym e) a.1.1
 ascends_behind low high (suc k) x (t ∷ ts) a l e = ascends_behind (t.0 + 1) high k x ts a.1.1 (omega arith) e
-
--- all are below high
-pub ascends_low : (low high : ℕ) (ts : Terms) → AscendsWithin low high ts → low ≤ high
-ascends_low low high [] a = a
-ascends_low low high (t ∷ ts) a = let h = ascends_low (t.0 + 1) high ts a.1.1 in let l = a.0 in omega arith
 
 pub inserted_coefficient : (m at : ℕ) (x : ℕ × ℤ) (ts : Terms) → coefficient m (take at ts ++ x ∷ drop at ts) ≡ (if nat_eq x.0 m then x.1 else pos 0) +ℤ coefficient m ts
 inserted_coefficient m zero x ts = refl

@@ -13,6 +13,7 @@ use Rattle.literal_forms.specs.Flats.{flat}
 use Rattle.literal_forms.specs.Linear.{before, pieces, set_before, written}
 use Rattle.literal_forms.specs.Mirrors.{raw-seen, seen-Constant, seen-Text}
 use Rattle.literal_forms.specs.Shapes.{Shape, Shapes, truth, number, text, constant, apply, member, related, opaque, end, ◌⨾◌, raw, seen}
+use Rattle.literal_forms.proofs.Spelled.{set_end, before_other, before_leaf}
 use Rattle.flat_cubes.specs.Flattening.{name_of}
 use Rattle.cube_draft.specs.Gathered.{ArePieced, Gathers, IsTermMet, IsSought, number_at}
 use Rattle.written_terms.specs.Strings.{build_of, is_text, replacer}
@@ -205,10 +206,6 @@ set_assoc : (a b c : Shapes) → set_before (set_before a b) c ≡ set_before a 
 set_assoc end b c = refl
 set_assoc (s ⨾ a) b c = ap (λ x. s ⨾ x) (set_assoc a b c)
 
-set_end : (ss : Shapes) → set_before ss end ≡ ss
-set_end end = refl
-set_end (s ⨾ ss) = ap (λ x. s ⨾ x) (set_end ss)
-
 before_set : (s : Shape) (ts : Shapes) → before s ts ≡ set_before (before s end) ts
 before_set (apply op.Concat ss) ts = ap (λ x. set_before x ts) (sym (set_end ss))
 before_set s ts = refl
@@ -230,27 +227,6 @@ before_concat ss = set_end (pieces ss)
 
 pub piece_concat : (m n : DraftBuilder) (t : Term) (o : Op) (ts : List Term) (b : PlaceBuild) (vs ws : List ℕ) → t ≡ term.Apply o ts → b ≡ build_of o → b ≡ build.Concat → ArePieced m n (pieces (seen_all ts)) vs ws → ArePieced m n (before (written (seen t)) end) vs ws
 piece_concat m n t o ts b vs ws i k e p = subst (λ ss. ArePieced m n ss vs ws) (sym (ap (λ s. before (written s) end) (seen_apply t o op.Concat ts i (concat_op o (sym k ∙ e))) ∙ before_concat (seen_all ts))) p
-
-before_other : (o : Op) (ss : Shapes) → (o ≡ op.Concat → ⊥) → before (written (apply o ss)) end ≡ written (apply o ss) ⨾ end
-before_other op.Concat ss h = absurd (h refl)
-before_other op.Replace end h = refl
-before_other op.Replace (s ⨾ ss) h = refl
-before_other op.ReplaceAll end h = refl
-before_other op.ReplaceAll (s ⨾ ss) h = refl
-before_other _ ss h = refl
-
-before_leaf : (t : Term) → ((o : Op) (ts : List Term) → t ≡ term.Apply o ts → ⊥) → before (written (seen t)) end ≡ written (seen t) ⨾ end
-before_leaf t h = by_shape (seen t) (raw-seen t)
-  where
-    by_shape : (s : Shape) → raw s ≡ t → before (written s) end ≡ written s ⨾ end
-    by_shape (apply o ss) e = absurd (h o _ (sym e))
-    by_shape (truth b) e = refl
-    by_shape (number n) e = refl
-    by_shape (text w) e = refl
-    by_shape (constant n s) e = refl
-    by_shape (member s r) e = refl
-    by_shape (related m s u) e = refl
-    by_shape (opaque s) e = refl
 
 pub piece_other : (m n : DraftBuilder) (t : Term) (o : Op) (ts : List Term) (b : PlaceBuild) (i : ℕ) (vs ws : List ℕ) → t ≡ term.Apply o ts → b ≡ build_of o → (b ≡ build.Concat → ⊥) → IsTermMet m n (written (seen t)) i → ws ≡ vs ++ i ∷ [] → ArePieced m n (before (written (seen t)) end) vs ws
 piece_other m n t o ts b i vs ws e k h p q =

@@ -4,12 +4,13 @@ use Rattle.std.specs.Prelude.{if◌then◌else◌}
 use Rattle.std.specs.List.{AllByRecursion, list_any}
 use Rattle.std.specs.Map.{lookup}
 use Rattle.std.specs.Cmp.Lexicographic.{pointwise}
+use Rattle.std.proofs.lemmas.Bool.{false≢true, and_parts}
+use Rattle.sv_list.specs.Lists.{AllByRecursion-push}
 use Rattle.sv_terms.specs.declared.op.Op.{Op}
 use Rattle.sv_terms.specs.declared.op.Op.TheVariants as op
 use Rattle.sv_terms.specs.declared.sort.Sort.{Sort}
 use Rattle.sv_terms.specs.declared.sort.Sort.TheVariants as sort
 use Rattle.sv_terms.specs.declared.transducer.Transducer.{Transducer}
-use Rattle.literal_forms.specs.Alike.{and_parts}
 use Rattle.literal_forms.specs.Codes.{same}
 use Rattle.literal_forms.specs.Linear.{are_linear, are_strings, is_linear, is_product, is_string, linears, written}
 use Rattle.literal_forms.specs.Shapes.{Shape, Shapes, number, text, constant, apply, member, related, end, ◌⨾◌, head_sort, seen}
@@ -21,7 +22,6 @@ use Rattle.flat_cubes.specs.declared.definition.By.{By}
 use Rattle.flat_cubes.specs.declared.definition.By.TheVariants as by
 use Rattle.flat_cubes.specs.declared.variable.Own.{Own}
 use Rattle.flat_cubes.specs.declared.variable.Own.TheVariants as own
-use Rattle.flat_cubes.proofs.Members.{all_push, never}
 use Rattle.cube_draft.proofs.Ranges.{AreIn, DefinitionIn, PairIn, PartIn, RegisterIn, is_placed}
 use Rattle.cube_draft.proofs.Strings.{string_written}
 
@@ -44,16 +44,16 @@ mutual
   some_met (apply op.Concat (s ⨾ ss)) d e a =
       let t = apply op.Concat (s ⨾ ss) in
       let r = meet_all (s ⨾ ss) (with_term t d) in
-      known_some d (length d.terms, with_definition (length d.terms) (by.Concat r.0) r.1) (place_of t d.terms) a (all_push SomeUsed r.1.definitions (length d.terms, by.Concat r.0) (some_all_met (s ⨾ ss) (with_term t d) e a) (omega arith))
+      known_some d (length d.terms, with_definition (length d.terms) (by.Concat r.0) r.1) (place_of t d.terms) a (AllByRecursion-push SomeUsed r.1.definitions (length d.terms, by.Concat r.0) (some_all_met (s ⨾ ss) (with_term t d) e a) (omega arith))
   some_met (apply op.Replace (s ⨾ text p ⨾ text u ⨾ end)) d e a =
       let t = apply op.Replace (s ⨾ text p ⨾ text u ⨾ end) in
       let r = meet s (with_term t d) in
-      known_some d (length d.terms, with_definition (length d.terms) (by.First p u r.0) r.1) (place_of t d.terms) a (all_push SomeUsed r.1.definitions (length d.terms, by.First p u r.0) (some_met s (with_term t d) e a) (omega arith))
+      known_some d (length d.terms, with_definition (length d.terms) (by.First p u r.0) r.1) (place_of t d.terms) a (AllByRecursion-push SomeUsed r.1.definitions (length d.terms, by.First p u r.0) (some_met s (with_term t d) e a) (omega arith))
   some_met (apply op.ReplaceAll (s ⨾ text p ⨾ text u ⨾ end)) d e a =
       let t = apply op.ReplaceAll (s ⨾ text p ⨾ text u ⨾ end) in
       let r = meet s (with_term t d) in
-      known_some d (length d.terms, with_definition (length d.terms) (by.All p u r.0) r.1) (place_of t d.terms) a (all_push SomeUsed r.1.definitions (length d.terms, by.All p u r.0) (some_met s (with_term t d) e a) (omega arith))
-  some_met _ d e a = absurd (never e)
+      known_some d (length d.terms, with_definition (length d.terms) (by.All p u r.0) r.1) (place_of t d.terms) a (AllByRecursion-push SomeUsed r.1.definitions (length d.terms, by.All p u r.0) (some_met s (with_term t d) e a) (omega arith))
+  some_met _ d e a = absurd (false≢true e)
 
   some_all_met : (ss : Shapes) (d : DraftView) → are_strings ss ≡ true → AllByRecursion SomeUsed d.definitions → AllByRecursion SomeUsed (meet_all ss d).1.definitions
   some_all_met end d e a = a
@@ -73,7 +73,7 @@ proper_register s d false e p =
     let r = meet s d in
     let q = proper_met s d e p in
     record {
-      inside = record { parts = q.inside.parts; definitions = q.inside.definitions; equalities = q.inside.equalities; registers = all_push (RegisterIn (length r.1.terms)) r.1.registers (s, r.0) q.inside.registers (is_placed s d e).place };
+      inside = record { parts = q.inside.parts; definitions = q.inside.definitions; equalities = q.inside.equalities; registers = AllByRecursion-push (RegisterIn (length r.1.terms)) r.1.registers (s, r.0) q.inside.registers (is_placed s d e).place };
       some = q.some;
     }
 
@@ -90,16 +90,16 @@ mutual
   proper_unknowns (apply op.Add (s ⨾ ss)) d e p = proper_all_unknowns (s ⨾ ss) d e p
   proper_unknowns (apply op.Subtract (s ⨾ ss)) d e p = proper_all_unknowns (s ⨾ ss) d e p
   proper_unknowns (apply op.Multiply (s ⨾ ss)) d e p = proper_all_unknowns (s ⨾ ss) d (and_parts (is_linear s && are_linear ss) (is_product (linears (s ⨾ ss))) e).0 p
-  proper_unknowns (apply op.Length (s ⨾ t ⨾ ss)) d e p = absurd (never e)
-  proper_unknowns (apply op.Length (s ⨾ end)) d e p = absurd (never e)
-  proper_unknowns _ d e p = absurd (never e)
+  proper_unknowns (apply op.Length (s ⨾ t ⨾ ss)) d e p = absurd (false≢true e)
+  proper_unknowns (apply op.Length (s ⨾ end)) d e p = absurd (false≢true e)
+  proper_unknowns _ d e p = absurd (false≢true e)
 
   proper_all_unknowns : (ss : Shapes) (d : DraftView) → are_linear ss ≡ true → IsProper d → IsProper (meet_all_unknowns ss d)
   proper_all_unknowns end d e p = p
   proper_all_unknowns (s ⨾ ss) d e p = let h = and_parts (is_linear s) (are_linear ss) e in proper_all_unknowns ss (meet_unknowns s d) h.1 (proper_unknowns s d h.0 p)
 
 -- what is said of terms of written forms
-abbrev IsFormedSaid : Said → Type 0
+abbrev pub IsFormedSaid : Said → Type 0
 IsFormedSaid (value_is n b) = Unit {0}
 IsFormedSaid (compares o s t b) = (is_linear s ≡ true) × (is_linear t ≡ true)
 IsFormedSaid (holds b) = Unit {0}
@@ -110,7 +110,7 @@ IsFormedSaid outside = ⊥
 
 where_formed : (c : Bool) (x : Said) → is_outside (where_true c x) ≡ false → (c ≡ true → IsFormedSaid x) → IsFormedSaid (where_true c x)
 where_formed true x o k = k refl
-where_formed false x o k = absurd (never (sym o))
+where_formed false x o k = absurd (false≢true (sym o))
 
 part_formed : (s : Shape) (p : Own) (b : Bool) → is_outside (part_said s p b) ≡ false → IsFormedSaid (part_said s p b)
 part_formed s p b o = where_formed (is_string s) (has_part s p b) o (λ e. e)
@@ -119,7 +119,7 @@ row_formed : (p : Op) (s t : Shape) (b : Bool) → is_outside (row_said p s t b)
 row_formed p s t b o = where_formed (is_linear s && is_linear t) (compares p s t b) o (λ e. and_parts (is_linear s) (is_linear t) e)
 
 one_formed : (s t : Shape) (b : Bool) → is_outside (one_said s t b) ≡ false → IsFormedSaid (one_said s t b)
-one_formed s t false o = absurd (never (sym o))
+one_formed s t false o = absurd (false≢true (sym o))
 one_formed s t true o = where_formed (is_string s && is_string t) (are_one s t) o (λ e. and_parts (is_string s) (is_string t) e)
 
 string_formed : (s t : Shape) (b : Bool) → is_outside (string_said s t b) ≡ false → IsFormedSaid (string_said s t b)
@@ -131,18 +131,18 @@ string_formed s t b o = one_formed s t b o
 equal_formed : (k : Sort) (s t : Shape) (b : Bool) → is_outside (equality_said k s t b) ≡ false → IsFormedSaid (equality_said k s t b)
 equal_formed sort.String s t b o = string_formed s t b o
 equal_formed sort.Int s t true o = row_formed op.Equal s t true o
-equal_formed sort.Int s t false o = absurd (never (sym o))
-equal_formed sort.Bool s t b o = absurd (never (sym o))
-equal_formed sort.RegLan s t b o = absurd (never (sym o))
+equal_formed sort.Int s t false o = absurd (false≢true (sym o))
+equal_formed sort.Bool s t b o = absurd (false≢true (sym o))
+equal_formed sort.RegLan s t b o = absurd (false≢true (sym o))
 
 constant_formed : (n : List ℕ) (s : Sort) (b : Bool) → is_outside (constant_said n s b) ≡ false → IsFormedSaid (constant_said n s b)
 constant_formed n sort.Bool b o = tt
-constant_formed n sort.Int b o = absurd (never (sym o))
-constant_formed n sort.String b o = absurd (never (sym o))
-constant_formed n sort.RegLan b o = absurd (never (sym o))
+constant_formed n sort.Int b o = absurd (false≢true (sym o))
+constant_formed n sort.String b o = absurd (false≢true (sym o))
+constant_formed n sort.RegLan b o = absurd (false≢true (sym o))
 
 pair_formed : (t : Transducer) (s u : Shape) (b : Bool) → is_outside (pair_said t s u b) ≡ false → IsFormedSaid (pair_said t s u b)
-pair_formed t s u false o = absurd (never (sym o))
+pair_formed t s u false o = absurd (false≢true (sym o))
 pair_formed t s u true o = where_formed (is_string s && is_string u) (written_by t s u) o (λ e. and_parts (is_string s) (is_string u) e)
 
 atom_formed : (s : Shape) (b : Bool) → is_outside (atom_said s b) ≡ false → IsFormedSaid (atom_said s b)
@@ -158,7 +158,7 @@ atom_formed (apply op.PrefixOf (text p ⨾ s ⨾ end)) b o = part_formed s (own.
 atom_formed (apply op.SuffixOf (text p ⨾ s ⨾ end)) b o = part_formed s (own.Suffix p) b o
 atom_formed (apply op.Contains (s ⨾ text p ⨾ end)) b o = part_formed s (own.Contains p) b o
 atom_formed (apply op.IsDigit (s ⨾ end)) b o = part_formed s own.Digit b o
-atom_formed _ b o = absurd (never (sym o))
+atom_formed _ b o = absurd (false≢true (sym o))
 
 proper_value : (o : Option Bool) (n : List ℕ) (b : Bool) (d : DraftView) → IsProper d → IsProper (with_value o n b d)
 proper_value None n b d p = record { inside = record { parts = p.inside.parts; definitions = p.inside.definitions; equalities = p.inside.equalities; registers = p.inside.registers }; some = p.some }
@@ -174,7 +174,7 @@ proper_add (has_part s o b) d f p =
     let r = meet (written s) d in
     let q = proper_met (written s) d (string_written s f) p in
     record {
-      inside = record { parts = all_push (PartIn (length r.1.terms)) r.1.parts (r.0, (o, b)) q.inside.parts (is_placed (written s) d (string_written s f)).place; definitions = q.inside.definitions; equalities = q.inside.equalities; registers = q.inside.registers };
+      inside = record { parts = AllByRecursion-push (PartIn (length r.1.terms)) r.1.parts (r.0, (o, b)) q.inside.parts (is_placed (written s) d (string_written s f)).place; definitions = q.inside.definitions; equalities = q.inside.equalities; registers = q.inside.registers };
       some = q.some;
     }
 proper_add (are_one s t) d f p =
@@ -186,7 +186,7 @@ proper_add (are_one s t) d f p =
     let i = first.place in
     let g = second.grows in
     record {
-      inside = record { parts = q.inside.parts; definitions = q.inside.definitions; equalities = all_push (PairIn (length r.1.terms)) r.1.equalities (k.0, r.0) q.inside.equalities (omega arith, second.place); registers = q.inside.registers };
+      inside = record { parts = q.inside.parts; definitions = q.inside.definitions; equalities = AllByRecursion-push (PairIn (length r.1.terms)) r.1.equalities (k.0, r.0) q.inside.equalities (omega arith, second.place); registers = q.inside.registers };
       some = q.some;
     }
 proper_add (written_by m s t) d f p =
@@ -198,8 +198,8 @@ proper_add (written_by m s t) d f p =
     let i = first.place in
     let g = second.grows in
     record {
-      inside = record { parts = q.inside.parts; definitions = all_push (DefinitionIn (length r.1.terms)) r.1.definitions (r.0, by.Through m k.0) q.inside.definitions (second.place, (omega arith, tt)); equalities = q.inside.equalities; registers = q.inside.registers };
-      some = all_push SomeUsed r.1.definitions (r.0, by.Through m k.0) q.some (omega arith);
+      inside = record { parts = q.inside.parts; definitions = AllByRecursion-push (DefinitionIn (length r.1.terms)) r.1.definitions (r.0, by.Through m k.0) q.inside.definitions (second.place, (omega arith, tt)); equalities = q.inside.equalities; registers = q.inside.registers };
+      some = AllByRecursion-push SomeUsed r.1.definitions (r.0, by.Through m k.0) q.some (omega arith);
     }
 proper_add outside d f p = absurd f
 

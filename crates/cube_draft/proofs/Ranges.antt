@@ -3,6 +3,8 @@ use Rattle.std.proofs.Common.{◌≡◌, refl, Bool, true, false, ℕ, suc, ◌+
 use Rattle.std.specs.Prelude.{if◌then◌else◌}
 use Rattle.std.specs.List.{AllByRecursion}
 use Rattle.std.specs.Option.{option_map}
+use Rattle.std.proofs.lemmas.Bool.{and_parts}
+use Rattle.sv_list.specs.Lists.{AllByRecursion-weaker, AllByRecursion-push}
 use Rattle.sv_terms.specs.declared.op.Op.TheVariants as op
 use Rattle.literal_forms.specs.Shapes.{Shape, Shapes, text, constant, apply, end, ◌⨾◌}
 use Rattle.literal_forms.specs.Codes.{same}
@@ -14,15 +16,9 @@ use Rattle.flat_cubes.specs.declared.variable.Own.{Own}
 use Rattle.flat_cubes.specs.declared.variable.Own.TheVariants as own
 use Rattle.flat_cubes.specs.declared.definition.By.{By}
 use Rattle.flat_cubes.specs.declared.definition.By.TheVariants as by
-use Rattle.literal_forms.specs.Alike.{and_parts}
-use Rattle.flat_cubes.proofs.Members.{all_push}
-
-pub all_weaker : {X : Type 0} (P Q : X → Type 0) → ((x : X) → P x → Q x) → (xs : List X) → AllByRecursion P xs → AllByRecursion Q xs
-all_weaker P Q f [] a = tt
-all_weaker P Q f (x ∷ xs) a = (f x a.0, all_weaker P Q f xs a.1)
 
 below_more : (n m : ℕ) → n ≤ m → (vs : List ℕ) → AreBelow n vs → AreBelow m vs
-below_more n m h vs a = all_weaker (λ v. v < n) (λ v. v < m) (λ v l. omega arith) vs a
+below_more n m h vs a = AllByRecursion-weaker (λ v. v < n) (λ v. v < m) (λ v l. omega arith) vs a
 
 abbrev pub PartIn : ℕ → ℕ × (Own × Bool) → Type 0
 PartIn n p = p.0 < n
@@ -45,10 +41,10 @@ pub record AreIn (n : ℕ) (d : DraftView) : Type 0 where
 
 pub in_more : (n m : ℕ) (d : DraftView) → n ≤ m → AreIn n d → AreIn m d
 in_more n m d h a = record {
-  parts = all_weaker (PartIn n) (PartIn m) (λ p l. omega arith) d.parts a.parts;
-  definitions = all_weaker (DefinitionIn n) (DefinitionIn m) (λ e l. (omega arith, below_more n m h (used e.1) l.1)) d.definitions a.definitions;
-  equalities = all_weaker (PairIn n) (PairIn m) (λ e l. (omega arith, omega arith)) d.equalities a.equalities;
-  registers = all_weaker (RegisterIn n) (RegisterIn m) (λ r l. omega arith) d.registers a.registers;
+  parts = AllByRecursion-weaker (PartIn n) (PartIn m) (λ p l. omega arith) d.parts a.parts;
+  definitions = AllByRecursion-weaker (DefinitionIn n) (DefinitionIn m) (λ e l. (omega arith, below_more n m h (used e.1) l.1)) d.definitions a.definitions;
+  equalities = AllByRecursion-weaker (PairIn n) (PairIn m) (λ e l. (omega arith, omega arith)) d.equalities a.equalities;
+  registers = AllByRecursion-weaker (RegisterIn n) (RegisterIn m) (λ r l. omega arith) d.registers a.registers;
 }
 
 -- a term is met at a place that is there, and nothing is lost
@@ -101,7 +97,7 @@ text_placed s o d =
       grows = omega arith;
       place = omega arith;
       keeps = λ a. let b = in_more (length d.terms) (length (with_term s d).terms) d (omega arith) a in
-          record { parts = all_push (PartIn (length (with_term s d).terms)) d.parts (length d.terms, (o, true)) b.parts (omega arith); definitions = b.definitions; equalities = b.equalities; registers = b.registers };
+          record { parts = AllByRecursion-push (PartIn (length (with_term s d).terms)) d.parts (length d.terms, (o, true)) b.parts (omega arith); definitions = b.definitions; equalities = b.equalities; registers = b.registers };
     }
 
 -- a compound term, once its arguments are met
@@ -113,7 +109,7 @@ compound_placed t d b e g k u =
       place = omega arith;
       keeps = λ a.
           let c = k ((constant_placed t d).keeps a) in
-          record { parts = c.parts; definitions = all_push (DefinitionIn (length e.terms)) e.definitions (length d.terms, b) c.definitions (omega arith, u); equalities = c.equalities; registers = c.registers };
+          record { parts = c.parts; definitions = AllByRecursion-push (DefinitionIn (length e.terms)) e.definitions (length d.terms, b) c.definitions (omega arith, u); equalities = c.equalities; registers = c.registers };
     }
 
 mutual

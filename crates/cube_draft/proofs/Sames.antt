@@ -1,11 +1,12 @@
 -- String terms of a written form that have one code are one term.
 use Rattle.std.proofs.Common.{◌≡◌, refl, sym, ap, ◌∙◌, ℕ, Bool, true, false, List, [], ◌∷◌, nat_eq, arith}
 use Rattle.std.specs.Prelude.{if◌then◌else◌}
+use Rattle.std.proofs.lemmas.Bool.{and_parts}
 use Rattle.sv_terms.specs.declared.op.Op.{Op}
 use Rattle.sv_terms.specs.declared.op.Op.TheVariants as op
 use Rattle.sv_terms.specs.declared.sort.Sort.{Sort}
 use Rattle.sv_terms.specs.declared.sort.Sort.TheVariants as sort
-use Rattle.literal_forms.specs.Alike.{and_parts, code_is, code_self}
+use Rattle.literal_forms.specs.Alike.{code_is, code_self}
 use Rattle.literal_forms.specs.Codes.{Code, word, pair, code, codes, op_number, same, sort_number}
 use Rattle.literal_forms.specs.Linear.{are_strings, is_string}
 use Rattle.literal_forms.specs.Shapes.{Shape, Shapes, text, constant, apply, end, ◌⨾◌}

@@ -2,6 +2,7 @@
 use Rattle.std.proofs.Common.{◌≡◌, refl, sym, ap, ◌∙◌, subst, Bool, true, false, not, ◌&&◌, ◌||◌, ◌↔◌, IsTrue, IfOk, Result, ℕ, List, [], ◌∷◌, ◌++◌, length, get_or, nat_eq, arith}
 use Rattle.std.specs.declared.alloc.AllocError.{AllocError}
 use Rattle.std.specs.Cmp.Lexicographic.{pointwise, same_text}
+use Rattle.sv_list.specs.Bools.{and-false}
 use Rattle.sv_terms.specs.declared.op.Op.{Op}
 use Rattle.sv_terms.specs.declared.op.Op.TheVariants as op
 use Rattle.sv_terms.specs.declared.sort.Sort.{Sort}
@@ -159,12 +160,8 @@ one_not m s t b e = left_out m _ (ap (λ c. is_outside (one_said s t c)) e)
 pub one_left_not : (m : DraftBuilder) (s t : Term) (b r : Bool) → b ≡ true → r ≡ is_string (seen s) → r ≡ false → IsLiteralAdded m m (one_said (seen s) (seen t) b) kind.Outside
 one_left_not m s t b r e f g = left_out m _ (ap (λ c. is_outside (one_said (seen s) (seen t) c)) e ∙ one_outside (seen s) (seen t) false (is_string (seen t)) (sym f ∙ g) refl refl)
 
-and_false : (c : Bool) → (c && false) ≡ false
-and_false true = refl
-and_false false = refl
-
 pub one_right_not : (m : DraftBuilder) (s t : Term) (b r : Bool) → b ≡ true → r ≡ is_string (seen t) → r ≡ false → IsLiteralAdded m m (one_said (seen s) (seen t) b) kind.Outside
-one_right_not m s t b r e f g = left_out m _ (ap (λ c. is_outside (one_said (seen s) (seen t) c)) e ∙ one_outside (seen s) (seen t) (is_string (seen s)) false refl (sym f ∙ g) (and_false (is_string (seen s))))
+one_right_not m s t b r e f g = left_out m _ (ap (λ c. is_outside (one_said (seen s) (seen t) c)) e ∙ one_outside (seen s) (seen t) (is_string (seen s)) false refl (sym f ∙ g) (and-false (is_string (seen s))))
 
 one_is : (s t : Shape) → is_string s ≡ true → is_string t ≡ true → one_said s t true ≡ are_one s t
 one_is s t e f = rw e (rw f refl)
@@ -190,7 +187,7 @@ pub pair_left_not : (m : DraftBuilder) (t : Transducer) (s u : Term) (b r : Bool
 pair_left_not m t s u b r e f g = left_out m _ (ap (λ c. is_outside (pair_said t (seen s) (seen u) c)) e ∙ pair_outside t (seen s) (seen u) false (is_string (seen u)) (sym f ∙ g) refl refl)
 
 pub pair_right_not : (m : DraftBuilder) (t : Transducer) (s u : Term) (b r : Bool) → b ≡ true → r ≡ is_string (seen u) → r ≡ false → IsLiteralAdded m m (pair_said t (seen s) (seen u) b) kind.Outside
-pair_right_not m t s u b r e f g = left_out m _ (ap (λ c. is_outside (pair_said t (seen s) (seen u) c)) e ∙ pair_outside t (seen s) (seen u) (is_string (seen s)) false refl (sym f ∙ g) (and_false (is_string (seen s))))
+pair_right_not m t s u b r e f g = left_out m _ (ap (λ c. is_outside (pair_said t (seen s) (seen u) c)) e ∙ pair_outside t (seen s) (seen u) (is_string (seen s)) false refl (sym f ∙ g) (and-false (is_string (seen s))))
 
 pub pair_added : (m a b n : DraftBuilder) (t v : Transducer) (s u : Term) (p q r : Bool) (i j : ℕ) → p ≡ true → q ≡ is_string (seen s) → q ≡ true → r ≡ is_string (seen u) → r ≡ true → IsTermMet m a (written (seen s)) i → IsTermMet a b (written (seen u)) j → v ≡ t → n ≡ record b { definitions = b.definitions ++ (j, by.Through v i) ∷ [] } → IsLiteralAdded m n (pair_said t (seen s) (seen u) p) kind.Written
 pair_added m a b n t v s u p q r i j z e f g h k l w o = added_as m n _ (written_by t (seen s) (seen u)) kind.Written (ap (pair_said t (seen s) (seen u)) z ∙ pair_is t (seen s) (seen u) (sym e ∙ f) (sym g ∙ h)) (record {
@@ -211,7 +208,7 @@ pub row_left_not : (m : DraftBuilder) (o : Op) (s t : Term) (b r : Bool) → r �
 row_left_not m o s t b r e f = left_out m _ (row_outside o (seen s) (seen t) b false (is_linear (seen t)) (sym e ∙ f) refl refl)
 
 pub row_right_not : (m : DraftBuilder) (o : Op) (s t : Term) (b r : Bool) → r ≡ is_linear (seen t) → r ≡ false → IsLiteralAdded m m (row_said o (seen s) (seen t) b) kind.Outside
-row_right_not m o s t b r e f = left_out m _ (row_outside o (seen s) (seen t) b (is_linear (seen s)) false refl (sym e ∙ f) (and_false (is_linear (seen s))))
+row_right_not m o s t b r e f = left_out m _ (row_outside o (seen s) (seen t) b (is_linear (seen s)) false refl (sym e ∙ f) (and-false (is_linear (seen s))))
 
 pub row_added : (m a c n : DraftBuilder) (o : Op) (s t : Term) (b q r : Bool) → q ≡ is_linear (seen s) → q ≡ true → r ≡ is_linear (seen t) → r ≡ true → IsCounted m a (seen s) → IsCounted a c (seen t) → Becomes c n (with_comparison (record { op = o; left = seen s; right = seen t; positive = b })) → IsLiteralAdded m n (row_said o (seen s) (seen t) b) kind.Written
 row_added m a c n o s t b q r e f g h k l w = added_as m n _ (compares o (seen s) (seen t) b) kind.Written (row_is o (seen s) (seen t) b (sym e ∙ f) (sym g ∙ h)) (record {

@@ -2,12 +2,12 @@
 use Rattle.std.proofs.Common.{◌≡◌, refl, sym, ap, ◌∙◌, subst, Bool, true, false, ◌||◌, ℕ, ◌+◌, ◌<◌, ◌≤◌, List, [], ◌∷◌, length, arith}
 use Rattle.std.specs.Prelude.{nat_eq, Contains}
 use Rattle.std.specs.List.{AllByRecursion}
-use Rattle.std.proofs.lemmas.Bool.{eq-eqb}
+use Rattle.std.proofs.lemmas.Bool.{eq-eqb, or_right, or_parts}
 use Rattle.flat_cubes.specs.Using.{is_defined, used}
 use Rattle.flat_cubes.specs.Flattening.{IsCycle, NoCycle, Uses, UsesInTurn, ordered}
 use Rattle.flat_cubes.specs.Straight.{InOrder}
 use Rattle.flat_cubes.specs.declared.definition.Definition.{Definition}
-use Rattle.flat_cubes.proofs.Members.{all_at, all_contains, neither}
+use Rattle.flat_cubes.proofs.Members.{all_at, all_contains}
 use Rattle.cube_order.proofs.Ordered.{ordered_back}
 
 -- in how many ends of the list a variable is defined
@@ -22,7 +22,7 @@ ends (d ∷ ds) v = one_if (is_defined (d ∷ ds) v) + ends ds v
 no_ends : (v : ℕ) (ds : List Definition) → is_defined ds v ≡ false → ends ds v ≡ 0
 no_ends v [] e = refl
 no_ends v (d ∷ ds) e =
-    let h = neither (nat_eq d.variable v) (is_defined ds v) e in
+    let h = or_parts (nat_eq d.variable v) (is_defined ds v) e in
     let k = no_ends v ds h.1 in
     ap (λ b. one_if b + ends ds v) e ∙ omega arith
 
@@ -35,17 +35,13 @@ one_at_most : (b : Bool) → one_if b ≤ 1
 one_at_most true = omega arith
 one_at_most false = omega arith
 
-or_true : (a b : Bool) → b ≡ true → (a || b) ≡ true
-or_true true b e = refl
-or_true false b e = e
-
 -- a variable that a definition uses is defined in fewer ends
 abbrev Before : List Definition → Definition → Type 0
 Before ds e = (is_defined ds e.variable ≡ true) × ((w : ℕ) → Contains (used e.by) w → ends ds w < ends ds e.variable)
 
 later : (d : Definition) (ds : List Definition) (e : Definition) → Before ds e → Before (d ∷ ds) e
 later d ds e h =
-    let q : is_defined (d ∷ ds) e.variable ≡ true = or_true (nat_eq d.variable e.variable) (is_defined ds e.variable) h.0 in
+    let q : is_defined (d ∷ ds) e.variable ≡ true = or_right (nat_eq d.variable e.variable) (is_defined ds e.variable) h.0 in
     (q, λ w c. let k = h.1 w c in let l = one_at_most (is_defined (d ∷ ds) w) in subst (λ b. one_if (is_defined (d ∷ ds) w) + ends ds w < one_if b + ends ds e.variable) (sym q) (omega arith))
 
 all_later : (d : Definition) (ds es : List Definition) → AllByRecursion (Before ds) es → AllByRecursion (Before (d ∷ ds)) es

@@ -1,28 +1,16 @@
 -- Terms by other numbers of their unknowns.
-use Rattle.std.proofs.Common.{◌≡◌, ◌≢◌, refl, sym, ap, ◌∙◌, subst, ℕ, zero, suc, ◌+◌, ◌^◌, ◌<◌, ◌≤◌, inl, inr, ℤ, pos, ◌+ℤ◌, Bool, true, false, List, [], ◌∷◌, ◌++◌, length, get_or, take, Option, Some, None, unsigned_abs, eqb, cond, arith}
+use Rattle.std.proofs.Common.{◌≡◌, ◌≢◌, refl, sym, ap, ◌∙◌, subst, ℕ, zero, suc, ◌+◌, ◌^◌, ◌<◌, ◌≤◌, inl, inr, ℤ, pos, ◌+ℤ◌, Bool, true, false, List, [], ◌∷◌, ◌++◌, length, get_or, take, Option, Some, None, unsigned_abs, eqb, cond, arith, take_all}
 use Rattle.std.proofs.Math.Seq.{take-suc}
 use Rattle.std.proofs.lemmas.Bool.{cases_eq, cases_lt, eq-eqb, eqb-true}
 use Rattle.sv_linear.specs.Terms.{AscendsWithin, coefficient}
 use Rattle.std.specs.Prelude.{slice_get}
 use Rattle.std.specs.List.{AllZip}
+use Rattle.std.proofs.lemmas.Option.{get_or_from_slice_get}
+use Rattle.sv_list.specs.Lists.{AllZip-push}
 use Rattle.sv_linear.specs.TermLaws.{passed}
 use Rattle.sv_linear.specs.declared.row.Row.{Row}
+use Rattle.sv_linear.proofs.Ascending.{AscendsWithin-append}
 use Rattle.cube_order.specs.Columns.{AreNumbersWithin, IsRenumberedRow, Rises, chosen, with_term}
-use Rattle.cube_order.proofs.Marks.{take_whole}
-use Rattle.cube_order.proofs.Sorted.{get_item}
-
-pub lower_low : (low more high : ℕ) (ts : List (ℕ × ℤ)) → low ≤ more → AscendsWithin more high ts → AscendsWithin low high ts
-lower_low low more high [] l a = omega arith
-lower_low low more high (t ∷ ts) l a = let m = a.0 in (omega arith, a.1)
-
-pub higher_high : (low high more : ℕ) (ts : List (ℕ × ℤ)) → high ≤ more → AscendsWithin low high ts → AscendsWithin low more ts
-higher_high low high more [] l a = omega arith
-higher_high low high more (t ∷ ts) l a = (a.0, (a.1.0, higher_high (t.0 + 1) high more ts l a.1.1))
-
--- terms behind lower ones
-pub joined_within : (low mid high : ℕ) (xs ys : List (ℕ × ℤ)) → AscendsWithin low mid xs → AscendsWithin mid high ys → AscendsWithin low high (xs ++ ys)
-joined_within low mid high [] ys a b = lower_low low mid high ys a b
-joined_within low mid high (x ∷ xs) ys a b = (a.0, (a.1.0, joined_within (x.0 + 1) mid high xs ys a.1.1 b))
 
 -- the terms before one of them
 pub taken_within : (low high : ℕ) (ts : List (ℕ × ℤ)) (i : ℕ) (d : ℕ × ℤ) → AscendsWithin low high ts → i < length ts → AscendsWithin low (get_or ts i d).0 (take i ts)
@@ -70,25 +58,19 @@ module _ (base : ℕ) (numbers : List (Option ℕ)) (rising : Rises numbers) whe
 
   -- what was added before the i-th term is below its number
   pub chosen_below : (old : List (ℕ × ℤ)) (ts : List (ℕ × ℤ)) (i k : ℕ) (d : ℕ × ℤ) → AscendsWithin 0 base old → AscendsWithin 0 (2 ^ 32) ts → i < length ts → get_or numbers (get_or ts i d).0 None ≡ Some k → AscendsWithin 0 (base + k) (old ++ chosen base numbers (take i ts))
-  chosen_below old ts i k d a b l e = joined_within 0 base (base + k) old (chosen base numbers (take i ts)) a (chosen_within 0 (get_or ts i d).0 base (base + k) (take i ts) (taken_within 0 (2 ^ 32) ts i d b l) (omega arith) (λ u j m h q. let s = rising u (get_or ts i d).0 j k h q e in (omega arith, omega arith)))
+  chosen_below old ts i k d a b l e = AscendsWithin-append 0 base (base + k) old (chosen base numbers (take i ts)) a (chosen_within 0 (get_or ts i d).0 base (base + k) (take i ts) (taken_within 0 (2 ^ 32) ts i d b l) (omega arith) (λ u j m h q. let s = rising u (get_or ts i d).0 j k h q e in (omega arith, omega arith)))
 
 pub chosen_all : (numbers : List (Option ℕ)) → Rises numbers → (n : ℕ) → AreNumbersWithin n numbers → (ts : List (ℕ × ℤ)) → AscendsWithin 0 (2 ^ 32) ts → AscendsWithin 0 n ([] ++ chosen 0 numbers ts)
 chosen_all numbers rising n within ts a = chosen_within 0 numbers rising 0 (2 ^ 32) 0 n ts a (omega arith) (λ u k m h q. let s = within u k q in (omega arith, omega arith))
 
-zip_push : {X Y : Type 0} (R : X → Y → Type 0) (xs : List X) (ys : List Y) (x : X) (y : Y) → AllZip R xs ys → R x y → AllZip R (xs ++ x ∷ []) (ys ++ y ∷ [])
-zip_push R [] [] x y a r = (r, tt)
-zip_push R [] (z ∷ ys) x y a r = absurd a
-zip_push R (z ∷ xs) [] x y a r = absurd a
-zip_push R (z ∷ xs) (v ∷ ys) x y a r = (a.0, zip_push R xs ys x y a.1 r)
-
 pub renumbered_more : (base : ℕ) (integers registers : List (Option ℕ)) (rows renumbered renumbered' : List Row) (k : ℕ) (row next : Row) → k < length rows → slice_get rows k ≡ Some row → IsRenumberedRow base integers registers row next → renumbered' ≡ renumbered ++ next ∷ [] → AllZip (IsRenumberedRow base integers registers) (take k rows) renumbered → AllZip (IsRenumberedRow base integers registers) (take (k + 1) rows) renumbered'
 renumbered_more base integers registers rows renumbered renumbered' k row next l at r e a =
     let q : k + 1 ≡ suc k = omega arith in
-    let parts : take (k + 1) rows ≡ take k rows ++ row ∷ [] = ap (λ m. take m rows) q ∙ take-suc rows k row l ∙ ap (λ z. take k rows ++ z ∷ []) (get_item rows k row row at) in
-    subst (λ z. AllZip (IsRenumberedRow base integers registers) z renumbered') (sym parts) (subst (λ z. AllZip (IsRenumberedRow base integers registers) (take k rows ++ row ∷ []) z) (sym e) (zip_push (IsRenumberedRow base integers registers) (take k rows) renumbered row next a r))
+    let parts : take (k + 1) rows ≡ take k rows ++ row ∷ [] = ap (λ m. take m rows) q ∙ take-suc rows k row l ∙ ap (λ z. take k rows ++ z ∷ []) (get_or_from_slice_get rows k row row at) in
+    subst (λ z. AllZip (IsRenumberedRow base integers registers) z renumbered') (sym parts) (subst (λ z. AllZip (IsRenumberedRow base integers registers) (take k rows ++ row ∷ []) z) (sym e) (AllZip-push (IsRenumberedRow base integers registers) (take k rows) renumbered row next a r))
 
 pub renumbered_all : (base : ℕ) (integers registers : List (Option ℕ)) (rows renumbered : List Row) (k : ℕ) → length rows ≤ k → AllZip (IsRenumberedRow base integers registers) (take k rows) renumbered → AllZip (IsRenumberedRow base integers registers) rows renumbered
-renumbered_all base integers registers rows renumbered k l a = subst (λ z. AllZip (IsRenumberedRow base integers registers) z renumbered) (take_whole k rows l) a
+renumbered_all base integers registers rows renumbered k l a = subst (λ z. AllZip (IsRenumberedRow base integers registers) z renumbered) (take_all k rows l) a
 
 -- the coefficient at a number is that of its unknown
 module _ (base : ℕ) (numbers : List (Option ℕ)) (rising : Rises numbers) (u k : ℕ) (at : get_or numbers u None ≡ Some k) where

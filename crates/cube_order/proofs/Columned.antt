@@ -4,17 +4,13 @@ use Rattle.std.specs.Prelude.{slice_get}
 use Rattle.std.specs.List.{AllZip}
 use Rattle.std.proofs.lemmas.Int.{ints}
 use Rattle.std.proofs.lemmas.Bool.{cases_lt}
-use Rattle.sv_linear.specs.TermLaws.{above_high, below_low}
+use Rattle.sv_linear.specs.TermLaws.{above_high, below_low, coefficient-append}
 use Rattle.sv_linear.specs.Terms.{AscendsWithin, coefficient}
 use Rattle.sv_linear.specs.declared.row.Row.{Row}
 use Rattle.literal_forms.specs.Linear.{Unknown}
 use Rattle.cube_order.specs.Columns.{AreNumbersWithin, IsRenumberedRow, Rises, chosen}
 use Rattle.flat_cubes.specs.Flattening.{Bounded, IsRowFor, coefficient_at}
 use Rattle.cube_order.proofs.Chosen.{chosen_coefficient, chosen_within}
-
-coefficient_join : (v : ℕ) (xs ys : List (ℕ × ℤ)) → coefficient v (xs ++ ys) ≡ coefficient v xs +ℤ coefficient v ys
-coefficient_join v [] ys = omega (arith, ints)
-coefficient_join v (x ∷ xs) ys = let h = coefficient_join v xs ys in omega (arith, ints, h)
 
 -- each number below n is that of an unknown, which stands at this place of the list
 abbrev pub ReachesAll : List Unknown → List (Option ℕ) → List Unknown → Type 0
@@ -62,7 +58,7 @@ module _ (us xs ys : List Unknown) (integers registers : List (Option ℕ)) (ris
   row_renumbered b r r' a f g = record {
     kind = g.kind ∙ f.kind;
     constant = g.constant ∙ f.constant;
-    coefficients = λ v. ap (coefficient v) g.coefficients ∙ coefficient_join v (chosen 0 integers r.form.coefficients) (chosen base registers r.form.coefficients) ∙ elim (cases_lt v base) [
+    coefficients = λ v. ap (coefficient v) g.coefficients ∙ coefficient-append v (chosen 0 integers r.form.coefficients) (chosen base registers r.form.coefficients) ∙ elim (cases_lt v base) [
       | inl l ↦
           let t = there xs v l in
           let q = reach v t.0 t.1 in

@@ -3,6 +3,7 @@ use Rattle.std.proofs.Common.{◌≡◌, refl, sym, ap, ◌∙◌, subst, ℕ, �
 use Rattle.std.specs.Prelude.{filter}
 use Rattle.std.specs.List.{AllByRecursion, AllZip}
 use Rattle.std.proofs.lemmas.List.{length-map}
+use Rattle.sv_list.specs.Lists.{AllByRecursion-filter}
 use Rattle.sv_linear.specs.declared.row.Row.{Row}
 use Rattle.literal_forms.specs.Linear.{integer, length_of}
 use Rattle.literal_forms.specs.Shapes.{Shape}
@@ -27,7 +28,6 @@ use Rattle.flat_cubes.specs.declared.flat.Flat.{Flat}
 use Rattle.cube_order.specs.declared.rowing.Rows.{Rows}
 use Rattle.cube_order.specs.declared.wording.NumberedDefinitions.{NumberedDefinitions}
 use Rattle.cube_order.proofs.Acyclic.{acyclic}
-use Rattle.flat_cubes.proofs.Members.{filter_within}
 use Rattle.cube_order.proofs.Finished.{all_sound, definitions_met, in_order, least_are, place_count, variables_met}
 use Rattle.cube_order.proofs.Linked.{ordinal_within}
 use Rattle.cube_order.proofs.Traced.{at_most_once}
@@ -109,7 +109,7 @@ module _ (held : Held) (d : DraftView) (h : HoldsDraft held d) where
       flat = record { variables = w.variables; definitions = w.definitions; rows = s.rows; registers = s.registers; integers = s.integers; truths = held.truths; broken = held.broken }
 
       below : AllByRecursion (IsPlaceBelow places) (registers_for d.terms (all_bounded d) held.quantities)
-      below = filter_within (IsPlaceBelow places) (λ (r : Shape × ℕ). has_column (all_bounded d) (length_of r.0)) (registers_among d.terms held.quantities) (registers_below places d.terms held.quantities ready.quantities)
+      below = AllByRecursion-filter (IsPlaceBelow places) (λ (r : Shape × ℕ). has_column (all_bounded d) (length_of r.0)) (registers_among d.terms held.quantities) (registers_below places d.terms held.quantities ready.quantities)
 
       flat_of : IsFlatOf d flat
       flat_of = record {

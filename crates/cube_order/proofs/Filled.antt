@@ -1,7 +1,8 @@
 -- Variables to which names and parts were added.
-use Rattle.std.proofs.Common.{◌≡◌, refl, sym, ap, subst, ◌∙◌, ℕ, zero, suc, ◌+◌, ◌<◌, List, [], ◌∷◌, ◌++◌, length, get_or, replicate, take, length-take-le, append-nil, append_assoc, Option, Bool, arith}
+use Rattle.std.proofs.Common.{◌≡◌, refl, ap, subst, ◌∙◌, ℕ, suc, ◌+◌, ◌<◌, List, [], ◌∷◌, ◌++◌, length, get_or, replicate, take, length-take-le, Option, Bool, arith}
 use Rattle.std.proofs.Math.Seq.{take-suc}
 use Rattle.std.specs.List.{AllByRecursion}
+use Rattle.sv_list.specs.Lists.{replicate-end}
 use Rattle.cube_order.specs.Filling.{free_variable, named, named_all, parted, parted_all}
 use Rattle.flat_cubes.specs.declared.variable.Own.{Own}
 use Rattle.flat_cubes.specs.declared.variable.Variable.{Variable}
@@ -22,23 +23,11 @@ pub parted_more : (of : List ℕ) (ps : List (ℕ × (Own × Bool))) (p : ℕ ×
 parted_more of [] p vs = refl
 parted_more of (q ∷ ps) p vs = parted_more of ps p (parted (get_or of q.0 0) q.1 vs)
 
-replicate_end : {X : Type 0} (n : ℕ) (x : X) → replicate n x ++ x ∷ [] ≡ replicate (suc n) x
-replicate_end zero x = refl
-replicate_end (suc n) x = ap (λ xs. x ∷ xs) (replicate_end n x)
-
 pub filled_more : {X : Type 0} (n : ℕ) (x y : X) (xs ys : List X) → ys ≡ xs ++ y ∷ [] → y ≡ x → xs ≡ replicate n x → ys ≡ replicate (n + 1) x
-filled_more n x y xs ys e f g = let q : suc n ≡ n + 1 = omega arith in e ∙ ap (λ z. xs ++ z ∷ []) f ∙ ap (λ z. z ++ x ∷ []) g ∙ replicate_end n x ∙ ap (λ m. replicate m x) q
+filled_more n x y xs ys e f g = let q : suc n ≡ n + 1 = omega arith in e ∙ ap (λ z. xs ++ z ∷ []) f ∙ ap (λ z. z ++ x ∷ []) g ∙ replicate-end n x ∙ ap (λ m. replicate m x) q
 
 pub free_more : (n : ℕ) (v : Variable) (xs ys : List Variable) → ys ≡ xs ++ v ∷ [] → v.names ≡ [] → v.parts ≡ [] → xs ≡ replicate n free_variable → ys ≡ replicate (n + 1) free_variable
 free_more n v xs ys e f g h = filled_more n free_variable v xs ys e (λ i. record { names = f i; parts = g i }) h
-
--- a loop over what an iterator has: what was done, and what is left
-pub left_less : {X : Type 0} (all done rest rest' : List X) (x : X) → all ≡ done ++ rest → rest ≡ x ∷ rest' → all ≡ (done ++ x ∷ []) ++ rest'
-left_less all done rest rest' x e f = e ∙ ap (λ z. done ++ z) f ∙ sym (append_assoc done (x ∷ []) rest')
-
-pub all_done : {X : Type 0} (all done rest : List X) → all ≡ done ++ rest → length rest ≡ 0 → done ≡ all
-all_done all done [] e n = sym (e ∙ append-nil done)
-all_done all done (x ∷ rest) e n = absurd (omega arith)
 
 pub holds_next : {X : Type 0} (P : X → Type 0) (all done rest rest' : List X) (x : X) → AllByRecursion P all → all ≡ done ++ rest → rest ≡ x ∷ rest' → P x
 holds_next {X = X} P all done rest rest' x a e f = inside done (subst (λ z. AllByRecursion P z) (e ∙ ap (λ z. done ++ z) f) a)

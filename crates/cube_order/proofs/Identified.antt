@@ -1,26 +1,22 @@
 -- Places that are made one: each has the least place that is one with it.
-use Rattle.std.proofs.Common.{◌≡◌, refl, sym, ap, ◌∙◌, subst, ℕ, zero, suc, ◌<◌, ◌⊎◌, inl, inr, min, max, Bool, true, false, List, [], ◌∷◌, map, length, get_or, arith}
+use Rattle.std.proofs.Common.{◌≡◌, refl, sym, ap, ◌∙◌, subst, ℕ, ◌<◌, ◌⊎◌, inl, inr, min, max, Bool, true, false, List, [], ◌∷◌, length, get_or, arith}
 use Rattle.std.specs.Prelude.{nat_eq, if◌then◌else◌}
 use Rattle.std.specs.List.{AllByRecursion}
-use Rattle.std.proofs.lemmas.List.{length-map}
+use Rattle.std.proofs.lemmas.List.{length-map, get_or-map}
 use Rattle.std.proofs.lemmas.Bool.{cases_lt, eqb-true, eq-eqb}
+use Rattle.cube_order.specs.Leading.{ArePairsBelow}
 use Rattle.flat_cubes.specs.Flattening.{made_one, identified}
 
 -- the least place that is one with a place
 abbrev pub first : List ℕ → ℕ → ℕ
 first firsts i = get_or firsts i i
 
-pub at_map : (f : ℕ → ℕ) (xs : List ℕ) (i d e : ℕ) → i < length xs → get_or (map f xs) i d ≡ f (get_or xs i e)
-at_map f [] i d e h = absurd (omega arith)
-at_map f (x ∷ xs) zero d e h = refl
-at_map f (x ∷ xs) (suc i) d e h = at_map f xs i d e (omega arith)
-
 -- the change of one step
 abbrev pub step : ℕ → ℕ → ℕ → ℕ
 step a b r = if nat_eq r (max a b) then min a b else r
 
 made_at : (a b : ℕ) (xs : List ℕ) (i : ℕ) → i < length xs → first (made_one a b xs) i ≡ step a b (first xs i)
-made_at a b xs i h = at_map (step a b) xs i i i h
+made_at a b xs i h = get_or-map (step a b) xs i i i h
 
 pub made_length : (a b : ℕ) (xs : List ℕ) → length (made_one a b xs) ≡ length xs
 made_length a b xs = length-map xs (step a b)
@@ -87,20 +83,16 @@ module _ {X : Type 0} (ws : ℕ → X) where
       let l : i < length xs = subst (λ n. i < n) (made_length a b xs) h in
       g i l ∙ step_agrees a b (first xs i) e ∙ ap ws (sym (made_at a b xs i l))
 
-  -- pairs of places
-  abbrev pub Within : ℕ → List (ℕ × ℕ) → Type 0
-  Within n es = AllByRecursion (λ (e : ℕ × ℕ). (e.0 < n) × (e.1 < n)) es
-
   abbrev pub Equal : List (ℕ × ℕ) → Type 0
   Equal es = AllByRecursion (λ (e : ℕ × ℕ). ws e.0 ≡ ws e.1) es
 
-  pub identified_agrees : (es : List (ℕ × ℕ)) (xs : List ℕ) → Within (length xs) es → Equal es → Agree xs → Agree (identified es xs)
+  pub identified_agrees : (es : List (ℕ × ℕ)) (xs : List ℕ) → ArePairsBelow (length xs) es → Equal es → Agree xs → Agree (identified es xs)
   identified_agrees [] xs w q g = g
   identified_agrees (e ∷ es) xs w q g =
       let a = first xs e.0 in
       let b = first xs e.1 in
       let same : ws (first xs e.0) ≡ ws (first xs e.1) = sym (g e.0 w.0.0) ∙ q.0 ∙ g e.1 w.0.1 in
-      identified_agrees es (made_one (first xs e.0) (first xs e.1) xs) (subst (λ n. Within n es) (sym (made_length (first xs e.0) (first xs e.1) xs)) w.1) q.1 (made_agrees (first xs e.0) (first xs e.1) xs same g)
+      identified_agrees es (made_one (first xs e.0) (first xs e.1) xs) (subst (λ n. ArePairsBelow n es) (sym (made_length (first xs e.0) (first xs e.1) xs)) w.1) q.1 (made_agrees (first xs e.0) (first xs e.1) xs same g)
 
 -- what is one stays one
 abbrev pub AreOne : List ℕ → ℕ → ℕ → Type 0

@@ -3,6 +3,7 @@ use Rattle.std.proofs.Common.{◌≡◌, refl, sym, ap, ◌∙◌, subst, ℕ, z
 use Rattle.std.proofs.Math.Seq.{take-suc}
 use Rattle.std.proofs.lemmas.Bool.{cases_lt}
 use Rattle.std.proofs.lemmas.List.{get_or_past}
+use Rattle.std.proofs.lemmas.Option.{same_Some}
 use Rattle.cube_order.specs.Columns.{AreNumbersWithin, Rises}
 use Rattle.cube_order.specs.Keeping.{kept, kept_all, nothing_kept}
 use Rattle.flat_cubes.specs.declared.draft.Quantity.{Quantity}
@@ -35,7 +36,7 @@ at_push [] o (suc u) k e = absurd (cc)
 at_push (x ∷ xs) o zero k e = inl e
 at_push (x ∷ xs) o (suc u) k e = elim (at_push xs o u k e) [ inl h ↦ inl h | inr h ↦ inr (ap suc h.0, h.1) ]
 
-there : (xs : List (Option ℕ)) (u k : ℕ) → get_or xs u None ≡ Some k → u < length xs
+pub there : (xs : List (Option ℕ)) (u k : ℕ) → get_or xs u None ≡ Some k → u < length xs
 there xs u k e = elim (cases_lt u (length xs)) [ inl l ↦ l | inr l ↦ absurd (let h : None ≡ Some k = sym (get_or_past xs u None l) ∙ e in cc) ]
 
 counted_skip : (n : ℕ) (xs : List (Option ℕ)) → AreCounted n xs → AreCounted n (xs ++ None ∷ [])
@@ -47,16 +48,13 @@ counted_skip n xs c = record {
   within = λ u k e. elim (at_push xs None u k e) [ inl g ↦ c.within u k g | inr g ↦ absurd (let q = g.1 in cc) ];
 }
 
-some_is : (i k : ℕ) → Some i ≡ Some k → i ≡ k
-some_is i k e = cc
-
 counted_next : (n : ℕ) (xs : List (Option ℕ)) → AreCounted n xs → AreCounted (n + 1) (xs ++ Some n ∷ [])
 counted_next n xs c = record {
   rising = λ u w k j l e f. elim (at_push xs (Some n) u k e) [
-    | inl g ↦ elim (at_push xs (Some n) w j f) [ inl h ↦ c.rising u w k j l g h | inr h ↦ let q = some_is n j h.1 in let b = c.within u k g in omega arith ]
+    | inl g ↦ elim (at_push xs (Some n) w j f) [ inl h ↦ c.rising u w k j l g h | inr h ↦ let q = same_Some n j h.1 in let b = c.within u k g in omega arith ]
     | inr g ↦ elim (at_push xs (Some n) w j f) [ inl h ↦ let b = there xs w j h in let p = g.0 in absurd (omega arith) | inr h ↦ let p = g.0 in let q = h.0 in absurd (omega arith) ]
   ];
-  within = λ u k e. elim (at_push xs (Some n) u k e) [ inl g ↦ let b = c.within u k g in omega arith | inr g ↦ let q = some_is n k g.1 in omega arith ];
+  within = λ u k e. elim (at_push xs (Some n) u k e) [ inl g ↦ let b = c.within u k g in omega arith | inr g ↦ let q = same_Some n k g.1 in omega arith ];
 }
 
 abbrev pub IsCounted : KeptUnknowns → Type 0

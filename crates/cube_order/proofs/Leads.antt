@@ -3,10 +3,10 @@ use Rattle.std.proofs.Common.{◌≡◌, refl, sym, ap, ◌∙◌, subst, ℕ, z
 use Rattle.std.specs.Prelude.{slice_set}
 use Rattle.std.specs.List.{range_with_len}
 use Rattle.std.proofs.lemmas.Bool.{cases_eq}
-use Rattle.std.proofs.lemmas.List.{length-set}
-use Rattle.std.proofs.Math.Seq.{take-append_seam, take-suc}
+use Rattle.std.proofs.lemmas.List.{length-set, get_or-map}
+use Rattle.std.proofs.Math.Seq.{take-suc}
 use Rattle.std.proofs.lemmas.List.FromFn.{length-range_with_len, get_or-range_with_len}
-use Rattle.cube_order.proofs.Identified.{at_map, low_or_high, made_length, step, step_high, step_low, step_other}
+use Rattle.cube_order.proofs.Identified.{low_or_high, made_length, step, step_high, step_low, step_other}
 use Rattle.flat_cubes.specs.Flattening.{made_one, identified}
 use Rattle.cube_order.specs.Leading.{ArePairsBelow, IsForest, LeadsTo}
 
@@ -105,7 +105,7 @@ module _ (firsts : List ℕ) (a b : ℕ) (p : get_or firsts a 0 ≡ a) (q : get_
     new = slice_set above (max a b) (min a b)
 
     changed : (i : ℕ) → i < length above → get_or made i 0 ≡ step a b (get_or firsts i 0)
-    changed i h = at_map (step a b) firsts i 0 0 (subst (λ n. i < n) (sym f.count) h)
+    changed i h = get_or-map (step a b) firsts i 0 0 (subst (λ n. i < n) (sym f.count) h)
 
     made_low : get_or made (min a b) 0 ≡ min a b
     made_low = changed (min a b) (omega arith) ∙ step_low a b (get_or firsts (min a b) 0) low
@@ -168,6 +168,3 @@ starts_forest n i h =
 
 pub pairs_below : (n : ℕ) (xs : List ℕ) (es : List (ℕ × ℕ)) → xs ≡ range_with_len 0 n → ArePairsBelow n es → ArePairsBelow (length xs) es
 pairs_below n xs es e h = subst (λ m. ArePairsBelow m es) (sym (ap length e ∙ length-range_with_len 0 n)) h
-
-pub taken_all : {X : Type 0} (n : ℕ) (xs ys : List X) → length xs ≡ n → take n (xs ++ ys) ≡ xs
-taken_all n xs ys e = ap (λ k. take k (xs ++ ys)) (sym e) ∙ take-append_seam xs ys

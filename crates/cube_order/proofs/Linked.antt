@@ -1,9 +1,9 @@
 -- From places to variables: the number of a place's variable is the place of its root among the roots.
-use Rattle.std.proofs.Common.{◌≡◌, refl, sym, ap, ◌∙◌, subst, ℕ, zero, suc, ◌+◌, ◌<◌, ◌≤◌, inl, inr, max, Bool, true, false, List, [], ◌∷◌, map, length, get_or, cond, arith}
+use Rattle.std.proofs.Common.{◌≡◌, refl, sym, ap, ◌∙◌, subst, ℕ, zero, suc, ◌+◌, ◌<◌, ◌≤◌, inl, inr, max, Bool, true, false, List, [], ◌∷◌, map, length, get_or, cond, arith, lt-ltb, le-ltb}
 use Rattle.std.specs.Prelude.{nat_eq}
 use Rattle.std.specs.List.{AllByRecursion, range_with_len}
 use Rattle.std.proofs.lemmas.Bool.{cases_eq, eq-eqb, eqb-true}
-use Rattle.std.proofs.lemmas.List.{get_or_default, length-map}
+use Rattle.std.proofs.lemmas.List.{get_or_default, length-map, get_or-map}
 use Rattle.std.proofs.lemmas.List.FromFn.{get_or-map-range_with_len, get_or-range_with_len, length-range_with_len}
 use Rattle.flat_cubes.specs.Using.{used}
 use Rattle.flat_cubes.specs.Flattening.{identified, made_one, renamed}
@@ -11,9 +11,9 @@ use Rattle.cube_order.specs.Leading.{AreDefinitionsBelow, ArePairsBelow, AreRoot
 use Rattle.flat_cubes.specs.Straight.{AreBelow, HaveVariablesBelow}
 use Rattle.flat_cubes.specs.declared.definition.By.{By}
 use Rattle.flat_cubes.specs.declared.definition.By.TheVariants as by
-use Rattle.cube_order.proofs.Identified.{Rooted, at_map, identified_length, identified_rooted, made_length, step, step_other, step_high}
+use Rattle.cube_order.proofs.Identified.{Rooted, identified_length, identified_rooted, made_length, step, step_other, step_high}
 use Rattle.cube_order.proofs.Leads.{starts_forest}
-use Rattle.cube_order.proofs.Ordinals.{below, below_false, below_true, none_below, passing, placed}
+use Rattle.cube_order.proofs.Ordinals.{below, none_below, passing, placed}
 use Rattle.cube_order.proofs.Ranked.{is_root}
 
 -- least places aren't greater
@@ -26,7 +26,7 @@ step_lower a b r i l = elim (cases_eq r (max a b)) [
 made_lower : (a b : ℕ) (xs : List ℕ) → IsForest xs → IsForest (made_one a b xs)
 made_lower a b xs f i l =
     let m : i < length xs = subst (λ n. i < n) (made_length a b xs) l in
-    subst (λ z. z ≤ i) (sym (at_map (step a b) xs i 0 0 m)) (step_lower a b (get_or xs i 0) i (f i m))
+    subst (λ z. z ≤ i) (sym (get_or-map (step a b) xs i 0 0 m)) (step_lower a b (get_or xs i 0) i (f i m))
 
 pub identified_lower : (es : List (ℕ × ℕ)) (xs : List ℕ) → IsForest xs → IsForest (identified es xs)
 identified_lower [] xs f = f
@@ -53,10 +53,10 @@ root_place p k zero v l = absurd (omega arith)
 root_place p k (suc m) v l = by_test (p k) v l (λ w h. root_place p (k + 1) m w h)
   where
     by_test : (b : Bool) (v : ℕ) → v < length (cond b (k ∷ passing p (k + 1) m) (passing p (k + 1) m)) → ((w : ℕ) → w < length (passing p (k + 1) m) → length (below (get_or (passing p (k + 1) m) w 0) (passing p (k + 1) m)) ≡ w) → length (below (get_or (cond b (k ∷ passing p (k + 1) m) (passing p (k + 1) m)) v 0) (cond b (k ∷ passing p (k + 1) m) (passing p (k + 1) m))) ≡ v
-    by_test true zero l f = ap (λ t. length (cond t (k ∷ below k (passing p (k + 1) m)) (below k (passing p (k + 1) m)))) (below_false k k (omega arith)) ∙ ap length (none_below p k (k + 1) m (omega arith))
+    by_test true zero l f = ap (λ t. length (cond t (k ∷ below k (passing p (k + 1) m)) (below k (passing p (k + 1) m)))) (le-ltb k k (omega arith)) ∙ ap length (none_below p k (k + 1) m (omega arith))
     by_test true (suc v) l f =
         let a = passing_above p (k + 1) m v (omega arith) in
-        ap (λ t. length (cond t (k ∷ below (get_or (passing p (k + 1) m) v 0) (passing p (k + 1) m)) (below (get_or (passing p (k + 1) m) v 0) (passing p (k + 1) m)))) (below_true k (get_or (passing p (k + 1) m) v 0) (omega arith)) ∙ ap suc (f v (omega arith))
+        ap (λ t. length (cond t (k ∷ below (get_or (passing p (k + 1) m) v 0) (passing p (k + 1) m)) (below (get_or (passing p (k + 1) m) v 0) (passing p (k + 1) m)))) (lt-ltb k (get_or (passing p (k + 1) m) v 0) (omega arith)) ∙ ap suc (f v (omega arith))
     by_test false v l f = f v l
 
 module _ (n : ℕ) (es : List (ℕ × ℕ)) (w : ArePairsBelow n es) where

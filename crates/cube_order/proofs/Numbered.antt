@@ -2,15 +2,16 @@
 use Rattle.std.proofs.Common.{◌≡◌, refl, sym, subst, ℕ, suc, ◌+◌, ◌^◌, ◌<◌, ◌≤◌, ℤ, List, [], ◌∷◌, ◌++◌, get_or, Option, Some, None, unsigned_abs, arith}
 use Rattle.std.specs.Prelude.{slice_get}
 use Rattle.std.specs.List.{AllByRecursion, AllZip}
+use Rattle.sv_list.specs.Lists.{AllByRecursion-append}
 use Rattle.sv_linear.specs.Rows.{HasSymmetricEntries}
 use Rattle.sv_linear.specs.TermLaws.{term_here}
 use Rattle.sv_linear.specs.Terms.{AscendsWithin, coefficient}
 use Rattle.sv_linear.specs.declared.column.Column.TheVariants.{Constant, Unknown}
 use Rattle.sv_linear.specs.declared.row.Row.{Row}
+use Rattle.sv_linear.proofs.Ascending.{AscendsWithin-append}
 use Rattle.cube_order.specs.Columns.{AreNumbersWithin, IsRenumberedRow, Rises, chosen, with_term}
 use Rattle.flat_cubes.specs.Straight.{IsRowBelow}
-use Rattle.cube_order.proofs.Chosen.{chosen_within, joined_within}
-use Rattle.flat_cubes.proofs.Members.{all_joined}
+use Rattle.cube_order.proofs.Chosen.{chosen_within}
 
 abbrev IsSmall : ℕ × ℤ → Type 0
 IsSmall t = unsigned_abs t.1 < 2 ^ 127
@@ -47,9 +48,9 @@ module _ (base n : ℕ) (integers registers : List (Option ℕ)) (rise : Rises i
       let back = chosen_within base registers rise' 0 (2 ^ 32) base (base + n) ts a (omega arith) (λ u k m h q. let l = within' u k q in (omega arith, omega arith)) in
       let small = terms_small (2 ^ 32) ts a (λ u. s (Unknown u)) in
       record {
-        unknowns = subst (AllByRecursion (λ (t : ℕ × ℤ). t.0 < base + n)) (sym g.coefficients) (unknowns_below 0 (base + n) (chosen 0 integers ts ++ chosen base registers ts) (joined_within 0 base (base + n) (chosen 0 integers ts) (chosen base registers ts) front back)).1;
+        unknowns = subst (AllByRecursion (λ (t : ℕ × ℤ). t.0 < base + n)) (sym g.coefficients) (unknowns_below 0 (base + n) (chosen 0 integers ts ++ chosen base registers ts) (AscendsWithin-append 0 base (base + n) (chosen 0 integers ts) (chosen base registers ts) front back)).1;
         constant = subst (λ z. unsigned_abs z < 2 ^ 127) (sym g.constant) (s Constant);
-        coefficients = subst (AllByRecursion IsSmall) (sym g.coefficients) (all_joined IsSmall (chosen 0 integers ts) (chosen base registers ts) (chosen_small 0 integers ts small) (chosen_small base registers ts small));
+        coefficients = subst (AllByRecursion IsSmall) (sym g.coefficients) (AllByRecursion-append IsSmall (chosen 0 integers ts) (chosen base registers ts) (chosen_small 0 integers ts small) (chosen_small base registers ts small));
       }
 
   pub rows_numbered : (rows rows' : List Row) → AllByRecursion (λ (r : Row). HasSymmetricEntries r.form) rows → AllZip (IsRenumberedRow base integers registers) rows rows' → AllByRecursion (IsRowBelow (base + n)) rows'

@@ -2,6 +2,7 @@
 use Rattle.std.proofs.Common.{◌≡◌, refl, ap, Bool, true, false, ℕ, zero, suc, List, [], ◌∷◌, length, Some, None, arith}
 use Rattle.std.specs.Prelude.{if◌then◌else◌}
 use Rattle.std.specs.List.{AllByRecursion}
+use Rattle.cube_order.proofs.Picks.{next_of}
 use Rattle.flat_cubes.specs.Flattening.{TakenDefinition, is_free, behind, take_free, taken, ordered}
 use Rattle.flat_cubes.specs.declared.definition.Definition.{Definition}
 
@@ -26,11 +27,8 @@ module _ (P : Definition → Type 0) where
       by_test true d ds o h = (refl, (λ a. a, λ a. a))
       by_test false d ds o h = behind_parts d ds o h
 
-  abbrev next : ℕ → TakenDefinition → List Definition
-  next n o = elim o [ None ↦ [] | Some r ↦ r.0 ∷ taken n r.1 ]
-
   -- forward
-  next_all : (n : ℕ) (ds : List Definition) (o : TakenDefinition) → Parts o ds → ((es : List Definition) → All es → All (taken n es)) → All ds → All (next n o)
+  next_all : (n : ℕ) (ds : List Definition) (o : TakenDefinition) → Parts o ds → ((es : List Definition) → All es → All (taken n es)) → All ds → All (next_of n o)
   next_all n ds None h f a = tt
   next_all n ds (Some (d, rest)) h f a = let r = h.1.0 a in (r.0, f rest r.1)
 
@@ -43,7 +41,7 @@ module _ (P : Definition → Type 0) where
   nothing [] e = tt
   nothing (d ∷ ds) e = absurd (omega arith)
 
-  next_back : (n : ℕ) (ds : List Definition) (o : TakenDefinition) → Parts o ds → ((es : List Definition) → length (taken n es) ≡ length es → All (taken n es) → All es) → length (next n o) ≡ length ds → All (next n o) → All ds
+  next_back : (n : ℕ) (ds : List Definition) (o : TakenDefinition) → Parts o ds → ((es : List Definition) → length (taken n es) ≡ length es → All (taken n es) → All es) → length (next_of n o) ≡ length ds → All (next_of n o) → All ds
   next_back n ds None h f e a = nothing ds e
   next_back n ds (Some (d, rest)) h f e a = h.1.1 (a.0, f rest (let l = h.0 in omega arith) a.1)
 

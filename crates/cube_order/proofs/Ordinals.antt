@@ -1,23 +1,8 @@
 -- The place of a number among the ascending numbers that pass a test: how many of them are below it.
-use Rattle.std.proofs.Common.{◌≡◌, refl, sym, ap, ◌∙◌, subst, ℕ, zero, suc, ◌+◌, ◌<◌, ◌≤◌, ◌⊎◌, inl, inr, Bool, true, false, List, [], ◌∷◌, length, get_or, cond, arith}
+use Rattle.std.proofs.Common.{◌≡◌, refl, sym, ap, ◌∙◌, subst, ℕ, zero, suc, ◌+◌, ◌<◌, ◌≤◌, ◌⊎◌, inl, inr, Bool, true, false, List, [], ◌∷◌, length, get_or, cond, arith, lt-ltb, le-ltb}
 use Rattle.std.specs.Prelude.{filter, nat_lt}
 use Rattle.std.specs.List.{range_with_len}
 use Rattle.std.proofs.lemmas.Bool.{cases_lt}
-use borrow.Author.Tests.{ltb-true, ltb-false}
-
-pub below_true : (a b : ℕ) → a < b → nat_lt a b ≡ true
-below_true a b h = by_test (nat_lt a b) refl
-  where
-    by_test : (t : Bool) → nat_lt a b ≡ t → t ≡ true
-    by_test true e = refl
-    by_test false e = absurd (let l = ltb-false a b e in omega arith)
-
-pub below_false : (a b : ℕ) → b ≤ a → nat_lt a b ≡ false
-below_false a b h = by_test (nat_lt a b) refl
-  where
-    by_test : (t : Bool) → nat_lt a b ≡ t → t ≡ false
-    by_test true e = absurd (let l = ltb-true a b e in omega arith)
-    by_test false e = refl
 
 abbrev pub below : ℕ → List ℕ → List ℕ
 below f rs = filter (λ r. nat_lt r f) rs
@@ -27,7 +12,7 @@ module _ (p : ℕ → Bool) where
   passing k m = filter p (range_with_len k m)
 
   none_step : (f k : ℕ) (rest : List ℕ) (b : Bool) → f < k → below f rest ≡ [] → below f (cond b (k ∷ rest) rest) ≡ []
-  none_step f k rest true h e = ap (λ t. cond t (k ∷ below f rest) (below f rest)) (below_false k f (omega arith)) ∙ e
+  none_step f k rest true h e = ap (λ t. cond t (k ∷ below f rest) (below f rest)) (le-ltb k f (omega arith)) ∙ e
   none_step f k rest false h e = e
 
   -- none from a number above f on is below f
@@ -41,13 +26,13 @@ module _ (p : ℕ → Bool) where
 
   placed_first : (f : ℕ) (rest : List ℕ) → below f rest ≡ [] → Placed f (f ∷ rest)
   placed_first f rest e =
-      let n : below f (f ∷ rest) ≡ [] = ap (λ t. cond t (f ∷ below f rest) (below f rest)) (below_false f f (omega arith)) ∙ e in
+      let n : below f (f ∷ rest) ≡ [] = ap (λ t. cond t (f ∷ below f rest) (below f rest)) (le-ltb f f (omega arith)) ∙ e in
       (subst (λ x. length x < suc (length rest)) (sym n) (omega arith), λ d. ap (λ x. get_or (f ∷ rest) (length x) d) n)
 
   placed_later : (f k : ℕ) (rest : List ℕ) (b : Bool) → k < f → Placed f rest → Placed f (cond b (k ∷ rest) rest)
   placed_later f k rest false h q = q
   placed_later f k rest true h q =
-      let n : below f (k ∷ rest) ≡ k ∷ below f rest = ap (λ t. cond t (k ∷ below f rest) (below f rest)) (below_true k f h) in
+      let n : below f (k ∷ rest) ≡ k ∷ below f rest = ap (λ t. cond t (k ∷ below f rest) (below f rest)) (lt-ltb k f h) in
       (subst (λ x. length x < suc (length rest)) (sym n) (let l = q.0 in omega arith), λ d. ap (λ x. get_or (k ∷ rest) (length x) d) n ∙ q.1 d)
 
   placed_step : (f k m : ℕ) → p f ≡ true → f < k + suc m → (k < f) ⊎ (f ≤ k) → (k < f → Placed f (passing (k + 1) m)) → k ≤ f → Placed f (passing k (suc m))

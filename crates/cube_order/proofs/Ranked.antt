@@ -1,5 +1,5 @@
 -- Places with the numbers of their variables.
-use Rattle.std.proofs.Common.{◌≡◌, refl, sym, ap, ◌∙◌, subst, ℕ, zero, suc, ◌+◌, ◌<◌, ◌≤◌, inl, inr, Bool, true, false, List, [], ◌∷◌, ◌++◌, map, length, get_or, cond, arith, length-append}
+use Rattle.std.proofs.Common.{◌≡◌, refl, sym, ap, ◌∙◌, subst, ℕ, zero, suc, ◌+◌, ◌<◌, ◌≤◌, inl, inr, Bool, true, false, List, [], ◌∷◌, ◌++◌, map, length, get_or, cond, arith, length-append, lt-ltb, le-ltb}
 use Rattle.std.specs.Prelude.{filter, nat_eq}
 use Rattle.std.specs.List.{range_with_len}
 use Rattle.std.proofs.Math.Seq.{get_or-append_seam}
@@ -8,7 +8,7 @@ use Rattle.std.proofs.lemmas.List.{get_or_append_left, get_or_default}
 use Rattle.std.proofs.lemmas.List.FromFn.{fill_by_all}
 use Rattle.cube_order.specs.Leading.{IsForest, ordinal, roots_in}
 use Rattle.cube_order.proofs.Leads.{range_more}
-use Rattle.cube_order.proofs.Ordinals.{below, below_false, below_true, none_below}
+use Rattle.cube_order.proofs.Ordinals.{below, none_below}
 
 module _ (p : ℕ → Bool) where
   -- so many below m pass
@@ -32,11 +32,11 @@ module _ (p : ℕ → Bool) where
 
   below_step : (m a : ℕ) (xs ys : List ℕ) (b : Bool) → a < m → length (below m xs) ≡ length ys → length (below m (cond b (a ∷ xs) xs)) ≡ length (cond b (a ∷ ys) ys)
   below_step m a xs ys false l h = h
-  below_step m a xs ys true l h = ap (λ t. length (cond t (a ∷ below m xs) (below m xs))) (below_true a m l) ∙ ap suc h
+  below_step m a xs ys true l h = ap (λ t. length (cond t (a ∷ below m xs) (below m xs))) (lt-ltb a m l) ∙ ap suc h
 
   below_none : (m a : ℕ) (xs : List ℕ) (b : Bool) → m ≤ a → below m xs ≡ [] → length (below m (cond b (a ∷ xs) xs)) ≡ 0
   below_none m a xs false l h = ap length h
-  below_none m a xs true l h = ap (λ t. length (cond t (a ∷ below m xs) (below m xs))) (below_false a m l) ∙ ap length h
+  below_none m a xs true l h = ap (λ t. length (cond t (a ∷ below m xs) (below m xs))) (le-ltb a m l) ∙ ap length h
 
   pub below_rank : (m a n k : ℕ) → a + k ≡ m → k ≤ n → length (below m (filter p (range_with_len a n))) ≡ length (filter p (range_with_len a k))
   below_rank m a zero zero e l = refl

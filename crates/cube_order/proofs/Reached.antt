@@ -1,9 +1,8 @@
 -- Each unknown that is kept has a number, and that of a quantity is its place among those that are kept.
-use Rattle.std.proofs.Common.{◌≡◌, refl, sym, ap, ◌∙◌, subst, ℕ, zero, suc, ◌<◌, ◌⊎◌, inl, inr, Bool, true, false, List, [], ◌∷◌, ◌++◌, map, length, get_or, length-append, append_assoc, Option, Some, None, cond, arith}
+use Rattle.std.proofs.Common.{◌≡◌, refl, sym, ap, ◌∙◌, subst, ℕ, zero, suc, ◌⊎◌, inl, inr, Bool, true, false, List, [], ◌∷◌, ◌++◌, map, length, get_or, length-append, append_assoc, Option, Some, None, cond, arith}
 use Rattle.std.specs.Prelude.{filter, slice_get}
 use Rattle.std.proofs.Math.Seq.{get_or-append_seam}
-use Rattle.std.proofs.lemmas.Bool.{cases_lt}
-use Rattle.std.proofs.lemmas.List.{get_or_append_left, get_or_past}
+use Rattle.std.proofs.lemmas.List.{get_or_append_left}
 use Rattle.literal_forms.specs.Linear.{Unknown, integer, length_of}
 use Rattle.literal_forms.specs.Shapes.{Shape}
 use Rattle.flat_cubes.specs.Drafted.{integers_among, registers_among, term_at, unknown_at}
@@ -14,6 +13,7 @@ use Rattle.flat_cubes.specs.declared.draft.Quantity.TheVariants.{Integer, Length
 use Rattle.cube_order.specs.declared.keeping.KeptUnknowns.{KeptUnknowns}
 use Rattle.cube_order.proofs.Columned.{ReachesAll}
 use Rattle.cube_order.proofs.Finished.{is_kept}
+use Rattle.cube_order.proofs.Keeps.{there}
 
 -- what stands in a longer list
 at_push : (xs : List Unknown) (x : Unknown) (v : ℕ) (y : Unknown) → slice_get (xs ++ x ∷ []) v ≡ Some y → (slice_get xs v ≡ Some y) ⊎ ((v ≡ length xs) × (x ≡ y))
@@ -31,11 +31,8 @@ last_is : (xs : List Unknown) (x : Unknown) → slice_get (xs ++ x ∷ []) (leng
 last_is [] x = refl
 last_is (y ∷ xs) x = last_is xs x
 
-number_there : (ns : List (Option ℕ)) (u v : ℕ) → get_or ns u None ≡ Some v → u < length ns
-number_there ns u v e = elim (cases_lt u (length ns)) [ inl l ↦ l | inr l ↦ absurd (let h : None ≡ Some v = sym (get_or_past ns u None l) ∙ e in cc) ]
-
 number_still : (ns : List (Option ℕ)) (o : Option ℕ) (u v : ℕ) → get_or ns u None ≡ Some v → get_or (ns ++ o ∷ []) u None ≡ Some v
-number_still ns o u v e = get_or_append_left ns (o ∷ []) None u (number_there ns u v e) ∙ e
+number_still ns o u v e = get_or_append_left ns (o ∷ []) None u (there ns u v e) ∙ e
 
 module _ (us : List Unknown) (ns : List (Option ℕ)) (xs : List Unknown) (x : Unknown) where
   -- a quantity that isn't kept

@@ -7,6 +7,7 @@ use Rattle.std.specs.List.{list_all, list_any}
 use Rattle.std.specs.Ordering.{is_eq, nat_cmp}
 use Rattle.std.proofs.lemmas.List.{get_or_default}
 use Rattle.std.proofs.lemmas.Bool.{cases_eq, cases_lt, eq-eqb, eqb-true}
+use Rattle.sv_list.specs.Lists.{some-once}
 use Rattle.flat_cubes.specs.Using.{is_defined, used}
 use Rattle.flat_cubes.specs.Flattening.{is_free, take_free, taken}
 use Rattle.flat_cubes.specs.Members.{Among}
@@ -36,12 +37,6 @@ at_set xs i j y d l = elim (cases_eq j i) [
   | inr n ↦ inr (n, get_or-set_other xs i j y d n)
 ]
 
-pub same_item : {X : Type 0} (o : Option X) (x y : X) → o ≡ Some x → o ≡ Some y → x ≡ y
-same_item o x y e f = let h : Some x ≡ Some y = sym e ∙ f in some_same x y h
-  where
-    some_same : {X : Type 0} (x y : X) → Some x ≡ Some y → x ≡ y
-    some_same x y h = cc
-
 pub same_cmp : (a b : ℕ) → is_eq (nat_cmp a b) ≡ true → a ≡ b
 same_cmp a b h = by_test (nat_lt a b) (nat_eq a b) refl h
   where
@@ -65,12 +60,6 @@ among_front : (j : ℕ) (xs ys : List ℕ) → Among j xs → Among j (xs ++ ys)
 among_front j [] ys a = absurd a
 among_front j (x ∷ xs) ys (inl e) = inl e
 among_front j (x ∷ xs) ys (inr a) = inr (among_front j xs ys a)
-
--- what stands at a place
-pub get_item : {X : Type 0} (xs : List X) (i : ℕ) (x d : X) → slice_get xs i ≡ Some x → get_or xs i d ≡ x
-get_item [] i x d e = absurd (cc)
-get_item (y ∷ xs) zero x d e = cc
-get_item (y ∷ xs) (suc i) x d e = get_item xs i x d e
 
 module _ (ds : List Definition) (w : Waiter) (rest : List Waiter) (order : List ℕ) (ahead : List Bool) (free : List ℕ) (waiters : List (List Waiter)) (s : IsSorting ds (w ∷ rest) order ahead free waiters) where
   -- it waits for the variable v, the first from its place on that is ahead
@@ -101,7 +90,7 @@ module _ (ds : List Definition) (w : Waiter) (rest : List Waiter) (order : List 
     new_there = subst (Among next) (sym (get_or-set_same waiters v (get_or waiters v [] ++ next ∷ []) [] inside)) (among_last next (get_or waiters v []))
 
     new_for : Awaits ds next v
-    new_for e q = let same = same_item (slice_get ds w.definition) d e is q in subst (λ z. (from < length (used z.by)) × (get_or (used z.by) from 0 ≡ v)) same (within, at)
+    new_for e q = let same = some-once (slice_get ds w.definition) d e is q in subst (λ z. (from < length (used z.by)) × (get_or (used z.by) from 0 ≡ v)) same (within, at)
 
     pub filed_waiting : IsSorting ds rest order ahead free now
     filed_waiting = record {
@@ -168,7 +157,7 @@ module _ (ds : List Definition) (w : Waiter) (rest : List Waiter) (order : List 
       free_left = λ k h. elim (free_cases k h) [ inl e ↦ subst (λ z. Among z s.left) e (s.pends_left w (inl refl)) | inr f ↦ s.free_left k f ];
       free_passed = λ k i e h q l a. elim (free_cases k h) [
         | inl f ↦
-            let same = same_item (slice_get ds w.definition) d e is (ap (slice_get ds) f ∙ q) in
+            let same = some-once (slice_get ds w.definition) d e is (ap (slice_get ds) f ∙ q) in
             passed i (subst (λ z. i < length (used z.by)) (sym same) l) (subst (λ z. IsAhead ahead (get_or (used z.by) i 0)) (sym same) a)
         | inr f ↦ s.free_passed k i e f q l a
       ];
@@ -201,16 +190,6 @@ module _ (ds : List Definition) (w : Waiter) (rest : List Waiter) (order : List 
 
   pub files_free : (now : List ℕ) → length us ≤ from → ((k : ℕ) → list_any (λ j. is_eq (nat_cmp k j)) now ≡ cond (is_eq (nat_cmp w.definition k)) true (list_any (λ j. is_eq (nat_cmp k j)) free)) → IsSorting ds (w ∷ rest) order ahead free waiters → IsSorting ds rest order ahead now waiters
   files_free now l has s = filed_free ds w rest order ahead free waiters s p.definition now p.is (λ i m a. let q : length us ≡ length (used p.definition.by) = ap length is in all_before i (omega arith) a) has
-
--- a definition is free exactly where it uses no variable that is ahead
-any_true : {X : Type 0} (p : X → Bool) (xs : List X) (x : X) → Among x xs → p x ≡ true → list_any p xs ≡ true
-any_true p [] x a e = absurd a
-any_true p (y ∷ xs) x (inl q) e = ap (λ b. b || list_any p xs) (ap p q ∙ e)
-any_true p (y ∷ xs) x (inr a) e = or_right (p y) (list_any p xs) (any_true p xs x a e)
-  where
-    or_right : (a b : Bool) → b ≡ true → (a || b) ≡ true
-    or_right true b e = refl
-    or_right false b e = e
 
 module _ (ds : List Definition) where
   defined_at : (ks : List ℕ) (k : ℕ) (d : Definition) → Among k ks → slice_get ds k ≡ Some d → is_defined (picked ds ks) d.variable ≡ true
@@ -402,7 +381,7 @@ module _ (ds : List Definition) (once : HaveOnce ds) (order : List ℕ) (ahead :
       ahead_is = λ v a.
           let t = was v a in
           let r = s.ahead_is v t.0 in
-          (r.0, r.1, p.left r.0 r.2 (λ e. t.1 (sym r.4 ∙ ap (λ z. z.variable) (same_item (slice_get ds k) r.1 d (ap (slice_get ds) (sym e) ∙ r.3) at_k))), r.3, r.4);
+          (r.0, r.1, p.left r.0 r.2 (λ e. t.1 (sym r.4 ∙ ap (λ z. z.variable) (some-once (slice_get ds k) r.1 d (ap (slice_get ds) (sym e) ∙ r.3) at_k))), r.3, r.4);
       is_ahead = λ j e a q. others_ahead e.variable (s.is_ahead j e (p.others j a) q) (λ h. p.gone (subst (λ z. Among z (p.before ++ p.after)) (once j k e d q at_k h) a));
       free_left = λ j h. p.left j (s.free_left j (has_later j h)) (λ e. let l = first j h in absurd (omega arith));
       free_passed = λ j i e h q l a. s.free_passed j i e (has_later j h) q l (was (get_or (used e.by) i 0) a).0;
@@ -427,7 +406,7 @@ pub closed_at : (ds : List Definition) → HaveOnce ds → (order : List ℕ) (a
 unfolding is_left
 closed_at ds once order ahead k free waiters first s c e l m =
     let at = s.within k (s.free_left k (has_it ds once order ahead k free waiters first s)) in
-    let same = same_item (slice_get ds k) at.0 c at.1 e in
+    let same = some-once (slice_get ds k) at.0 c at.1 e in
     subst (λ z. IsSorting ds (get_or waiters z.variable []) (order ++ k ∷ []) (slice_set ahead z.variable false) free (slice_set waiters z.variable [])) same
     (closed ds once order ahead k free waiters first s (subst (λ z. z.variable < length ahead) (sym same) l) (subst (λ z. z.variable < length waiters) (sym same) m))
 

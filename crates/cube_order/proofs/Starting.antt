@@ -9,13 +9,14 @@ use Rattle.std.proofs.lemmas.Bool.{cases_eq, cases_lt}
 use Rattle.std.proofs.lemmas.Option.{slice_get-get_or, slice_get_within}
 use Rattle.std.proofs.lemmas.List.{get_or_default, length-set}
 use Rattle.std.proofs.lemmas.List.FromFn.{length-range_with_len}
+use Rattle.sv_list.specs.Lists.{some-once}
 use Rattle.flat_cubes.specs.Flattening.{taken}
 use Rattle.flat_cubes.specs.Straight.{HaveVariablesBelow}
 use Rattle.flat_cubes.specs.Members.{Among}
 use Rattle.cube_order.specs.Waiting.{AscendsFrom, Has, HaveOnce, AreFirstMarked, IsSorting, picked, waiters_from, with_one}
 use Rattle.flat_cubes.specs.declared.definition.Definition.{Definition}
 use Rattle.cube_order.specs.declared.ordering.Waiter.{Waiter}
-use Rattle.cube_order.proofs.Sorted.{IsFiled, at_set, closed_at, own_cmp, same_cmp, same_item}
+use Rattle.cube_order.proofs.Sorted.{IsFiled, at_set, closed_at, own_cmp, same_cmp}
 use Rattle.cube_order.proofs.Uses.{within_variable}
 
 -- places from a number on
@@ -131,7 +132,7 @@ marked_more ds i d ahead l e inside m =
         | inl p ↦ p.1
         | inr p ↦ elim (cases_lt k i) [
           | inl h ↦ p.1 ∙ m.is_ahead k c h q
-          | inr h ↦ let s : k ≡ i = omega arith in absurd (p.0 (ap (λ z. z.variable) (same_item (slice_get ds i) c d (ap (slice_get ds) (sym s) ∙ q) at)))
+          | inr h ↦ let s : k ≡ i = omega arith in absurd (p.0 (ap (λ z. z.variable) (some-once (slice_get ds i) c d (ap (slice_get ds) (sym s) ∙ q) at)))
         ]
       ];
     }

@@ -3,11 +3,13 @@ use Rattle.std.proofs.Common.{◌≡◌, refl, sym, ap, ◌∙◌, subst, Bool, 
 use Rattle.std.specs.Prelude.{nat_eq, if◌then◌else◌}
 use Rattle.std.specs.List.{AllByRecursion, list_all}
 use Rattle.std.proofs.lemmas.Bool.{eq-eqb}
+use Rattle.sv_list.specs.Lists.{AllByRecursion-weaker}
 use Rattle.flat_cubes.specs.Using.{is_defined, used}
 use Rattle.flat_cubes.specs.Flattening.{TakenDefinition, behind, is_free, take_free, taken}
 use Rattle.flat_cubes.specs.Straight.{InOrder, HasVariablesBelow}
 use Rattle.flat_cubes.specs.declared.definition.Definition.{Definition}
 use Rattle.cube_order.proofs.Traced.{passing}
+use Rattle.cube_order.proofs.Picks.{next_of}
 
 abbrev weight : Bool → ℕ → ℕ
 weight b n = cond b (1 + n) n
@@ -36,23 +38,17 @@ module _ (p : Definition → Bool) where
   free_counts left [] = tt
   free_counts left (d ∷ ds) = if_counts (is_free left d) d ds (take_free left ds) (free_counts left ds)
 
-  abbrev next : ℕ → TakenDefinition → List Definition
-  next n o = elim o [ None ↦ [] | Some r ↦ r.0 ∷ taken n r.1 ]
-
   none_left : (ds : List Definition) → 0 ≡ length ds → 0 ≡ passing p ds
   none_left [] e = refl
   none_left (d ∷ ds) e = absurd (omega arith)
 
-  next_counts : (n : ℕ) (ds : List Definition) (o : TakenDefinition) → Counts o ds → ((es : List Definition) → length (taken n es) ≡ length es → passing p (taken n es) ≡ passing p es) → length (next n o) ≡ length ds → passing p (next n o) ≡ passing p ds
+  next_counts : (n : ℕ) (ds : List Definition) (o : TakenDefinition) → Counts o ds → ((es : List Definition) → length (taken n es) ≡ length es → passing p (taken n es) ≡ passing p es) → length (next_of n o) ≡ length ds → passing p (next_of n o) ≡ passing p ds
   next_counts n ds None h f e = none_left ds e
   next_counts n ds (Some (d, rest)) h f e = ap (weight (p d)) (f rest (let l = h.0 in omega arith)) ∙ sym h.1
 
   pub taken_counts : (n : ℕ) (ds : List Definition) → length (taken n ds) ≡ length ds → passing p (taken n ds) ≡ passing p ds
   taken_counts zero ds e = none_left ds e
   taken_counts (suc n) ds e = next_counts n ds (take_free ds ds) (free_counts ds ds) (λ es l. taken_counts n es l) e
-
-abbrev next_of : ℕ → TakenDefinition → List Definition
-next_of n o = elim o [ None ↦ [] | Some r ↦ r.0 ∷ taken n r.1 ]
 
 -- what was taken out is free and had what all have, and the others have it
 module _ (P : Definition → Type 0) (left : List Definition) where
@@ -103,10 +99,6 @@ free_of es (v ∷ vs) e = by_test (is_defined es v) refl e (λ h. free_of es vs 
     by_test true q e f = absurd (cc)
     by_test false q e f = (q, f e)
 
-all_to : {X : Type 0} (P Q : X → Type 0) → ((x : X) → P x → Q x) → (xs : List X) → AllByRecursion P xs → AllByRecursion Q xs
-all_to P Q f [] a = tt
-all_to P Q f (x ∷ xs) a = (f x a.0, all_to P Q f xs a.1)
-
 module _ (n : ℕ) where
   abbrev Once : List Definition → Type 0
   Once es = (v : ℕ) → passing (defines v) es ≤ 1
@@ -135,7 +127,7 @@ module _ (n : ℕ) where
           once = none_defined d.variable (taken m rest) at_own;
           some = r.0.1;
           uses = r.0.0.uses;
-          apart = all_to (λ v. is_defined es v ≡ false) (λ v. is_defined (d ∷ taken m rest) v ≡ false) (λ v h. none_defined v (d ∷ taken m rest) (same v ∙ defined_none v es h)) (used d.by) (free_of es (used d.by) f.0);
+          apart = AllByRecursion-weaker (λ v. is_defined es v ≡ false) (λ v. is_defined (d ∷ taken m rest) v ≡ false) (λ v h. none_defined v (d ∷ taken m rest) (same v ∙ defined_none v es h)) (used d.by) (free_of es (used d.by) f.0);
         },
         rec rest whole r.1 (λ v. less_once (defines v d) (passing (defines v) rest) (subst (λ k. k ≤ 1) (c v).1 (once v))),
       )

@@ -1,21 +1,20 @@
 -- Definitions by their variables, and ways along what they use.
-use Rattle.std.proofs.Common.{◌≡◌, refl, sym, ap, ◌∙◌, subst, ℕ, zero, suc, ◌+◌, ◌<◌, ◌≤◌, inl, inr, Bool, true, false, List, [], ◌∷◌, ◌++◌, length, get_or, replicate, drop, drop-cons, Option, Some, None, Err, cond, arith, get_or-set_same, length-append}
+use Rattle.std.proofs.Common.{◌≡◌, refl, sym, ap, ◌∙◌, subst, ℕ, zero, suc, ◌+◌, ◌<◌, ◌≤◌, inl, inr, Bool, true, false, List, [], ◌∷◌, ◌++◌, length, get_or, replicate, drop, drop-cons, Option, Some, None, cond, arith, get_or-set_same, length-append}
 use Rattle.std.specs.Prelude.{nat_eq, slice_get, slice_set, count_by}
 use Rattle.std.proofs.lemmas.Bool.{cases_lt, eq-eqb, eqb-true}
 use Rattle.std.proofs.Math.Seq.{get_or-append_seam}
 use Rattle.std.proofs.lemmas.List.{get_or_append_left, get_or_default, get_or_past, length-replicate, length-set}
 use Rattle.std.proofs.lemmas.List.Recursion.{is_count_by}
-use Rattle.std.proofs.lemmas.Option.{slice_get_within}
+use Rattle.std.proofs.lemmas.Option.{slice_get_within, get_or_from_slice_get}
+use Rattle.sv_list.specs.Lists.{some-once}
 use Rattle.flat_cubes.specs.Using.{used}
 use Rattle.flat_cubes.specs.Flattening.{IsCycle, IsTwice, NoneTwice, Uses, UsesInTurn, ordered}
 use Rattle.flat_cubes.specs.Straight.{AreBelow, HaveVariablesBelow}
-use Rattle.cube_order.specs.Tracing.{HasPlaces, IsPlacedExactly, IsStraightened, LeadTo}
+use Rattle.cube_order.specs.Tracing.{HasPlaces, LeadTo}
 use Rattle.flat_cubes.specs.Members.{Among}
 use Rattle.cube_order.specs.Waiting.{HaveOnce, IsAhead, AheadUsesAhead, IsSorted, picked, with_one}
 use Rattle.flat_cubes.specs.declared.definition.Definition.{Definition}
-use Rattle.flat_cubes.specs.declared.fault.FlatFault.{FlatFault}
-use Rattle.flat_cubes.specs.declared.fault.FlatFault.TheVariants.{Outside, Twice, Cycle, Wide, Memory}
-use Rattle.cube_order.proofs.Sorted.{at_set, get_item, same_item}
+use Rattle.cube_order.proofs.Sorted.{at_set}
 use Rattle.cube_order.proofs.Uses.{within_uses, within_variable}
 
 -- how many pass a test
@@ -96,7 +95,7 @@ placed_more ds n i places d within at free f =
         ]
         | inr h ↦
             let s : k ≡ i = omega arith in
-            let same : d ≡ c = same_item (slice_get ds i) d c at (ap (slice_get ds) (sym s) ∙ e) in
+            let same : d ≡ c = some-once (slice_get ds i) d c at (ap (slice_get ds) (sym s) ∙ e) in
             subst (λ z. get_or (slice_set places d.variable (Some i)) z.variable None ≡ Some k) same (get_or-set_same places d.variable (Some i) None inside ∙ ap Some (sym s))
       ];
       is = λ v k e. elim (at_set places d.variable v (Some i) None inside) [
@@ -227,7 +226,7 @@ has_next ds places ahead v within has closed a =
 pub uses_found : (ds : List Definition) (k : ℕ) (d : Definition) (v : ℕ) (us : List ℕ) (i : ℕ) → slice_get ds k ≡ Some d → d.variable ≡ v → us ≡ used d.by → i < length us → Uses ds v (get_or us i 0)
 uses_found ds k d v us i e q f l =
     let m : i < length (used d.by) = subst (λ z. i < length z) f l in
-    subst (λ z. Uses ds v (get_or z i 0)) (sym f) (k, d, slice_get_within ds k d e, get_item ds k d d e, (q, (i, m, get_or_default (used d.by) i (get_or (used d.by) i 0) 0 m)))
+    subst (λ z. Uses ds v (get_or z i 0)) (sym f) (k, d, slice_get_within ds k d e, get_or_from_slice_get ds k d d e, (q, (i, m, get_or_default (used d.by) i (get_or (used d.by) i 0) 0 m)))
 
 -- the first that is ahead is there
 module _ (ds : List Definition) (places : List (Option ℕ)) (ahead : List Bool) (v : ℕ) (h : HasNext ds places ahead v) (us : List ℕ) (result : ℕ) (is : us ≡ used h.definition.by) (within : result ≤ length us) (before : (i : ℕ) → 0 ≤ i → i < result → IsAhead ahead (get_or us i 0) → ⊥) where
@@ -245,13 +244,6 @@ module _ (ds : List Definition) (places : List (Option ℕ)) (ahead : List Bool)
 
 pub none_ahead : (ahead : List Bool) (i : ℕ) → length ahead ≤ i → ((k : ℕ) → k < i → get_or ahead k false ≡ false) → (v : ℕ) → IsAhead ahead v → ⊥
 none_ahead ahead i l h v a = let m = ahead_within ahead v a in absurd (let e : false ≡ true = sym (h v (omega arith)) ∙ a in cc)
-
-pub fault_straightened : (n : ℕ) (ds : List Definition) (e : FlatFault) → IsPlacedExactly n ds (Err e) → IsStraightened ds (Err e)
-fault_straightened n ds (Outside l) h = h
-fault_straightened n ds (Twice v) h = h
-fault_straightened n ds (Cycle vs) h = absurd h
-fault_straightened n ds (Wide m) h = h
-fault_straightened n ds (Memory e) h = h
 
 -- the places that were sorted are all places
 pub picked_whole : (ds : List Definition) (places : List ℕ) → ((k : ℕ) → Among k places → (d : Definition) × (slice_get ds k ≡ Some d)) → length (picked ds places) ≡ length places

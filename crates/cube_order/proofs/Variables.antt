@@ -1,5 +1,5 @@
 -- Variables with what was met at their places are those of the roots.
-use Rattle.std.proofs.Common.{◌≡◌, refl, sym, ap, ◌∙◌, subst, ℕ, zero, suc, ◌<◌, inl, inr, Bool, true, false, List, [], ◌∷◌, ◌++◌, map, length, get_or, replicate, append_assoc, Option, Some, None, cond, arith, append-nil}
+use Rattle.std.proofs.Common.{◌≡◌, refl, sym, ap, ◌∙◌, subst, ℕ, zero, suc, ◌<◌, inl, inr, Bool, true, false, List, [], ◌∷◌, ◌++◌, map, length, get_or, replicate, append_assoc, Option, Some, None, cond, arith, append-nil, ext_get_or}
 use Rattle.std.specs.Prelude.{filter, nat_eq}
 use Rattle.std.specs.List.{range_with_len}
 use Rattle.std.proofs.lemmas.Bool.{eq-eqb, eqb-true}
@@ -11,12 +11,6 @@ use Rattle.flat_cubes.specs.declared.variable.Own.{Own}
 use Rattle.flat_cubes.specs.declared.variable.Variable.{Variable}
 use Rattle.cube_order.proofs.Linked.{least, least_count, number_at, numbers_count, ordinal_within, roots, same_root}
 use Rattle.cube_order.proofs.Sorted.{at_set}
-
-same_items : {X : Type 0} (xs ys : List X) (d : X) → length xs ≡ length ys → ((k : ℕ) → k < length xs → get_or xs k d ≡ get_or ys k d) → xs ≡ ys
-same_items [] [] d e h = refl
-same_items [] (y ∷ ys) d e h = absurd (omega arith)
-same_items (x ∷ xs) [] d e h = absurd (omega arith)
-same_items (x ∷ xs) (y ∷ ys) d e h = ap (λ z. z ∷ xs) (h 0 (omega arith)) ∙ ap (λ z. y ∷ z) (same_items xs ys d (omega arith) (λ k l. h (suc k) (omega arith)))
 
 map_at : {Y : Type 0} (f : ℕ → Y) (xs : List ℕ) (k : ℕ) (d : Y) → k < length xs → get_or (map f xs) k d ≡ f (get_or xs k 0)
 map_at f [] k d l = absurd (omega arith)
@@ -139,7 +133,7 @@ module _ (n : ℕ) (es : List (ℕ × ℕ)) (w : ArePairsBelow n es) (of : List 
       let below' : AreNumbersBelow (length (named_all of ns (replicate count free_variable))) of = λ i l. subst (λ z. get_or of i 0 < z) (sym long) (below i l) in
       let parts' : ArePartsBelow (length of) ps = subst (λ z. ArePartsBelow z ps) (sym (numbers_count n es w of is)) parts in
       let all : length (parted_all of ps (named_all of ns (replicate count free_variable))) ≡ count = parted_all_length of ps (named_all of ns (replicate count free_variable)) ∙ long ∙ free_length in
-      same_items (parted_all of ps (named_all of ns (replicate count free_variable))) (map (variable_from ns ps (least n es w)) (roots n es w)) free_variable (all ∙ sym (length-map (roots n es w) (variable_from ns ps (least n es w)))) (λ v l.
+      ext_get_or free_variable (parted_all of ps (named_all of ns (replicate count free_variable))) (map (variable_from ns ps (least n es w)) (roots n es w)) (all ∙ sym (length-map (roots n es w) (variable_from ns ps (least n es w)))) (λ v l.
       let m : v < count = subst (λ z. v < z) all l in
       parted_all_at of ps (named_all of ns (replicate count free_variable)) v below' parts'
       ∙ ap (λ z. with_parts z (parts_from ps of v)) (named_all_at of ns (replicate count free_variable) v below ∙ ap (λ z. with_names z (names_from ns of v)) (get_or-replicate count v free_variable free_variable m))

@@ -1,8 +1,9 @@
 -- Variables and definitions from numbered places.
-use Rattle.std.proofs.Common.{◌≡◌, sym, ap, ◌∙◌, subst, ℕ, ◌<◌, ◌≤◌, ◌^◌, Bool, true, false, cond, List, [], ◌∷◌, map, filter, length, get_or, replicate, Option, Result, Ok, nat_eq, arith}
+use Rattle.std.proofs.Common.{◌≡◌, sym, ap, ◌∙◌, subst, ℕ, ◌<◌, ◌≤◌, ◌^◌, Bool, List, [], map, length, get_or, replicate, Option, Result, Ok, nat_eq, arith}
 use Rattle.std.specs.List.{range_with_len}
 use Rattle.std.proofs.lemmas.List.{length-map}
 use Rattle.std.proofs.lemmas.List.FromFn.{length-range_with_len}
+use Rattle.sv_list.specs.Lists.{filter-shorter}
 use Rattle.cube_order.specs.Filling.{ArePartsBelow, AreNumbersBelow, free_variable, named_all, parted_all, variable_from}
 use Rattle.cube_order.specs.Leading.{AreDefinitionsBelow, ArePairsBelow, AreRooted, IsForest, definition_by, ordinal, roots_in}
 use Rattle.flat_cubes.specs.Straight.{HaveVariablesBelow}
@@ -55,16 +56,8 @@ module _ (n : ℕ) (es : List (ℕ × ℕ)) (w : ArePairsBelow n es) (of : List 
     pub renamed_straight : (r : Result (List Definition) FlatFault) → IsStraightened renamed r → IsStraightened (definitions_by n es ds) r
     renamed_straight r h = subst (λ z. IsStraightened z r) renamed_are h
 
-filter-at-most : (p : ℕ → Bool) (xs : List ℕ) → length (filter p xs) ≤ length xs
-filter-at-most p [] = omega arith
-filter-at-most p (x ∷ xs) = by (p x) (filter-at-most p xs)
-  where
-    by : (b : Bool) → length (filter p xs) ≤ length xs → length (cond b (x ∷ filter p xs) (filter p xs)) ≤ length (x ∷ xs)
-    by true h = omega (arith, h)
-    by false h = omega (arith, h)
-
 roots-at-most : (n : ℕ) (firsts : List ℕ) → length (roots_in n firsts) ≤ n
-roots-at-most n firsts = let l = filter-at-most (λ i. nat_eq (get_or firsts i i) i) (range_with_len 0 n) in let e = length-range_with_len 0 n in omega arith
+roots-at-most n firsts = let l = filter-shorter (λ i. nat_eq (get_or firsts i i) i) (range_with_len 0 n) in let e = length-range_with_len 0 n in omega arith
 
 pub worded : (names : List (Option (List ℕ))) (es : List (ℕ × ℕ)) (w : ArePairsBelow (length names) es) (few : length names < 2 ^ 32) (words : NumberedDefinitions) (count : ℕ) (ps : List (ℕ × (Own × Bool))) (ds : List (ℕ × By)) → words.of.items ≡ map (ordinal (length names) (least_of (length names) es)) (range_with_len 0 (length names)) → count ≡ length (roots_in (length names) (least_of (length names) es)) → ArePartsBelow (length names) ps → AreDefinitionsBelow (length names) ds → words.variables ≡ parted_all words.of.items ps (named_all words.of.items names (replicate count free_variable)) → IsStraightened (definitions_by (length names) es ds) (Ok words.definitions) → IsWording names ps ds es words
 worded names es w few words count ps ds of_is count_is in_parts in_ds v s =

@@ -5,11 +5,12 @@ use Rattle.std.specs.List.{AllByRecursion, AllZip, range_with_len}
 use Rattle.std.proofs.Math.ListN.{get_or-append}
 use Rattle.std.proofs.Math.Nat.{mul-le-mul, mul-le-mul_left, mul-le-mul_right, mul_assoc}
 use Rattle.std.proofs.Math.Seq.{drop-append_seam, take-append_seam}
-use Rattle.std.proofs.lemmas.List.{length-append, length-map, get_or-append-add, get_or-map}
+use Rattle.std.proofs.lemmas.List.{length-map, get_or-append-add, get_or-map}
 use Rattle.std.proofs.lemmas.List.Elements.{All-nil, All-cons}
 use Rattle.std.proofs.lemmas.List.FromFn.{length-map-range_with_len}
-use Rattle.sv_linear.specs.Rows.{MeetsRow, MeetsRows, RowFits, terms_weight, unknowns_of}
+use Rattle.sv_linear.specs.Rows.{MeetsRow, MeetsRows, RowFits, unknowns_of}
 use Rattle.sv_linear.specs.declared.row.Row.{Row}
+use Rattle.sv_linear.specs.TermLaws.{weight-less}
 use Rattle.search_hits.specs.Regions.{IsInRegion, IsWithin, amounts, greatest_amount, integer_points, points, register_points, side_points, sides_of, whole_side}
 use Rattle.cube_bounds.specs.Bounds.{sources, states}
 use Rattle.cube_bounds.specs.Growth.{reach}
@@ -22,13 +23,6 @@ use Rattle.cube_region.proofs.Sides.{IsFew, IsFromZero, from-zero, integer-amoun
 
 registers-long : (flat : Flat) → length (register_sides flat) ≡ length flat.registers
 registers-long flat = length-map-range_with_len (λ u. register_side (span_in flat.rows u)) (length flat.integers) (length flat.registers)
-
--- the sides of the registers stand first, those of the integer constants behind them
-pub sides-long : (flat : Flat) (ss : List Side) → ss ≡ sides flat → length flat.registers ≤ length ss
-sides-long flat ss e =
-    let l = ap length e ∙ length-append (register_sides flat) (integer_sides flat) in
-    let r = registers-long flat in
-    omega (arith, l, r)
 
 pub sides-front : (flat : Flat) (ss : List Side) (k : ℕ) → ss ≡ sides flat → k ≡ length flat.registers → take k ss ≡ register_sides flat
 sides-front flat ss k e f =
@@ -177,13 +171,6 @@ amount-among [] (r ∷ rs) h zero = register-amount r h.0
 amount-among [] (r ∷ rs) h (suc u) = amount-among [] rs h.1 u
 amount-among (i ∷ is) rs h zero = integer-amount i
 amount-among (i ∷ is) rs h (suc u) = amount-among is rs h u
-
-weight-less : (f g : ℕ → ℕ) → ((u : ℕ) → f u ≤ g u) → (ts : List (ℕ × ℤ)) → terms_weight f ts ≤ terms_weight g ts
-weight-less f g h [] = omega arith
-weight-less f g h (t ∷ ts) =
-    let a : unsigned_abs t.1 * f t.0 ≤ unsigned_abs t.1 * g t.0 = mul-le-mul_left (unsigned_abs t.1) (h t.0) in
-    let b = weight-less f g h ts in
-    omega arith
 
 pub fits-all : (f g : ℕ → ℕ) → ((u : ℕ) → f u ≤ g u) → (rs : List Row) → AllByRecursion (RowFits g) rs → All (RowFits f) rs
 fits-all f g h [] a = All-nil (RowFits f)

@@ -33,7 +33,8 @@ use Rattle.cube_search.specs.Models.{all_words}
 use Rattle.cube_search.specs.Searches.{AreFoundRuns}
 use Rattle.cube_search.specs.Tallies.{IsTally, IsCovered, IsAccounted}
 use Rattle.cube_search.specs.declared.found.FoundRuns.{FoundRuns}
-use Rattle.cube_search.proofs.FirstLemmas.{range-at, satisfies-conf, satisfies-obey, words-same}
+use Rattle.backward.proofs.LeafLemmas.{range-at}
+use Rattle.cube_search.proofs.FirstLemmas.{satisfies-conf, satisfies-obey, words-same}
 use Rattle.cube_search.proofs.FoundLemmas.{sources-all}
 
 -- the letters of words by number

@@ -1,9 +1,10 @@
 -- What is asked of the machines of a leaf, and what the answer says by the numbers of the cube.
-use Rattle.std.proofs.Common.{◌≡◌, ◌↔◌, ℕ, zero, suc, ◌<◌, ◌≤◌, ◌+◌, ◌*◌, ◌/◌, ◌^◌, ◌⊎◌, ℤ, pos, negsuc, ◌≤ℤ◌, ◌<ℤ◌, Bool, true, false, IsTrue, List, [], ◌∷◌, length, filter, not, cond, All, refl, sym, ap, ◌∙◌, subst, arith, inl, inr, mul-le-mul_right}
+use Rattle.std.proofs.Common.{◌≡◌, ◌↔◌, ℕ, zero, suc, ◌<◌, ◌≤◌, ◌+◌, ◌*◌, ◌/◌, ◌^◌, ◌⊎◌, ℤ, pos, negsuc, ◌≤ℤ◌, ◌<ℤ◌, Bool, true, false, IsTrue, List, [], ◌∷◌, length, not, All, refl, sym, ap, ◌∙◌, subst, arith, inl, inr, mul-le-mul_right}
 use Rattle.std.specs.List.{AllByRecursion, AllZip, range_with_len}
 use Rattle.std.proofs.lemmas.List.FromFn.{length-range_with_len}
 use Rattle.std.proofs.Math.Nat.{div-le_self}
 use Rattle.std.proofs.lemmas.Int.{ints}
+use Rattle.sv_list.specs.Lists.{filter-shorter}
 use lib.Signed.{lt_z}
 use Rattle.machine_core.specs.declared.graph.Graph.{Graph}
 use Rattle.machine_core.specs.declared.run.Run.{Run}
@@ -80,14 +81,6 @@ run-width : (m : Graph) (word : List ℕ) (s : ℕ) (cost : List ℕ) → RunsFr
 run-width m word s cost r = runs_width (λ n. Unit {0}) (StepsBy m.edges) (λ s t c cost h st. tt)
     (EndsAt m.ends) m.registers (λ s t c cost h st. (step_most m.states m.registers m.edges m.ends m.formed s t c cost st).entries)
     (λ s cost h e. (end_most m.states m.registers m.edges m.ends m.formed s cost e).entries) word s cost tt r
-
-filter-shorter : (p : ℕ → Bool) (xs : List ℕ) → length (filter p xs) ≤ length xs
-filter-shorter p [] = omega arith
-filter-shorter p (x ∷ xs) = by (p x) (filter-shorter p xs)
-  where
-    by : (b : Bool) → length (filter p xs) ≤ length xs → length (cond b (x ∷ filter p xs) (filter p xs)) ≤ suc (length xs)
-    by true h = omega arith
-    by false h = omega arith
 
 few-sources : (flat : Flat) → sources flat ≤ length flat.variables
 few-sources flat =
@@ -244,13 +237,6 @@ module _ (flat : Flat) (region : Region) (machines : List Graph) (r : ℕ) (for 
     answered-past (leaf.Closed closing) negative h = closed-arm h.none
     answered-past (leaf.Long shown) negative h = long-arm shown h
     answered-past (leaf.Open system evidence) negative h = open-arm system evidence h
-
--- where no character is within reach nothing must be decided
-pub none-must : (flat : Flat) → reach flat <ℤ pos 0 → MustDecideFlat flat → ⊥
-none-must flat negative must = elim must.search [
-  | inl s ↦ (let h = s.can.reached in omega (arith, ints))
-  | inr e ↦ omega (arith, ints, e.1)
-]
 
 below-of : (z : ℤ) (r : ℕ) → (pos 0 ≤ℤ z → z ≡ pos r) → z ≤ℤ pos r
 below-of (pos n) r h = let e = h (omega (arith, ints)) in omega (arith, ints)

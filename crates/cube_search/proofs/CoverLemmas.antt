@@ -1,5 +1,6 @@
 -- What is covered: the cuts of a concatenation together, and a definition through a transducer.
-use Rattle.std.proofs.Common.{◌≡◌, ℕ, zero, suc, ◌<◌, ◌+◌, ◌↔◌, ℤ, List, [], ◌∷◌, ◌++◌, length, map, Contains, Some, slice_get, refl, sym, subst, append_assoc, append-nil, length-append, arith, inl, inr}
+use Rattle.std.proofs.Common.{◌≡◌, ℕ, suc, ◌<◌, ◌+◌, ◌↔◌, ℤ, List, [], ◌∷◌, ◌++◌, length, map, Some, slice_get, refl, sym, subst, append_assoc, append-nil, length-append, arith, inl, inr}
+use Rattle.sv_list.specs.Lists.{Contains-middle}
 use Rattle.sv_terms.specs.Meaning.{joined}
 use Rattle.machine_core.specs.declared.graph.Graph.{Graph}
 use Rattle.search_hits.specs.declared.region.Region.{Region}
@@ -35,10 +36,6 @@ keeps-same t = record { given = λ h. h; long = λ h. h }
 pub keeps-more : (a b c : LeafTally) → Keeps a b → Keeps b c → Keeps a c
 keeps-more a b c h k = record { given = λ s. k.given (h.given s); long = λ s. k.long (h.long s) }
 
-contains-middle : {X : Type 0} (xs : List X) (y : X) (zs : List X) → Contains (xs ++ y ∷ zs) y
-contains-middle [] y zs = (zero, omega arith, refl)
-contains-middle (x ∷ xs) y zs = let r = contains-middle xs y zs in (suc r.0, omega (arith, r.1), r.2)
-
 -- all next cuts together
 pub covered-all : (flat : Flat) (region : Region) (at x : ℕ) (pieces : List ℕ) (ms : Family) (cuts : List ℕ) (tally : LeafTally) (bound : ℕ)
     → ((m : Graph) → HasMachine ms x m → bound ≡ m.states) → (length cuts + 1 ≡ length pieces → ⊥)
@@ -46,7 +43,7 @@ pub covered-all : (flat : Flat) (region : Region) (at x : ℕ) (pieces : List �
 covered-all flat region at x pieces ms cuts tally bound is ne h words totals ints [] m there are conf obey meets =
     let n = are.count in let e = length-append cuts [] in absurd (ne (omega arith))
 covered-all flat region at x pieces ms cuts tally bound is ne h words totals ints (s ∷ rest) m there are conf obey meets =
-    let below : s < bound = (let lt = are.states s (contains-middle cuts s rest) in let b = is m there in omega arith) in
+    let below : s < bound = (let lt = are.states s (Contains-middle cuts s rest) in let b = is m there in omega arith) in
     let same : cuts ++ s ∷ rest ≡ (cuts ++ s ∷ []) ++ rest = sym (append_assoc cuts (s ∷ []) rest) in
     h s below words totals ints rest m there (subst (AreCuts m pieces) same are) (subst (λ c. ConfCut (width flat) ms x pieces c words totals) same conf) obey meets
 

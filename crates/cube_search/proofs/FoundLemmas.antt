@@ -1,11 +1,8 @@
 -- What was found, taken back over a step, and spread from the runs of a leaf.
-use Rattle.std.proofs.Common.{◌≡◌, ℕ, zero, suc, ◌<◌, ◌≤◌, ◌+◌, pos, ◌≤ℤ◌, Bool, true, false, not, ◌||◌, List, [], ◌∷◌, length, map, filter, take, Some, None, nat_eq, cond, slice_get, refl, sym, ap, ◌∙◌, subst, arith, eq-eqb}
-use Rattle.std.specs.List.{AllByRecursion, AllZip, range_with_len}
+use Rattle.std.proofs.Common.{◌≡◌, ℕ, zero, suc, ◌<◌, ◌≤◌, ◌+◌, pos, ◌≤ℤ◌, Bool, true, false, not, List, [], ◌∷◌, length, map, filter, take, Some, None, cond, slice_get, refl, sym, ap, ◌∙◌, subst, arith}
+use Rattle.std.specs.List.{AllZip, range_with_len}
 use Rattle.std.proofs.lemmas.Bool.{false≢true}
-use Rattle.sv_terms.specs.Language.{Word}
-use Rattle.sv_terms.specs.Meaning.{joined}
-use Rattle.sv_terms.specs.Replacement.{replace_first, replace_all}
-use Rattle.sv_terms.specs.Transduction.{Pairs}
+use Rattle.sv_list.specs.Lists.{AllByRecursion-weaker}
 use Rattle.machine_core.specs.Costs.{add_costs}
 use Rattle.machine_core.specs.Graphs.{IsRunOf}
 use Rattle.machine_core.specs.Runs.{run_total}
@@ -20,54 +17,30 @@ use Rattle.flat_cubes.specs.Using.{is_defined, used}
 use Rattle.cube_bounds.specs.Growth.{reach}
 use Rattle.flat_cubes.specs.Satisfying.{ComesBy}
 use Rattle.flat_cubes.specs.Straight.{IsStraight, InOrder}
-use Rattle.flat_cubes.specs.declared.definition.By.{By}
 use Rattle.flat_cubes.specs.declared.definition.By.TheVariants as by
 use Rattle.flat_cubes.specs.declared.definition.Definition.{Definition}
 use Rattle.flat_cubes.specs.declared.flat.Flat.{Flat}
 use Rattle.backward.specs.Back.{AreBack}
 use Rattle.backward.specs.Families.{Family, Words}
 use Rattle.backward.specs.Chains.{width}
-use Rattle.backward.specs.Leaves.{machines_of, source_words}
+use Rattle.backward.specs.Leaves.{machines_of, source_words, Obey}
 use Rattle.backward.specs.Runs.{Runs, AreRuns, run_words, run_totals}
 use Rattle.backward.specs.States.{IsState}
 use Rattle.backward.specs.declared.leaf_state.LeafState.{LeafState}
+use Rattle.backward.proofs.LeafLemmas.{comes-agree}
+use Rattle.backward.proofs.OrderLemmas.{defined-at}
 use Rattle.cube_search.specs.LeafAnswers.{IsHitOf, words_of}
 use Rattle.cube_search.specs.Leaves.{AreLifted, IsTrim, machine_of}
 use Rattle.cube_search.specs.Spreads.{IsSpread}
-use Rattle.cube_search.specs.Searches.{AreFoundRuns, Obey}
+use Rattle.cube_search.specs.Searches.{AreFoundRuns}
 use Rattle.cube_search.specs.declared.found.FoundRuns.{FoundRuns}
 use Rattle.cube_search.proofs.OrderLemmas.{obey-join}
 use Rattle.cube_search.proofs.Places.{places_from, sources-places}
 use Rattle.cube_search.proofs.TrimLemmas.{lifted-runs, lifted-words, lifted-totals}
 
--- words that agree on what a definition uses
-pub map-agree : (f g : Words) (vs : List ℕ) → AllByRecursion (λ v. f v ≡ g v) vs → map f vs ≡ map g vs
-map-agree f g [] h = refl
-map-agree f g (v ∷ vs) h = let here = h.0 in let rest = map-agree f g vs h.1 in cc
-
-pub comes-agree : (b : By) (f g : Words) (v w : Word) → AllByRecursion (λ u. f u ≡ g u) (used b) → v ≡ w → ComesBy f v b → ComesBy g w b
-comes-agree (by.Concat vs) f g v w h e d = sym e ∙ d ∙ ap joined (map-agree f g vs h)
-comes-agree (by.First p u x) f g v w h e d = sym e ∙ d ∙ ap (replace_first p u) h.0
-comes-agree (by.All p u x) f g v w h e d = sym e ∙ d ∙ ap (replace_all p u) h.0
-comes-agree (by.Through t x) f g v w h e d = subst (λ a. Pairs t a w) h.0 (subst (Pairs t (f x)) e d)
-
 -- what isn't defined isn't the variable of a definition
 pub not-defined : (ds : List Definition) (at : ℕ) (d : Definition) → slice_get ds at ≡ Some d → (v : ℕ) → is_defined ds v ≡ false → v ≡ d.variable → ⊥
-not-defined [] at d e v h same = cc
-not-defined (c ∷ ds) zero d e v h same =
-    let is : c ≡ d = cc in
-    let here : nat_eq c.variable v ≡ true = eq-eqb c.variable v (ap (λ (x : Definition). x.variable) is ∙ sym same) in
-    let test : (nat_eq c.variable v || is_defined ds v) ≡ true = ap (λ b. b || is_defined ds v) here in
-    false≢true (sym h ∙ test)
-not-defined (c ∷ ds) (suc at) d e v h same = not-defined ds at d e v (or-right (nat_eq c.variable v) (is_defined ds v) h) same
-  where
-    or-right : (a b : Bool) → (a || b) ≡ false → b ≡ false
-    or-right true b h = absurd (false≢true (sym h))
-    or-right false b h = h
-
-pub all-map : {X : Type 0} (P Q : X → Type 0) → ((x : X) → P x → Q x) → (xs : List X) → AllByRecursion P xs → AllByRecursion Q xs
-all-map P Q f [] h = tt
-all-map P Q f (x ∷ xs) h = (f x h.0, all-map P Q f xs h.1)
+not-defined ds at d e v h same = false≢true (sym h ∙ ap (is_defined ds) same ∙ defined-at ds at d e)
 
 -- the definitions before one of them don't depend on its variable
 pub obey-agree : (n : ℕ) (ds : List Definition) (at : ℕ) (d : Definition) → InOrder n ds → slice_get ds at ≡ Some d → (f g : Words)
@@ -76,7 +49,7 @@ obey-agree n [] at d o e f g same h = cc
 obey-agree n (c ∷ ds) zero d o e f g same h = tt
 obey-agree n (c ∷ ds) (suc at) d o e f g same h = (
   comes-agree c.by f g (f c.variable) (g c.variable)
-      (all-map (λ v. is_defined (c ∷ ds) v ≡ false) (λ v. f v ≡ g v) (λ v p. same v (not-defined (c ∷ ds) (suc at) d e v p)) (used c.by) o.0.apart)
+      (AllByRecursion-weaker (λ v. is_defined (c ∷ ds) v ≡ false) (λ v. f v ≡ g v) (λ v p. same v (not-defined (c ∷ ds) (suc at) d e v p)) (used c.by) o.0.apart)
       (same c.variable (not-defined ds at d e c.variable o.0.once)) h.0,
   obey-agree n ds at d o.1 e f g same h.1,
 )

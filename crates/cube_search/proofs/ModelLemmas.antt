@@ -5,6 +5,7 @@ use Rattle.std.specs.List.{AllByRecursion, AllZip, IsDistinct, range_with_len}
 use Rattle.std.specs.Map.{keys_of}
 use Rattle.std.specs.Cmp.Lexicographic.{pointwise}
 use Rattle.std.proofs.lemmas.List.Elements.{All-nil, All-cons, All-head, All-tail}
+use Rattle.sv_list.specs.Lists.{AllByRecursion-append}
 use Rattle.indexmap.specs.IndexMap.{insert_all, insert_entry}
 use Rattle.sv_word.specs.Words.{IsWord}
 use Rattle.sv_terms.specs.Language.{Word}
@@ -17,7 +18,6 @@ use Rattle.flat_cubes.specs.Satisfying.{HasValue, MeetsParts, NamesHave, Satisfi
 use Rattle.flat_cubes.specs.Straight.{AreNamesApart, all_names, string_names}
 use Rattle.flat_cubes.specs.declared.flat.Flat.{Flat}
 use Rattle.flat_cubes.specs.declared.variable.Variable.{Variable}
-use Rattle.flat_cubes.proofs.Members.{all_joined}
 use Rattle.cube_search.specs.Entries.{all_entries, number_entries, string_entries, text_entries, truth_entries, word_by, word_of}
 use Rattle.cube_search.specs.Models.{IsNamedBy, all_words}
 use Rattle.cube_search.specs.declared.found.FoundRuns.{FoundRuns}
@@ -127,7 +127,7 @@ module _ where
   strings-worded : (rs : List (Option (Run ℕ))) (v : ℕ) (vs : List Variable) → AllZip MeetsParts vs (map (word_by rs) (range_with_len v (length vs))) → AllByRecursion W (string_entries rs v vs)
   strings-worded rs v [] h = tt
   strings-worded rs v (x ∷ vs) h =
-      all_joined W (text_entries (word_by rs v) x.names) (string_entries rs (suc v) vs) (texts-worded (word_by rs v) x.names h.0.0)
+      AllByRecursion-append W (text_entries (word_by rs v) x.names) (string_entries rs (suc v) vs) (texts-worded (word_by rs v) x.names h.0.0)
       (strings-worded rs (suc v) vs (subst (λ n. AllZip MeetsParts vs (map (word_by rs) (range_with_len n (length vs)))) (let e : v + 1 ≡ suc v = omega arith in e) h.1))
 
   numbers-worded : (ns : List (List ℕ)) (zs : List ℤ) → AllByRecursion W (number_entries ns zs)
@@ -155,8 +155,8 @@ module _ (flat : Flat) (found : FoundRuns) (values : Named) (is : values ≡ ins
   pub all-worded : Satisfies flat (all_words (length flat.variables) found.runs) found.integers → AreWorded values
   all-worded h =
       subst AreWorded (sym is) (worded-all [] (all_entries flat found) (All-nil W)
-      (all_joined W (string_entries found.runs 0 flat.variables ++ number_entries flat.integers found.integers) (truth_entries flat.truths)
-      (all_joined W (string_entries found.runs 0 flat.variables) (number_entries flat.integers found.integers) (strings-worded found.runs 0 flat.variables h.strings.parts) (numbers-worded flat.integers found.integers))
+      (AllByRecursion-append W (string_entries found.runs 0 flat.variables ++ number_entries flat.integers found.integers) (truth_entries flat.truths)
+      (AllByRecursion-append W (string_entries found.runs 0 flat.variables) (number_entries flat.integers found.integers) (strings-worded found.runs 0 flat.variables h.strings.parts) (numbers-worded flat.integers found.integers))
       (truths-worded flat.truths)))
 
 -- the entries, set one list after another

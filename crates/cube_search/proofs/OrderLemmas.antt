@@ -3,7 +3,7 @@ use Rattle.std.proofs.Common.{◌≡◌, ℕ, zero, suc, List, [], ◌∷◌, ta
 use Rattle.flat_cubes.specs.Satisfying.{ComesBy}
 use Rattle.flat_cubes.specs.declared.definition.Definition.{Definition}
 use Rattle.backward.specs.Families.{Words}
-use Rattle.cube_search.specs.Searches.{Obey}
+use Rattle.backward.specs.Leaves.{Obey}
 
 -- the definitions up to one of them are those before it and that one
 pub obey-split : (ds : List Definition) (at : ℕ) (d : Definition) (words : Words) → slice_get ds at ≡ Some d → Obey (take (suc at) ds) words

@@ -1,8 +1,7 @@
 -- The source variables as the places of a family's machines, and what such a family reads.
-use Rattle.std.proofs.Common.{◌≡◌, ℕ, suc, ◌≤◌, ◌+◌, ◌*◌, Bool, true, false, not, cond, List, [], ◌∷◌, length, map, filter, All, Some, None, slice_get, refl, sym, ap, ◌∙◌, subst, arith, add-one}
+use Rattle.std.proofs.Common.{◌≡◌, ℕ, suc, ◌+◌, Bool, true, false, not, cond, List, [], ◌∷◌, length, map, filter, All, Some, None, slice_get, refl, sym, ap, ◌∙◌, subst, arith, add-one}
 use Rattle.std.specs.List.{AllZip, range_with_len}
 use Rattle.std.proofs.lemmas.List.Elements.{All-nil, All-cons}
-use Rattle.std.proofs.lemmas.Option.{slice_get_within}
 use Rattle.machine_core.specs.Costs.{add_costs}
 use Rattle.machine_core.specs.Edges.{EndsAt, StepsBy}
 use Rattle.machine_core.specs.RunLaws.{accepted_run}
@@ -10,16 +9,13 @@ use Rattle.machine_core.specs.declared.graph.Graph.{Graph}
 use Rattle.machine_core.specs.Graphs.{Accepts}
 use Rattle.search_hits.specs.Hits.{runs_total}
 use Rattle.flat_cubes.specs.Using.{is_defined}
-use Rattle.cube_bounds.specs.Bounds.{sources_of, sources, states, states_at, own_bound, product_by}
-use Rattle.cube_bounds.specs.NumberLaws.{factor, StatesAreBounded, StatesAreSolved}
-use Rattle.flat_cubes.specs.Straight.{IsStraight}
+use Rattle.cube_bounds.specs.Bounds.{sources_of, sources}
 use Rattle.flat_cubes.specs.declared.flat.Flat.{Flat}
 use Rattle.backward.specs.Families.{Family, Words, after, HasMachine, Conf}
 use Rattle.backward.specs.Chains.{width}
 use Rattle.backward.specs.Leaves.{machines_of, source_words}
 use Rattle.backward.specs.States.{IsState}
 use Rattle.backward.specs.declared.leaf_state.LeafState.{LeafState}
-use Rattle.backward.proofs.StateLemmas.{get-there}
 use Rattle.cube_search.specs.LeafAnswers.{words_of}
 use Rattle.cube_search.specs.Causes.{HaveRunsOn}
 
@@ -98,12 +94,3 @@ pub machines-all : (P : Graph → Type 0) (ms : Family) → ((v : ℕ) (m : Grap
 machines-all P [] h = All-nil P
 machines-all P (None ∷ ms) h = machines-all P ms (λ v m e. h (suc v) m e)
 machines-all P (Some m ∷ ms) h = All-cons P m (machines_of ms) (h 0 m refl) (machines-all P ms (λ v m e. h (suc v) m e))
-
-pub few-states : StatesAreSolved → StatesAreBounded → (flat : Flat) → IsStraight flat → (s : LeafState) → IsState flat 0 s → (v : ℕ) (m : Graph) → HasMachine s.machines v m → m.states ≤ states flat
-few-states solved bounded flat straight s state v m h =
-    let below = slice_get_within s.machines v (Some m) h in
-    let x = get-there flat.variables v (omega (arith, below, state.size)) in
-    let few : m.states ≤ own_bound x.0 * product_by (factor flat v) flat.definitions = state.bounded v x.0 m x.1 h in
-    let all : states_at flat v ≡ own_bound x.0 * product_by (factor flat v) flat.definitions = solved flat straight v x.0 x.1 in
-    let most : states_at flat v ≤ states flat = bounded flat v in
-    omega (arith, few, all, most)

@@ -30,8 +30,7 @@ use Rattle.cube_search.specs.declared.tally.LongLeaf.{LongLeaf}
 use Rattle.cube_search.specs.declared.tally.LeafTally.{LeafTally}
 use Rattle.cube_search.specs.Causes.{HaveRunsOn}
 use Rattle.cube_search.specs.Leaves.{IsTrim, machine_of}
-use Rattle.cube_search.specs.Tallies.{IsTally, Keeps, IsCovered, IsReadBy}
-use Rattle.cube_search.proofs.CoverLemmas.{keeps-same}
+use Rattle.cube_search.specs.Tallies.{IsTally, IsCovered, IsReadBy}
 use Rattle.cube_search.proofs.FoundLemmas.{letters-characters}
 use Rattle.cube_search.proofs.Places.{ReadsSame, reads-sources}
 use Rattle.cube_search.proofs.TrimLemmas.{lessened, is-lessened, lessened-machines, trims-less}
@@ -78,12 +77,6 @@ module _ (flat : Flat) (region : Region) (machines : List Graph) (leafs : All Ha
     long = is.long;
     undecided = is.undecided;
   }
-
-pub settled-keeps : (machines : List Graph) (a : LeafAnswer) (t : LeafTally) → Keeps t (settled machines a t)
-settled-keeps machines (leaf.Sat hit) t = keeps-same t
-settled-keeps machines (leaf.Closed c) t = record { given = λ h. h; long = λ h. h }
-settled-keeps machines (leaf.Long shown) t = record { given = λ h. h; long = λ h. some-first t.long (record { machines = machines; shown = shown }) }
-settled-keeps machines (leaf.Open system evidence) t = record { given = λ h. some-first t.given (record { machines = machines; system = system; evidence = evidence }); long = λ h. h }
 
 -- what is read meets the rows as a hit
 hit-read : (n : ℕ) (flat : Flat) (machines : List Graph) (words : List (List ℕ)) (totals : List ℕ) (ints : List ℤ) → (r : HaveRunsOn n machines words totals)

@@ -20,11 +20,12 @@ use Rattle.backward.specs.Leaves.{machines_of, IsLess, IsLessened}
 use Rattle.backward.specs.States.{IsState}
 use Rattle.backward.specs.declared.leaf_state.LeafState.{LeafState}
 use Rattle.backward.proofs.PlaceLemmas.{free-held, held-once}
+use Rattle.backward.proofs.LeafLemmas.{few-states}
 use Rattle.cube_bounds.specs.NumberLaws.{StatesAreBounded, StatesAreSolved}
 use Rattle.flat_cubes.specs.Straight.{IsStraight}
 use Rattle.cube_search.specs.LeafAnswers.{AreOfLeaf, words_of}
 use Rattle.cube_search.specs.Leaves.{AreLifted, IsTrim, machine_of}
-use Rattle.cube_search.proofs.Places.{ReadsSame, machines-all, machines-length, few-states}
+use Rattle.cube_search.proofs.Places.{ReadsSame, machines-all, machines-length}
 
 -- the machines of a list at the places of a family's machines
 abbrev pub lessened : Family → List Graph → Family

@@ -1,17 +1,14 @@
 -- What is searched, what is found, and how far a concatenation is cut.
-use Rattle.std.specs.Prelude.{◌≡◌, ◌↔◌, ℕ, ◌<◌, ◌^◌, ◌≤ℤ◌, pos, IsTrue, false, List, [], length, take}
-use Rattle.std.specs.List.{AllByRecursion}
+use Rattle.std.specs.Prelude.{◌≡◌, ◌↔◌, ℕ, ◌<◌, ◌^◌, ◌≤ℤ◌, pos, IsTrue, false, [], length, take}
 use Rattle.sv_linear.specs.Rows.{MeetsRows}
 use Rattle.cube_bounds.specs.Growth.{reach}
-use Rattle.flat_cubes.specs.Satisfying.{ComesBy}
 use Rattle.cube_bounds.specs.Sides.{IsSmall}
 use Rattle.flat_cubes.specs.Straight.{HasFormed, IsStraight}
-use Rattle.flat_cubes.specs.declared.definition.Definition.{Definition}
 use Rattle.flat_cubes.specs.declared.flat.Flat.{Flat}
 use Rattle.leaf_solve.specs.Longs.{letters}
 use Rattle.backward.specs.Chains.{width}
-use Rattle.backward.specs.Families.{Family, Words}
-use Rattle.backward.specs.Leaves.{source_words}
+use Rattle.backward.specs.Families.{Family}
+use Rattle.backward.specs.Leaves.{source_words, Obey}
 use Rattle.backward.specs.Runs.{AreRuns, run_words, run_totals}
 use Rattle.backward.specs.States.{IsLittle}
 use Rattle.cube_region.specs.Regions.{IsRegionFor}
@@ -29,10 +26,6 @@ pub record IsSearch (search : Search) : Type 0 where
   pub is_small : IsTrue search.small ↔ IsSmall search.flat.now
   pub is_reach : search.reach ≡ reach search.flat.now
   pub reachable : (search.flat.now.rows ≡ [] → ⊥) → pos 0 ≤ℤ reach search.flat.now
-
--- the definitions hold at these words
-abbrev pub Obey : List Definition → Words → Type 0
-Obey ds words = AllByRecursion (λ (d : Definition). ComesBy words (words d.variable) d.by) ds
 
 -- runs of the machines of a family, of which so many definitions are still to be carried: they obey these definitions, and with the numbers meet the rows of the cube; the source words are within reach
 pub record AreFoundRuns (flat : Flat) (left : ℕ) (ms : Family) (found : FoundRuns) : Type 0 where

@@ -15,14 +15,13 @@ use Rattle.flat_cubes.specs.declared.flat.Flat.{Flat}
 use Rattle.backward.specs.Chains.{width}
 use Rattle.backward.specs.Definitions.{definition}
 use Rattle.backward.specs.Families.{Family, Words, HasMachine, Conf}
-use Rattle.backward.specs.Leaves.{IsLeaf, source_words}
+use Rattle.backward.specs.Leaves.{IsLeaf, source_words, Obey}
 use Rattle.backward.specs.Pieces.{ConfCut, AreCuts}
 use Rattle.backward.specs.declared.leaf_state.LeafState.{LeafState}
 use Rattle.cube_search.specs.Limits.{MustDecideFlat}
 use Rattle.cube_search.specs.OpenLeaves.{HasGivenUp, IsLongFor}
 use Rattle.cube_search.specs.declared.tally.LeafTally.{LeafTally}
 use Rattle.cube_search.specs.Causes.{HaveRunsOn}
-use Rattle.cube_search.specs.Searches.{Obey}
 use Rattle.cube_search.specs.Steps.{IsNextFamily}
 
 -- the leaves that are kept are leaves, with what shows that they are open

@@ -1,8 +1,8 @@
 -- The levels of a script stay sound, whatever command is done.
 use Rattle.std.proofs.Common.{◌≡◌, refl, sym, subst, ℕ, zero, suc, List, [], ◌∷◌, ◌++◌, drop, Some, IsTrue, append_assoc, append-nil}
 use Rattle.std.specs.List.{AllByRecursion}
+use Rattle.sv_list.specs.Lists.{AllByRecursion-first, AllByRecursion-push}
 use Rattle.assert_stack.specs.Levels.{Level, Symbol, empty, symbols_of, live, pushed, declared, asserted}
-use Rattle.flat_cubes.proofs.Members.{all_push}
 use Rattle.sort_check.specs.WellFormed.{is_well_formed, IsAdded}
 use Rattle.sv_terms.specs.Sorting.{sort_of}
 use Rattle.sv_terms.specs.declared.entry.Entry.{Entry}
@@ -17,15 +17,11 @@ IsBool t = sort_of t ≡ Some sort.Bool
 abbrev pub Prefixes : Type 0
 Prefixes = (xs ys : List Symbol) → IsTrue (is_well_formed (xs ++ ys)) → IsTrue (is_well_formed xs)
 
-front : {X : Type 0} (P : X → Type 0) (xs ys : List X) → AllByRecursion P (xs ++ ys) → AllByRecursion P xs
-front P [] ys h = tt
-front P (x ∷ xs) ys h = (h.0, front P xs ys h.1)
-
 pub stands_opened : IsStanding (empty ∷ [])
 stands_opened = record { formed = refl; sorted = tt }
 
 outer : Prefixes → (level : Level) (levels : List Level) → IsStanding (level ∷ levels) → IsStanding levels
-outer prefixes level levels h = record { formed = prefixes (symbols_of levels) level.0 h.formed; sorted = front IsBool (live levels) level.1 h.sorted }
+outer prefixes level levels h = record { formed = prefixes (symbols_of levels) level.0 h.formed; sorted = AllByRecursion-first IsBool (live levels) level.1 h.sorted }
 
 pub stands_dropped : Prefixes → (n : ℕ) (levels : List Level) → IsStanding levels → IsStanding (drop n levels)
 stands_dropped prefixes zero [] h = h
@@ -48,5 +44,5 @@ pub stands_asserted : (t : Term) (levels : List Level) → IsBool t → IsStandi
 stands_asserted t [] b h = h
 stands_asserted t (level ∷ levels) b h = record {
   formed = h.formed;
-  sorted = subst (AllByRecursion IsBool) (append_assoc (live levels) level.1 (t ∷ [])) (all_push IsBool (live levels ++ level.1) t h.sorted b);
+  sorted = subst (AllByRecursion IsBool) (append_assoc (live levels) level.1 (t ∷ [])) (AllByRecursion-push IsBool (live levels ++ level.1) t h.sorted b);
 }

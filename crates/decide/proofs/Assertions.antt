@@ -1,6 +1,9 @@
 -- The assertions without opaque parts, and what is known of their cubes.
 use Rattle.std.proofs.Common.{◌≡◌, refl, sym, ◌∙◌, subst, ℕ, ◌<◌, cond, not, Bool, true, false, ◌&&◌, IsTrue, List, [], ◌∷◌, Some, Result, Err, IfOk, arith}
 use Rattle.std.specs.List.{AllByRecursion, list_all}
+use Rattle.std.proofs.lemmas.Bool.{and_parts, and_from}
+use Rattle.std.proofs.lemmas.List.Elements.{recursion_from_All, All-from_recursion}
+use Rattle.sv_list.specs.Lists.{AllByRecursion-weaker}
 use Rattle.sv_terms.specs.CutOff.{cut_off}
 use Rattle.sv_terms.specs.Meaning.{Named}
 use Rattle.sv_terms.specs.Parts.{is_opaque}
@@ -12,8 +15,6 @@ use Rattle.sv_terms.specs.declared.sort.Sort.TheVariants as sort
 use Rattle.sv_terms.specs.declared.term.Term.{Term}
 use Rattle.sv_terms.specs.declared.term.Term.TheVariants as v
 use Rattle.assertion_parts.specs.Constants.{ConstantsHaveOneSort, has_words}
-use Rattle.assertion_parts.proofs.Fillings.{by-places, at-places}
-use Rattle.assertion_parts.proofs.Sorts.{both, both-make}
 use Rattle.assertion_parts.proofs.Terms.{every-Apply, words-Apply}
 use Rattle.bool_cubes.specs.Cubes.{cubes_of}
 use Rattle.bool_cubes.specs.Laws.{CubesAreExact, IsAssertion, IsFittingCube, IsPassedCube, IsPassedOn, IsClearBool, IsValuedCube, LiteralsAreValued, LiteralsFit, LiteralsPass}
@@ -40,23 +41,19 @@ kept P (t ∷ ts) h = by (is_opaque t) refl (kept P ts h.1)
     by true e rest = subst (λ b. AllByRecursion (λ t. P t × (is_opaque t ≡ false)) (cond (not b) (t ∷ clear_of ts) (clear_of ts))) (sym e) rest
     by false e rest = subst (λ b. AllByRecursion (λ t. P t × (is_opaque t ≡ false)) (cond (not b) (t ∷ clear_of ts) (clear_of ts))) (sym e) ((h.0, e), rest)
 
-mapped : {X : Type 0} (P Q : X → Type 0) → ((x : X) → P x → Q x) → (xs : List X) → AllByRecursion P xs → AllByRecursion Q xs
-mapped P Q f [] h = tt
-mapped P Q f (x ∷ xs) h = (f x h.0, mapped P Q f xs h.1)
-
 abbrev pub IsBool : Term → Type 0
 IsBool t = sort_of t ≡ Some sort.Bool
 
 pub clear-sorted : (ts : List Term) → AllByRecursion IsBool ts → AllByRecursion IsClearBool (clear_of ts)
-clear-sorted ts h = mapped (λ t. IsBool t × (is_opaque t ≡ false)) IsClearBool (λ t p. record { sorted = p.0; clear = p.1 }) (clear_of ts) (kept IsBool ts h)
+clear-sorted ts h = AllByRecursion-weaker (λ t. IsBool t × (is_opaque t ≡ false)) IsClearBool (λ t p. record { sorted = p.0; clear = p.1 }) (clear_of ts) (kept IsBool ts h)
 
 clear-formed : (ts : List Term) → AllByRecursion (λ t. IsTrue (has_formed t)) ts → AllByRecursion (λ t. IsTrue (has_formed t)) (clear_of ts)
-clear-formed ts h = mapped (λ t. IsTrue (has_formed t) × (is_opaque t ≡ false)) (λ t. IsTrue (has_formed t)) (λ t p. p.0) (clear_of ts) (kept (λ t. IsTrue (has_formed t)) ts h)
+clear-formed ts h = AllByRecursion-weaker (λ t. IsTrue (has_formed t) × (is_opaque t ≡ false)) (λ t. IsTrue (has_formed t)) (λ t p. p.0) (clear_of ts) (kept (λ t. IsTrue (has_formed t)) ts h)
 
 pub clear-one-sort : (ts : List Term) → ConstantsHaveOneSort ts → ConstantsHaveOneSort (clear_of ts)
 clear-one-sort ts one =
     let P = λ (t : Term). IsTrue (is_valued one.0 t) in
-    (one.0, at-places P (clear_of ts) (mapped (λ t. P t × (is_opaque t ≡ false)) P (λ t p. p.0) (clear_of ts) (kept P ts (by-places P ts one.1))))
+    (one.0, All-from_recursion P (clear_of ts) (AllByRecursion-weaker (λ t. P t × (is_opaque t ≡ false)) P (λ t p. p.0) (clear_of ts) (kept P ts (recursion_from_All P ts one.1))))
 
 assertions : (values : Named) (ts : List Term) → AllByRecursion IsClearBool ts → AllByRecursion (λ t. IsTrue (is_valued values t)) ts → AllByRecursion (IsAssertion values) ts
 assertions values [] s h = tt
@@ -65,14 +62,14 @@ assertions values (t ∷ ts) s h = (record { sorted = s.0.sorted; valued = h.0; 
 -- that all are spelled
 spelled-all : (ts : List Term) → IsTrue (list_all has_words ts) → AllByRecursion (λ t. IsTrue (has_formed t)) ts → IsTrue (list_all is_spelled ts)
 spelled-all [] h k = refl
-spelled-all (t ∷ ts) h k = let p = both (has_words t) (list_all has_words ts) h in both-make (is_spelled t) (list_all is_spelled ts) (both-make (has_words t) (has_formed t) p.0 k.0) (spelled-all ts p.1 k.1)
+spelled-all (t ∷ ts) h k = let p = and_parts (has_words t) (list_all has_words ts) h in and_from (is_spelled t) (list_all is_spelled ts) (and_from (has_words t) (has_formed t) p.0 k.0) (spelled-all ts p.1 k.1)
 
 halves : (ts : List Term) → IsTrue (list_all has_words ts) → IsTrue (list_all has_formed ts) → IsTrue (list_all is_spelled ts)
 halves [] h k = refl
 halves (t ∷ ts) h k =
-    let p = both (has_words t) (list_all has_words ts) h in
-    let q = both (has_formed t) (list_all has_formed ts) k in
-    both-make (is_spelled t) (list_all is_spelled ts) (both-make (has_words t) (has_formed t) p.0 q.0) (halves ts p.1 q.1)
+    let p = and_parts (has_words t) (list_all has_words ts) h in
+    let q = and_parts (has_formed t) (list_all has_formed ts) k in
+    and_from (is_spelled t) (list_all is_spelled ts) (and_from (has_words t) (has_formed t) p.0 q.0) (halves ts p.1 q.1)
 
 -- a test that is passed on
 abbrev of_any : List ℕ → Sort → Bool
@@ -81,13 +78,13 @@ of_any n s = true
 passed-on : IsPassedOn is_spelled
 passed-on = record {
   joined = λ o s t h k.
-      let p = both (has_words s) (has_formed s) h in
-      let q = both (has_words t) (has_formed t) k in
-      both-make (has_words (v.Apply o (s ∷ t ∷ []))) (has_formed (v.Apply o (s ∷ t ∷ [])))
-      (words-Apply o (s ∷ t ∷ []) ∙ both-make (has_words s) (has_words t && true) p.0 (both-make (has_words t) true q.0 refl))
-      (every-Apply of_any is_formed o (s ∷ t ∷ []) ∙ both-make (has_formed s) (has_formed t && true) p.1 (both-make (has_formed t) true q.1 refl));
+      let p = and_parts (has_words s) (has_formed s) h in
+      let q = and_parts (has_words t) (has_formed t) k in
+      and_from (has_words (v.Apply o (s ∷ t ∷ []))) (has_formed (v.Apply o (s ∷ t ∷ [])))
+      (words-Apply o (s ∷ t ∷ []) ∙ and_from (has_words s) (has_words t && true) p.0 (and_from (has_words t) true q.0 refl))
+      (every-Apply of_any is_formed o (s ∷ t ∷ []) ∙ and_from (has_formed s) (has_formed t && true) p.1 (and_from (has_formed t) true q.1 refl));
   parts = λ o ts h.
-      let p = both (has_words (v.Apply o ts)) (has_formed (v.Apply o ts)) h in
+      let p = and_parts (has_words (v.Apply o ts)) (has_formed (v.Apply o ts)) h in
       halves ts (sym (words-Apply o ts) ∙ p.0) (sym (every-Apply of_any is_formed o ts) ∙ p.1);
 }
 
@@ -112,15 +109,15 @@ all-asked fit pass valued told terms sorted formed one words plain =
     let cs = cubes_of (clear_of terms) in
     let good = spelled-all (clear_of terms) words (clear-formed terms formed) in
     asked-each terms cs (clear-one-sort terms one) (fit (clear_of terms) plain)
-    (mapped (IsPassedCube is_spelled) (λ (c : Cube). AllByRecursion (λ (l : Literal). IsSpelled (seen l.atom)) c.literals) (λ c h. literals-spelled told c.literals h) cs (pass is_spelled passed-on (clear_of terms) good))
+    (AllByRecursion-weaker (IsPassedCube is_spelled) (λ (c : Cube). AllByRecursion (λ (l : Literal). IsSpelled (seen l.atom)) c.literals) (λ c h. literals-spelled told c.literals h) cs (pass is_spelled passed-on (clear_of terms) good))
     (turned (λ values. AreValued values (clear_of terms)) IsValuedCube cs
-    (λ values a. valued values (clear_of terms) (assertions values (clear_of terms) (clear-sorted terms sorted) (by-places (λ t. IsTrue (is_valued values t)) (clear_of terms) a))))
+    (λ values a. valued values (clear_of terms) (assertions values (clear_of terms) (clear-sorted terms sorted) (recursion_from_All (λ t. IsTrue (is_valued values t)) (clear_of terms) a))))
 
 -- the laws of the cubes
 pub laws-of : CubesAreExact → LiteralsAreValued → (terms : List Term) → AllByRecursion IsBool terms → AreLaws terms
 laws-of exact valued terms sorted = record {
-  valued = λ values a. valued values (clear_of terms) (assertions values (clear_of terms) (clear-sorted terms sorted) (by-places (λ t. IsTrue (is_valued values t)) (clear_of terms) a));
-  same = λ values a. exact values (clear_of terms) (assertions values (clear_of terms) (clear-sorted terms sorted) (by-places (λ t. IsTrue (is_valued values t)) (clear_of terms) a));
+  valued = λ values a. valued values (clear_of terms) (assertions values (clear_of terms) (clear-sorted terms sorted) (recursion_from_All (λ t. IsTrue (is_valued values t)) (clear_of terms) a));
+  same = λ values a. exact values (clear_of terms) (assertions values (clear_of terms) (clear-sorted terms sorted) (recursion_from_All (λ t. IsTrue (is_valued values t)) (clear_of terms) a));
 }
 
 cut-more : (n : ℕ) → most_cubes < n → most_cubes < cut_off n

@@ -2,6 +2,7 @@
 use Rattle.std.proofs.Common.{◌≡◌, ℕ, zero, suc, ◌<◌, ◌≤◌, ◌+◌, List, [], ◌∷◌, map, Contains, Some, None, slice_get, slice_index, refl, ap, subst, arith}
 use Rattle.std.specs.List.{AllZip}
 use Rattle.std.specs.List.Sorted.{IsStrictlyIncreasing}
+use Rattle.sv_list.specs.Lists.{Contains-here, Contains-there}
 use Rattle.sv_terms.specs.Meaning.{Named}
 use Rattle.sv_terms.specs.declared.term.Term.{Term}
 use Rattle.literal_forms.specs.declared.literal.Cube.{Cube}
@@ -14,7 +15,7 @@ use Rattle.sv_terms.specs.Truth.{AreValued, clear_of, opaque_of}
 use Rattle.assertion_parts.specs.Constants.{AreValuesOf}
 use Rattle.decide.specs.CubeValues.{CubeHasNoValues, AreTrueAtCube}
 use Rattle.decide.specs.Folds.{first_sat, opens_from}
-use Rattle.decide.proofs.Listed.{contains-here, contains-there, contains-cases, contains-none}
+use Rattle.decide.proofs.Listed.{contains-cases, contains-none}
 use Rattle.decide.specs.Causes.{IsCause}
 use Rattle.decide.specs.Completeness.{MustDecideCube}
 use Rattle.decide.specs.Jobs.{IsOutcome}
@@ -42,9 +43,9 @@ module _ (terms : List Term) where
   others-clear n (d ∷ ds) (answer.Unsat r ∷ bs) z e (suc k) c g h =
       others-clear (suc n) ds bs z.1 e k c g (λ i. h (subst (Contains (map (λ e. e.0) (opens_from (suc n) [] bs))) (omega arith) i))
   others-clear n (d ∷ ds) (answer.Open r ∷ bs) z e zero c g h =
-      absurd (h (subst (Contains (n ∷ map (λ e. e.0) (opens_from (suc n) [] bs))) (omega arith) (contains-here n (map (λ e. e.0) (opens_from (suc n) [] bs)))))
+      absurd (h (subst (Contains (n ∷ map (λ e. e.0) (opens_from (suc n) [] bs))) (omega arith) (Contains-here n (map (λ e. e.0) (opens_from (suc n) [] bs)))))
   others-clear n (d ∷ ds) (answer.Open r ∷ bs) z e (suc k) c g h =
-      others-clear (suc n) ds bs z.1 e k c g (λ i. h (subst (Contains (n ∷ map (λ e. e.0) (opens_from (suc n) [] bs))) (omega arith) (contains-there _ n _ i)))
+      others-clear (suc n) ds bs z.1 e k c g (λ i. h (subst (Contains (n ∷ map (λ e. e.0) (opens_from (suc n) [] bs))) (omega arith) (Contains-there n _ _ i)))
 
   -- where some assertion is opaque the cubes that were found to have values are listed too
   pub others-opaque : (t : Term) (ts : List Term) (n : ℕ) (done : List Cube) (answers : List CubeAnswer) → AllZip (IsOutcome terms) done answers
@@ -52,16 +53,16 @@ module _ (terms : List Term) where
   others-opaque t ts n [] answers z k c g h = cc
   others-opaque t ts n (d ∷ ds) [] z k c g h = absurd z
   others-opaque t ts n (d ∷ ds) (answer.Sat m ∷ bs) z zero c g h =
-      absurd (h (subst (Contains (n ∷ map (λ e. e.0) (opens_from (suc n) (t ∷ ts) bs))) (omega arith) (contains-here n (map (λ e. e.0) (opens_from (suc n) (t ∷ ts) bs)))))
+      absurd (h (subst (Contains (n ∷ map (λ e. e.0) (opens_from (suc n) (t ∷ ts) bs))) (omega arith) (Contains-here n (map (λ e. e.0) (opens_from (suc n) (t ∷ ts) bs)))))
   others-opaque t ts n (d ∷ ds) (answer.Sat m ∷ bs) z (suc k) c g h =
-      others-opaque t ts (suc n) ds bs z.1 k c g (λ i. h (subst (Contains (n ∷ map (λ e. e.0) (opens_from (suc n) (t ∷ ts) bs))) (omega arith) (contains-there _ n _ i)))
+      others-opaque t ts (suc n) ds bs z.1 k c g (λ i. h (subst (Contains (n ∷ map (λ e. e.0) (opens_from (suc n) (t ∷ ts) bs))) (omega arith) (Contains-there n _ _ i)))
   others-opaque t ts n (d ∷ ds) (answer.Unsat r ∷ bs) z zero c g h = let same : d ≡ c = cc in subst CubeHasNoValues same z.0.right
   others-opaque t ts n (d ∷ ds) (answer.Unsat r ∷ bs) z (suc k) c g h =
       others-opaque t ts (suc n) ds bs z.1 k c g (λ i. h (subst (Contains (map (λ e. e.0) (opens_from (suc n) (t ∷ ts) bs))) (omega arith) i))
   others-opaque t ts n (d ∷ ds) (answer.Open r ∷ bs) z zero c g h =
-      absurd (h (subst (Contains (n ∷ map (λ e. e.0) (opens_from (suc n) (t ∷ ts) bs))) (omega arith) (contains-here n (map (λ e. e.0) (opens_from (suc n) (t ∷ ts) bs)))))
+      absurd (h (subst (Contains (n ∷ map (λ e. e.0) (opens_from (suc n) (t ∷ ts) bs))) (omega arith) (Contains-here n (map (λ e. e.0) (opens_from (suc n) (t ∷ ts) bs)))))
   others-opaque t ts n (d ∷ ds) (answer.Open r ∷ bs) z (suc k) c g h =
-      others-opaque t ts (suc n) ds bs z.1 k c g (λ i. h (subst (Contains (n ∷ map (λ e. e.0) (opens_from (suc n) (t ∷ ts) bs))) (omega arith) (contains-there _ n _ i)))
+      others-opaque t ts (suc n) ds bs z.1 k c g (λ i. h (subst (Contains (n ∷ map (λ e. e.0) (opens_from (suc n) (t ∷ ts) bs))) (omega arith) (Contains-there n _ _ i)))
 
   abbrev HasCause : List Cube → ℕ → ℕ → OpenReason → Type 0
   HasCause done n k reason = (j : ℕ) × (c : Cube) × (k ≡ n + j) × (slice_get done j ≡ Some c) × IsCause terms c reason

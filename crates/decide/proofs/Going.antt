@@ -6,6 +6,7 @@ use Rattle.std.proofs.Math.Seq.{drop-append_seam}
 use Rattle.std.specs.declared.alloc.AllocError.{AllocError}
 use Rattle.std.specs.Option.{is_some}
 use Rattle.std.proofs.lemmas.Bool.{ltb-true, ltb-false}
+use Rattle.sv_list.specs.Lists.{AllZip-append, AllZip-length}
 use Rattle.sv_terms.specs.Meaning.{Named}
 use Rattle.sv_terms.specs.declared.term.Term.{Term}
 use Rattle.bool_cubes.specs.Cubes.{cubes_of}
@@ -37,18 +38,6 @@ is-none old new o e h = subst (LeftBy old new) e h
 
 pub is-some : (old new : List Cube) (o : Option Cube) (c : Cube) → o ≡ Some c → LeftBy old new o → old ≡ c ∷ new
 is-some old new o c e h = subst (LeftBy old new) e h
-
-zip-append : {J T : Type 0} (R : J → T → Type 0) (js ks : List J) (xs ys : List T) → AllZip R js xs → AllZip R ks ys → AllZip R (js ++ ks) (xs ++ ys)
-zip-append R [] ks [] ys h k = k
-zip-append R [] ks (x ∷ xs) ys h k = absurd h
-zip-append R (j ∷ js) ks [] ys h k = absurd h
-zip-append R (j ∷ js) ks (x ∷ xs) ys h k = (h.0, zip-append R js ks xs ys h.1 k)
-
-zip-length : {J T : Type 0} (R : J → T → Type 0) (js : List J) (xs : List T) → AllZip R js xs → length js ≡ length xs
-zip-length R [] [] h = refl
-zip-length R [] (x ∷ xs) h = absurd h
-zip-length R (j ∷ js) [] h = absurd h
-zip-length R (j ∷ js) (x ∷ xs) h = ap suc (zip-length R js xs h.1)
 
 -- the cubes of the jobs, with an answer for each
 record AreAnswered (terms : List Term) (old new : List Cube) (answers : List CubeAnswer) : Type 0 where
@@ -98,7 +87,7 @@ start terms cubes tally t = record {
 -- the numbers that bound the tally
 pub counted : (terms : List Term) (cubes left : List Cube) (tally : CubeTally) → IsUnderWay terms cubes left tally → tally.count + length left ≡ length cubes
 counted terms cubes left tally u =
-    let a = zip-length (IsOutcome terms) u.done u.answers u.outcomes in
+    let a = AllZip-length (IsOutcome terms) u.done u.answers u.outcomes in
     let b = ap length u.parts ∙ length-append u.done left in
     omega (arith, a, b, u.tallied.count)
 
@@ -107,7 +96,7 @@ module _ (terms : List Term) (cubes old new : List Cube) (jobs : List Job) (outc
     (more : IsTallyWith last before after) where
   pub as-many : length last ≡ length jobs
   as-many = let r = answered terms jobs outcomes last old new taken yielded is in
-      omega (arith, zip-length (IsOutcome terms) r.cubes last r.each, jobs-length terms jobs old new taken, ap length r.both ∙ length-append r.cubes new)
+      omega (arith, AllZip-length (IsOutcome terms) r.cubes last r.each, jobs-length terms jobs old new taken, ap length r.both ∙ length-append r.cubes new)
 
   tallied : IsTallyOf (opaque_of terms) (u.answers ++ last) after
   tallied = more (opaque_of terms) u.answers u.tallied
@@ -119,7 +108,7 @@ module _ (terms : List Term) (cubes old new : List Cube) (jobs : List Job) (outc
         done = u.done ++ r.cubes;
         answers = u.answers ++ last;
         parts = u.parts ∙ ap (λ l. u.done ++ l) r.both ∙ sym (append_assoc u.done r.cubes new);
-        outcomes = zip-append (IsOutcome terms) u.done r.cubes u.answers last u.outcomes r.each;
+        outcomes = AllZip-append (IsOutcome terms) u.done r.cubes u.answers last u.outcomes r.each;
         tallied = tallied;
         whole = record {
           batches = suc u.whole.batches;
@@ -136,7 +125,7 @@ module _ (terms : List Term) (cubes old new : List Cube) (jobs : List Job) (outc
         left = new;
         answers = u.answers ++ last;
         parts = u.parts ∙ ap (λ l. u.done ++ l) r.both ∙ sym (append_assoc u.done r.cubes new);
-        outcomes = zip-append (IsOutcome terms) u.done r.cubes u.answers last u.outcomes r.each;
+        outcomes = AllZip-append (IsOutcome terms) u.done r.cubes u.answers last u.outcomes r.each;
         folded = λ i. with_first (tallied.model i) (without_sat (tallied.open_cubes i) (tallied.refuted i));
         ended = record {
           before = u.answers;
@@ -153,7 +142,7 @@ pub room : (terms : List Term) (cubes old new : List Cube) (jobs : List Job) (ou
 room terms cubes old new jobs outcomes tally u taken yielded few =
     let a = counted terms cubes old tally u in
     let b = jobs-length terms jobs old new taken in
-    let d = zip-length Yields jobs outcomes yielded in
+    let d = AllZip-length Yields jobs outcomes yielded in
     omega (arith, a, b, d, few)
 
 -- where a whole batch was taken, fewer cubes are left
@@ -219,7 +208,7 @@ module _ (terms clear : List Term) (cubes old : List Cube) (before : CubeTally) 
   -- those that are left stand behind those that were answered
   pub left-behind : drop before.count (cubes_of clear) ≡ old
   left-behind =
-      let n : before.count ≡ length u.done = u.tallied.count ∙ sym (zip-length (IsOutcome terms) u.done u.answers u.outcomes) in
+      let n : before.count ≡ length u.done = u.tallied.count ∙ sym (AllZip-length (IsOutcome terms) u.done u.answers u.outcomes) in
       (λ i. drop (n i) (sym is i)) ∙ ap (λ l. drop (length u.done) l) u.parts ∙ drop-append_seam u.done old
 
   pub pass-room : length cubes ≤ 1048576 → before.count + length (drop before.count (cubes_of clear)) < 2 ^ 64
@@ -234,7 +223,7 @@ module _ (terms clear : List Term) (cubes old : List Cube) (before : CubeTally) 
         done = u.done ++ take n old;
         answers = u.answers ++ passed n;
         parts = u.parts ∙ ap (λ l. u.done ++ l) (sym (take-append-drop n old) ∙ ap (λ l. take n old ++ l) (sym p.left)) ∙ sym (append_assoc u.done (take n old) new);
-        outcomes = zip-append (IsOutcome terms) u.done (take n old) u.answers (passed n) u.outcomes (outcomes-over terms n old enough none);
+        outcomes = AllZip-append (IsOutcome terms) u.done (take n old) u.answers (passed n) u.outcomes (outcomes-over terms n old enough none);
         tallied = p.tallied (opaque_of terms) u.answers u.tallied;
         whole = record {
           batches = u.whole.batches + p.known.batches;

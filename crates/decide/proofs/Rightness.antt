@@ -3,6 +3,7 @@ use Rattle.std.proofs.Common.{◌≡◌, ◌≢◌, ℕ, zero, suc, ◌↔◌, �
 use Rattle.std.specs.List.{AllByRecursion, AllZip}
 use Rattle.std.proofs.lemmas.Bool.{true≢false}
 use Rattle.std.specs.List.Sorted.{IsStrictlyIncreasing}
+use Rattle.sv_list.specs.Lists.{Contains-here, slice_get-append}
 use Rattle.sv_terms.specs.Meaning.{Named}
 use Rattle.sv_terms.specs.Parts.{is_opaque}
 use Rattle.sv_terms.specs.Truth.{AllTrue, AreTrueAt, AreValued, HasNoValues, clear_of, opaque_of}
@@ -17,12 +18,10 @@ use Rattle.cube_search.specs.declared.reason.OpenReason.{OpenReason}
 use Rattle.assertion_parts.specs.Constants.{AreOnly}
 use Rattle.decide.specs.CubeValues.{CubeHasNoValues, AreTrueAtCube}
 use Rattle.decide.specs.Folds.{first_sat, opens_from, refuted_from, refutation, with_first, without_sat, found, fold}
-use Rattle.decide.specs.declared.verdict.Open.TheVariants.{TooManyCubes, PastForm, Cubes}
 use Rattle.decide.specs.declared.verdict.Verdict.{Verdict}
 use Rattle.decide.specs.declared.verdict.Verdict.TheVariants.{Sat, Unsat, Unknown}
-use Rattle.decide.proofs.Listed.{get-left, contains-here}
 use Rattle.decide.specs.Completeness.{MustDecideCube, MustDecide, IsComplete, IsUnsat, IsUnknown}
-use Rattle.decide.specs.Jobs.{IsOutcome, IsFoldOf, IsFolded}
+use Rattle.decide.specs.Jobs.{IsOutcome, IsFoldOf}
 use Rattle.decide.specs.Verdicts.{RightVerdict, HasOnly}
 use Rattle.decide.proofs.Folding.{sat-at, others-clear, others-opaque, causes, none-open, none-open-at-all, opens-rise, rise-strictly}
 
@@ -79,13 +78,13 @@ module _ (terms : List Term) (laws : AreLaws terms) where
   none-of-all h values t = let s = some-cube values t in h s.0 s.1 s.2 values s.3
 
   first-opaque : (t : Term) (ts : List Term) → opaque_of terms ≡ t ∷ ts → Contains (opaque_of terms) t
-  first-opaque t ts e = subst (λ l. Contains l t) (sym e) (contains-here t ts)
+  first-opaque t ts e = subst (λ l. Contains l t) (sym e) (Contains-here t ts)
 
   pub right-sat : (done left : List Cube) (answers : List CubeAnswer) (m : Named) → cubes_of (clear_of terms) ≡ done ++ left → AllZip (IsOutcome terms) done answers
       → opaque_of terms ≡ [] → first_sat answers ≡ Some m → RightVerdict terms (Sat m)
   right-sat done left answers m parts z none e =
       let s = sat-at terms done answers z m e in
-      let at = subst (λ l. slice_get l s.0 ≡ Some s.1) (sym parts) (get-left done left s.0 s.1 s.2) in
+      let at = subst (λ l. slice_get l s.0 ≡ Some s.1) (sym parts) (slice_get-append done left s.0 s.1 s.2) in
       (none, subst (AreTrueAt m) (all-clear terms none) (of-cube m s.0 s.1 at s.3 s.4.valued))
 
   pub right-rest : (opaque : List Term) (answers : List CubeAnswer) → opaque_of terms ≡ opaque → AllZip (IsOutcome terms) (cubes_of (clear_of terms)) answers
@@ -130,7 +129,7 @@ module _ (terms : List Term) (laws : AreLaws terms) where
   }
     where
       there : (k : ℕ) (c : Cube) → slice_get done k ≡ Some c → slice_get (cubes_of (clear_of terms)) k ≡ Some c
-      there k c g = subst (λ l. slice_get l k ≡ Some c) (sym parts) (get-left done left k c g)
+      there k c g = subst (λ l. slice_get l k ≡ Some c) (sym parts) (slice_get-append done left k c g)
 
       each : (k : ℕ) (c : Cube) → slice_get done k ≡ Some c → MustDecideCube c
       each k c g = all-at MustDecideCube (cubes_of (clear_of terms)) must.each k c (there k c g)
@@ -186,14 +185,6 @@ only-of terms (Sat m) f = by (opaque_of terms) refl f.folded
         let s = sat-at terms f.done f.answers f.outcomes m (model-is m (first_sat f.answers) (opens_from 0 [] f.answers) (refuted_from (refutation 0 0 0) f.answers) e) in
         subst (AreOnly m) (all-clear terms none) s.4.only
     by (t ∷ ts) some e = absurd (no-model m (opens_from 0 (t ∷ ts) f.answers) (refuted_from (refutation 0 0 0) f.answers) e)
-
--- a fold is one, whatever its verdict
-pub folded-of : (terms : List Term) (v : Verdict) → IsFoldOf terms (cubes_of (clear_of terms)) v → IsFolded terms v
-folded-of terms (Sat values) f = f
-folded-of terms (Unsat r) f = f
-folded-of terms (Unknown (TooManyCubes n)) f = tt
-folded-of terms (Unknown (PastForm left right)) f = tt
-folded-of terms (Unknown (Cubes list)) f = f
 
 pub when-fold : {E : Type 0} (P : Verdict → Type 0) (terms : List Term) (cubes : List Cube) (r : Result Verdict E) → cubes ≡ cubes_of (clear_of terms) → ((v : Verdict) → IsFoldOf terms (cubes_of (clear_of terms)) v → P v) → IfOk r (IsFoldOf terms cubes) → IfOk r P
 when-fold P terms cubes (Ok v) e f h = f v (subst (λ l. IsFoldOf terms l v) e h)

@@ -1,5 +1,5 @@
 -- What cubes share: one choice for the first terms, and what leaves no choice.
-use Rattle.std.proofs.Common.{◌≡◌, ℕ, zero, suc, ◌+◌, ◌*◌, ◌/◌, ◌%◌, ◌<◌, ◌≤◌, ◌⊎◌, inl, inr, Bool, true, false, List, [], ◌∷◌, ◌++◌, length, map, take, drop, Option, Some, None, MatchOption, IfSome, get_or, nat_lt, ◌||◌, slice_get, refl, sym, ap, ◌∙◌, subst, arith, append-nil, IsTrue}
+use Rattle.std.proofs.Common.{◌≡◌, ℕ, zero, suc, ◌+◌, ◌*◌, ◌/◌, ◌%◌, ◌<◌, ◌≤◌, ◌⊎◌, inl, inr, Bool, true, false, List, [], ◌∷◌, ◌++◌, length, take, drop, Option, Some, None, MatchOption, IfSome, get_or, nat_lt, ◌||◌, slice_get, refl, sym, ap, ◌∙◌, subst, arith, append-nil, IsTrue}
 use Rattle.std.specs.Prelude.{if◌then◌else◌}
 use Rattle.std.specs.List.{AllByRecursion}
 use Rattle.std.proofs.lemmas.Bool.{eqb-true, ltb-false, ltb-true}
@@ -8,11 +8,11 @@ use Rattle.std.proofs.lemmas.Nat.{div-mul-add}
 use Rattle.std.proofs.lemmas.Option.{slice_get_within}
 use Rattle.std.proofs.Math.Arith.{mod-mul}
 use Rattle.std.proofs.Math.Nat.{div-add-mod, div-div-eq-div-mul, div-eq_of_lt, mul-le-mul_left, mul_comm, mul_assoc, zero-div, zero-mod}
+use Rattle.sv_list.specs.Lists.{slice_get-mapped, AllByRecursion-append, slice_get-some}
 use Rattle.sv_terms.specs.CutOff.{cut_off}
 use Rattle.sv_terms.specs.Sorting.{is_valued}
 use Rattle.sv_terms.specs.declared.term.Term.{Term}
 use Rattle.bool_cubes.specs.Cubes.{count, cube, cubes, cubes_of}
-use Rattle.flat_cubes.proofs.Members.{all_joined}
 use Rattle.literal_forms.specs.Literals.{IsTrueLiteral}
 use Rattle.bool_cubes.specs.Laws.{CubesAreCounted}
 use Rattle.bool_cubes.specs.Picking.{CubesArePicked, cube_at}
@@ -82,7 +82,7 @@ module _ (P : Literal → Type 0) where
           let k = ap (λ j. j * count_of ts) (single-one t e) in
           let low : n < count_of ts = omega (arith, lt, k) in
           let at : n / count_of ts ≡ 0 / u = div-eq_of_lt low ∙ sym (zero-div u) in
-          all_joined P (cube_at (formula (seen t) true) (0 / u)) (cube_at (tree_of (shared_of 0 ts)) (0 % u))
+          AllByRecursion-append P (cube_at (formula (seen t) true) (0 / u)) (cube_at (tree_of (shared_of 0 ts)) (0 % u))
           (subst (λ k. AllByRecursion P (cube_at (formula (seen t) true) k)) at own)
           (subst (λ k. Holds (shared_of 0 ts) k) (sym (zero-mod u)) rest)
 
@@ -107,21 +107,11 @@ module _ (P : Literal → Type 0) where
       let digits : n % c ≡ (n / m % p) * m + n % m = ap (λ k. n % k) split ∙ mod-mul n pp pm in
       let low'' : n % m < m = omega arith in
       let next : n % c / m ≡ n / m % p = ap (λ k. k / m) digits ∙ div-mul-add (n / m % p) m (n % m) low'' in
-      all_joined P (cube_at T (n / m / p)) (cube_at (tree_of (shared_of first ts)) (n / m % p))
+      AllByRecursion-append P (cube_at T (n / m / p)) (cube_at (tree_of (shared_of first ts)) (n / m % p))
       (subst (λ k. AllByRecursion P (cube_at T k)) (sym at) parts.0)
       (subst (λ k. Holds (shared_of first ts) k) next (shared-within first ts (n % c) low parts.1))
 
 -- places in lists
-there : {X : Type 0} (xs : List X) (k : ℕ) → k < length xs → (x : X) × (slice_get xs k ≡ Some x)
-there [] k h = absurd (omega (arith, h))
-there (x ∷ xs) zero h = (x, refl)
-there (x ∷ xs) (suc k) h = there xs k (omega (arith, h))
-
-get-map : {X Y : Type 0} (f : X → Y) (xs : List X) (k : ℕ) (x : X) → slice_get xs k ≡ Some x → slice_get (map f xs) k ≡ Some (f x)
-get-map f [] k x e = absurd (cc)
-get-map f (y ∷ xs) zero x e = let g : y ≡ x = cc in ap (λ z. Some (f z)) g
-get-map f (y ∷ xs) (suc k) x e = get-map f xs k x e
-
 pub all-at : {X : Type 0} (Q : X → Type 0) (xs : List X) → AllByRecursion Q xs → (k : ℕ) (x : X) → slice_get xs k ≡ Some x → Q x
 all-at Q [] h k x e = cc
 all-at Q (y ∷ ys) h zero x e = let same : y ≡ x = cc in subst Q same h.0
@@ -147,7 +137,7 @@ module _ (counted : CubesAreCounted) (picked : CubesArePicked) where
   numbered : (ts : List Term) (n : ℕ) (c : Cube) → slice_get (cubes_of ts) n ≡ Some c → (n < count_of ts) × (c.literals ≡ cube_at (tree_of ts) n)
   numbered ts n c e =
       let lt : n < count_of ts = subst (λ k. n < k) (counted ts) (slice_get_within (cubes_of ts) n c e) in
-      let own : slice_get (cubes_of ts) n ≡ Some (cube (cube_at (tree_of ts) n)) = get-map cube (cubes (tree_of ts)) n (cube_at (tree_of ts) n) (picked (tree_of ts) n lt) in
+      let own : slice_get (cubes_of ts) n ≡ Some (cube (cube_at (tree_of ts) n)) = slice_get-mapped cube (cubes (tree_of ts)) n (cube_at (tree_of ts) n) (picked (tree_of ts) n lt) in
       let both : Some c ≡ Some (cube (cube_at (tree_of ts) n)) = sym e ∙ own in
       let same : c ≡ cube (cube_at (tree_of ts) n) = cc in
       (lt, ap (λ (d : Cube). d.literals) same)
@@ -192,7 +182,7 @@ module _ (counted : CubesAreCounted) (picked : CubesArePicked) where
         let turn : m * q ≡ q * m = mul_comm m q in
         let end = block-end pos in
         let inside : given < length (cubes_of ts) = subst (λ k. given < k) (sym (counted ts)) (omega (arith, low, sum, turn, end)) in
-        let c = there (cubes_of ts) given inside in
+        let c = slice_get-some (cubes_of ts) given inside in
         (given, c.0, c.1, refl)
 
     pub known : (n batches : ℕ) → 0 < m → n ≡ batches * batch → given % m + n ≤ m → CubeHasNoValues f → AreKnown ts given n

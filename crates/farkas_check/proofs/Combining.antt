@@ -4,6 +4,8 @@ use Rattle.std.proofs.lemmas.Int.{ints}
 use Rattle.std.proofs.lemmas.Bool.Decides.{eqb_tells}
 use Rattle.sv_linear.specs.Terms.{terms_value, coefficient}
 use Rattle.sv_linear.specs.Integers.{mul-add, add-mul, mul_assoc, scaled_at_most}
+use Rattle.sv_linear.proofs.Ascending.{terms_value-append}
+use Rattle.sv_linear.specs.TermLaws.{coefficient-append}
 use Rattle.farkas_check.specs.Systems.{Constraint, no_constraint, constraint_value, Meets}
 use Rattle.farkas_check.specs.Closings.{combined, coefficient_of, constant_of, Allowed, OfEquations}
 
@@ -63,7 +65,7 @@ coefficient-without_other u v [] n = refl
 coefficient-without_other u v (t ∷ ts) n =
     other_step u v t ts n (coefficient-without_other u v ts n) (eqb t.0 u) (eqb_tells t.0 u) (eqb t.0 v) (eqb_tells t.0 v) refl
 
-length_step : (u : ℕ) (t : ℕ × ℤ) (ts : List (ℕ × ℤ)) → length (without u ts) ≤ length ts → (b : Bool) → length (cond b (without u ts) (t ∷ without u ts)) ≤ suc (length ts)
+pub length_step : (u : ℕ) (t : ℕ × ℤ) (ts : List (ℕ × ℤ)) → length (without u ts) ≤ length ts → (b : Bool) → length (cond b (without u ts) (t ∷ without u ts)) ≤ suc (length ts)
 length_step u t ts h true = omega arith
 length_step u t ts h false = omega arith
 
@@ -110,14 +112,6 @@ pub value-scaled : (x : ℕ → ℤ) (a : ℤ) (ts : List (ℕ × ℤ)) → term
 value-scaled x a [] = omega (arith, ints)
 value-scaled x a (t ∷ ts) = omega (arith, ints, mul-add a (t.1 *ℤ x t.0) (terms_value x ts), mul_assoc a t.1 (x t.0), value-scaled x a ts)
 
-pub coefficient-append : (u : ℕ) (xs ys : List (ℕ × ℤ)) → coefficient u (xs ++ ys) ≡ coefficient u xs +ℤ coefficient u ys
-coefficient-append u [] ys = omega (arith, ints)
-coefficient-append u (t ∷ ts) ys = omega (arith, ints, coefficient-append u ts ys)
-
-pub value-append : (x : ℕ → ℤ) (xs ys : List (ℕ × ℤ)) → terms_value x (xs ++ ys) ≡ terms_value x xs +ℤ terms_value x ys
-value-append x [] ys = omega (arith, ints)
-value-append x (t ∷ ts) ys = omega (arith, ints, value-append x ts ys)
-
 -- the terms of the combination, one row's after another's
 abbrev pub all_terms : List Constraint → List (ℕ × ℤ) → List (ℕ × ℤ)
 all_terms rows [] = []
@@ -136,7 +130,7 @@ pub value-all_terms : (x : ℕ → ℤ) (rows : List Constraint) (ms : List (ℕ
 value-all_terms x rows [] = refl
 value-all_terms x rows (m ∷ ms) =
     let r = get_or rows m.0 no_constraint in
-    value-append x (scaled m.1 r.terms) (all_terms rows ms) ∙ omega (arith, ints, value-scaled x m.1 r.terms, value-all_terms x rows ms)
+    terms_value-append x (scaled m.1 r.terms) (all_terms rows ms) ∙ omega (arith, ints, value-scaled x m.1 r.terms, value-all_terms x rows ms)
 
 pub combined_value : (x : ℕ → ℤ) (rows : List Constraint) (ms : List (ℕ × ℤ)) → combined (constraint_value x) rows ms ≡ combined (terms_of x) rows ms +ℤ combined constant_of rows ms
 combined_value x rows [] = refl

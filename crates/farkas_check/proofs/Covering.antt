@@ -12,6 +12,7 @@ use Rattle.farkas_check.specs.Systems.{Constraint, no_constraint, constraint_of}
 use Rattle.farkas_check.specs.Closings.{combined, coefficient_of, constant_of, contains_number, edges_out, edges_in, Allowed, OfEquations, FarkasRule, DivisorRule}
 use Rattle.farkas_check.specs.Fitting.{SumFits, LeafFits, IsMultipleAt}
 use Rattle.sv_linear.specs.declared.row.Row.{Row}
+use Rattle.sv_linear.proofs.Ascending.{absent_step}
 use Rattle.farkas_check.specs.declared.net.NetEdge.{NetEdge}
 use Rattle.farkas_check.proofs.Multiples.{divides_zero, zero_divides, none_of_zero}
 
@@ -24,10 +25,6 @@ pub record IsNamed (u : ℕ) (ts : List (ℕ × ℤ)) : Type 0 where
   pub within : place < length ts
   pub is : (get_or ts place (0, pos 0)).0 ≡ u
 
-silent_step : (u : ℕ) (t : ℕ × ℤ) (ts : List (ℕ × ℤ)) (b : Bool) → b ≡ false → coefficient u ts ≡ pos 0 → cond b t.1 (pos 0) +ℤ coefficient u ts ≡ pos 0
-silent_step u t ts true e h = absurd (cc)
-silent_step u t ts false e h = omega (arith, ints)
-
 named_or_not : (u : ℕ) (ts : List (ℕ × ℤ)) → IsNamed u ts ⊎ (coefficient u ts ≡ pos 0)
 named_or_not u [] = inr refl
 named_or_not u (t ∷ ts) =
@@ -35,7 +32,7 @@ named_or_not u (t ∷ ts) =
     (λ e. inl (record { place = zero; within = omega arith; is = e.1 }))
     (λ e. ⊎_elim
     (λ n. inl (record { place = suc n.place; within = omega (arith, n.within); is = n.is }))
-    (λ z. inr (silent_step u t ts (eqb t.0 u) e.0 z))
+    (λ z. inr (absent_step u t ts (eqb t.0 u) e.0 z))
     (named_or_not u ts))
     (eqb_tells t.0 u)
 

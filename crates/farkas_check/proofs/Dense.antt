@@ -1,13 +1,14 @@
 -- Terms that are added to the numbers of their unknowns, one by one.
-use Rattle.std.proofs.Common.{◌≡◌, ◌≢◌, ℕ, zero, suc, ◌+◌, ◌<◌, ◌≤◌, ℤ, pos, ◌+ℤ◌, ◌*ℤ◌, List, [], ◌∷◌, ◌++◌, length, take, slice_set, get_or, replicate, FitsSigned, Bool, true, false, cond, eqb, ◌⊎◌, ⊎_elim, inl, inr, refl, ap, sym, ◌∙◌, subst, arith}
+use Rattle.std.proofs.Common.{◌≡◌, ◌≢◌, ℕ, zero, suc, ◌+◌, ◌<◌, ℤ, pos, ◌+ℤ◌, ◌*ℤ◌, List, [], ◌∷◌, length, take, slice_set, get_or, FitsSigned, Bool, true, false, cond, eqb, ◌⊎◌, ⊎_elim, inl, inr, refl, ap, sym, ◌∙◌, subst, arith}
 use Rattle.std.specs.Int.{w128}
 use Rattle.std.proofs.lemmas.Int.{ints}
 use Rattle.std.proofs.lemmas.Bool.Decides.{eqb_tells}
 use Rattle.std.proofs.lemmas.List.{take_more}
 use Rattle.std.proofs.lemmas.Option.{slice_get-get_or}
-use Rattle.sv_linear.specs.TermLaws.{above_high, term_here}
+use Rattle.sv_linear.specs.TermLaws.{above_high, term_here, coefficient-push}
 use Rattle.sv_linear.specs.Terms.{coefficient, AscendsWithin}
-use Rattle.farkas_check.specs.Sums.{IsColumnAdded, IsNotAddedAt, AreColumnsAdded, AreNotAdded, NumbersFit}
+use Rattle.sv_linear.proofs.Ascending.{ends_above}
+use Rattle.farkas_check.specs.Sums.{IsColumnAdded, IsNotAddedAt, AreColumnsAdded, AreNotAdded}
 
 set_here : (xs : List ℤ) (i : ℕ) (y : ℤ) → i < length xs → get_or (slice_set xs i y) i (pos 0) ≡ y
 set_here [] i y h = absurd (omega arith)
@@ -26,34 +27,15 @@ set_length [] i y = refl
 set_length (x ∷ xs) zero y = refl
 set_length (x ∷ xs) (suc i) y = ap suc (set_length xs i y)
 
-coefficient_end : (u : ℕ) (ts : List (ℕ × ℤ)) (t : ℕ × ℤ) → coefficient u (ts ++ t ∷ []) ≡ coefficient u ts +ℤ cond (eqb t.0 u) t.1 (pos 0)
-coefficient_end u [] t = omega (arith, ints)
-coefficient_end u (s ∷ ts) t = omega (arith, ints, coefficient_end u ts t)
-
-ends : (low high : ℕ) (ts : List (ℕ × ℤ)) → AscendsWithin low high ts → low ≤ high
-ends low high [] h = h
-ends low high (t ∷ ts) h = let more = ends (t.0 + 1) high ts h.1.1 in let front = h.0 in omega arith
-
 pub term_below : (low high : ℕ) (ts : List (ℕ × ℤ)) (k : ℕ) → AscendsWithin low high ts → k < length ts → (get_or ts k (0, pos 0)).0 < high
 term_below low high [] k a h = absurd (omega arith)
-term_below low high (t ∷ ts) zero a h = let e = ends (t.0 + 1) high ts a.1.1 in omega arith
+term_below low high (t ∷ ts) zero a h = let e = ends_above (t.0 + 1) high ts a.1.1 in omega arith
 term_below low high (t ∷ ts) (suc k) a h = term_below (t.0 + 1) high ts k a.1.1 (omega arith)
 
 front_ascends : (low high : ℕ) (ts : List (ℕ × ℤ)) (k : ℕ) → AscendsWithin low high ts → k < length ts → AscendsWithin low (get_or ts k (0, pos 0)).0 (take k ts)
 front_ascends low high [] k a h = absurd (omega arith)
 front_ascends low high (t ∷ ts) zero a h = a.0
 front_ascends low high (t ∷ ts) (suc k) a h = (a.0, (a.1.0, front_ascends (t.0 + 1) high ts k a.1.1 (omega arith)))
-
-pub added_none : (ns : List ℤ) (by : ℤ) → NumbersFit ns → AreColumnsAdded ns [] by ns
-added_none ns by f = λ u.
-    let z : by *ℤ pos 0 ≡ pos 0 = omega (arith, ints) in
-    let g = f u in
-    let s : get_or ns u (pos 0) +ℤ by *ℤ pos 0 ≡ get_or ns u (pos 0) = omega (arith, ints) in
-    record {
-      product_fits = subst (FitsSigned w128) (sym z) (omega (arith, ints));
-      sum_fits = subst (FitsSigned w128) (sym s) g;
-      is = sym s;
-    }
 
 module _ (ns : List ℤ) (ts : List (ℕ × ℤ)) (n k : ℕ) (by : ℤ) (ms : List ℤ) (a : AscendsWithin 0 n ts) (h : k < length ts) (s : AreColumnsAdded ns (take k ts) by ms) where
   abbrev term : ℕ × ℤ
@@ -63,7 +45,7 @@ module _ (ns : List ℤ) (ts : List (ℕ × ℤ)) (n k : ℕ) (by : ℤ) (ms : L
   not_before = above_high 0 term.0 term.0 (take k ts) (front_ascends 0 n ts k a h) (omega arith)
 
   whole : (u : ℕ) → coefficient u (take (k + 1) ts) ≡ coefficient u (take k ts) +ℤ cond (eqb term.0 u) term.1 (pos 0)
-  whole u = ap (coefficient u) (take_more ts k (0, pos 0) h) ∙ coefficient_end u (take k ts) term
+  whole u = ap (coefficient u) (take_more ts k (0, pos 0) h) ∙ coefficient-push u (take k ts) term
 
   -- the number of the term's unknown is as it was
   pub untouched : get_or ms term.0 (pos 0) ≡ get_or ns term.0 (pos 0)
@@ -107,11 +89,6 @@ module _ (ns : List ℤ) (ts : List (ℕ × ℤ)) (n k : ℕ) (by : ℤ) (ms : L
         i (subst (λ z. FitsSigned w128 (by *ℤ z)) e f)
         (subst (λ z. FitsSigned w128 (z +ℤ by *ℤ term.1)) w (subst (λ z. FitsSigned w128 (get_or ns term.0 (pos 0) +ℤ by *ℤ z)) e g)),
   )
-
-pub zeros : (n u : ℕ) → get_or (replicate n (pos 0)) u (pos 0) ≡ pos 0
-zeros zero u = refl
-zeros (suc n) zero = refl
-zeros (suc n) (suc u) = zeros n u
 
 -- what holds of each number, and of 0, holds at each place
 pub all_numbers : (P : ℤ → Type 0) (ns : List ℤ) → P (pos 0) → ((k : ℕ) → k < length ns → P (get_or ns k (pos 0))) → (u : ℕ) → P (get_or ns u (pos 0))

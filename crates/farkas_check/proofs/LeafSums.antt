@@ -1,5 +1,5 @@
 -- Sums of multiplied rows, column by column.
-use Rattle.std.proofs.Common.{◌≡◌, ℕ, zero, suc, ◌+◌, ◌<◌, ◌≤◌, ℤ, pos, ◌+ℤ◌, ◌*ℤ◌, ◌≤ℤ◌, ◌<ℤ◌, List, [], ◌∷◌, ◌++◌, length, map, get_or, drop, FitsSigned, ⊎_elim, refl, ap, sym, ◌∙◌, subst, arith}
+use Rattle.std.proofs.Common.{◌≡◌, ℕ, zero, suc, ◌+◌, ◌<◌, ◌≤◌, ℤ, pos, ◌+ℤ◌, ◌*ℤ◌, ◌≤ℤ◌, ◌<ℤ◌, List, [], ◌∷◌, length, map, get_or, drop, FitsSigned, ⊎_elim, refl, ap, sym, ◌∙◌, subst, arith}
 use Rattle.std.specs.Int.{w128}
 use Rattle.std.proofs.lemmas.Int.{ints}
 use Rattle.std.proofs.lemmas.Bool.{cases_lt}
@@ -19,20 +19,11 @@ use Rattle.farkas_check.specs.Columns.{part_at}
 use Rattle.farkas_check.specs.Fitting.{SumFits, LeafFits}
 use Rattle.farkas_check.specs.Sums.{total_at, IsSumOf, IsFormAdded, IsNotAdded, IsColumnAdded, AreColumnsAdded}
 use Rattle.farkas_check.specs.declared.leaf_sum.LeafSum.{LeafSum}
-use Rattle.farkas_check.proofs.Summing.{IsSumming, summing-none, summing-row, summing-fits, summing-more}
+use Rattle.farkas_check.proofs.Summing.{IsSumming, summing-row, summing-fits, summing-more}
 
 pub rows_size : (rows : List Row) → length (map constraint_of rows) ≡ length rows
 rows_size [] = refl
 rows_size (r ∷ rs) = ap suc (rows_size rs)
-
-pub entry_part : (c : Column) (r : Row) → entry c r.form ≡ part_at c (constraint_of r)
-entry_part (Unknown u) r = refl
-entry_part Constant r = refl
-
-pub row_here : (rows : List Row) (k : ℕ) (d : Row) → k < length rows → get_or (map constraint_of rows) k no_constraint ≡ constraint_of (get_or rows k d)
-row_here [] k d h = absurd (omega arith)
-row_here (r ∷ rs) zero d h = refl
-row_here (r ∷ rs) (suc k) d h = row_here rs k d (omega arith)
 
 -- added at each unknown, and at the constant
 pub columns_added : (sum : LeafSum) (other : Form) (by : ℤ) (numbers : List ℤ) (constant : ℤ) → AreColumnsAdded sum.numbers other.coefficients by numbers → IsColumnAdded sum.constant other.constant by constant → IsFormAdded sum other by (record { numbers = numbers; constant = constant })
@@ -54,12 +45,6 @@ columns_added sum other by numbers constant a i = record { product_fits = produc
 pub record IsSummingAll (rows : List Constraint) (ms : List (ℕ × ℤ)) (sum : LeafSum) (i : ℕ) : Type 0 where
   pub at : (c : Column) → IsSumming (part_at c) rows ms (total_at sum c) i
   pub fits : (c : Column) → FitsSigned w128 (total_at sum c)
-
-pub all-none : (rows : List Constraint) (ms : List (ℕ × ℤ)) (sum : LeafSum) → ((c : Column) → total_at sum c ≡ pos 0) → Allowed 0 rows ms → IsSummingAll rows ms sum 0
-all-none rows ms sum e a = record {
-  at = λ c. subst (λ z. IsSumming (part_at c) rows ms z 0) (sym (e c)) (summing-none (part_at c) rows ms a);
-  fits = λ c. let z = e c in omega (arith, ints, z);
-}
 
 pub all-row : (rows : List Constraint) (ms : List (ℕ × ℤ)) (sum : LeafSum) (i : ℕ) → IsSummingAll rows ms sum i → i < length ms → (get_or ms i (0, pos 0)).0 < length rows
 all-row rows ms sum i s h = summing-row (part_at Constant) rows ms (total_at sum Constant) i (0, pos 0) (s.at Constant) h
@@ -97,7 +82,7 @@ all-done rows ms sum i s h = record {
 }
 
 -- sums at a column where no row has anything
-zero_fits : (part : Constraint → ℤ) (cs : List Constraint) (ms : List (ℕ × ℤ)) (s : ℤ) → s ≡ pos 0 → ((i : ℕ) → part (get_or cs i no_constraint) ≡ pos 0) → SumFits part cs s ms
+pub zero_fits : (part : Constraint → ℤ) (cs : List Constraint) (ms : List (ℕ × ℤ)) (s : ℤ) → s ≡ pos 0 → ((i : ℕ) → part (get_or cs i no_constraint) ≡ pos 0) → SumFits part cs s ms
 zero_fits part cs [] s z h = tt
 zero_fits part cs (m ∷ ms) s z h =
     let p = ap (λ w. m.1 *ℤ w) (h m.0) in
@@ -105,7 +90,7 @@ zero_fits part cs (m ∷ ms) s z h =
     let r : s +ℤ m.1 *ℤ part (get_or cs m.0 no_constraint) ≡ pos 0 = omega (arith, ints, q, z) in
     (omega (arith, ints, q), (omega (arith, ints, r), zero_fits part cs ms (s +ℤ m.1 *ℤ part (get_or cs m.0 no_constraint)) r h))
 
-nothing_beyond : (n u : ℕ) (rows : List Row) → NameUnknowns n rows → n ≤ u → (i : ℕ) → part_at (Unknown u) (get_or (map constraint_of rows) i no_constraint) ≡ pos 0
+pub nothing_beyond : (n u : ℕ) (rows : List Row) → NameUnknowns n rows → n ≤ u → (i : ℕ) → part_at (Unknown u) (get_or (map constraint_of rows) i no_constraint) ≡ pos 0
 nothing_beyond n u [] w h i = refl
 nothing_beyond n u (r ∷ rs) w h zero = above_high 0 n u r.form.coefficients (w zero r refl) h
 nothing_beyond n u (r ∷ rs) w h (suc i) = nothing_beyond n u rs (λ k y e. w (suc k) y e) h i
@@ -114,14 +99,6 @@ unknown_fits : (n : ℕ) (rows : List Row) (ms : List (ℕ × ℤ)) → NameUnkn
     (u : ℕ) → SumFits (part_at (Unknown u)) (map constraint_of rows) (pos 0) ms
 unknown_fits n rows ms w h u =
     ⊎_elim (λ low. h u low) (λ high. zero_fits (part_at (Unknown u)) (map constraint_of rows) ms (pos 0) refl (nothing_beyond n u rows w high)) (cases_lt u n)
-
-pub past_unknown : (rows : List Constraint) (ms : List (ℕ × ℤ)) (v : ℕ) → ((u : ℕ) → u < v → SumFits (part_at (Unknown u)) rows (pos 0) ms) → (SumFits (part_at (Unknown v)) rows (pos 0) ms → ⊥) →
-    IsFirstOutside (λ c. SumFits (part_at c) rows (pos 0) ms) (Unknown v)
-past_unknown rows ms v h n = record { outside = n; first = first }
-  where
-    first : (c : Column) → IsBefore c (Unknown v) → SumFits (part_at c) rows (pos 0) ms
-    first (Unknown u) b = h u b
-    first Constant b = absurd b
 
 pub past_constant : (n : ℕ) (rows : List Row) (ms : List (ℕ × ℤ)) → NameUnknowns n rows → ((u : ℕ) → u < n → SumFits (part_at (Unknown u)) (map constraint_of rows) (pos 0) ms) →
     (LeafFits (map constraint_of rows) ms → ⊥) → IsFirstOutside (λ c. SumFits (part_at c) (map constraint_of rows) (pos 0) ms) Constant
@@ -162,8 +139,3 @@ divisor_back rows ms d f s r = (
   (λ u. subst (Divides d) (sym (s.entry_is (Unknown u))) (r.divides u)),
   (λ k. r.apart (subst (Divides d) (s.entry_is Constant) k)),
 )
-
--- a leaf without branches above it
-pub no_branches : (rows : List Constraint) → rows ++ [] ≡ rows
-no_branches [] = refl
-no_branches (r ∷ rs) = ap (λ l. r ∷ l) (no_branches rs)

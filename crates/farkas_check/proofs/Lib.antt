@@ -1,6 +1,5 @@
 pub mod Children
 pub mod Combining
-pub mod Counting
 pub mod Covering
 pub mod Dense
 pub mod LeafSums

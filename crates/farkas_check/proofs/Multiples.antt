@@ -1,5 +1,5 @@
 -- A remainder of 0 tells a multiple.
-use Rattle.std.proofs.Common.{◌≡◌, ◌*◌, ◌<◌, ℤ, pos, neg_ℤ, ◌+ℤ◌, ◌*ℤ◌, ◌≤ℤ◌, ◌↔◌, IsTrue, nat_eq, true, eq-eqb, Bool, false, not, refl, unsigned_abs, int_div, int_rem, FitsSigned, ap, ◌∙◌, subst, ⊎_elim, arith}
+use Rattle.std.proofs.Common.{◌≡◌, ◌*◌, ◌<◌, ℤ, pos, neg_ℤ, ◌+ℤ◌, ◌*ℤ◌, ◌≤ℤ◌, ◌↔◌, IsTrue, nat_eq, eq-eqb, unsigned_abs, int_div, int_rem, FitsSigned, ap, ◌∙◌, subst, ⊎_elim, arith}
 use Rattle.std.specs.Int.{w128, cast_unsigned}
 use mir.Val.{SFits}
 use Rattle.std.proofs.lemmas.Int.{ints, quot-rem, rem_below, unsigned_abs-mul}
@@ -47,11 +47,3 @@ none_of_zero z h = omega (arith, ints, h.1)
 
 pub divides_zero : (d z : ℤ) → z ≡ pos 0 → Divides d z
 divides_zero d z e = (pos 0, omega (arith, ints))
-
-pub not_both : (b : Bool) → not b ≡ true → b ≡ true → ⊥
-not_both true e f = absurd (cc)
-not_both false e f = absurd (cc)
-
-pub must_not : (b : Bool) → (b ≡ true → ⊥) → not b ≡ true
-must_not true n = absurd (n refl)
-must_not false n = refl

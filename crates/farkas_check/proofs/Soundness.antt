@@ -15,7 +15,7 @@ use Rattle.farkas_check.specs.Closings.{contains_number, edges_out, edges_in, Fa
 use Rattle.std.specs.Prelude.{All, Some, slice_get}
 use Rattle.farkas_check.proofs.Combining.{MeetsAll, IsIdeal, value_in_ideal, all_terms, coefficient-all_terms, value-all_terms, combined_value, combined_at_most, combined_equal}
 
-zero_ideal : IsIdeal (λ z. z ≡ pos 0)
+pub zero_ideal : IsIdeal (λ z. z ≡ pos 0)
 zero_ideal = record {
   at_zero = refl;
   at_sum = λ a b p q. omega (arith, ints);
@@ -77,9 +77,6 @@ pub record Leaves (x : ℕ → ℤ) (set : List ℕ) (es : List NetEdge) : Type 
 
 NoneBelow : (ℕ → ℤ) → List NetEdge → Type 0
 NoneBelow x es = All (λ e. pos 0 ≤ℤ x e.unknown) es
-
-enters_later : (x : ℕ → ℤ) (set : List ℕ) (e : NetEdge) (es : List NetEdge) → Enters x set es → Enters x set (e ∷ es)
-enters_later x set e es n = record { edge = n.edge; place = suc n.place; within = omega (arith, n.within); is = n.is; used = n.used; to_in = n.to_in; from_out = n.from_out }
 
 leaves_later : (x : ℕ → ℤ) (set : List ℕ) (e : NetEdge) (es : List NetEdge) → Leaves x set es → Leaves x set (e ∷ es)
 leaves_later x set e es n = record { edge = n.edge; place = suc n.place; within = omega (arith, n.within); is = n.is; used = n.used; from_in = n.from_in }

@@ -3,6 +3,7 @@ use Rattle.std.proofs.Common.{◌≡◌, refl, sym, ap, ◌∙◌, ℕ, zero, su
 use Rattle.std.proofs.lemmas.List.{append-nil}
 use Rattle.std.specs.List.{list_any}
 use Rattle.std.specs.Option.{option_to_list}
+use Rattle.sv_list.specs.Bools.{or-assoc, or-false}
 use Rattle.sexpr_reader.specs.declared.sexpr.Sexpr.{Sexpr}
 use Rattle.sv_terms.specs.declared.sort.Sort.{Sort}
 use Rattle.item_passes.specs.Binders.{bound_name, bound_names, repeats, variable_of, variable_sort, variables}
@@ -49,14 +50,6 @@ pub ruleset binding = (variables-on, variables-skip, variables-end)
 abbrev pub later : List Name → List Name → Bool
 later met [] = false
 later met (n ∷ ns) = stands_in met n || later (met ++ n ∷ []) ns
-
-or-assoc : (a b c : Bool) → ((a || b) || c) ≡ (a || (b || c))
-or-assoc true b c = refl
-or-assoc false b c = refl
-
-or-false : (a : Bool) → (a || false) ≡ a
-or-false true = refl
-or-false false = refl
 
 or-swap : (a b c d : Bool) → (a || ((b || c) || d)) ≡ ((a || b) || (c || d))
 or-swap true b c d = refl

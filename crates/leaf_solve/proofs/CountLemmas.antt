@@ -8,7 +8,7 @@ use Rattle.search_hits.specs.Hits.{characters}
 use Rattle.parikh_flow.specs.Counts.{total_count, size_of}
 use Rattle.parikh_flow.specs.Flows.{IsFlow}
 use Rattle.parikh_flow.specs.Rows.{unknowns_after}
-use Rattle.parikh_flow.specs.Solutions.{AreCountsAt, HasFlowAt, HaveFlowsAt}
+use Rattle.parikh_flow.specs.Solutions.{HasFlowAt, HaveFlowsAt}
 use Rattle.leaf_solve.specs.Steps.{HasShortFlowAt, HaveShortFlowsAt}
 
 flows-push : (x : ℕ → ℤ) (base : ℕ) (ms : List Graph) (rs : List (Run ℕ)) (m : Graph) (r : Run ℕ) → HaveFlowsAt x base ms rs → HasFlowAt x (unknowns_after base ms) m r
@@ -68,9 +68,6 @@ module _ (x : ℕ → ℤ) (base : ℕ) (m : Graph) (total : (run : Run ℕ) (f 
       let own = flow.flow.1.size in
       same-lists counts flow.flow.0 (omega arith)
       (λ k lt. let a = values k (omega arith) in let b = flow.flow.1.values k (omega arith) in let z : slice_index counts k ≡ slice_index flow.flow.0 k = omega (arith, ints) in z)
-
-pub counts-at : (x : ℕ → ℤ) (base size : ℕ) (m : Graph) (counts : List ℕ) → size ≡ size_of m → length counts ≡ size → ((k : ℕ) → k < size → x (base + k) ≡ pos (slice_index counts k)) → AreCountsAt x base m counts
-counts-at x base size m counts e same values = record { size = same ∙ e; values = λ k lt. values k (omega arith) }
 
 -- one count more
 pub values-more : (x : ℕ → ℤ) (base k n : ℕ) (counts : List ℕ) → length counts ≡ k → x (base + k) ≡ pos n → ((j : ℕ) → j < k → x (base + j) ≡ pos (slice_index counts j))

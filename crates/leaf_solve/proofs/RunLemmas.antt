@@ -4,6 +4,7 @@ use Rattle.std.proofs.lemmas.Bool.Decides.{nat_tests}
 use Rattle.std.specs.List.{AllZip}
 use Rattle.std.proofs.lemmas.List.{take_more}
 use Rattle.std.proofs.lemmas.List.Elements.{All-nil, All-cons}
+use Rattle.sv_list.specs.Lists.{AllZip-push}
 use Rattle.sv_linear.specs.declared.row.Row.{Row}
 use Rattle.machine_core.specs.declared.graph.Graph.{Graph}
 use Rattle.machine_core.specs.declared.run.Run.{Run}
@@ -13,21 +14,16 @@ use Rattle.machine_core.specs.Runs.{run_total}
 use Rattle.machine_core.specs.RunLaws.{run_accepted}
 use Rattle.trim_search.specs.Shortest.{IsShortestRun}
 use Rattle.search_hits.specs.Hits.{AreRunsOf, characters}
+use Rattle.search_hits.specs.HitLaws.{characters-push}
 use Rattle.leaf_solve.specs.Questions.{total_states}
 use Rattle.leaf_solve.specs.Longs.{HasRun, IsShortestWord, letters}
 use Rattle.leaf_solve.specs.Answers.{HasNoHit}
 
 module _ {A B : Type 0} (R : A → B → Type 0) where
-  zip-push : (xs : List A) (ys : List B) (x : A) (y : B) → AllZip R xs ys → R x y → AllZip R (xs ++ x ∷ []) (ys ++ y ∷ [])
-  zip-push [] [] x y h r = (r, tt)
-  zip-push [] (z ∷ ys) x y h r = absurd h
-  zip-push (z ∷ xs) [] x y h r = absurd h
-  zip-push (z ∷ xs) (w ∷ ys) x y h r = (h.0, zip-push xs ys x y h.1 r)
-
   -- one pair more
   pub zip-more : (xs : List A) (ys : List B) (i : ℕ) (x : A) (y : B) → i < length xs → x ≡ get_or xs i x → AllZip R (take i xs) ys → R x y → AllZip R (take (i + 1) xs) (ys ++ y ∷ [])
   zip-more xs ys i x y lt e h r =
-      subst (λ (l : List A). AllZip R l (ys ++ y ∷ [])) (sym (take_more xs i x lt ∙ ap (λ (z : A). take i xs ++ z ∷ []) (sym e))) (zip-push (take i xs) ys x y h r)
+      subst (λ (l : List A). AllZip R l (ys ++ y ∷ [])) (sym (take_more xs i x lt ∙ ap (λ (z : A). take i xs ++ z ∷ []) (sym e))) (AllZip-push R (take i xs) ys x y h r)
 
   zip-get : (xs : List A) (ys : List B) (i : ℕ) (x : A) → AllZip R xs ys → slice_get xs i ≡ Some x → (y : B) × R x y
   zip-get [] ys i x h e = cc
@@ -92,10 +88,6 @@ few-characters law (m ∷ ms) (r ∷ rs) h =
     let less = s.3 in
     let rest = few-characters law ms rs h.1 in
     omega arith
-
-characters-push : (rs : List (Run ℕ)) (r : Run ℕ) → characters (rs ++ r ∷ []) ≡ characters rs + length r.word
-characters-push [] r = omega arith
-characters-push (q ∷ rs) r = let e = characters-push rs r in omega arith
 
 characters-within : (rs : List (Run ℕ)) (i : ℕ) → characters (take i rs) ≤ characters rs
 characters-within [] zero = omega arith

@@ -2,8 +2,11 @@
 use Rattle.std.proofs.Common.{◌≡◌, ℕ, zero, suc, ◌+◌, ◌<◌, ℤ, neg_ℤ, List, [], ◌∷◌, ◌++◌, length, length-append, slice_get, Some, FitsSigned, ◌↔◌, ◌⊎◌, inl, inr, refl, ap, sym, ◌∙◌, subst, arith}
 use Rattle.std.specs.Int.{w128}
 use Rattle.std.proofs.lemmas.Int.{ints}
-use Rattle.std.specs.Prelude.{All, get_or}
+use Rattle.std.specs.Prelude.{All}
 use Rattle.std.proofs.lemmas.List.Elements.{All-get_or, All-from_get_or}
+use Rattle.std.proofs.lemmas.List.{get_or_append_left}
+use Rattle.std.proofs.lemmas.Option.{slice_get_within}
+use Rattle.sv_list.specs.Lists.{slice_get-push_cases, slice_get-end}
 use Rattle.sv_linear.specs.Combining.{IsSymmetric}
 use Rattle.sv_linear.specs.declared.row.Row.{Row}
 use Rattle.farkas_check.specs.Systems.{Constraint, no_constraint, Meets}
@@ -27,13 +30,8 @@ use Rattle.lia_branch.specs.Founds.{IsReadyTableau, IsSystemNode, IsNodeSolution
 use Rattle.lia_branch.specs.LeafMultipliers.{AreRowsOf}
 use Rattle.sv_linear.specs.Rows.{IsRowWithin}
 
-get_front : {X : Type 0} (xs ys : List X) (i : ℕ) (d : X) → i < length xs → get_or (xs ++ ys) i d ≡ get_or xs i d
-get_front [] ys i d h = absurd (omega arith)
-get_front (x ∷ xs) ys zero d h = refl
-get_front (x ∷ xs) ys (suc i) d h = get_front xs ys i d (omega arith)
-
 front_holds : {X : Type 0} (P : X → Type 0) (xs ys : List X) (d : X) → All P (xs ++ ys) → All P xs
-front_holds P xs ys d h = All-from_get_or P xs d (λ i w. subst P (get_front xs ys i d w) (All-get_or P (xs ++ ys) i d (omega (arith, length-append xs ys)) h))
+front_holds P xs ys d h = All-from_get_or P xs d (λ i w. subst P (get_or_append_left xs ys d i w) (All-get_or P (xs ++ ys) i d (omega (arith, length-append xs ys)) h))
 
 -- a solution behind a branch is one of the node
 pub solution_above : (node : Node) (t : Table) (c : Constraint) (point : List ℤ) → IsNodeSolution (child_of node t c) point → IsNodeSolution node point
@@ -47,31 +45,12 @@ get_push [] y i x e = absurd (cc)
 get_push (z ∷ zs) y zero x e = e
 get_push (z ∷ zs) y (suc i) x e = get_push zs y i x e
 
-get_push_cases : {X : Type 0} (xs : List X) (y : X) (i : ℕ) (x : X) → slice_get (xs ++ y ∷ []) i ≡ Some x → (slice_get xs i ≡ Some x) ⊎ ((i ≡ length xs) × (y ≡ x))
-get_push_cases [] y zero x e = inr (refl, cc)
-get_push_cases [] y (suc i) x e = cc
-get_push_cases (z ∷ zs) y zero x e = inl e
-get_push_cases (z ∷ zs) y (suc i) x e = push_more (get_push_cases zs y i x e)
-  where
-    push_more : (slice_get zs i ≡ Some x) ⊎ ((i ≡ length zs) × (y ≡ x)) → (slice_get zs i ≡ Some x) ⊎ ((suc i ≡ suc (length zs)) × (y ≡ x))
-    push_more (inl h) = inl h
-    push_more (inr h) = inr (ap suc h.0, h.1)
-
-get_end : {X : Type 0} (xs : List X) (y : X) → slice_get (xs ++ y ∷ []) (length xs) ≡ Some y
-get_end [] y = refl
-get_end (x ∷ xs) y = get_end xs y
-
-get_in : {X : Type 0} (xs : List X) (i : ℕ) (x : X) → slice_get xs i ≡ Some x → i < length xs
-get_in [] i x e = absurd (cc)
-get_in (y ∷ ys) zero x e = omega arith
-get_in (y ∷ ys) (suc i) x e = let h = get_in ys i x e in omega arith
-
 -- the rows of a side
 pub side_ready : (s : System) (rows : List Row) (before after : Table) (row : Row) → IsReadyTableau s rows before → IsRowWithin s.unknowns row → after.unknowns ≡ before.unknowns → after.rows ≡ before.rows ++ row ∷ [] → IsReadyTableau s (rows ++ row ∷ []) after
 side_ready s rows before after row r w n e = record {
   unknowns = n ∙ r.unknowns;
   same_rows = e ∙ ap (λ xs. xs ++ row ∷ []) r.same_rows;
-  within = λ i x g. within i x (get_push_cases rows row i x g);
+  within = λ i x g. within i x (slice_get-push_cases rows row i x g);
   nets = r.nets;
   counts = λ x h. r.counts x (λ i y g. h i y (get_push rows row i y g));
 }
@@ -83,13 +62,13 @@ side_ready s rows before after row r w n e = record {
 pub side_rows : (cs : List Constraint) (rows : List Row) (c : Constraint) (row : Row) → AreRowsOf cs rows → IsRowOf c row → AreRowsOf (cs ++ c ∷ []) (rows ++ row ∷ [])
 side_rows cs rows c row a m = record {
   size = let e = a.size in length-append cs (c ∷ []) ∙ ap (λ n. n + 1) e ∙ sym (length-append rows (row ∷ []));
-  each = λ i d r g h. each i d r (get_push_cases cs c i d g) (get_push_cases rows row i r h);
+  each = λ i d r g h. each i d r (slice_get-push_cases cs c i d g) (slice_get-push_cases rows row i r h);
 }
   where
     each : (i : ℕ) (d : Constraint) (r : Row) → (slice_get cs i ≡ Some d) ⊎ ((i ≡ length cs) × (c ≡ d)) → (slice_get rows i ≡ Some r) ⊎ ((i ≡ length rows) × (row ≡ r)) → IsRowOf d r
     each i d r (inl g) (inl h) = a.each i d r g h
-    each i d r (inl g) (inr h) = absurd (let w = get_in cs i d g in let e = a.size in omega (arith, h.0))
-    each i d r (inr g) (inl h) = absurd (let w = get_in rows i r h in let e = a.size in omega (arith, g.0))
+    each i d r (inl g) (inr h) = absurd (let w = slice_get_within cs i d g in let e = a.size in omega (arith, h.0))
+    each i d r (inr g) (inl h) = absurd (let w = slice_get_within rows i r h in let e = a.size in omega (arith, g.0))
     each i d r (inr g) (inr h) = subst (λ (x : Constraint). IsRowOf x r) g.1 (subst (λ (x : Row). IsRowOf c x) h.1 m)
 
 pub side_node : (s : System) (rows : List Row) (node : Node) (t : Table) (c : Constraint) (row : Row) → IsSystemNode s rows node → IsRowOf c row → IsSystemNode s (rows ++ row ∷ []) (child_of node t c)
@@ -97,7 +76,7 @@ side_node s rows node t c row k m = record { unknowns = k.unknowns; nets = k.net
 
 not_in_end : (lines : List Standing) (line : Row) (q : ℕ) → q < length lines → IsInBasis (lines ++ Basic line ∷ []) q ↔ IsInBasis lines q
 not_in_end lines line q h = (
-  (λ b. (b.0, old (get_push_cases lines (Basic line) q (Basic b.0) b.1))),
+  (λ b. (b.0, old (slice_get-push_cases lines (Basic line) q (Basic b.0) b.1))),
   (λ b. (b.0, get_push lines (Basic line) q (Basic b.0) b.1)),
 )
   where
@@ -113,7 +92,7 @@ goes_on before after c row m n r a = record {
   is_row = m;
   rows = r;
   kept = λ q h. subst (λ (ls : List Standing). IsInBasis ls q ↔ IsInBasis before.lines q) (sym a.added) (not_in_end before.lines a.line q h);
-  slack = subst (λ (ls : List Standing). IsInBasis ls (length before.lines)) (sym a.added) (a.line, get_end before.lines (Basic a.line));
+  slack = subst (λ (ls : List Standing). IsInBasis ls (length before.lines)) (sym a.added) (a.line, slice_get-end before.lines (Basic a.line));
 }
 
 -- a trail goes on in the same system

@@ -1,5 +1,5 @@
 -- What is found at a node where a row shows a conflict.
-use Rattle.std.proofs.Common.{◌≡◌, ◌≢◌, ℕ, zero, suc, ◌+◌, ◌-◌, ◌<◌, ◌≤◌, ℤ, pos, neg_ℤ, ◌+ℤ◌, ◌*ℤ◌, ◌<ℤ◌, List, [], ◌∷◌, length, map, slice_get, get_or, Some, Bool, true, false, cond, nat_lt, IsTrue, ◌⊎◌, ⊎_elim, inl, inr, refl, ap, sym, ◌∙◌, subst, arith}
+use Rattle.std.proofs.Common.{◌≡◌, ◌≢◌, ℕ, ◌+◌, ◌-◌, ◌<◌, ◌≤◌, ℤ, pos, neg_ℤ, ◌+ℤ◌, ◌*ℤ◌, ◌<ℤ◌, List, [], ◌∷◌, length, map, slice_get, get_or, Bool, true, false, cond, nat_lt, IsTrue, ◌⊎◌, ⊎_elim, inl, inr, refl, ap, sym, ◌∙◌, subst, arith}
 use Rattle.std.specs.Prelude.{nat_eq, FitsSigned, ◌≤ℤ◌}
 use Rattle.std.specs.Int.{w128}
 use Rattle.sv_linear.specs.Terms.{AscendsWithin}
@@ -7,6 +7,9 @@ use Rattle.lia_tableau.specs.Crossing.{column_number}
 use Rattle.std.proofs.lemmas.Int.{ints, by_lt_z}
 use Rattle.std.proofs.lemmas.Bool.{cases_lt}
 use Rattle.std.proofs.lemmas.Bool.Decides.{nat_tests}
+use Rattle.std.proofs.lemmas.Option.{get_or_from_slice_get}
+use Rattle.std.proofs.lemmas.List.{get_or_past}
+use Rattle.sv_list.specs.Lists.{slice_get-some}
 use Rattle.sv_linear.specs.Terms.{coefficient}
 use Rattle.sv_linear.specs.Points.{unit, coefficient_is_value}
 use Rattle.sv_linear.specs.Integers.{mul-add}
@@ -29,9 +32,10 @@ use Rattle.lia_branch.specs.Founds.{IsReadyTableau, IsSystemNode, IsNodeClosing,
 use Rattle.lia_branch.specs.LeafMultipliers.{slack_multipliers, sign_of, AreRowsOf, IsPastColumn}
 use Rattle.lia_branch.specs.declared.stop.StopReason.TheVariants.{PastSum}
 use Rattle.farkas_check.specs.NodeLaws.{farkas_met, farkas_fits}
+use Rattle.farkas_check.proofs.LeafSums.{rows_size}
 use Rattle.lia_branch.proofs.ConflictLeaves.{conflict_rule}
 use Rattle.lia_branch.proofs.DueTreeRules.{closed_farkas, stops_open, count_farkas}
-use Rattle.lia_branch.proofs.Roots.{size, each}
+use Rattle.lia_branch.proofs.Roots.{each}
 use Rattle.lia_tableau.specs.LineLaws.{place_within, same_row, broken_constant}
 use Rattle.sv_linear.specs.Rows.{NameUnknowns}
 
@@ -61,21 +65,6 @@ same_fits part cs ds h (m ∷ ms) a b e f =
     let q : a +ℤ m.1 *ℤ part (get_or cs m.0 no_constraint) ≡ b +ℤ m.1 *ℤ part (get_or ds m.0 no_constraint) = omega (arith, ints, p, e) in
     (subst (FitsSigned w128) p f.0, (subst (FitsSigned w128) q f.1.0, same_fits part cs ds h ms _ _ q f.1.1))
 
-get_within : {X : Type 0} (xs : List X) (i : ℕ) → i < length xs → (x : X) × (slice_get xs i ≡ Some x)
-get_within [] i h = absurd (omega arith)
-get_within (x ∷ xs) zero h = (x, refl)
-get_within (x ∷ xs) (suc i) h = get_within xs i (omega arith)
-
-get_same : {X : Type 0} (xs : List X) (i : ℕ) (d x : X) → slice_get xs i ≡ Some x → get_or xs i d ≡ x
-get_same [] i d x e = absurd (cc)
-get_same (y ∷ ys) zero d x e = cc
-get_same (y ∷ ys) (suc i) d x e = get_same ys i d x e
-
-get_past : {X : Type 0} (xs : List X) (i : ℕ) (d : X) → length xs ≤ i → get_or xs i d ≡ d
-get_past [] i d h = refl
-get_past (x ∷ xs) zero d h = absurd (omega arith)
-get_past (x ∷ xs) (suc i) d h = get_past xs i d (omega arith)
-
 part_same : (p : Column) (c d : Constraint) (r : Row) → IsRowOf c r → IsRowOf d r → part_at p c ≡ part_at p d
 part_same (Unknown u) c d r a b = coefficient_is_value u c.terms ∙ sym (a.value (unit u)) ∙ b.value (unit u) ∙ sym (coefficient_is_value u d.terms)
 part_same Constant c d r a b = sym a.constant ∙ b.constant
@@ -84,15 +73,15 @@ pub parts_same : (p : Column) (cs ds : List Constraint) (rows : List Row) → Ar
 parts_same p cs ds rows a b i =
     ⊎_elim
     (λ h.
-    let r = get_within rows i h in
-    let c = get_within cs i (let e = a.size in omega arith) in
-    let d = get_within ds i (let e = b.size in omega arith) in
-    ap (part_at p) (get_same cs i no_constraint c.0 c.1) ∙ part_same p c.0 d.0 r.0 (a.each i c.0 r.0 c.1 r.1) (b.each i d.0 r.0 d.1 r.1) ∙ sym (ap (part_at p) (get_same ds i no_constraint d.0 d.1)))
-    (λ h. ap (part_at p) (get_past cs i no_constraint (let e = a.size in omega arith) ∙ sym (get_past ds i no_constraint (let e = b.size in omega arith))))
+    let r = slice_get-some rows i h in
+    let c = slice_get-some cs i (let e = a.size in omega arith) in
+    let d = slice_get-some ds i (let e = b.size in omega arith) in
+    ap (part_at p) (get_or_from_slice_get cs i c.0 no_constraint c.1) ∙ part_same p c.0 d.0 r.0 (a.each i c.0 r.0 c.1 r.1) (b.each i d.0 r.0 d.1 r.1) ∙ sym (ap (part_at p) (get_or_from_slice_get ds i d.0 no_constraint d.1)))
+    (λ h. ap (part_at p) (get_or_past cs i no_constraint (let e = a.size in omega arith) ∙ sym (get_or_past ds i no_constraint (let e = b.size in omega arith))))
     (cases_lt i (length rows))
 
 pub rows_themselves : (rows : List Row) → AreRowsOf (map constraint_of rows) rows
-rows_themselves rows = record { size = size rows; each = each rows }
+rows_themselves rows = record { size = rows_size rows; each = each rows }
 
 sign_above : (c : ℤ) (negated : Bool) → c ≢ pos 0 → (IsTrue negated → c <ℤ pos 0) → (negated ≡ false → pos 0 ≤ℤ c) → pos 0 <ℤ (sign_of negated *ℤ c)
 sign_above c true n h k = let s = h refl in omega (arith, ints, s)

@@ -4,10 +4,8 @@ use Rattle.std.specs.Prelude.{nat_eq}
 use Rattle.std.specs.Int.{int_div_euclid, int_rem_euclid}
 use Rattle.std.proofs.lemmas.Int.{ints}
 use Rattle.std.proofs.lemmas.Bool.Decides.{nat_tests}
-use Rattle.std.proofs.lemmas.Nat.Gcd.{dvd_antisymm}
 use Rattle.sv_linear.specs.Terms.{coefficient, AscendsWithin}
 use Rattle.sv_linear.specs.Integers.{mul_comm}
-use Rattle.sv_linear.specs.declared.form.Form.{Form}
 use Rattle.sv_linear.specs.declared.row.Row.{Row}
 use Rattle.farkas_check.specs.Systems.{Constraint, constraint_of}
 use Rattle.farkas_check.specs.Closings.{DivisorRule, never}
@@ -30,14 +28,9 @@ use Rattle.lia_branch.proofs.DivisorLeaves.{divisor_rule}
 use Rattle.lia_branch.proofs.DueTreeRules.{closed_divisor, stops_open, count_divisor}
 use Rattle.lia_branch.proofs.WholeValues.{euclid}
 use Rattle.lia_tableau.specs.LineLaws.{place_within, same_row}
+use Rattle.lia_tableau.proofs.DivisorTests.{same_divisor}
 use Rattle.sv_linear.specs.Rows.{NameUnknowns}
-
-not_below : (low high u : ℕ) (ts : List (ℕ × ℤ)) → AscendsWithin low high ts → u < low → coefficient u ts ≡ pos 0
-not_below low high u [] a h = refl
-not_below low high u (t ∷ ts) a h = other t.0 u t.1 (coefficient u ts) (let f = a.0 in omega arith) (not_below (t.0 + 1) high u ts a.1.1 (let f = a.0 in omega arith))
-  where
-    other : (a b : ℕ) (z w : ℤ) → b < a → w ≡ pos 0 → cond (nat_eq a b) z (pos 0) +ℤ w ≡ pos 0
-    other a b z w l e = let d : nat_eq a b ≡ false = grind (arith, nat_tests) in ap (λ k. cond k z (pos 0) +ℤ w) d ∙ omega (arith, ints, e)
+use Rattle.sv_linear.specs.TermLaws.{below_low}
 
 rem_zero : (d : ℕ) → int_rem_euclid (pos 0) (pos d) ≡ pos 0
 rem_zero d = omega (arith, ints)
@@ -69,10 +62,7 @@ remainder_is n d low high (t ∷ ts) i a = by (nat_lt t.0 n) refl (remainder_is 
         let f : nat_eq (t.0 - n) i ≡ nat_eq t.0 (n + i) = grind (arith, nat_tests) in
         ap (λ k. cond k (int_rem_euclid t.1 (pos d)) (pos 0) +ℤ coefficient i (slack_remainders n (pos d) ts)) f
         ∙ joined (nat_eq t.0 (n + i)) t.1 (coefficient (n + i) ts) (coefficient i (slack_remainders n (pos d) ts)) refl r
-        (λ k. let is : t.0 ≡ n + i = grind (arith, nat_tests) in not_below (t.0 + 1) high (n + i) ts a.1.1 (omega arith))
-
-same_divisor : (n : ℕ) (f : Form) (g d : ℕ) → IsUnknownsDivisor n f g → IsUnknownsDivisor n f d → g ≡ d
-same_divisor n f g d a b = dvd_antisymm (b.greatest g a.divides) (a.greatest d b.divides)
+        (λ k. let is : t.0 ≡ n + i = grind (arith, nat_tests) in below_low (t.0 + 1) high (n + i) ts a.1.1 (omega arith))
 
 module _ (s : System) (rows : List Row) (t : Table) (ready : IsReadyTableau s rows t) (place : ℕ) (status : IsStatus t (Divisor place)) where
   pub divisor_place : place < length t.rows

@@ -1,10 +1,9 @@
 -- The line that shows a divisor gives a leaf.
-use Rattle.std.proofs.Common.{◌≡◌, ◌≢◌, ℕ, zero, suc, ◌+◌, ◌-◌, ◌*◌, ◌/◌, ◌<◌, ◌≤◌, ◌^◌, ℤ, pos, negsuc, neg_ℤ, ◌+ℤ◌, ◌-ℤ◌, ◌*ℤ◌, List, [], ◌∷◌, length, get_or, Bool, true, false, cond, IsTrue, nat_lt, unsigned_abs, ⊎_elim, refl, ap, sym, ◌∙◌, subst, arith}
+use Rattle.std.proofs.Common.{◌≡◌, ◌≢◌, ℕ, zero, ◌+◌, ◌-◌, ◌*◌, ◌<◌, ◌≤◌, ◌^◌, ℤ, pos, neg_ℤ, ◌+ℤ◌, ◌-ℤ◌, ◌*ℤ◌, List, [], ◌∷◌, length, get_or, Bool, true, false, cond, IsTrue, nat_lt, unsigned_abs, ⊎_elim, refl, ap, sym, ◌∙◌, subst, arith}
 use Rattle.std.specs.Int.{int_div_euclid, int_rem_euclid, ◌∣◌}
 use Rattle.std.proofs.lemmas.Int.{ints, unsigned_abs-mul}
 use Rattle.std.proofs.lemmas.Bool.{cases_lt}
 use Rattle.std.proofs.lemmas.Bool.Decides.{nat_tests}
-use Rattle.std.proofs.lemmas.Nat.Gcd.{mod-eq-zero_of_dvd}
 use Rattle.std.proofs.Math.Nat.{dvd-mul_right}
 use Rattle.sv_linear.specs.Terms.{coefficient, terms_value, AscendsWithin}
 use Rattle.sv_linear.specs.Forms.{form_value}
@@ -23,15 +22,9 @@ use Rattle.lia_branch.specs.LeafMultipliers.{slack_multipliers, slack_remainders
 use Rattle.lia_branch.proofs.LeafSums.{line_sum, slack_row}
 use Rattle.lia_branch.proofs.WholeValues.{euclid}
 use Rattle.lia_tableau.specs.LineLaws.{held, extended, extended_low}
+use Rattle.lia_tableau.proofs.Soundness.{divided}
 use Rattle.sv_linear.specs.TermLaws.{term_here, EachTerm, rest_of}
 use Rattle.sv_linear.specs.Rows.{NameUnknowns}
-
-divided : (d : ℕ) → 0 < d → (z : ℤ) → d ∣ unsigned_abs z → pos d *ℤ quotient z d ≡ z
-divided d p (pos n) h = let r = mod-eq-zero_of_dvd d h in omega (arith, ints)
-divided d p (negsuc n) h =
-    let r = mod-eq-zero_of_dvd d h in
-    let whole : suc n ≡ d * (suc n / d) = omega arith in
-    omega (arith, ints, mul-neg (pos d) (pos (suc n / d)))
 
 -- the sums differ by a multiple
 differ : (V : Constraint → ℤ) (cs : List Constraint) (n d : ℕ) → 0 < d → (ts : List (ℕ × ℤ)) → Divides (pos d) (combined V cs (slack_multipliers n (pos 1) ts) -ℤ combined V cs (slack_remainders n (pos d) ts))

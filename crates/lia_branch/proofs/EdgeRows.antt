@@ -1,8 +1,8 @@
 -- Sums of edges' unknowns, one edge after another, and the rows that they make.
-use Rattle.std.proofs.Common.{◌≡◌, ◌≢◌, ℕ, zero, suc, ◌+◌, ◌<◌, ◌≤◌, ◌^◌, ℤ, pos, neg_ℤ, ◌+ℤ◌, ◌*ℤ◌, List, [], ◌∷◌, ◌++◌, length, take, slice_get, slice_set, get_or, replicate, Some, Bool, true, false, cond, ◌||◌, ◌&&◌, not, unsigned_abs, nat_eq, ⊎_elim, refl, ap, sym, ◌∙◌, subst, arith}
+use Rattle.std.proofs.Common.{◌≡◌, ◌≢◌, ℕ, zero, suc, ◌+◌, ◌<◌, ◌≤◌, ◌^◌, ℤ, pos, neg_ℤ, ◌+ℤ◌, ◌*ℤ◌, List, [], ◌∷◌, ◌++◌, length, take, slice_get, slice_set, get_or, replicate, Some, Bool, true, false, cond, ◌||◌, ◌&&◌, not, unsigned_abs, nat_eq, ⊎_elim, refl, ap, sym, ◌∙◌, subst, arith, take_all}
 use Rattle.std.specs.Prelude.{All}
 use Rattle.std.proofs.lemmas.Int.{ints}
-use Rattle.std.proofs.lemmas.Bool.{cases_lt}
+use Rattle.std.proofs.lemmas.Bool.{cases_lt, or_right}
 use Rattle.std.proofs.lemmas.Bool.Decides.{nat_tests, eqb_tells}
 use Rattle.std.proofs.lemmas.List.{take_more}
 use Rattle.std.proofs.lemmas.List.Elements.{All-head, All-tail}
@@ -82,24 +82,6 @@ pub record IsSummed (side : EdgeSide) (set : List ℕ) (es : List NetEdge) (f : 
   pub ascends : AscendsWithin 0 next f.coefficients
   pub bound : next ≤ 2 ^ 32
 
-none_picked : (side : EdgeSide) (set : List ℕ) → side_terms side set [] ≡ []
-none_picked Out set = refl
-none_picked In set = refl
-
-pub summed_first : (side : EdgeSide) (set : List ℕ) (es : List NetEdge) (f : Form) → f.coefficients ≡ [] → f.constant ≡ pos 0 → IsSummed side set es f 0 0
-summed_first side set es f e k = record {
-  value = λ x d.
-      let a = ap (terms_value x) e in let z = ap (λ w. w *ℤ d) k in let b = ap (terms_value x) (none_picked side set) in
-      omega (arith, ints, a, z, b);
-  small = small;
-  ascends = subst (AscendsWithin 0 0) (sym e) (omega arith);
-  bound = omega arith;
-}
-  where
-    small : (c : Column) → unsigned_abs (entry c f) ≤ 0
-    small (Unknown u) = omega (arith, ap unsigned_abs (ap (coefficient u) e))
-    small Constant = omega (arith, ap unsigned_abs k)
-
 take_next : (side : EdgeSide) (x : ℕ → ℤ) (set : List ℕ) (es : List NetEdge) (i : ℕ) → i < length es →
     terms_value x (side_terms side set (take (i + 1) es)) ≡ terms_value x (side_terms side set (take i es)) +ℤ cond (picks side set (get_or es i no_edge)) (side_sign side *ℤ x (get_or es i no_edge).unknown) (pos 0)
 take_next side x set es i h = ap (λ l. terms_value x (side_terms side set l)) (take_more es i no_edge h) ∙ side_more side x set (take i es) (get_or es i no_edge)
@@ -173,15 +155,9 @@ ascends_below n low high (t ∷ ts) a l h =
       ),
     )
 
-take_all : {X : Type 0} (xs : List X) (i : ℕ) → length xs ≤ i → take i xs ≡ xs
-take_all [] zero h = refl
-take_all [] (suc i) h = refl
-take_all (x ∷ xs) zero h = absurd (omega arith)
-take_all (x ∷ xs) (suc i) h = ap (λ l. x ∷ l) (take_all xs i (omega arith))
-
 pub summed_done : (side : EdgeSide) (n : ℕ) (net : Net) (set : List ℕ) (f : Form) (next i : ℕ) → IsNetWithin n net → IsSummed side set net.edges f next i → length net.edges ≤ i → i < 2 ^ 64 → IsSideSum side n net set f
 summed_done side n net set f next i w s h k =
-    let value : (x : ℕ → ℤ) (d : ℤ) → form_value x d f ≡ terms_value x (side_terms side set net.edges) = λ x d. s.value x d ∙ ap (λ l. terms_value x (side_terms side set l)) (take_all net.edges i h) in
+    let value : (x : ℕ → ℤ) (d : ℤ) → form_value x d f ≡ terms_value x (side_terms side set net.edges) = λ x d. s.value x d ∙ ap (λ l. terms_value x (side_terms side set l)) (take_all i net.edges h) in
     record {
       value = value;
       constant = constant_value f ∙ value nowhere (pos 1) ∙ value_nowhere (side_terms side set net.edges);
@@ -220,10 +196,6 @@ length_set [] q y = refl
 length_set (x ∷ xs) zero y = refl
 length_set (x ∷ xs) (suc q) y = ap suc (length_set xs q y)
 
-or_true : (b c : Bool) → c ≡ true → (b || c) ≡ true
-or_true true c e = refl
-or_true false c e = e
-
 or_false : (b c : Bool) → c ≡ false → (b || c) ≡ b
 or_false true c e = refl
 or_false false c e = e
@@ -245,7 +217,7 @@ marked_more states set i marks h l a w s p =
     (λ e.
     let d : nat_eq (get_or set i 0) s ≡ true = e.0 in
     ap (slice_get (slice_set marks (get_or set i 0) true)) (sym e.1) ∙ set_same marks (get_or set i 0) true w
-    ∙ ap Some (sym (next_state states set i h s ∙ or_true (contains_number s (take i set)) (nat_eq (get_or set i 0) s) d)))
+    ∙ ap Some (sym (next_state states set i h s ∙ or_right (contains_number s (take i set)) (nat_eq (get_or set i 0) s) d)))
     (λ n.
     let d : nat_eq (get_or set i 0) s ≡ false = n.0 in
     set_other marks (get_or set i 0) s true (λ e. n.1 (sym e)) ∙ a s p

@@ -1,7 +1,7 @@
 -- What comes of going to one side of a split.
-use Rattle.std.proofs.Common.{◌≡◌, ℕ, zero, suc, ◌+◌, ◌-◌, ◌*◌, ◌<◌, List, [], ◌∷◌, ◌++◌, length, slice_get, get_or, Some, subst, arith}
-use Rattle.std.specs.List.{count_by}
+use Rattle.std.proofs.Common.{◌≡◌, ℕ, ◌+◌, ◌-◌, ◌<◌, List, [], ◌∷◌, ◌++◌, subst, arith}
 use Rattle.std.proofs.lemmas.List.Elements.{All-get_or}
+use Rattle.std.proofs.lemmas.Option.{get_or_from_slice_get, slice_get_within}
 use Rattle.sv_linear.specs.declared.row.Row.{Row}
 use Rattle.farkas_check.specs.Systems.{Constraint}
 use Rattle.farkas_check.specs.Cuts.{IsNetWithin}
@@ -13,7 +13,7 @@ use Rattle.lia_pack.specs.Tables.{IsPackedOf}
 use Rattle.lia_pack.specs.declared.packed.PackedTableau.{PackedTableau}
 use Rattle.lia_branch.specs.Nodes.{Node, IsRowOf, child_of}
 use Rattle.lia_branch.specs.Founds.{IsReadyTableau, IsNodeClosing}
-use Rattle.lia_branch.specs.Forks.{fork_tree, AreForkSides, IsForkWithin, IsForkAt, Path, IsClosing, IsResumed, IsStopping, EnteredHolds, EnteredBy, next_of, NextHolds, IsNextSmaller, is_first}
+use Rattle.lia_branch.specs.Forks.{fork_tree, AreForkSides, IsForkWithin, IsForkAt, Path, IsClosing, IsResumed, IsStopping, EnteredHolds, EnteredBy, next_of, NextHolds}
 use Rattle.lia_branch.specs.declared.fork.Fork.{Fork}
 use Rattle.lia_branch.specs.declared.fork.Fork.TheVariants.{Unknown, Set}
 use Rattle.lia_branch.specs.declared.level.SplitLevel.{SplitLevel}
@@ -42,29 +42,15 @@ pub entered_second : (s : System) (t : Table) (fork : Fork) (tree : Tree) (row :
 entered_second s t fork tree row below levels left k more grown means within e h =
     entered_by s k.node t fork k.second row k.waiting.at k.waiting.ready (means k.first k.second k.waiting.sides) within levels left (second_path s below levels left t fork tree grown k) more e h
 
-get_same : {X : Type 0} (xs : List X) (i : ℕ) (d x : X) → slice_get xs i ≡ Some x → get_or xs i d ≡ x
-get_same [] i d x e = absurd (cc)
-get_same (y ∷ ys) zero d x e = cc
-get_same (y ∷ ys) (suc i) d x e = get_same ys i d x e
-
-get_in : {X : Type 0} (xs : List X) (i : ℕ) (x : X) → slice_get xs i ≡ Some x → i < length xs
-get_in [] i x e = absurd (cc)
-get_in (y ∷ ys) zero x e = omega arith
-get_in (y ∷ ys) (suc i) x e = let h = get_in ys i x e in omega arith
-
 pub fork_within : (s : System) (node : Node) (t : Table) (fork : Fork) → IsReadyTableau s t.rows t → IsForkAt s node t fork → IsForkWithin s fork
 fork_within s node t (Unknown u at) ready f = (f.due.within, (f.due.symmetric, f.due.next_symmetric))
 fork_within s node t (Set i states) ready f =
     let cut = f.due.cut in
-    (cut.net, (cut.is_net, subst (IsNetWithin s.unknowns) (get_same s.nets i cut.net cut.net cut.is_net) (All-get_or (IsNetWithin s.unknowns) s.nets i cut.net (get_in s.nets i cut.net cut.is_net) ready.nets)))
+    (cut.net, (cut.is_net, subst (IsNetWithin s.unknowns) (get_or_from_slice_get s.nets i cut.net cut.net cut.is_net) (All-get_or (IsNetWithin s.unknowns) s.nets i cut.net (slice_get_within s.nets i cut.net cut.is_net) ready.nets)))
 
 pub entered_next : (s : System) (levels : List SplitLevel) (left : ℕ) (e : Entered) → EnteredBy s levels left e → NextHolds s levels (next_of e left)
 entered_next s levels left (entered.Node after) h = h
 entered_next s levels left (entered.Past stop) h = h
-
-pub next_smaller : (before after : List SplitLevel) (left fewer : ℕ) (e : Entered) → 2 * fewer + count_by is_first after < 2 * left + count_by is_first before → IsNextSmaller before after left (next_of e fewer)
-next_smaller before after left fewer (entered.Node t) h = h
-next_smaller before after left fewer (entered.Past stop) h = tt
 
 pub last_split : (s : System) (levels : List SplitLevel) (node : Node) (left : ℕ) (t : Table) (fork : Fork) → Path s levels node left → IsForkAt s node t fork → left ≡ 1 → IsStopping s levels (fork_tree fork v.Open v.Open) Branches
 last_split s levels node left t fork path at one =

@@ -1,7 +1,9 @@
 -- A line of a tableau is the sum of the rows and their slacks, each as often as its slack stands in the line.
-use Rattle.std.proofs.Common.{◌≡◌, ℕ, zero, suc, ◌+◌, ◌-◌, ◌<◌, ◌≤◌, ℤ, pos, neg_ℤ, ◌+ℤ◌, ◌-ℤ◌, ◌*ℤ◌, ◌≤ℤ◌, List, [], ◌∷◌, length, slice_get, get_or, Some, Bool, true, false, cond, IsTrue, nat_lt, ◌⊎◌, refl, ap, sym, ◌∙◌, subst, arith}
+use Rattle.std.proofs.Common.{◌≡◌, ℕ, zero, ◌+◌, ◌-◌, ◌<◌, ◌≤◌, ℤ, pos, neg_ℤ, ◌+ℤ◌, ◌-ℤ◌, ◌*ℤ◌, ◌≤ℤ◌, List, [], ◌∷◌, length, slice_get, get_or, Some, Bool, true, false, cond, IsTrue, nat_lt, ◌⊎◌, refl, ap, sym, ◌∙◌, subst, arith}
 use Rattle.std.proofs.lemmas.Int.{ints}
 use Rattle.std.proofs.lemmas.Bool.Decides.{nat_tests}
+use Rattle.std.proofs.lemmas.Option.{get_or_from_slice_get}
+use Rattle.sv_list.specs.Lists.{slice_get-some}
 use Rattle.sv_linear.specs.Terms.{terms_value, AscendsWithin}
 use Rattle.sv_linear.specs.Forms.{form_value}
 use Rattle.sv_linear.specs.Integers.{mul-add, mul-neg, mul_assoc}
@@ -15,16 +17,6 @@ use Rattle.lia_branch.specs.LeafMultipliers.{slack_multipliers, unknown_terms, A
 use Rattle.sv_linear.specs.Rows.{NameUnknowns}
 use Rattle.sv_linear.specs.TermLaws.{EachTerm, rest_of}
 use Rattle.lia_tableau.specs.LineLaws.{extended, extended_row, rows_hold}
-
-get_within : {X : Type 0} (xs : List X) (i : ℕ) → i < length xs → (x : X) × (slice_get xs i ≡ Some x)
-get_within [] i h = absurd (omega arith)
-get_within (x ∷ xs) zero h = (x, refl)
-get_within (x ∷ xs) (suc i) h = get_within xs i (omega arith)
-
-get_same : {X : Type 0} (xs : List X) (i : ℕ) (d x : X) → slice_get xs i ≡ Some x → get_or xs i d ≡ x
-get_same [] i d x e = absurd (cc)
-get_same (y ∷ ys) zero d x e = cc
-get_same (y ∷ ys) (suc i) d x e = get_same ys i d x e
 
 module _ (n : ℕ) (rows : List Row) (base : ℕ → ℤ) (d : ℤ) where
   module _ (V : Constraint → ℤ) (cs : List Constraint) (sign : ℤ) where
@@ -90,9 +82,9 @@ module _ (n : ℕ) (rows : List Row) (lines : List Standing) (t : IsTableau n ro
 
   pub slack_row : (at : ℕ) → n ≤ at → at < length lines → IsSlackRow at
   slack_row at low high =
-      let r = get_within rows (at - n) (let s = t.size in omega arith) in
-      let c = get_within cs (at - n) (let s = t.size in let z = are.size in omega arith) in
-      record { row = r.0; constraint = c.0; is_row = r.1; is_constraint = c.1; same = get_same cs (at - n) no_constraint c.0 c.1; means = are.each (at - n) c.0 r.0 c.1 r.1 }
+      let r = slice_get-some rows (at - n) (let s = t.size in omega arith) in
+      let c = slice_get-some cs (at - n) (let s = t.size in let z = are.size in omega arith) in
+      record { row = r.0; constraint = c.0; is_row = r.1; is_constraint = c.1; same = get_or_from_slice_get cs (at - n) c.0 no_constraint c.1; means = are.each (at - n) c.0 r.0 c.1 r.1 }
 
   module _ (in_range : EachTerm (λ s. s.0 < length lines) f.form.coefficients) where
     -- the sum of the rows with these multipliers, at a part of them that is their value at some point

@@ -1,5 +1,7 @@
 -- The way from a node up to the root.
-use Rattle.std.proofs.Common.{◌≡◌, ℕ, ℤ, suc, ◌+◌, ◌-◌, ◌<◌, List, [], ◌∷◌, ◌++◌, length, length-append, refl, ap, sym, ◌∙◌, subst, arith}
+use Rattle.std.proofs.Common.{◌≡◌, ℕ, ℤ, suc, ◌+◌, ◌-◌, ◌<◌, List, [], ◌∷◌, ◌++◌, refl, ap, sym, ◌∙◌, subst, arith}
+use Rattle.std.proofs.lemmas.List.{same_from_push}
+use Rattle.sv_list.specs.Lists.{push-not_empty}
 use Rattle.sv_linear.specs.declared.row.Row.{Row}
 use Rattle.farkas_check.specs.Systems.{Constraint}
 use Rattle.farkas_check.specs.declared.system.System.{System}
@@ -20,19 +22,6 @@ use Rattle.lia_branch.specs.declared.stop.StopReason.{StopReason}
 use Rattle.lia_branch.proofs.Branching.{solution_above, side_ready, side_node, goes_on}
 use Rattle.lia_branch.proofs.Forking.{fork_closed, stopped_first, stopped_second}
 use Rattle.sv_linear.specs.Rows.{IsRowWithin}
-
-ends_same : {X : Type 0} (xs ys : List X) (x y : X) → xs ++ x ∷ [] ≡ ys ++ y ∷ [] → (xs ≡ ys) × (x ≡ y)
-ends_same [] [] x y e = (refl, cc)
-ends_same {X} [] (z ∷ zs) x y e = absurd (omega (arith, ap length e, length-append zs (y ∷ [])))
-ends_same {X} (z ∷ zs) [] x y e = absurd (omega (arith, ap length e, length-append zs (x ∷ [])))
-ends_same (w ∷ ws) (z ∷ zs) x y e =
-    let tails : ws ++ x ∷ [] ≡ zs ++ y ∷ [] = cc in
-    let heads : w ≡ z = cc in
-    let r = ends_same ws zs x y tails in
-    (ap (λ l. w ∷ l) r.0 ∙ ap (λ a. a ∷ zs) heads, r.1)
-
-no_end : {X : Type 0} (xs : List X) (x : X) → xs ++ x ∷ [] ≡ [] → ⊥
-no_end {X} xs x e = absurd (omega (arith, ap length e, length-append xs (x ∷ [])))
 
 abbrev fork_of : SplitLevel → Fork
 fork_of (First f packed) = f
@@ -68,9 +57,9 @@ pub record IsInSecond (s : System) (below : List SplitLevel) (node : Node) (left
   pub is : child_of above t second ≡ node
 
 up_first : (s : System) (levels below : List SplitLevel) (node : Node) (left : ℕ) (packed : PackedTableau) (fork : Fork) → levels ≡ below ++ First fork packed ∷ [] → Path s levels node left → IsInFirst s below node left packed fork
-up_first s levels below node left packed fork e (top r) = absurd (no_end below (First fork packed) (sym e))
+up_first s levels below node left packed fork e (top r) = absurd (push-not_empty below (First fork packed) (sym e))
 up_first s levels below node left packed fork e (in_first r b l above k u x f c d g p q w) =
-    let same = ends_same b below (First f x) (First fork packed) (sym g ∙ e) in
+    let same = same_from_push b below (First f x) (First fork packed) (sym g ∙ e) in
     let forks : f ≡ fork = ap fork_of same.1 in
     let tables : x ≡ packed = ap (packed_of packed) same.1 in
     subst (λ (z : List SplitLevel). IsInFirst s z node left packed fork) same.0
@@ -78,16 +67,16 @@ up_first s levels below node left packed fork e (in_first r b l above k u x f c 
     (subst (λ (z : PackedTableau). IsInFirst s b node left z f) tables
     (record { above = above; t = u; first = c; second = d; path = p; is_packed = q; waiting = w; is = refl })))
 up_first s levels below node left packed fork e (in_second r b l above k n u f tree c d g p w cl) =
-    let same = ends_same b below (Second f tree) (First fork packed) (sym g ∙ e) in
+    let same = same_from_push b below (Second f tree) (First fork packed) (sym g ∙ e) in
     absurd (let z = ap is_first same.1 in cc)
 
 up_second : (s : System) (levels below : List SplitLevel) (node : Node) (left : ℕ) (fork : Fork) (tree : Tree) → levels ≡ below ++ Second fork tree ∷ [] → Path s levels node left → IsInSecond s below node left fork tree
-up_second s levels below node left fork tree e (top r) = absurd (no_end below (Second fork tree) (sym e))
+up_second s levels below node left fork tree e (top r) = absurd (push-not_empty below (Second fork tree) (sym e))
 up_second s levels below node left fork tree e (in_first r b l above k u x f c d g p q w) =
-    let same = ends_same b below (First f x) (Second fork tree) (sym g ∙ e) in
+    let same = same_from_push b below (First f x) (Second fork tree) (sym g ∙ e) in
     absurd (let z = ap is_first same.1 in cc)
 up_second s levels below node left fork tree e (in_second r b l above k n u f own c d g p w cl) =
-    let same = ends_same b below (Second f own) (Second fork tree) (sym g ∙ e) in
+    let same = same_from_push b below (Second f own) (Second fork tree) (sym g ∙ e) in
     subst (λ (x : List SplitLevel). IsInSecond s x node left fork tree) same.0
     (subst (λ (x : Fork). IsInSecond s b node left x tree) (ap fork_of same.1)
     (subst (λ (x : Tree). IsInSecond s b node left f x) (ap tree_of same.1)
@@ -95,8 +84,8 @@ up_second s levels below node left fork tree e (in_second r b l above k n u f ow
 
 pub at_top : (s : System) (levels : List SplitLevel) (node : Node) (left : ℕ) → levels ≡ [] → Path s levels node left → (root_of s ≡ node) × (split_limit ≡ left)
 at_top s levels node left e (top r) = (refl, refl)
-at_top s levels node left e (in_first r b l above k u x f c d g p q w) = absurd (no_end b (First f x) (sym g ∙ e))
-at_top s levels node left e (in_second r b l above k n u f own c d g p w cl) = absurd (no_end b (Second f own) (sym g ∙ e))
+at_top s levels node left e (in_first r b l above k u x f c d g p q w) = absurd (push-not_empty b (First f x) (sym g ∙ e))
+at_top s levels node left e (in_second r b l above k n u f own c d g p w cl) = absurd (push-not_empty b (Second f own) (sym g ∙ e))
 
 pub closing_up : (s : System) (levels below : List SplitLevel) (left : ℕ) (fork : Fork) (first tree : Tree) → levels ≡ below ++ Second fork first ∷ [] → IsClosing s levels left tree → IsClosing s below left (fork_tree fork first tree)
 closing_up s levels below left fork first tree e k =

@@ -6,6 +6,7 @@ use Rattle.sv_linear.specs.declared.row.Row.{Row}
 use Rattle.farkas_check.specs.Systems.{Constraint, no_constraint, constraint_of, rows_of, Meets}
 use Rattle.farkas_check.specs.Cuts.{IsNetWithin}
 use Rattle.farkas_check.specs.declared.system.System.{System}
+use Rattle.farkas_check.proofs.LeafSums.{rows_size}
 use Rattle.lia_tableau.specs.Bases.{IsSlackBasis}
 use Rattle.lia_tableau.specs.declared.table.Table.{Table}
 use Rattle.lia_branch.specs.Nodes.{IsRowOf, IsFirstBasis, root_of}
@@ -18,10 +19,6 @@ use Rattle.sv_linear.specs.Rows.{IsRowWithin}
 row_of_itself : (r : Row) → IsRowOf (constraint_of r) r
 row_of_itself r = record { value = λ x. refl; constant = refl; kind = refl }
 
-pub size : (rows : List Row) → length (map constraint_of rows) ≡ length rows
-size [] = refl
-size (r ∷ rs) = ap suc (size rs)
-
 pub each : (rows : List Row) (i : ℕ) (c : Constraint) (r : Row) → slice_get (map constraint_of rows) i ≡ Some c → slice_get rows i ≡ Some r → IsRowOf c r
 each [] i c r e f = absurd (cc)
 each (x ∷ xs) zero c r e f =
@@ -31,7 +28,7 @@ each (x ∷ xs) zero c r e f =
 each (x ∷ xs) (suc i) c r e f = each xs i c r e f
 
 pub root_node : (s : System) → IsSystemNode s s.rows (root_of s)
-root_node s = record { unknowns = refl; nets = refl; rows_of = record { size = size s.rows; each = each s.rows } }
+root_node s = record { unknowns = refl; nets = refl; rows_of = record { size = rows_size s.rows; each = each s.rows } }
 
 meets_at : (x : ℕ → ℤ) (rows : List Row) → ((i : ℕ) (r : Row) → slice_get rows i ≡ Some r → Meets x (constraint_of r)) → (i : ℕ) → i < length (map constraint_of rows) → Meets x (get_or (map constraint_of rows) i no_constraint)
 meets_at x [] h i w = absurd (omega arith)

@@ -1,21 +1,11 @@
 -- Pieces joined one by one.
-use Rattle.std.proofs.Common.{◌≡◌, ℕ, zero, suc, ◌+◌, ◌<◌, ◌≤◌, List, [], ◌∷◌, ◌++◌, length, take, drop, get_or, ap, sym, ◌∙◌, append_assoc, refl, arith}
+use Rattle.std.proofs.Common.{◌≡◌, ℕ, suc, ◌+◌, ◌<◌, ◌≤◌, List, ◌++◌, length, take, drop, get_or, ap, sym, ◌∙◌, append_assoc, arith, drop-cons}
+use Rattle.std.proofs.lemmas.List.{drop_all}
 use Rattle.lia_pack.specs.Shares.{joined}
 use Rattle.lia_pack.specs.declared.pieces.Piece.{Piece}
 
 abbrev pub no_piece : Piece
 no_piece = record { skip = 0; length = 0; fresh = 0 }
-
-pub drop_at : {X : Type 0} (xs : List X) (i : ℕ) (d : X) → i < length xs → drop i xs ≡ get_or xs i d ∷ drop (suc i) xs
-drop_at [] i d h = absurd (omega (arith, h))
-drop_at (x ∷ xs) zero d h = refl
-drop_at (x ∷ xs) (suc i) d h = drop_at xs i d (omega arith)
-
-drop_past : {X : Type 0} (xs : List X) (i : ℕ) → length xs ≤ i → drop i xs ≡ []
-drop_past [] zero h = refl
-drop_past [] (suc i) h = refl
-drop_past (x ∷ xs) zero h = absurd (omega (arith, h))
-drop_past (x ∷ xs) (suc i) h = drop_past xs i (omega arith)
 
 -- one piece more
 pub joined_more : (ps : List Piece) (i : ℕ) (d : Piece) (bytes rest left shared further own later all : List ℕ) → i < length ps →
@@ -27,7 +17,7 @@ joined_more ps i d bytes rest left shared further own later all h s f o l k =
     let next : i + 1 ≡ suc i = omega arith in
     let after = joined further (drop (i + 1) ps) later in
     let split : joined rest (drop i ps) left ≡ shared ++ (own ++ after) =
-    ap (λ qs. joined rest qs left) (drop_at ps i d h)
+    ap (λ qs. joined rest qs left) (drop-cons ps i d h)
     ∙ ap (λ x. x ++ (take p.fresh left ++ joined (drop p.length (drop p.skip rest)) (drop (suc i) ps) (drop p.fresh left))) (sym s)
     ∙ ap (λ x. shared ++ (x ++ joined (drop p.length (drop p.skip rest)) (drop (suc i) ps) (drop p.fresh left))) (sym o)
     ∙ ap (λ x. shared ++ (own ++ joined x (drop (suc i) ps) (drop p.fresh left))) (sym f)
@@ -37,4 +27,4 @@ joined_more ps i d bytes rest left shared further own later all h s f o l k =
 
 -- no piece more
 pub joined_all : (ps : List Piece) (i : ℕ) (bytes rest left all : List ℕ) → length ps ≤ i → bytes ++ joined rest (drop i ps) left ≡ all → (bytes ++ rest) ++ left ≡ all
-joined_all ps i bytes rest left all h k = append_assoc bytes rest left ∙ ap (λ qs. bytes ++ joined rest qs left) (sym (drop_past ps i h)) ∙ k
+joined_all ps i bytes rest left all h k = append_assoc bytes rest left ∙ ap (λ qs. bytes ++ joined rest qs left) (sym (drop_all i ps h)) ∙ k

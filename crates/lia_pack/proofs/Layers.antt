@@ -1,9 +1,8 @@
 -- Layers one by one.
-use Rattle.std.proofs.Common.{◌≡◌, ℕ, suc, ◌+◌, ◌<◌, List, [], ◌∷◌, ◌++◌, length, drop, get_or, ap, sym, ◌∙◌, append_assoc, refl, arith}
+use Rattle.std.proofs.Common.{◌≡◌, ℕ, suc, ◌+◌, ◌<◌, List, [], ◌∷◌, ◌++◌, length, drop, get_or, ap, sym, ◌∙◌, append_assoc, refl, arith, drop-cons}
 use Rattle.lia_pack.specs.Shares.{joined_by, layered, values}
 use Rattle.lia_pack.specs.declared.pieces.Layer.{Layer}
 use Rattle.lia_pack.specs.declared.shared.SharedLayer.{SharedLayer}
-use Rattle.lia_pack.proofs.Joining.{drop_at}
 
 pub values_app : (xs ys : List SharedLayer) → values (xs ++ ys) ≡ values xs ++ values ys
 values_app [] ys = refl
@@ -19,7 +18,7 @@ pub copied_more : (all copies : List SharedLayer) (item one : SharedLayer) (i : 
 copied_more all copies item one i h is same k =
     let next : i + 1 ≡ suc i = omega arith in
     let split : values (drop i all) ≡ item.layer.value ∷ values (drop (suc i) all) =
-    ap values (drop_at all i item h) ∙ ap (λ (x : SharedLayer). x.layer.value ∷ values (drop (suc i) all)) (sym is) in
+    ap values (drop-cons all i item h) ∙ ap (λ (x : SharedLayer). x.layer.value ∷ values (drop (suc i) all)) (sym is) in
     ap (λ ls. ls ++ values (drop (i + 1) all)) (values_app copies (one ∷ []))
     ∙ append_assoc (values copies) (one.layer.value ∷ []) (values (drop (i + 1) all))
     ∙ ap (λ n. values copies ++ (one.layer.value ∷ values (drop n all))) next

@@ -1,7 +1,6 @@
 -- Rows, standings and tables read back.
 use Rattle.std.proofs.Common.{◌≡◌, ℕ, ℤ, ◌+◌, ◌<◌, ◌^◌, List, [], ◌∷◌, ◌++◌, length, refl, ap, sym, ◌∙◌, subst, arith}
 use Rattle.std.specs.List.{flat_map, AllByRecursion}
-use Rattle.std.proofs.Props.{props}
 use Rattle.std.proofs.lemmas.List.{append-nil}
 use Rattle.sv_linear.specs.Terms.{AscendsWithin, AscendsWithin-prop}
 use Rattle.sv_linear.specs.declared.form.Form.{Form}
@@ -13,6 +12,7 @@ use Rattle.lia_tableau.specs.LineLaws.{ends}
 use Rattle.lia_tableau.specs.declared.standing.Standing.{Standing}
 use Rattle.lia_tableau.specs.declared.standing.Standing.TheVariants.{Outside, Basic}
 use Rattle.lia_tableau.specs.declared.table.Table.{Table}
+use Rattle.lia_tableau.proofs.TableLemmas.{tableau-prop, counted-prop}
 use Rattle.lia_pack.specs.Numbers.{numbers_from, Say, AreWritten}
 use Rattle.lia_pack.specs.Shares.{bytes_of}
 use Rattle.lia_pack.specs.Tables.{kind_number, form_numbers, row_numbers, standing_numbers, IsPackedOf}
@@ -63,12 +63,6 @@ both_read t p left after last rows lines e k read more =
 
 abbrev table : (n : ℕ) (rows : List Row) (lines : List Standing) (pivots : ℕ) → length lines < 2 ^ 32 → IsTableau n rows lines → Table
 table n rows lines pivots p q = record { unknowns = n; rows = rows; lines = lines; pivots = pivots; counted = p; tableau = q }
-
-tableau-prop : (n : ℕ) (rows : List Row) (lines : List Standing) → IsProp (IsTableau n rows lines)
-tableau-prop n rows lines = hlevel props
-
-counted-prop : (k : ℕ) → IsProp (k < 2 ^ 32)
-counted-prop k = hlevel props
 
 facts_are : (t : Table) (p : length t.lines < 2 ^ 32) (q : IsTableau t.unknowns t.rows t.lines) → table t.unknowns t.rows t.lines t.pivots p q ≡ t
 facts_are t p q =

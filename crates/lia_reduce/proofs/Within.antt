@@ -1,20 +1,11 @@
 -- What a row within some unknowns has at each term.
-use Rattle.std.proofs.Common.{◌≡◌, ℕ, zero, suc, ◌+◌, ◌<◌, ◌≤◌, ℤ, pos, List, [], ◌∷◌, length, slice_get, get_or, Some, refl, subst, arith}
+use Rattle.std.proofs.Common.{◌≡◌, ℕ, zero, suc, ◌<◌, ℤ, pos, List, [], ◌∷◌, length, slice_get, get_or, Some, refl, subst, arith}
+use Rattle.farkas_check.proofs.Dense.{term_below}
 use Rattle.sv_linear.specs.Combining.{IsSymmetric}
 use Rattle.sv_linear.specs.Rows.{IsRowWithin}
 use Rattle.sv_linear.specs.TermLaws.{term_here}
-use Rattle.sv_linear.specs.Terms.{AscendsWithin}
 use Rattle.sv_linear.specs.declared.column.Column.TheVariants.{Unknown}
 use Rattle.sv_linear.specs.declared.row.Row.{Row}
-
-term_below : (low n : ℕ) (ts : List (ℕ × ℤ)) (k : ℕ) → AscendsWithin low n ts → k < length ts → (get_or ts k (0, pos 0)).0 < n
-term_below low n [] k a h = absurd (omega arith)
-term_below low n (t ∷ ts) zero a h = let e = ends (t.0 + 1) n ts a.1.1 in omega arith
-  where
-    ends : (l g : ℕ) (xs : List (ℕ × ℤ)) → AscendsWithin l g xs → l ≤ g
-    ends l g [] p = p
-    ends l g (x ∷ xs) p = let more = ends (x.0 + 1) g xs p.1.1 in let front = p.0 in omega arith
-term_below low n (t ∷ ts) (suc k) a h = term_below (t.0 + 1) n ts k a.1.1 (omega arith)
 
 got : (ts : List (ℕ × ℤ)) (k : ℕ) → k < length ts → slice_get ts k ≡ Some (get_or ts k (0, pos 0))
 got [] k h = absurd (omega arith)

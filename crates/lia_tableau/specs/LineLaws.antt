@@ -6,6 +6,7 @@ use Rattle.std.proofs.lemmas.Int.{ints}
 use Rattle.std.proofs.lemmas.Bool.{cases_lt}
 use Rattle.std.proofs.lemmas.Bool.Decides.{nat_tests}
 use Rattle.std.proofs.lemmas.List.Sums.{sum_by-cons}
+use Rattle.sv_list.specs.Lists.{slice_get-some}
 use Rattle.sv_linear.specs.Terms.{coefficient, terms_value, AscendsWithin}
 use Rattle.sv_linear.specs.TermLaws.{EachTerm, rest_of, one_value, term_here}
 use Rattle.sv_linear.specs.Forms.{form_value}
@@ -85,11 +86,6 @@ same_row ls k p q f g a b =
     let m = b.is_line in
     (e, cc)
 
-get_within : {X : Type 0} (xs : List X) (i : ℕ) → i < length xs → (x : X) × (slice_get xs i ≡ Some x)
-get_within [] i h = absurd (omega arith)
-get_within (x ∷ xs) zero h = (x, refl)
-get_within (x ∷ xs) (suc i) h = get_within xs i (omega arith)
-
 pub ends : (low high : ℕ) (ts : List (ℕ × ℤ)) → AscendsWithin low high ts → low ≤ high
 ends low high [] h = h
 ends low high (t ∷ ts) h = let more = ends (t.0 + 1) high ts h.1.1 in let front = h.0 in omega arith
@@ -165,7 +161,7 @@ module _ (n : ℕ) (rows : List Row) (x : ℕ → ℤ) (d : ℤ) where
       ⊎_elim
       (λ low. let e = ap (λ w. t.1 *ℤ w) (extended_low t.0 low) in omega (arith, ints, one_low t n rows low, e))
       (λ high.
-      let r = get_within rows (t.0 - n) (omega arith) in
+      let r = slice_get-some rows (t.0 - n) (omega arith) in
       let e = ap (λ w. t.1 *ℤ w) (extended_row t.0 r.0 high r.1) ∙ mul-neg t.1 (form_value x d r.0.form) in
       omega (arith, ints, one_here t n (t.0 - n) rows r.0 (omega arith) r.1, e, mul-add t.1 (form_value x d r.0.form) (x t.0)))
       (cases_lt t.0 n)

@@ -1,5 +1,5 @@
 -- Forms that are joined from the left.
-use Rattle.std.proofs.Common.{◌≡◌, refl, sym, ap, ◌∙◌, subst, ℕ, zero, suc, ◌+◌, ◌<◌, ◌≤◌, ℤ, pos, Bool, List, [], ◌∷◌, ◌++◌, map, length, take, drop, get_or, append_assoc, arith, inl, inr, append-nil}
+use Rattle.std.proofs.Common.{◌≡◌, refl, sym, ap, ◌∙◌, subst, ℕ, zero, suc, ◌+◌, ◌<◌, ◌≤◌, ℤ, pos, Bool, List, [], ◌∷◌, ◌++◌, map, length, take, drop, get_or, append_assoc, arith, inl, inr, append-nil, take_all}
 use Rattle.std.specs.Prelude.{Result, Ok, Err, IfOk}
 use Rattle.std.proofs.lemmas.List.{take_more, length-take}
 use Rattle.sv_terms.specs.declared.op.Op.{Op}
@@ -81,7 +81,7 @@ steps_join : (ts us : List Term) → steps_of (ts ++ us) ≡ steps_of ts ++ step
 steps_join [] us = refl
 steps_join (t ∷ ts) us = ap (λ x. steps (seen t) ++ x) (steps_join ts us) ∙ sym (append_assoc (steps (seen t)) (steps_of ts) (steps_of us))
 
-more : (ts : List Term) (i : ℕ) (t : Term) → i < length ts → t ≡ get_or ts i t → take (i + 1) ts ≡ take i ts ++ t ∷ []
+pub more : (ts : List Term) (i : ℕ) (t : Term) → i < length ts → t ≡ get_or ts i t → take (i + 1) ts ≡ take i ts ++ t ∷ []
 more ts i t h e = take_more ts i t h ∙ ap (λ x. take i ts ++ x ∷ []) (sym e)
 
 split_at : (ts : List Term) (k : ℕ) → take k ts ++ drop k ts ≡ ts
@@ -150,16 +150,10 @@ joint_past us vs j ts i t f g l r o k two e m c n made =
     let lengths : 2 ≤ length (linears_of ts) = omega (arith, linears_length ts) in
     some_right (IsPast l r) (steps_of ts) (joined_steps j (linears_of ts)) (subst (λ x. SomeOf (IsPast l r) x) (ap (combining_steps j) whole_list ∙ sym (several_steps j (linears_of ts) lengths)) all)
 
-take_whole : {X : Type 0} (ts : List X) (k : ℕ) → length ts ≤ k → take k ts ≡ ts
-take_whole [] zero l = refl
-take_whole [] (suc k) l = refl
-take_whole (t ∷ ts) zero l = absurd (omega arith)
-take_whole (t ∷ ts) (suc k) l = ap (λ us. t ∷ us) (take_whole ts k (omega arith))
-
 pub all_combined : (us : List (List ℤ)) (j : Joint) (ts : List Term) (i : ℕ) (f : TermForm) → 2 ≤ length ts → length ts ≤ i → IsCombined us j (take i ts) f → ArePlain (steps_of ts ++ joined_steps j (linears_of ts)) × IsNumbered us (joined_of j (linears_of ts)) f
 all_combined us j ts i f two l c =
     let lengths : 2 ≤ length (linears_of ts) = omega (arith, linears_length ts) in
-    let d = subst (λ x. IsCombined us j x f) (take_whole ts i l) c in
+    let d = subst (λ x. IsCombined us j x f) (take_all i ts l) c in
     (plain_join (steps_of ts) (joined_steps j (linears_of ts)) d.arguments (subst ArePlain (sym (several_steps j (linears_of ts) lengths)) d.joints), subst (λ a. IsNumbered us a f) (sym (several_of j (linears_of ts) lengths)) d.form)
 
 -- of no term
@@ -290,9 +284,6 @@ length_other old us t o ts r f e q w l h =
 
 pub unknown_more : (old us : List (List ℤ)) (u : Unknown) (f : TermForm) → IsUnknownForm old us u f → IsMore old us
 unknown_more old us u f h = h.more
-
-pub none_more : (us : List (List ℤ)) → AreNumbered us → IsMore us us
-none_more us n = record { behind = []; whole = sym (append-nil us); numbered = n }
 
 -- what holds whatever an answer is holds where there is one
 pub at_any : {X E : Type 0} (r : Result X E) (P : Type 0) → P → IfOk r (λ _. P)

@@ -7,8 +7,8 @@ use Rattle.std.proofs.lemmas.Bool.Decides.{Decides-eqb}
 use Rattle.std.proofs.lemmas.Int.{ints}
 use Rattle.sv_linear.specs.Faults.{ArePastOperands, IsPastExactly}
 use Rattle.sv_linear.specs.Forms.{entry, form_value}
-use Rattle.sv_linear.specs.Integers.{add-mul}
-use Rattle.sv_linear.specs.Points.{coefficient_is_value, nowhere, unit, value_nowhere}
+use Rattle.sv_linear.specs.Integers.{add-mul, mul_comm}
+use Rattle.sv_linear.specs.Points.{nowhere, unit}
 use Rattle.sv_linear.specs.Terms.{coefficient}
 use Rattle.sv_linear.specs.declared.column.Column.{Column}
 use Rattle.sv_linear.specs.declared.column.Column.TheVariants as column
@@ -20,6 +20,7 @@ use Rattle.literal_forms.specs.Numbered.{AreNumbered, IsFormOrPast, IsMore, IsNu
 use Rattle.literal_forms.specs.Past.{ArePlain, IsPast}
 use Rattle.sv_linear.specs.declared.fault.FormFault.{FormFault}
 use Rattle.sv_linear.specs.declared.fault.FormFault.TheVariants.{Past, Memory}
+use Rattle.sv_linear.specs.EntryLaws.{coefficient_value, constant_value}
 use Rattle.literal_forms.specs.declared.term_form.TermForm.{TermForm}
 use Rattle.literal_forms.specs.PastLaws.{some_left, some_right, some_cases}
 use Rattle.literal_forms.proofs.Numbers.{same_places, place_more}
@@ -50,13 +51,6 @@ unknown_formed us u k f p l e c = record {
         by_test false q = refl
         by_test true q = absurd (let w : k ≡ j = (Decides-eqb k j).0 q in omega arith)
 
--- entries of sums and multiples of forms
-coefficient_of : (k : ℕ) (f : Form) → coefficient k f.coefficients ≡ form_value (unit k) (pos 0) f
-coefficient_of k f = coefficient_is_value k f.coefficients ∙ omega (arith, ints)
-
-constant_of : (f : Form) → f.constant ≡ form_value nowhere (pos 1) f
-constant_of f = let z = value_nowhere f.coefficients in omega (arith, ints)
-
 abbrev pub IsMultiple : ℤ → Form → Form → Type 0
 IsMultiple by f r = (x : ℕ → ℤ) (d : ℤ) → form_value x d r ≡ by *ℤ form_value x d f
 
@@ -64,13 +58,10 @@ abbrev pub IsSum : Form → Form → Form → Type 0
 IsSum f g r = (x : ℕ → ℤ) (d : ℤ) → form_value x d r ≡ form_value x d f +ℤ form_value x d g
 
 multiple_at : (by : ℤ) (f r : Form) → IsMultiple by f r → (k : ℕ) → coefficient k r.coefficients ≡ by *ℤ coefficient k f.coefficients
-multiple_at by f r h k = coefficient_of k r ∙ h (unit k) (pos 0) ∙ ap (λ z. by *ℤ z) (sym (coefficient_of k f))
+multiple_at by f r h k = coefficient_value k r ∙ h (unit k) (pos 0) ∙ ap (λ z. by *ℤ z) (sym (coefficient_value k f))
 
 sum_at : (f g r : Form) → IsSum f g r → (k : ℕ) → coefficient k r.coefficients ≡ coefficient k f.coefficients +ℤ coefficient k g.coefficients
-sum_at f g r h k = coefficient_of k r ∙ h (unit k) (pos 0) ∙ (λ i. sym (coefficient_of k f) i +ℤ sym (coefficient_of k g) i)
-
-commuted : (a b : ℤ) → a *ℤ b ≡ b *ℤ a
-commuted a b = omega (arith, ints)
+sum_at f g r h k = coefficient_value k r ∙ h (unit k) (pos 0) ∙ (λ i. sym (coefficient_value k f) i +ℤ sym (coefficient_value k g) i)
 
 scaled_terms : (u : Unknown) (ts : List (Unknown × ℤ)) (k : ℤ) → multiple_of u (map (λ (t : Unknown × ℤ). (t.0, t.1 *ℤ k)) ts) ≡ multiple_of u ts *ℤ k
 scaled_terms u [] k = omega (arith, ints)
@@ -89,7 +80,7 @@ scaled_terms u (t ∷ ts) k = ap (λ z. cond (same_unknown t.0 u) (t.1 *ℤ k) (
         zero_times : (k : ℤ) → pos 0 *ℤ k ≡ pos 0
         zero_times k = omega (arith, ints)
 
-added_terms : (u : Unknown) (ts us : List (Unknown × ℤ)) → multiple_of u (ts ++ us) ≡ multiple_of u ts +ℤ multiple_of u us
+pub added_terms : (u : Unknown) (ts us : List (Unknown × ℤ)) → multiple_of u (ts ++ us) ≡ multiple_of u ts +ℤ multiple_of u us
 added_terms u [] us = omega (arith, ints)
 added_terms u (t ∷ ts) us = ap (λ z. cond (same_unknown t.0 u) t.1 (pos 0) +ℤ z) (added_terms u ts us) ∙ regroup (cond (same_unknown t.0 u) t.1 (pos 0)) (multiple_of u ts) (multiple_of u us)
   where
@@ -106,8 +97,8 @@ added_empty (t ∷ ts) us = refl
 
 pub scaled_formed : (us : List (List ℤ)) (a : Linear) (f : TermForm) (by : ℤ) (r : Form) → IsNumbered us a f → IsMultiple by f.form r → IsNumbered us (scaled a by) (term_form_of r f.constant)
 scaled_formed us a f by r n h = record {
-  number = constant_of r ∙ h nowhere (pos 1) ∙ ap (λ z. by *ℤ z) (sym (constant_of f.form) ∙ n.number) ∙ commuted by a.constant;
-  terms = λ u. scaled_terms u a.terms by ∙ ap (λ z. z *ℤ by) (n.terms u) ∙ commuted _ by ∙ sym (multiple_at by f.form r h (place_in us u));
+  number = constant_value r ∙ h nowhere (pos 1) ∙ ap (λ z. by *ℤ z) (sym (constant_value f.form) ∙ n.number) ∙ mul_comm by a.constant;
+  terms = λ u. scaled_terms u a.terms by ∙ ap (λ z. z *ℤ by) (n.terms u) ∙ mul_comm _ by ∙ sym (multiple_at by f.form r h (place_in us u));
   beyond = λ k l. multiple_at by f.form r h k ∙ ap (λ z. by *ℤ z) (n.beyond k l) ∙ times_zero by;
   constant = n.constant ∙ sym (scaled_empty a.terms by);
 }
@@ -117,7 +108,7 @@ scaled_formed us a f by r n h = record {
 
 pub added_formed : (us : List (List ℤ)) (a b : Linear) (f g : TermForm) (r : Form) (t : Bool) → IsNumbered us a f → IsNumbered us b g → IsSum f.form g.form r → t ≡ (f.constant && g.constant) → IsNumbered us (added a b) (term_form_of r t)
 added_formed us a b f g r t m n h e = record {
-  number = constant_of r ∙ h nowhere (pos 1) ∙ (λ i. (sym (constant_of f.form) ∙ m.number) i +ℤ (sym (constant_of g.form) ∙ n.number) i);
+  number = constant_value r ∙ h nowhere (pos 1) ∙ (λ i. (sym (constant_value f.form) ∙ m.number) i +ℤ (sym (constant_value g.form) ∙ n.number) i);
   terms = λ u. added_terms u a.terms b.terms ∙ (λ i. m.terms u i +ℤ n.terms u i) ∙ sym (sum_at f.form g.form r h (place_in us u));
   beyond = λ k l. sum_at f.form g.form r h k ∙ (λ i. m.beyond k l i +ℤ n.beyond k l i) ∙ refl;
   constant = e ∙ (λ i. m.constant i && n.constant i) ∙ added_empty a.terms b.terms;

@@ -32,12 +32,12 @@ place_nowhere vs i c l h =
     let none : place_of (drop i vs) c ≡ 0 = ap (λ x. place_of x c) (drop_all i vs (omega arith)) in
     omega arith
 
--- an unknown that is there, and one that is put behind the others
-more_none : (us : List (List ℤ)) → AreNumbered us → IsMore us us
-more_none us n = record { behind = []; whole = sym (append-nil us); numbered = n }
+pub none_more : (us : List (List ℤ)) → AreNumbered us → IsMore us us
+none_more us n = record { behind = []; whole = sym (append-nil us); numbered = n }
 
+-- an unknown that is there, and one that is put behind the others
 pub found : (us : List (List ℤ)) (c : List ℤ) (u : Unknown) (i k : ℕ) → AreNumbered us → c ≡ flat (unknown_code u) → i ≡ place_of us c → i < length us → k ≡ i → HasNumber us us u k
-found us c u i k n e p h q = record { more = more_none us n; within = omega arith; place = ap (place_of us) (sym e) ∙ sym p ∙ sym q }
+found us c u i k n e p h q = record { more = none_more us n; within = omega arith; place = ap (place_of us) (sym e) ∙ sym p ∙ sym q }
 
 pub put_behind : (us vs : List (List ℤ)) (c : List ℤ) (u : Unknown) (i k : ℕ) → AreNumbered us → c ≡ flat (unknown_code u) → i ≡ place_of us c → length us ≤ i → k ≡ i → vs ≡ us ++ c ∷ [] → HasNumber us vs u k
 put_behind us vs c u i k n e p g q v =

@@ -1,5 +1,5 @@
 -- Codes of terms as lists of numbers that are made from the front.
-use Rattle.std.proofs.Common.{◌≡◌, refl, sym, ap, ◌∙◌, ℕ, zero, suc, ◌+◌, ◌<◌, ◌≤◌, ℤ, pos, Bool, true, false, List, [], ◌∷◌, ◌++◌, ◌⊎◌, inl, inr, map, length, take, drop, get_or, drop-cons, append_assoc, arith, append-nil}
+use Rattle.std.proofs.Common.{◌≡◌, refl, sym, ap, ◌∙◌, ℕ, suc, ◌+◌, ◌<◌, ◌≤◌, ℤ, pos, Bool, true, false, List, [], ◌∷◌, ◌++◌, ◌⊎◌, inl, inr, map, length, take, drop, get_or, drop-cons, append_assoc, arith, append-nil, take_all}
 use Rattle.std.proofs.lemmas.List.{drop_all, take_more, map-append}
 use Rattle.sv_terms.specs.declared.op.Op.{Op}
 use Rattle.sv_terms.specs.declared.op.Op.TheVariants as op
@@ -14,7 +14,7 @@ use Rattle.literal_forms.specs.Linear.{before, pieces, set_before, written}
 use Rattle.literal_forms.specs.Mirrors.{raw-seen, seen-Truth, seen-Number, seen-Text, seen-Constant, seen-Apply, seen-InRe, seen-Related, seen-Opaque}
 use Rattle.literal_forms.specs.Shapes.{Shape, Shapes, truth, number, text, constant, apply, member, related, opaque, end, ◌⨾◌, shapes, seen, raw}
 
-next : (k : ℕ) → suc k ≡ k + 1
+pub next : (k : ℕ) → suc k ≡ k + 1
 next k = omega arith
 
 pub refuted : {P : Type 0} (b : Bool) → (P → b ≡ true) → b ≡ false → P → ⊥
@@ -50,14 +50,8 @@ text_step a b c w i k l h e f =
     let more : map pos (take i w) ++ pos k ∷ [] ≡ map pos (take (i + 1) w) = sym (ap (map pos) (take_more w i k l ∙ ap (λ x. take i w ++ x ∷ []) (sym h)) ∙ map-append pos (take i w) (k ∷ [])) in
     chain_two a b c (begun w i) (pos k ∷ []) e f ∙ ap (λ x. a ++ pos 1 ∷ pos (length w) ∷ x) more
 
-take_whole : {X : Type 0} (ts : List X) (k : ℕ) → length ts ≤ k → take k ts ≡ ts
-take_whole [] zero l = refl
-take_whole [] (suc k) l = refl
-take_whole (t ∷ ts) zero l = absurd (omega arith)
-take_whole (t ∷ ts) (suc k) l = ap (λ us. t ∷ us) (take_whole ts k (omega arith))
-
 pub text_all : (a b : List ℤ) (w : List ℕ) (i : ℕ) → length w ≤ i → b ≡ a ++ begun w i → b ≡ a ++ flat (word w)
-text_all a b w i l e = e ∙ ap (λ u. a ++ pos 1 ∷ pos (length w) ∷ map pos u) (take_whole w i l)
+text_all a b w i l e = e ∙ ap (λ u. a ++ pos 1 ∷ pos (length w) ∷ map pos u) (take_all i w l)
 
 -- terms one after another
 flat_codes : (ss : Shapes) → flat (codes ss) ≡ each_flat ss ++ closing
@@ -201,7 +195,7 @@ set_flat : (ss ts : Shapes) → each_flat (set_before ss ts) ≡ each_flat ss ++
 set_flat end ts = refl
 set_flat (s ⨾ ss) ts = ap (λ x. pos 2 ∷ (flat (code s) ++ x)) (set_flat ss ts) ∙ ap (λ x. pos 2 ∷ x) (sym (append_assoc (flat (code s)) (each_flat ss) (each_flat ts)))
 
-set_end : (ss : Shapes) → set_before ss end ≡ ss
+pub set_end : (ss : Shapes) → set_before ss end ≡ ss
 set_end end = refl
 set_end (s ⨾ ss) = ap (λ x. s ⨾ x) (set_end ss)
 
@@ -225,7 +219,7 @@ pub pieces_all : (a b : List ℤ) (ts : List Term) (k : ℕ) → length ts ≤ k
 pieces_all a b ts k l h = sym (append-nil b) ∙ ap (λ us. b ++ pieces_of us) (sym (drop_all k ts l)) ∙ h
 
 -- one piece
-before_other : (o : Op) (ss : Shapes) → (o ≡ op.Concat → ⊥) → before (written (apply o ss)) end ≡ written (apply o ss) ⨾ end
+pub before_other : (o : Op) (ss : Shapes) → (o ≡ op.Concat → ⊥) → before (written (apply o ss)) end ≡ written (apply o ss) ⨾ end
 before_other op.Concat ss h = absurd (h refl)
 before_other op.Replace end h = refl
 before_other op.Replace (s ⨾ ss) h = refl
@@ -233,7 +227,7 @@ before_other op.ReplaceAll end h = refl
 before_other op.ReplaceAll (s ⨾ ss) h = refl
 before_other _ ss h = refl
 
-before_leaf : (t : Term) → ((o : Op) (ts : List Term) → t ≡ term.Apply o ts → ⊥) → before (written (seen t)) end ≡ written (seen t) ⨾ end
+pub before_leaf : (t : Term) → ((o : Op) (ts : List Term) → t ≡ term.Apply o ts → ⊥) → before (written (seen t)) end ≡ written (seen t) ⨾ end
 before_leaf t h = by_shape (seen t) (raw-seen t)
   where
     by_shape : (s : Shape) → raw s ≡ t → before (written s) end ≡ written s ⨾ end

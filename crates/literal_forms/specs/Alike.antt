@@ -1,19 +1,13 @@
 -- Codes that are told to be the same are one, and each is the same as itself.
-use Rattle.std.proofs.Common.{◌≡◌, refl, sym, ap, ◌∙◌, ℕ, Bool, true, false, ◌&&◌, List, [], ◌∷◌, nat_eq}
+use Rattle.std.proofs.Common.{◌≡◌, refl, sym, ap, ℕ, true, List, [], ◌∷◌, nat_eq}
 use Rattle.std.specs.Cmp.Lexicographic.{pointwise, same_text}
 use Rattle.std.proofs.lemmas.Bool.Decides.{Decides-int_eq, Decides-eqb}
+use Rattle.std.proofs.lemmas.Bool.{and_parts, and_from}
 use Rattle.literal_forms.specs.Codes.{Code, signed, word, pair, same_code}
-
-pub and_parts : (a b : Bool) → (a && b) ≡ true → (a ≡ true) × (b ≡ true)
-and_parts true b h = (refl, h)
-and_parts false b h = absurd (cc)
-
-pub both_true : (a b : Bool) → a ≡ true → b ≡ true → (a && b) ≡ true
-both_true a b h k = (λ i. h i && b) ∙ k
 
 pub text_self : (w : List ℕ) → pointwise nat_eq w w ≡ true
 text_self [] = refl
-text_self (c ∷ w) = both_true (nat_eq c c) (pointwise nat_eq w w) ((Decides-eqb c c).1 refl) (text_self w)
+text_self (c ∷ w) = and_from (nat_eq c c) (pointwise nat_eq w w) ((Decides-eqb c c).1 refl) (text_self w)
 
 pub code_is : (a b : Code) → same_code a b ≡ true → a ≡ b
 code_is (signed m) (signed n) h = ap signed ((Decides-int_eq m n).0 h)
@@ -24,4 +18,4 @@ code_is _ _ h = absurd (cc)
 pub code_self : (a : Code) → same_code a a ≡ true
 code_self (signed m) = (Decides-int_eq m m).1 refl
 code_self (word w) = text_self w
-code_self (pair a b) = both_true (same_code a a) (same_code b b) (code_self a) (code_self b)
+code_self (pair a b) = and_from (same_code a a) (same_code b b) (code_self a) (code_self b)

@@ -4,7 +4,8 @@ use Rattle.std.specs.Prelude.{if◌then◌else◌}
 use Rattle.std.specs.Cmp.Lexicographic.{pointwise}
 use Rattle.std.specs.Ordering.{int_eq}
 use Rattle.std.proofs.lemmas.Bool.Decides.{Decides-int_eq}
-use Rattle.literal_forms.specs.Alike.{and_parts, both_true, code_is, code_self}
+use Rattle.std.proofs.lemmas.Bool.{and_parts, and_from}
+use Rattle.literal_forms.specs.Alike.{code_is, code_self}
 use Rattle.literal_forms.specs.Codes.{Code, signed, word, pair, same_code}
 use Rattle.literal_forms.specs.Flats.{flat}
 use Rattle.literal_forms.specs.Numbered.{place_of}
@@ -14,7 +15,7 @@ same_list = pointwise int_eq
 
 pub list_self : (v : List ℤ) → same_list v v ≡ true
 list_self [] = refl
-list_self (n ∷ v) = both_true (int_eq n n) (same_list v v) ((Decides-int_eq n n).1 refl) (list_self v)
+list_self (n ∷ v) = and_from (int_eq n n) (same_list v v) ((Decides-int_eq n n).1 refl) (list_self v)
 
 pub list_is : (v w : List ℤ) → same_list v w ≡ true → v ≡ w
 list_is [] [] h = refl

@@ -83,7 +83,7 @@ fn whole_form(unknowns: &mut Unknowns, alloc: Global, term: &Term) -> Result<Ter
 }
 
 /// The form of the length of a string term; that of a literal is a number.
-#[tactic(auto, using(crate::proofs::Combined::none_more))]
+#[tactic(auto, using(crate::proofs::Numbers::none_more))]
 fn length_form(unknowns: &mut Unknowns, alloc: Global, term: &Term) -> Result<TermForm, FormFault>
     requires { AreNumbered unknowns.old.codes }
     ensures more { IfOk result (λ f. IsMore unknowns.old.codes unknowns.new.codes) }
@@ -102,7 +102,7 @@ fn length_form(unknowns: &mut Unknowns, alloc: Global, term: &Term) -> Result<Te
 
 /// The form joined of those of terms, from the left.
 #[cycle(forms)]
-#[tactic(auto, using(crate::proofs::Combined::none_more))]
+#[tactic(auto, using(crate::proofs::Numbers::none_more))]
 fn joined_form(
     unknowns: &mut Unknowns,
     alloc: Global,

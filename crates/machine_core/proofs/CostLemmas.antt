@@ -1,6 +1,7 @@
 -- The steps of loops that add costs up.
-use Rattle.std.proofs.Common.{◌≡◌, ℕ, zero, suc, ◌+◌, ◌<◌, ◌≤◌, ◌^◌, ◌⊎◌, inl, inr, List, [], ◌∷◌, ◌++◌, length, slice_index, take, get_or, All, refl, ap, sym, ◌∙◌, subst, arith}
+use Rattle.std.proofs.Common.{◌≡◌, ℕ, zero, suc, ◌+◌, ◌<◌, ◌≤◌, ◌^◌, inl, inr, List, [], ◌∷◌, ◌++◌, length, slice_index, take, get_or, All, refl, ap, sym, ◌∙◌, subst, arith}
 use Rattle.std.proofs.lemmas.List.{take_more, take_all}
+use Rattle.sv_list.specs.Lists.{below_next-cases}
 use Rattle.machine_core.specs.Costs.{add_costs, entry_total, total_of, IsFirstPast}
 use Rattle.machine_core.specs.CostLaws.{total_of-entry, total_of-length}
 
@@ -50,10 +51,6 @@ entry-past register costs last i k sum entry lt e a b d =
     let t = entry_total-take register costs last (i + 1) in
     omega (arith, m, t, a, b, d)
 
--- where nothing else is in scope
-below-or-last : (k i : ℕ) → k < i + 1 → (k < i) ⊎ (k ≡ i)
-below-or-last k i lt = grind arith
-
 module _ (costs : List (List ℕ)) (last : List ℕ) (wide : All (λ k. length k ≡ length last) costs) where
   pub total-width : length (total_of costs last) ≡ length last
   total-width = total_of-length costs last (length last) wide refl
@@ -69,7 +66,7 @@ module _ (costs : List (List ℕ)) (last : List ℕ) (wide : All (λ k. length k
   -- and it fits too
   pub fits-step : (i entry n : ℕ) → n ≡ slice_index last i → ((k : ℕ) → k < i → slice_index (total_of costs last) k < 2 ^ 64)
       → entry ≡ entry_total i costs n → entry < 2 ^ 64 → (k : ℕ) → k < i + 1 → slice_index (total_of costs last) k < 2 ^ 64
-  fits-step i entry n at so_far b small k lt = elim (below-or-last k i lt) [
+  fits-step i entry n at so_far b small k lt = elim (below_next-cases k i lt) [
     | inl h ↦ so_far k h
     | inr h ↦ (
         let here : entry ≡ slice_index (total_of costs last) i = b ∙ ap (entry_total i costs) at ∙ sym (total_of-entry costs last i wide) in

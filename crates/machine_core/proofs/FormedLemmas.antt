@@ -1,9 +1,10 @@
 -- Edges and ends stay well formed, and found by their states, where one more is added.
-use Rattle.std.proofs.Common.{◌≡◌, ℕ, ◌≤◌, inl, inr, List, [], ◌∷◌, ◌++◌, length, replicate, IsTrue, ◌||◌, ◌&&◌, nat_le, ◌⊎◌, true, ◌+◌, refl, sym, ap, ◌∙◌, subst, arith, Result, Ok, Err, OnOk, OnErr, Bool, false}
+use Rattle.std.proofs.Common.{◌≡◌, ℕ, ◌≤◌, inl, inr, List, [], ◌∷◌, ◌++◌, length, replicate, IsTrue, ◌&&◌, nat_le, ◌+◌, sym, ap, ◌∙◌, subst, arith, Result, Ok, Err, OnOk, OnErr, Bool, false}
 use Rattle.std.specs.Result.{is_err}
 use Rattle.std.proofs.lemmas.Bool.Decides.{nat_tests}
 use Rattle.std.proofs.lemmas.List.Elements.{Contains-push_cases}
 use Rattle.std.proofs.lemmas.List.{length-replicate}
+use Rattle.std.proofs.lemmas.Bool.{or_cases}
 use Rattle.sv_word.specs.Ranges.{in_ranges, IsApartFrom}
 use Rattle.machine_core.specs.declared.edge.Edge.{Edge}
 use Rattle.machine_core.specs.declared.end.End.{End}
@@ -82,17 +83,13 @@ pub got : {X E P : Type 0} (r : Result X E) (b : Bool) → OnOk r P → b ≡ is
 got (Ok x) b h e f = h
 got (Err x) b h e f = cc
 
-either : (a b : Bool) → IsTrue (a || b) → IsTrue a ⊎ IsTrue b
-either true b h = inl refl
-either false b h = inr h
-
 below_last : (low high c : ℕ) → IsTrue (nat_le low c && nat_le c high) → high ≤ greatest_character → c ≤ greatest_character
 below_last low high c h e = grind (arith, nat_tests)
 
 -- ranges hold characters alone
 pub apart-characters : (low : ℕ) (rs : List (ℕ × ℕ)) → IsApartFrom low rs → (c : ℕ) → IsTrue (in_ranges rs c) → c ≤ greatest_character
 apart-characters low [] h c e = cc
-apart-characters low (p ∷ ps) h c e = elim (either (nat_le p.0 c && nat_le c p.1) (in_ranges ps c) e) [
+apart-characters low (p ∷ ps) h c e = elim (or_cases (nat_le p.0 c && nat_le c p.1) (in_ranges ps c) e) [
   | inl here ↦ below_last p.0 p.1 c here h.2
   | inr there ↦ apart-characters (p.1 + 2) ps h.3 c there
 ]

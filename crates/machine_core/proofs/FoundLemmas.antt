@@ -8,7 +8,7 @@ use Rattle.sv_word.specs.Ranges.{IsInhabited}
 use Rattle.machine_core.specs.declared.machine.Move.{Move}
 use Rattle.machine_core.specs.declared.edge.Edge.{Edge}
 use Rattle.machine_core.specs.declared.end.End.{End}
-use Rattle.machine_core.specs.Lists.{Any-here, Any-there, Any-cases, Any-none}
+use Rattle.sv_list.specs.Lists.{Any-here, Any-there, Any-cases, Any-none}
 use Rattle.machine_core.specs.Moves.{Moves}
 use Rattle.machine_core.specs.Places.{pick}
 use Rattle.machine_core.specs.PlaceLaws.{pick-more}

@@ -4,7 +4,7 @@ use Rattle.std.proofs.lemmas.List.Sorted.{Contains-permutation, IsPermutation-sy
 use Rattle.std.proofs.lemmas.List.Elements.{Contains-push_cases}
 use Rattle.std.specs.List.Sorted.{IsPermutation}
 use Rattle.sv_word.specs.Ranges.{IsInhabited}
-use Rattle.machine_core.specs.Lists.{Any-here, Any-append_left, Any-append_right, Any-push_cases, Any-contains, contained}
+use Rattle.sv_list.specs.Lists.{Any-here, Any-append_left, Any-append_right, Any-push_cases, Any-contains, contained}
 use Rattle.machine_core.specs.Moves.{Moves}
 use Rattle.machine_core.specs.Joined.{AreJoinedMoves}
 use Rattle.machine_core.specs.declared.machine.Move.{Move}

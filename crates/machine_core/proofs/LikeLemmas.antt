@@ -1,26 +1,10 @@
 -- A move whose characters are joined with those of one like it.
-use Rattle.std.proofs.Common.{◌≡◌, ℕ, zero, suc, ◌<◌, ◌↔◌, ◌⊎◌, inl, inr, ◌&&◌, ◌||◌, nat_le, Bool, true, false, IsTrue, List, [], ◌∷◌, length, Any, Contains, Some, slice_get, slice_set, refl, sym, ◌∙◌, subst, arith}
-use Rattle.std.proofs.lemmas.Bool.{le-leb}
+use Rattle.std.proofs.Common.{◌≡◌, ℕ, zero, suc, ◌<◌, ◌↔◌, ◌⊎◌, inl, inr, ◌&&◌, ◌||◌, nat_le, IsTrue, List, [], ◌∷◌, length, Any, Contains, Some, slice_get, slice_set, sym, ◌∙◌, subst, arith}
+use Rattle.std.proofs.lemmas.Bool.{le-leb, and_from, or_cases, or_left, or_right}
 use Rattle.sv_word.specs.Ranges.{in_ranges, IsInhabited, IsApartFrom, least_of}
 use Rattle.machine_core.specs.declared.machine.Move.{Move}
 use Rattle.machine_core.specs.Moves.{Moves}
-use Rattle.machine_core.specs.Lists.{Any-here, Any-there, Any-cases, slice_get-contains, set-contains}
-
-and-true : (a b : Bool) → IsTrue a → IsTrue b → IsTrue (a && b)
-and-true true b p q = q
-and-true false b p q = cc
-
-or-cases : (a b : Bool) → IsTrue (a || b) → IsTrue a ⊎ IsTrue b
-or-cases true b h = inl refl
-or-cases false b h = inr h
-
-or-left : (a b : Bool) → IsTrue a → IsTrue (a || b)
-or-left true b h = refl
-or-left false b h = cc
-
-or-right : (a b : Bool) → IsTrue b → IsTrue (a || b)
-or-right true b h = refl
-or-right false b h = h
+use Rattle.sv_list.specs.Lists.{Any-here, Any-there, Any-cases, slice_get-contains, set-contains}
 
 pub stands-below : (moves : List (Move ℕ)) (at : ℕ) (m : Move ℕ) → slice_get moves at ≡ Some m → at < length moves
 stands-below [] at m h = cc
@@ -34,13 +18,13 @@ module _ (lead further : Move ℕ) (on : List (ℕ × ℕ)) (to : lead.to ≡ fu
 
   one : (c : ℕ) (k : List ℕ) (t : ℕ) → Moves c k t joined ↔ (Moves c k t lead ⊎ Moves c k t further)
   one c k t = (
-    λ h. elim (or-cases (in_ranges lead.on c) (in_ranges further.on c) (subst IsTrue (both c) h.0)) [
+    λ h. elim (or_cases (in_ranges lead.on c) (in_ranges further.on c) (subst IsTrue (both c) h.0)) [
       | inl l ↦ inl (l, cost ∙ h.1, to ∙ h.2)
       | inr r ↦ inr (r, h.1, h.2)
     ],
     λ h. elim h [
-      | inl l ↦ (subst IsTrue (sym (both c)) (or-left (in_ranges lead.on c) (in_ranges further.on c) l.0), sym cost ∙ l.1, sym to ∙ l.2)
-      | inr r ↦ (subst IsTrue (sym (both c)) (or-right (in_ranges lead.on c) (in_ranges further.on c) r.0), r.1, r.2)
+      | inl l ↦ (subst IsTrue (sym (both c)) (or_left (in_ranges lead.on c) (in_ranges further.on c) l.0), sym cost ∙ l.1, sym to ∙ l.2)
+      | inr r ↦ (subst IsTrue (sym (both c)) (or_right (in_ranges lead.on c) (in_ranges further.on c) r.0), r.1, r.2)
     ],
   )
 
@@ -82,7 +66,7 @@ apart-inhabited low [] c h i = cc
 apart-inhabited low (p ∷ ps) c h i =
     let a = le-leb p.0 p.0 (omega arith) in
     let b = le-leb p.0 p.1 h.1 in
-    or-left (nat_le p.0 p.0 && nat_le p.0 p.1) (in_ranges ps p.0) (and-true (nat_le p.0 p.0) (nat_le p.0 p.1) a b)
+    or_left (nat_le p.0 p.0 && nat_le p.0 p.1) (in_ranges ps p.0) (and_from (nat_le p.0 p.0) (nat_le p.0 p.1) a b)
 
 -- all moves still read some character
 pub joined-some : (leads : List (Move ℕ)) (at : ℕ) (l f : Move ℕ) (on : List (ℕ × ℕ)) → slice_get leads at ≡ Some l
@@ -92,6 +76,6 @@ joined-some leads at l f on stands both old apart x i = elim (set-contains leads
   | inl o ↦ old x o
   | inr e ↦
       let some = old l (slice_get-contains leads at l stands) in
-      let here = subst IsTrue (sym (both (least_of l.on))) (or-left (in_ranges l.on (least_of l.on)) (in_ranges f.on (least_of l.on)) some) in
+      let here = subst IsTrue (sym (both (least_of l.on))) (or_left (in_ranges l.on (least_of l.on)) (in_ranges f.on (least_of l.on)) some) in
       subst (λ (m : Move ℕ). IsInhabited m.on) e (apart-inhabited 0 on (least_of l.on) apart here)
 ]

@@ -8,7 +8,7 @@ use Rattle.machine_core.specs.declared.edge.Edge.{Edge}
 use Rattle.machine_core.specs.declared.graph.Graph.{Graph}
 use Rattle.machine_core.specs.declared.run.Run.{Run}
 use Rattle.machine_core.specs.Edges.{IsWalk, move_of}
-use Rattle.machine_core.specs.Lists.{slice_get-contains, slice_get-read}
+use Rattle.sv_list.specs.Lists.{slice_get-contains, slice_get-read}
 use Rattle.machine_core.specs.Moves.{Moves}
 use Rattle.machine_core.specs.Walks.{LeadsAlong, IsRunAlong}
 

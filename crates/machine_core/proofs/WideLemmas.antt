@@ -1,9 +1,9 @@
 -- A machine without registers, and the same one with zeros as costs.
-use Rattle.std.proofs.Common.{◌≡◌, ℕ, ◌<◌, ◌≤◌, ◌↔◌, List, [], ◌∷◌, length, map, Contains, refl, ap, sym, ◌∙◌, subst, arith, get_or, take}
+use Rattle.std.proofs.Common.{◌≡◌, ℕ, ◌≤◌, ◌↔◌, List, [], ◌∷◌, length, map, refl, ap, sym, ◌∙◌, subst, arith, take}
 use Rattle.std.proofs.lemmas.List.{nil_from_length, take_all}
 use Rattle.machine_core.specs.Costs.{add_costs, zeros}
 use Rattle.machine_core.specs.CostLaws.{zeros-add_costs-zeros, cost_top-zeros}
-use Rattle.machine_core.specs.Lists.{Any-map, Any-from_map}
+use Rattle.sv_list.specs.Lists.{Any-map, Any-from_map}
 use Rattle.machine_core.specs.declared.edge.Edge.{Edge}
 use Rattle.machine_core.specs.declared.end.End.{End}
 use Rattle.machine_core.specs.Language.{RunsFrom}
@@ -67,10 +67,6 @@ wide-top n edges ends = let a = of_edges edges in let b = of_ends ends in omega 
     of_ends : (ends : List End) → ends_top (map (wide_end n) ends) ≡ 0
     of_ends [] = refl
     of_ends (e ∷ es) = let r = of_ends es in let z = cost_top-zeros n in omega arith
-
--- an element that a loop read
-pub read-in : {X : Type 0} (xs ys : List X) (i : ℕ) (x : X) → ys ≡ xs → i < length ys → x ≡ get_or ys i x → Contains xs x
-read-in xs ys i x e lt h = (i, subst (λ l. i < length l) e lt, sym (subst (λ l. x ≡ get_or l i x) e h))
 
 pub took-all : {X : Type 0} (xs ys : List X) (i : ℕ) → ys ≡ xs → length ys ≤ i → take i xs ≡ xs
 took-all xs ys i e h = take_all i xs (subst (λ l. length l ≤ i) e h)

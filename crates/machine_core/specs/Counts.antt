@@ -4,9 +4,9 @@ use Rattle.std.specs.List.{range_with_len}
 use Rattle.std.proofs.Common.{arith, ap, ◌∙◌, subst, inl, inr}
 use Rattle.std.proofs.lemmas.List.{length-append, length-map}
 use Rattle.std.proofs.lemmas.List.Elements.{Contains-append_left, Contains-append_right}
-use Rattle.std.proofs.Math.Nat.{mul-le-mul_left, mul-le-mul_right}
 use Rattle.std.proofs.lemmas.List.FromFn.{length-range_with_len}
-use Rattle.machine_core.specs.Lists.{Contains-here, Contains-there}
+use Rattle.std.proofs.lemmas.Nat.{mul-le}
+use Rattle.sv_list.specs.Lists.{Contains-here, Contains-there, Contains-map}
 
 -- the values with this fact are at most n: they all stand in a list that is no longer
 pub record AreAtMost {S : Type 0} (P : S → Type 0) (n : ℕ) : Type 0 where
@@ -28,17 +28,12 @@ at_most-one x = record {
   each = λ s e. subst (Contains (x ∷ [])) e (Contains-here x []);
 }
 
-map-contains : {S T : Type 0} (f : S → T) (xs : List S) (x : S) → Contains xs x → Contains (map f xs) (f x)
-map-contains f [] x (k, lt, e) = absurd (omega arith)
-map-contains f (y ∷ ys) x (zero, lt, e) = (zero, omega arith, ap f e)
-map-contains f (y ∷ ys) x (suc k, lt, e) = let r = map-contains f ys x (k, omega arith, e) in Contains-there (f y) (map f ys) (f x) r
-
 -- what is made of such values is no more
 pub at_most-made : {S T : Type 0} (f : S → T) (P : S → Type 0) (Q : T → Type 0) (n : ℕ) → ((t : T) → Q t → (s : S) × P s × (f s ≡ t)) → AreAtMost P n → AreAtMost Q n
 at_most-made f P Q n h a = record {
   all = map f a.all;
   few = let size = length-map a.all f in let few = a.few in omega arith;
-  each = λ t q. let s = h t q in subst (Contains (map f a.all)) s.2 (map-contains f a.all s.0 (a.each s.0 s.1));
+  each = λ t q. let s = h t q in subst (Contains (map f a.all)) s.2 (Contains-map f a.all s.0 (a.each s.0 s.1));
 }
 
 pub at_most-either : {S : Type 0} (P Q : S → Type 0) (n m : ℕ) → AreAtMost P n → AreAtMost Q m → AreAtMost (λ s. P s ⊎ Q s) (n + m)
@@ -66,18 +61,15 @@ length-pairs {S} {T} (x ∷ xs) ys =
 pairs-contain : {S T : Type 0} (xs : List S) (ys : List T) (x : S) (y : T) → Contains xs x → Contains ys y → Contains (pairs xs ys) (x, y)
 pairs-contain [] ys x y (k, lt, e) c = absurd (omega arith)
 pairs-contain {S} {T} (z ∷ xs) ys x y (zero, lt, e) c =
-    let r = Contains-append_left (map (λ (y : T). (z, y)) ys) (pairs xs ys) (z, y) (map-contains (λ (y : T). (z, y)) ys y c) in
+    let r = Contains-append_left (map (λ (y : T). (z, y)) ys) (pairs xs ys) (z, y) (Contains-map (λ (y : T). (z, y)) ys y c) in
     subst (λ w. Contains (pairs (z ∷ xs) ys) (w, y)) e r
 pairs-contain {S} {T} (z ∷ xs) ys x y (suc k, lt, e) c =
     Contains-append_right (map (λ (y : T). (z, y)) ys) (pairs xs ys) (x, y) (pairs-contain xs ys x y (k, omega arith, e) c)
 
-product-least : (a b n m : ℕ) → a ≤ n → b ≤ m → a * b ≤ n * m
-product-least a b n m p q = let x = mul-le-mul_left a q in let y = mul-le-mul_right m p in omega arith
-
 pub at_most-pairs : {S T : Type 0} (P : S → Type 0) (Q : T → Type 0) (n m : ℕ) → AreAtMost P n → AreAtMost Q m → AreAtMost (λ (p : S × T). P p.0 × Q p.1) (n * m)
 at_most-pairs P Q n m a b = record {
   all = pairs a.all b.all;
-  few = let size = length-pairs a.all b.all in let most = product-least (length a.all) (length b.all) n m a.few b.few in omega arith;
+  few = let size = length-pairs a.all b.all in let most = mul-le (length a.all) (length b.all) n m a.few b.few in omega arith;
   each = λ p h. pairs-contain a.all b.all p.0 p.1 (a.each p.0 h.0) (b.each p.1 h.1);
 }
 

@@ -1,6 +1,5 @@
 pub mod Costs
 pub mod CostLaws
-pub mod Lists
 pub mod Counts
 pub mod Orders
 pub mod Moves

@@ -4,6 +4,7 @@ use Rattle.std.specs.List.{filter, cons_option}
 use Rattle.std.proofs.lemmas.Bool.Decides.{nat_tests}
 use Rattle.std.proofs.lemmas.List.{take_more}
 use Rattle.std.proofs.lemmas.Option.{slice_get_read, slice_get-get_or}
+use Rattle.sv_list.specs.Lists.{slice_get-replicate}
 use Rattle.machine_core.specs.Places.{places_from, places, pick, add_to, IsIndex}
 
 pub add_to-set : (at place : ℕ) (rows : List (List ℕ)) (row : List ℕ) → slice_get rows at ≡ Some row → slice_set rows at (row ++ place ∷ []) ≡ add_to at place rows
@@ -15,11 +16,6 @@ pub length-add_to : (at place : ℕ) (rows : List (List ℕ)) → length (add_to
 length-add_to at place [] = refl
 length-add_to zero place (r ∷ rs) = refl
 length-add_to (suc at) place (r ∷ rs) = ap suc (length-add_to at place rs)
-
-pub get-replicate : {X : Type 0} (n i : ℕ) (x y : X) → slice_get (replicate n x) i ≡ Some y → y ≡ x
-get-replicate zero i x y e = cc
-get-replicate (suc n) zero x y e = cc
-get-replicate (suc n) (suc i) x y e = get-replicate n i x y e
 
 add_to-same : (at place : ℕ) (rows : List (List ℕ)) (row : List ℕ) → slice_get (add_to at place rows) at ≡ Some row → (old : List ℕ) × (slice_get rows at ≡ Some old) × (row ≡ old ++ place ∷ [])
 add_to-same at place [] row e = cc
@@ -48,7 +44,7 @@ module _ {X : Type 0} (key : X → ℕ) where
   places-push s k (y ∷ ys) x false e = ap (λ l. cond (nat_eq (key y) s) (k ∷ l) l) (places-push s (suc k) ys x false e)
 
   pub index-new : (n : ℕ) → IsIndex key [] (replicate n [])
-  index-new n s row e = get-replicate n s [] row e
+  index-new n s row e = slice_get-replicate n s [] row e
 
   index-add-by : (xs : List X) (x : X) (rows : List (List ℕ)) → IsIndex key xs rows → (s : ℕ) (row : List ℕ) (t : Bool) → nat_eq (key x) s ≡ t
       → slice_get (add_to (key x) (length xs) rows) s ≡ Some row → row ≡ places key s (xs ++ x ∷ [])
@@ -115,3 +111,28 @@ pick-more xs ps i x within lt read =
     let p = get_or ps i 0 in
     let inside = within i p (slice_get-get_or ps i 0 lt) in
     ap (pick xs) (take_more ps i 0 lt) ∙ pick-end xs (take i ps) p x (slice_get_read xs (length xs) p x refl inside read)
+
+-- a place that an index has
+pub places-in : {X : Type 0} (key : X → ℕ) (s k : ℕ) (xs : List X) (i p : ℕ) → slice_get (places_from key s k xs) i ≡ Some p → (j : ℕ) × (x : X) × (p ≡ k + j) × (slice_get xs j ≡ Some x) × (key x ≡ s)
+places-in key s k [] i p e = cc
+places-in {X = X} key s k (x ∷ xs) i p e = by_head (nat_eq (key x) s) refl (λ j. places-in key s (suc k) xs j p) i e
+  where
+    by_head : (b : Bool) → nat_eq (key x) s ≡ b → ((j : ℕ) → slice_get (places_from key s (suc k) xs) j ≡ Some p → (l : ℕ) × (y : X) × (p ≡ suc k + l) × (slice_get xs l ≡ Some y) × (key y ≡ s))
+        → (i : ℕ) → slice_get (cond b (k ∷ places_from key s (suc k) xs) (places_from key s (suc k) xs)) i ≡ Some p → (j : ℕ) × (y : X) × (p ≡ k + j) × (slice_get (x ∷ xs) j ≡ Some y) × (key y ≡ s)
+    by_head true t h zero e = (zero, x, (let f : k ≡ p = cc in omega arith), refl, (grind (arith, nat_tests)))
+    by_head true t h (suc i) e = let r = h i e in (suc r.0, r.1, (let f = r.2 in omega arith), r.3, r.4)
+    by_head false t h i e = let r = h i e in (suc r.0, r.1, (let f = r.2 in omega arith), r.3, r.4)
+
+-- each place with the key is there
+pub places-all : {X : Type 0} (key : X → ℕ) (s k : ℕ) (xs : List X) (j n : ℕ) (x : X) → n ≡ k + j → slice_get xs j ≡ Some x → key x ≡ s → (i : ℕ) × (slice_get (places_from key s k xs) i ≡ Some n)
+places-all key s k [] j n x m e f = cc
+places-all {X = X} key s k (y ∷ ys) zero n x m e f = by_head (nat_eq (key y) s) (let g : y ≡ x = cc in let h : key y ≡ s = ap key g ∙ f in grind (arith, nat_tests))
+  where
+    by_head : (b : Bool) → b ≡ true → (i : ℕ) × (slice_get (cond b (k ∷ places_from key s (suc k) ys) (places_from key s (suc k) ys)) i ≡ Some n)
+    by_head true t = (zero, ap Some (let g : k ≡ n = omega arith in g))
+    by_head false t = cc
+places-all {X = X} key s k (y ∷ ys) (suc j) n x m e f = by_head (nat_eq (key y) s) (places-all key s (suc k) ys j n x (omega arith) e f)
+  where
+    by_head : (b : Bool) → (i : ℕ) × (slice_get (places_from key s (suc k) ys) i ≡ Some n) → (i : ℕ) × (slice_get (cond b (k ∷ places_from key s (suc k) ys) (places_from key s (suc k) ys)) i ≡ Some n)
+    by_head true r = (suc r.0, r.1)
+    by_head false r = r

@@ -6,7 +6,7 @@ use Rattle.machine_core.specs.declared.graph.Graph.{Graph}
 use Rattle.machine_core.specs.declared.run.Run.{Run}
 use Rattle.machine_core.specs.Edges.{EndsAt, StepsBy, IsWalk}
 use Rattle.machine_core.specs.Graphs.{IsRunOf}
-use Rattle.machine_core.specs.Lists.{slice_get-contains}
+use Rattle.sv_list.specs.Lists.{slice_get-contains}
 use Rattle.machine_core.specs.Runs.{IsPath}
 use Rattle.machine_core.specs.Walks.{LeadsAlong, IsRunAlong}
 

@@ -1,5 +1,5 @@
 -- The steps and ends of machines that are put together, from their lists of edges and ends.
-use Rattle.std.proofs.Common.{◌≡◌, ℕ, ◌+◌, ◌<◌, ◌≤◌, max, ◌↔◌, ◌⊎◌, inl, inr, List, [], ◌++◌, length, map, get_or, Any, Contains, All, refl, ap, sym, ◌∙◌, subst, arith}
+use Rattle.std.proofs.Common.{◌≡◌, ℕ, ◌+◌, ◌<◌, ◌≤◌, max, ◌↔◌, ◌⊎◌, inl, inr, List, [], ◌++◌, map, Any, Contains, All, refl, ap, sym, ◌∙◌, subst, arith}
 use Rattle.sv_word.specs.Ranges.{IsInhabited, least_of}
 use Rattle.machine_core.specs.declared.edge.Edge.{Edge}
 use Rattle.machine_core.specs.declared.end.End.{End}
@@ -7,7 +7,7 @@ use Rattle.machine_core.specs.declared.graph.Graph.{Graph}
 use Rattle.machine_core.specs.declared.machine.Move.{Move}
 use Rattle.machine_core.specs.Costs.{IsCost, cost_top}
 use Rattle.machine_core.specs.CostLaws.{top_by-least, cost_top-least}
-use Rattle.machine_core.specs.Lists.{Any-none, Any-append_left, Any-append_right, Any-append_cases, Any-map, Any-from_map}
+use Rattle.sv_list.specs.Lists.{Any-none, Any-append_left, Any-append_right, Any-append_cases, Any-map, Any-from_map}
 use Rattle.machine_core.specs.Moves.{Moves, IsMove}
 use Rattle.machine_core.specs.Edges.{ending, move_of, EndsAt, StepsBy, AreEdgesAndEnds, edges_top, ends_top, listed_top}
 use Rattle.machine_core.specs.EdgeLaws.{step_target, step_cost, end_cost}
@@ -275,7 +275,3 @@ module _ (w0 w1 w2 a b : Graph) (none_e : w0.edges ≡ []) (none_f : w0.ends ≡
       top-within w2.states w2.registers bound w2.edges w2.ends w2.formed
       (λ s c k t h. elim ((union-steps s c k t).0 h) [ inl x ↦ cost-most a bound la p x.0 c k x.1 x.4 | inr x ↦ cost-most b bound lb q x.0 c k x.1 x.4 ])
       (λ s k h. elim ((union-ends s k).0 h) [ inl x ↦ end-most a bound la p x.0 k x.2 | inr x ↦ end-most b bound lb q x.0 k x.2 ])
-
--- an element that a loop read
-pub read-in : {X : Type 0} (xs ys : List X) (i : ℕ) (x : X) → ys ≡ xs → i < length ys → x ≡ get_or ys i x → Contains xs x
-read-in xs ys i x e lt h = (i, subst (λ l. i < length l) e lt, sym (subst (λ l. x ≡ get_or l i x) e h))

@@ -7,7 +7,7 @@ use Rattle.machine_core.specs.declared.graph.Graph.{Graph}
 use Rattle.machine_core.specs.declared.machine.Move.{Move}
 use Rattle.machine_core.specs.Costs.{add_costs, IsCost}
 use Rattle.machine_core.specs.CostLaws.{IsCost-add, IsCost-weaker}
-use Rattle.machine_core.specs.Lists.{Any-none, Any-cases, Any-map, Any-from_map}
+use Rattle.sv_list.specs.Lists.{Any-none, Any-cases, Any-map, Any-from_map}
 use Rattle.machine_core.specs.Moves.{Moves}
 use Rattle.machine_core.specs.Edges.{move_of, EndsAt, StepsBy}
 use Rattle.machine_core.specs.EdgeLaws.{step_target, step_cost, end_cost}

@@ -1,10 +1,12 @@
 -- Moves that are joined, two by two.
-use Rattle.std.proofs.Common.{◌≡◌, ℕ, zero, suc, ◌+◌, ◌<◌, ◌≤◌, ◌↔◌, inl, inr, ◌&&◌, Bool, true, false, List, [], ◌∷◌, ◌++◌, length, take, get_or, slice_get, Some, All, Any, Contains, IsTrue, refl, ap, sym, ◌∙◌, subst, arith}
+use Rattle.std.proofs.Common.{◌≡◌, ℕ, zero, suc, ◌+◌, ◌<◌, ◌≤◌, ◌↔◌, inl, inr, List, [], ◌∷◌, ◌++◌, length, take, get_or, slice_get, Some, Any, Contains, IsTrue, refl, ap, sym, ◌∙◌, subst, arith}
 use Rattle.std.proofs.lemmas.List.{take_more, take_all}
 use Rattle.std.proofs.lemmas.List.Elements.{All-nil, Contains-get_or}
 use Rattle.std.proofs.lemmas.Option.{slice_get_read, slice_get_within}
+use Rattle.std.proofs.lemmas.List.Quantifiers.{Any-push}
+use Rattle.std.proofs.lemmas.Bool.{and_parts, and_from}
 use Rattle.sv_word.specs.Ranges.{in_ranges, IsInhabited}
-use Rattle.machine_core.specs.Lists.{Any-none, Any-here, Any-append_left, Any-append_right, Any-push_cases, Any-contains, contained, slice_get-contains}
+use Rattle.sv_list.specs.Lists.{Any-none, Any-append_left, Any-push_cases, Any-contains, contained, slice_get-contains}
 use Rattle.machine_core.specs.Moves.{Moves}
 use Rattle.machine_core.specs.declared.machine.Move.{Move}
 use Rattle.machine_meet.specs.Joins.{AreInhabited, Joins, IsJoin, AreJoins}
@@ -22,33 +24,14 @@ module _ {X : Type 0} where
   take-all (x ∷ xs) zero h = absurd (omega arith)
   take-all (x ∷ xs) (suc i) h = ap (λ l. x ∷ l) (take-all xs i (omega arith))
 
-  pub Any-push : (P : X → Type 0) (xs : List X) (y : X) → P y → Any P (xs ++ y ∷ [])
-  Any-push P xs y p = Any-append_right P xs (y ∷ []) (Any-here P y [] p)
-
   pub Any-old : (P : X → Type 0) (xs : List X) (y : X) → Any P xs → Any P (xs ++ y ∷ [])
   Any-old P xs y a = Any-append_left P xs (y ∷ []) a
-
-  pub All-push : (P : X → Type 0) (xs : List X) (y : X) → All P xs → P y → All P (xs ++ y ∷ [])
-  All-push P [] y h p zero d lt = p
-  All-push P [] y h p (suc k) d lt = absurd (omega arith)
-  All-push P (z ∷ zs) y h p zero d lt = h zero d (omega arith)
-  All-push P (z ∷ zs) y h p (suc k) d lt = All-push P zs y (λ k d lt. h (suc k) d (omega arith)) p k d (omega arith)
-
-both : (a b : Bool) → IsTrue (a && b) → IsTrue a × IsTrue b
-both true true h = (refl, refl)
-both true false h = cc
-both false b h = cc
-
-pub together : (a b : Bool) → IsTrue a → IsTrue b → IsTrue (a && b)
-together true true h k = h
-together true false h k = k
-together false b h k = h
 
 module _ {S : Type 0} (head : Move S) (tail : Move (List S)) where
   join-is : (m : Move (List S)) → IsJoin head tail m → (c : ℕ) (cost : List ℕ) (to : List S) → Moves c cost to m ↔ Joins c cost to head tail
   join-is m j c cost to = (
-    λ h. let on = both (in_ranges head.on c) (in_ranges tail.on c) (subst IsTrue (j.on c) h.0) in (on.0, on.1, sym j.cost ∙ h.1, sym j.to ∙ h.2),
-    λ h. (subst IsTrue (sym (j.on c)) (together (in_ranges head.on c) (in_ranges tail.on c) h.0 h.1), j.cost ∙ h.2, j.to ∙ h.3),
+    λ h. let on = and_parts (in_ranges head.on c) (in_ranges tail.on c) (subst IsTrue (j.on c) h.0) in (on.0, on.1, sym j.cost ∙ h.1, sym j.to ∙ h.2),
+    λ h. (subst IsTrue (sym (j.on c)) (and_from (in_ranges head.on c) (in_ranges tail.on c) h.0 h.1), j.cost ∙ h.2, j.to ∙ h.3),
   )
 
 -- what the moves at two places make together

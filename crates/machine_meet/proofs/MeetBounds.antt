@@ -3,7 +3,7 @@ use Rattle.std.proofs.Common.{◌≡◌, ℕ, ◌+◌, ◌*◌, ◌≤◌, List,
 use Rattle.machine_core.specs.Costs.{add_costs, zeros}
 use Rattle.machine_core.specs.CostLaws.{add_costs-most, zeros-add_costs-zeros}
 use Rattle.machine_core.specs.Language.{StopsAt}
-use Rattle.machine_core.specs.Lists.{Contains-here, Contains-there}
+use Rattle.sv_list.specs.Lists.{Contains-here, Contains-there}
 use Rattle.machine_core.specs.RunBounds.{RunsWithin, PathsWithin, free_runs, free_paths}
 use Rattle.machine_meet.specs.Products.{AreStates, MeetEnds, MeetSteps, EachWithin, total}
 use Rattle.machine_meet.proofs.MeetRuns.{Parts, pair-out}

@@ -1,13 +1,13 @@
 -- The costs at which the parts of a product can take their shares in a step or an end.
 use Rattle.std.proofs.Common.{◌≡◌, ℕ, zero, suc, ◌+◌, ◌<◌, ◌≤◌, ◌↔◌, List, [], ◌∷◌, ◌++◌, length, take, get_or, slice_get, Any, Some, None, Contains, IsTrue, refl, ap, sym, ◌∙◌, subst, arith, add-one, inl, inr, Option}
-use Rattle.machine_core.specs.Lists.{Any-none, Any-append_left, Any-push_cases, Contains-here, Contains-there, slice_get-push_cases}
+use Rattle.sv_list.specs.Lists.{Any-none, Any-append_left, Any-push_cases, Contains-here, Contains-there, slice_get-push_cases, stands-at, some-once}
 use Rattle.machine_core.specs.Costs.{add_costs, sum_costs}
 use Rattle.machine_core.specs.Moves.{Moves}
 use Rattle.machine_core.specs.declared.machine.Move.{Move}
 use Rattle.sv_word.specs.Ranges.{in_ranges}
 use Rattle.machine_meet.specs.Products.{AreStates, MeetEnds, MeetSteps}
 use Rattle.machine_meet.specs.Splits.{Picks, AreCostsWide, AreOptions, AreSteps, as_step}
-use Rattle.machine_meet.proofs.JoinLemmas.{Any-push, take-push}
+use Rattle.machine_meet.proofs.JoinLemmas.{take-push}
 use Rattle.std.proofs.lemmas.List.{take_all, length-take-le}
 use Rattle.std.proofs.lemmas.Cmp.{tied_itself}
 use Rattle.std.specs.Cmp.{IsTotalOrder}
@@ -15,8 +15,10 @@ use Rattle.std.specs.Ordering.{is_eq}
 use Rattle.std.specs.declared.cmp.Ordering.{Ordering}
 use Rattle.std.specs.declared.cmp.Ordering.TheVariants.{Less, Equal, Greater}
 use Rattle.std.specs.Option.{IsSome}
+use Rattle.std.proofs.lemmas.Option.{none-some, slice_get_within}
+use Rattle.std.proofs.lemmas.List.Quantifiers.{Any-push}
 use Rattle.machine_meet.specs.Splits.{IsPick}
-use Rattle.machine_meet.proofs.PlaceLemmas.{none-some, got, got-below, same_some, length-push}
+use Rattle.machine_meet.proofs.PlaceLemmas.{length-push}
 
 module _ {P S : Type 0} (steps : P → S → ℕ → List ℕ → S → Type 0) where
   -- options of the parts after the first
@@ -97,13 +99,13 @@ module _ {P S : Type 0} (steps : P → S → ℕ → List ℕ → S → Type 0) 
     each = λ j q u v x eq eu ev ex. elim (slice_get-push_cases ps p j q eq) [
       | inl a ↦ elim (slice_get-push_cases os o j x ex) [
         | inl b ↦ h.each j q u v x a eu ev b
-        | inr b ↦ let lt = got-below ps j q a in let n = h.count in let at = b.0 in absurd (omega arith)
+        | inr b ↦ let lt = slice_get_within ps j q a in let n = h.count in let at = b.0 in absurd (omega arith)
       ]
       | inr a ↦ elim (slice_get-push_cases os o j x ex) [
-        | inl b ↦ let lt = got-below os j x b in let n = h.count in let at = a.0 in absurd (omega arith)
+        | inl b ↦ let lt = slice_get_within os j x b in let n = h.count in let at = a.0 in absurd (omega arith)
         | inr b ↦
-            let from = same_some ss j s u (subst (λ i. slice_get ss i ≡ Some s) (sym a.0) fs) eu in
-            let to = same_some ts j t v (subst (λ i. slice_get ts i ≡ Some t) (sym a.0) ft) ev in
+            let from = some-once (slice_get ss j) s u (subst (λ i. slice_get ss i ≡ Some s) (sym a.0) fs) eu in
+            let to = some-once (slice_get ts j) t v (subst (λ i. slice_get ts i ≡ Some t) (sym a.0) ft) ev in
             subst (λ z. (k : List ℕ) → steps q u c k v ↔ Any (λ e. e ≡ k) z) b.1
             (subst (λ z. (k : List ℕ) → steps q u c k z ↔ Any (λ e. e ≡ k) o) to
             (subst (λ z. (k : List ℕ) → steps q z c k t ↔ Any (λ e. e ≡ k) o) from
@@ -171,8 +173,8 @@ module _ {P S : Type 0} (steps : P → S → ℕ → List ℕ → S → Type 0) 
   options-next os new i p s t o lt ls lts ep es et h exact pushed =
       let e : take (i + 1) ps ≡ take i ps ++ p ∷ [] = rw add-one (take-push ps i p lt ∙ ap (λ q. take i ps ++ q ∷ []) (sym ep)) in
       let n : length (take i ps) ≡ i = length-take-le i ps (omega arith) in
-      let from : slice_get ss (length (take i ps)) ≡ Some s = subst (λ j. slice_get ss j ≡ Some s) (sym n) (got ss i s (omega arith) es) in
-      let to : slice_get ts (length (take i ps)) ≡ Some t = subst (λ j. slice_get ts j ≡ Some t) (sym n) (got ts i t (omega arith) et) in
+      let from : slice_get ss (length (take i ps)) ≡ Some s = subst (λ j. slice_get ss j ≡ Some s) (sym n) (stands-at ss i s (omega arith) es) in
+      let to : slice_get ts (length (take i ps)) ≡ Some t = subst (λ j. slice_get ts j ≡ Some t) (sym n) (stands-at ts i t (omega arith) et) in
       subst (λ qs. AreOptions steps qs ss c ts new) (sym e) (subst (AreOptions steps (take i ps ++ p ∷ []) ss c ts) (sym pushed)
       (options-push steps ss c ts (take i ps) os p s t o h from to exact))
 

@@ -1,77 +1,32 @@
 -- The moves of two lists that read a character in common, by their intervals.
-use Rattle.std.proofs.Common.{◌≡◌, ℕ, zero, suc, ◌+◌, ◌-◌, ◌<◌, ◌≤◌, ◌⊎◌, inl, inr, ◌↔◌, ◌&&◌, Bool, true, false, List, [], ◌∷◌, ◌++◌, length, map, take, drop, get_or, slice_get, Some, Any, Contains, IsTrue, refl, sym, ap, ◌∙◌, subst, arith}
+use Rattle.std.proofs.Common.{◌≡◌, ℕ, zero, suc, ◌+◌, ◌-◌, ◌<◌, ◌≤◌, ◌⊎◌, inl, inr, ◌↔◌, ◌&&◌, Bool, true, false, List, [], ◌∷◌, ◌++◌, length, map, take, drop, get_or, slice_get, Some, Any, Contains, IsTrue, refl, sym, ap, ◌∙◌, subst, arith, ltb-false, leb-true, le-ltb, le-leb}
 use Rattle.std.specs.Cmp.{and_equiv, on_equiv, nat_eq_equiv, IsEquivalence}
 use Rattle.std.specs.List.{dedup}
 use Rattle.std.specs.List.Retain.{IsFiltered, DiffersFromLast}
 use Rattle.std.specs.List.Sorted.{IsPartitionPoint, IsPermutation}
 use Rattle.std.specs.Prelude.{◌==◌, nat_lt, nat_le}
 use Rattle.std.proofs.lemmas.Bool.Decides.{nat_tests}
-use Rattle.std.proofs.lemmas.List.{get_or-take, get_or-drop, length-take, length-drop, take_more, take_all}
+use Rattle.std.proofs.lemmas.List.{take_more, take_all}
 use Rattle.std.proofs.lemmas.List.Elements.{Contains-append_left, Contains-append_right, Contains-append_cases}
 use Rattle.std.proofs.lemmas.List.Filters.{dedup_is}
 use Rattle.std.proofs.lemmas.List.Folds.{Any-from_list_any, list_any-from_Any}
 use Rattle.std.proofs.lemmas.List.Kept.{Contains-dedup, Contains-from_dedup}
 use Rattle.std.proofs.lemmas.List.Sorted.{Contains-permutation, IsPermutation-sym}
 use Rattle.std.proofs.lemmas.Option.{slice_get_within}
-use Rattle.sv_word.specs.Ranges.{in_ranges, IsApartFrom, IsInhabited}
-use Rattle.machine_core.specs.Lists.{Any-none, Any-append_left, Any-append_right, Any-push_cases, Any-here, Any-contains, Any-map, Any-from_map, contained, Contains-here}
+use Rattle.std.proofs.lemmas.Bool.{cases_lt}
+use Rattle.sv_word.specs.Ranges.{in_ranges, IsApartFrom}
+use Rattle.sv_list.specs.Lists.{Any-append_left, Any-append_right, Any-push_cases, Any-here, Any-contains, Any-map, contained, Contains-from_map, partition-passing, partition-failing}
+use Rattle.sv_list.specs.Bools.{within-from_tests, within-tests}
 use Rattle.machine_core.specs.declared.machine.Move.{Move}
 use Rattle.machine_meet.specs.declared.overlaps.MoveInterval.{MoveInterval}
 use Rattle.machine_meet.specs.Overlaps.{MovesMeet, span, IsSpan, BeginsWithin}
 
-below-or : (a b : ℕ) → (a < b) ⊎ (b ≤ a)
-below-or a b = grind arith
-
 -- an element of a list under a function
 module _ {X Y : Type 0} (f : X → Y) where
-  image : (xs : List X) (y : Y) → Contains (map f xs) y → (x : X) × Contains xs x × (f x ≡ y)
-  image xs y h = contained (λ x. f x ≡ y) xs (Any-from_map f (λ z. z ≡ y) xs (Any-contains (λ z. z ≡ y) (map f xs) y h refl))
-
   in-image : (xs : List X) (x : X) (y : Y) → Contains xs x → f x ≡ y → Contains (map f xs) y
   in-image xs x y h e =
       let a = contained (λ z. z ≡ y) (map f xs) (Any-map f (λ z. z ≡ y) xs (Any-contains (λ x. f x ≡ y) xs x h e)) in
       subst (Contains (map f xs)) a.2 a.1
-
--- what a partition point bounds
-module _ {X : Type 0} (p : X → Bool) (xs : List X) (i : ℕ) (inside : i ≤ length xs) (point : IsPartitionPoint (λ y. p y ≡ true) (λ y. p y ≡ false) xs i) where
-  passing : (x : X) → Contains (take i xs) x ↔ (Contains xs x × (p x ≡ true))
-  passing x = (
-    λ h.
-        let lt : h.0 < i = (let l = h.1 in omega (arith, length-take i xs)) in
-        let same = sym (get_or-take i xs h.0 x lt) ∙ h.2 in
-        ((h.0, omega arith, same), subst (λ y. p y ≡ true) same (point.0 h.0 x (omega arith) lt)),
-    λ h. elim (below-or h.0.0 i) [
-      | inl lt ↦ (h.0.0, (let l = h.0.1 in omega (arith, length-take i xs)), get_or-take i xs h.0.0 x lt ∙ h.0.2)
-      | inr le ↦ let f = subst (λ y. p y ≡ false) h.0.2 (point.1 h.0.0 x le h.0.1) in let t = h.1 in absurd (cc)
-    ],
-  )
-
-  failing : (x : X) → Contains (drop i xs) x ↔ (Contains xs x × (p x ≡ false))
-  failing x = (
-    λ h.
-        let lt : i + h.0 < length xs = (let l = h.1 in omega (arith, length-drop i xs)) in
-        let same = sym (get_or-drop i xs h.0 x) ∙ h.2 in
-        ((i + h.0, lt, same), subst (λ y. p y ≡ false) same (point.1 (i + h.0) x (omega arith) lt)),
-    λ h. elim (below-or h.0.0 i) [
-      | inl lt ↦ let t = subst (λ y. p y ≡ true) h.0.2 (point.0 h.0.0 x (omega arith) lt) in let f = h.1 in absurd (cc)
-      | inr le ↦
-          let k : ℕ = h.0.0 - i in
-          let at : i + k ≡ h.0.0 = omega arith in
-          (k, (let l = h.0.1 in omega (arith, length-drop i xs)), get_or-drop i xs k x ∙ ap (λ n. get_or xs n x) at ∙ h.0.2)
-    ],
-  )
-
-at-least : (low n : ℕ) → nat_lt n low ≡ false → low ≤ n
-at-least low n e = grind (arith, nat_tests)
-
-at-most : (high n : ℕ) → nat_le n high ≡ true → n ≤ high
-at-most high n e = grind (arith, nat_tests)
-
-not-below : (low n : ℕ) → low ≤ n → nat_lt n low ≡ false
-not-below low n h = grind (arith, nat_tests)
-
-is-at-most : (high n : ℕ) → n ≤ high → nat_le n high ≡ true
-is-at-most high n h = grind (arith, nat_tests)
 
 -- what two searches leave of intervals in the order of their first characters
 pub beginning-exact : (spans from out : List MoveInterval) (low high i j : ℕ)
@@ -79,33 +34,26 @@ pub beginning-exact : (spans from out : List MoveInterval) (low high i j : ℕ)
     → j ≤ length from → IsPartitionPoint (λ (y : MoveInterval). nat_le y.low high ≡ true) (λ (y : MoveInterval). nat_le y.low high ≡ false) from j → out ≡ take j from
     → (s : MoveInterval) → Contains out s ↔ (Contains spans s × (low ≤ s.low) × (s.low ≤ high))
 beginning-exact spans from out low high i j l1 p1 e1 l2 p2 e2 s =
-    let rest = failing (λ (y : MoveInterval). nat_lt y.low low) spans i l1 p1 s in
-    let front = passing (λ (y : MoveInterval). nat_le y.low high) from j l2 p2 s in (
+    let rest = partition-failing (λ (y : MoveInterval). nat_lt y.low low) spans i l1 p1 s in
+    let front = partition-passing (λ (y : MoveInterval). nat_le y.low high) from j l2 p2 s in (
       λ h.
           let a = front.0 (subst (λ l. Contains l s) e2 h) in
           let b = rest.0 (subst (λ l. Contains l s) e1 a.0) in
-          (b.0, at-least low s.low b.1, at-most high s.low a.1),
-      λ h. subst (λ l. Contains l s) (sym e2) (front.1 (subst (λ l. Contains l s) (sym e1) (rest.1 (h.0, not-below low s.low h.1)), is-at-most high s.low h.2)),
+          (b.0, ltb-false s.low low b.1, leb-true s.low high a.1),
+      λ h. subst (λ l. Contains l s) (sym e2) (front.1 (subst (λ l. Contains l s) (sym e1) (rest.1 (h.0, le-ltb s.low low h.1)), le-leb s.low high h.2)),
     )
-
--- a character lies in a set where it lies in one of its pairs
-from-tests : (a b c : ℕ) → (nat_le a c && nat_le c b) ≡ true → (a ≤ c) × (c ≤ b)
-from-tests a b c h = grind (arith, nat_tests)
-
-to-tests : (a b c : ℕ) → a ≤ c → c ≤ b → (nat_le a c && nat_le c b) ≡ true
-to-tests a b c l h = grind (arith, nat_tests)
 
 pair-of : (rs : List (ℕ × ℕ)) (c : ℕ) → IsTrue (in_ranges rs c) → (p : ℕ × ℕ) × Contains rs p × (p.0 ≤ c) × (c ≤ p.1)
 pair-of rs c h =
     let P : ℕ × ℕ → Type 0 = λ p. (nat_le p.0 c && nat_le c p.1) ≡ true in
     let a = contained P rs (Any-from_list_any (λ p. nat_le p.0 c && nat_le c p.1) rs h) in
-    let t = from-tests a.0.0 a.0.1 c a.2 in
+    let t = within-from_tests a.0.0 a.0.1 c a.2 in
     (a.0, a.1, t.0, t.1)
 
 in-pair : (rs : List (ℕ × ℕ)) (c : ℕ) (p : ℕ × ℕ) → Contains rs p → p.0 ≤ c → c ≤ p.1 → IsTrue (in_ranges rs c)
 in-pair rs c p i l h =
     let P : ℕ × ℕ → Type 0 = λ p. (nat_le p.0 c && nat_le c p.1) ≡ true in
-    list_any-from_Any (λ p. nat_le p.0 c && nat_le c p.1) rs (Any-contains P rs p i (to-tests p.0 p.1 c l h))
+    list_any-from_Any (λ p. nat_le p.0 c && nat_le c p.1) rs (Any-contains P rs p i (within-tests p.0 p.1 c l h))
 
 -- no pair of a set of characters is turned round
 pub pairs-forward : (low : ℕ) (rs : List (ℕ × ℕ)) → IsApartFrom low rs → (p : ℕ × ℕ) → Contains rs p → p.0 ≤ p.1
@@ -113,29 +61,21 @@ pairs-forward low [] apart p (k, lt, e) = absurd (omega arith)
 pairs-forward low (q ∷ rs) apart p (zero, lt, e) = subst (λ (x : ℕ × ℕ). x.0 ≤ x.1) e apart.1
 pairs-forward low (q ∷ rs) apart p (suc k, lt, e) = pairs-forward (q.1 + 2) rs apart.3 p (k, omega arith, e)
 
--- where some character lies in a set the least one does
-pub some-inhabits : (low : ℕ) (rs : List (ℕ × ℕ)) (c : ℕ) → IsApartFrom low rs → IsTrue (in_ranges rs c) → IsInhabited rs
-some-inhabits low [] c apart h = cc
-some-inhabits low (p ∷ rs) c apart h = in-pair (p ∷ rs) p.0 p (Contains-here p rs) (omega arith) apart.1
-
 -- the intervals of the moves before a place
 abbrev pub HasSpans : {S : Type 0} → List (Move S) → ℕ → List MoveInterval → Type 0
 HasSpans moves n spans = (s : MoveInterval) → Contains spans s ↔ ((s.place < n) × IsSpan moves s)
 
 module _ {S : Type 0} (moves : List (Move S)) where
-  pub spans-none : HasSpans moves 0 []
-  spans-none s = (λ h. let l = h.1 in absurd (omega arith), λ h. let l = h.0 in absurd (omega arith))
-
   pub spans-more : (spans new : List MoveInterval) (n : ℕ) (m : Move S) → slice_get moves n ≡ Some m → ((p : ℕ × ℕ) → Contains m.on p → p.0 ≤ p.1)
       → new ≡ spans ++ map (span n) m.on → HasSpans moves n spans → HasSpans moves (n + 1) new
   spans-more spans new n m at forward made before s = (
     λ h. elim (Contains-append_cases spans (map (span n) m.on) s (subst (λ l. Contains l s) made h)) [
       | inl i ↦ let b = (before s).0 i in let l = b.0 in (omega arith, b.1)
       | inr i ↦
-          let p = image (span n) m.on s i in
+          let p = Contains-from_map (span n) m.on s i in
           subst (λ (x : MoveInterval). (x.place < n + 1) × IsSpan moves x) p.2 (omega arith, (m, at, p.1, forward p.0 p.1))
     ],
-    λ h. subst (λ l. Contains l s) (sym made) (elim (below-or s.place n) [
+    λ h. subst (λ l. Contains l s) (sym made) (elim (cases_lt s.place n) [
       | inl lt ↦ Contains-append_left spans (map (span n) m.on) s ((before s).1 (lt, h.1))
       | inr le ↦
           let l = h.0 in
@@ -169,9 +109,6 @@ module _ (spans : List MoveInterval) where
   abbrev Outer : ℕ → ℕ → MoveInterval → Type 0
   Outer i j a = (a.place ≡ i) × Any (Inner a j) spans
 
-  pub begun-none : AreBegun [] spans []
-  begun-none i j = (λ h. let l = h.1 in absurd (omega arith), λ h. absurd (Any-none (Outer i j) h))
-
   pub begun-more : (around window : List MoveInterval) (pairs new : List (ℕ × ℕ)) (n : ℕ) (a d : MoveInterval) → n < length around → a ≡ get_or around n d
       → ((s : MoveInterval) → Contains window s ↔ (Contains spans s × (a.low ≤ s.low) × (s.low ≤ a.high)))
       → new ≡ pairs ++ map (with_place a.place) window → AreBegun (take n around) spans pairs → AreBegun (take (n + 1) around) spans new
@@ -180,7 +117,7 @@ module _ (spans : List MoveInterval) where
         λ h. subst (Any (Outer i j)) (sym grown) (elim (Contains-append_cases pairs (map (with_place a.place) window) (i, j) (subst (λ l. Contains l (i, j)) made h)) [
           | inl k ↦ Any-append_left (Outer i j) (take n around) (a ∷ []) ((before i j).0 k)
           | inr k ↦
-              let b = image (with_place a.place) window (i, j) k in
+              let b = Contains-from_map (with_place a.place) window (i, j) k in
               let w = (within b.0).0 b.1 in
               let first : a.place ≡ i = ap (λ (p : ℕ × ℕ). p.0) b.2 in
               let second : b.0.place ≡ j = ap (λ (p : ℕ × ℕ). p.1) b.2 in
@@ -228,7 +165,7 @@ module _ {S T : Type 0} (heads : List (Move S)) (tails : List (Move T)) (hs ts :
       let qh = q.3 in
       let a = (heads-are (span i p.0)).1 (m.0, m.3, p.1, omega arith) in
       let b = (tails-are (span j q.0)).1 (m.1, m.4, q.1, omega arith) in
-      elim (below-or q.0.0 p.0.0) [
+      elim (cases_lt q.0.0 p.0.0) [
         | inl lt ↦ inr (Any-contains (Outer hs j i) ts (span j q.0) b (refl, Any-contains (Inner hs (span j q.0) i) hs (span i p.0) a (refl, omega arith, omega arith)))
         | inr le ↦ inl (Any-contains (Outer ts i j) hs (span i p.0) a (refl, Any-contains (Inner ts (span i p.0) j) ts (span j q.0) b (refl, le, omega arith)))
       ]
@@ -261,7 +198,7 @@ meeting-done heads tails hs ts first others pairs sorted out heads-are tails-are
           elim (Contains-append_cases first (map swapped others) (i, j) b) [
             | inl k ↦ begins-meet heads tails hs ts heads-are tails-are i j ((first-are i j).0 k)
             | inr k ↦
-                let p = image swapped others (i, j) k in
+                let p = Contains-from_map swapped others (i, j) k in
                 let one : p.0.1 ≡ i = ap (λ (x : ℕ × ℕ). x.0) p.2 in
                 let two : p.0.0 ≡ j = ap (λ (x : ℕ × ℕ). x.1) p.2 in
                 let o = subst (Contains others) (ap (λ (x : ℕ). (x, p.0.1)) two ∙ ap (λ (x : ℕ). (j, x)) one) p.1 in

@@ -1,12 +1,12 @@
 -- One cost out of each list.
 use Rattle.std.proofs.Common.{◌≡◌, ℕ, zero, suc, ◌+◌, ◌<◌, ◌≤◌, List, [], ◌∷◌, ◌++◌, length, take, reverse, get_or, slice_index, Any, Some, None, Option, refl, ap, sym, ◌∙◌, subst, arith, inl, inr}
 use Rattle.machine_core.specs.Costs.{add_costs, zeros, sum_costs}
-use Rattle.machine_core.specs.CostLaws.{add_costs-length, add_costs-entry, zeros-length, zeros-entry}
+use Rattle.machine_core.specs.CostLaws.{add_costs-length, add_costs-entry, zeros-length}
 use Rattle.std.proofs.Common.{add-one}
 use Rattle.std.proofs.lemmas.List.{length-take-le, take_all, reverse-append}
-use Rattle.machine_core.specs.Lists.{Any-none, Any-here, Any-cases, Any-push_cases}
+use Rattle.sv_list.specs.Lists.{Any-none, Any-here, Any-cases, Any-push_cases}
 use Rattle.machine_meet.proofs.JoinLemmas.{take-push}
-use Rattle.machine_meet.specs.Splits.{Picks, IsPick, AreCostsWide, IsRest, turned}
+use Rattle.machine_meet.specs.Splits.{Picks, IsPick, AreCostsWide, IsRest}
 
 -- the costs that are picked out of lists of costs of this width have their sum in it
 pub picked-length : (width : ℕ) (os : List (List (List ℕ))) (ks : List (List ℕ)) → AreCostsWide width os → Picks os ks → length (sum_costs width ks) ≡ width
@@ -30,17 +30,6 @@ none-left whole part k e lt rest r =
     let entry = add_costs-entry part rest k same in
     let at = ap (λ l. slice_index l k) r.1 in
     omega arith
-
--- nothing is picked, and nothing else can be
-pub picks-none : (want : List ℕ) → want ≡ zeros (length want) → IsPick [] want (Some [])
-picks-none want e = (tt, sym e)
-
-pub none-picked : (want : List ℕ) (k : ℕ) → (slice_index want k ≡ 0 → ⊥) → IsPick [] want None
-none-picked want k wrong [] p e =
-    let z = zeros-entry (length want) k in
-    let at : slice_index (zeros (length want)) k ≡ slice_index want k = ap (λ l. slice_index l k) e in
-    wrong (omega arith)
-none-picked want k wrong (x ∷ ks) p e = absurd p
 
 -- one addend and the sum give the other addend
 add_costs-cancel : (k xs ys : List ℕ) → length k ≡ length xs → length k ≡ length ys → add_costs k xs ≡ add_costs k ys → xs ≡ ys
@@ -90,12 +79,6 @@ pub after-turned : (cost want left : List ℕ) (rest : List (List (List ℕ))) (
     → IsPick rest left (Some (reverse ks)) → all ≡ ks ++ cost ∷ [] → IsPick ((cost ∷ []) ∷ rest) want (Some (reverse all))
 after-turned cost want left rest ks all l p e = after-some cost want left rest (reverse ks) (reverse all) l p (ap reverse e ∙ reverse-append ks (cost ∷ []))
 
--- without lists there is nothing to turn round
-pub none-turned : (want : List ℕ) (picked : Option (List (List ℕ))) → IsPick [] want picked → IsPick [] want (turned picked)
-none-turned want None p = p
-none-turned want (Some []) p = p
-none-turned want (Some (k ∷ ks)) p = absurd p.0
-
 -- no cost of these goes with costs of the others
 abbrev pub NoneOf : List (List ℕ) → List (List (List ℕ)) → List ℕ → Type 0
 NoneOf costs rest want = (k : List ℕ) (ks : List (List ℕ)) → Any (λ e. e ≡ k) costs → Picks rest ks → add_costs k (sum_costs (length want) ks) ≡ want → ⊥
@@ -113,14 +96,6 @@ none-of-more costs cost want rest wrong last k ks a p e = elim (Any-push_cases (
 pub none-of-all : (costs : List (List ℕ)) (rest : List (List (List ℕ))) (want : List ℕ) → NoneOf costs rest want → IsPick (costs ∷ rest) want None
 none-of-all costs rest want wrong [] p e = absurd p
 none-of-all costs rest want wrong (k ∷ ks) p e = wrong k ks p.0 p.1 e
-
-pub one-of-some : (costs : List (List ℕ)) (cost want : List ℕ) (rest : List (List (List ℕ))) (ks : List (List ℕ)) → Any (λ e. e ≡ cost) costs
-    → IsPick ((cost ∷ []) ∷ rest) want (Some ks) → IsPick (costs ∷ rest) want (Some ks)
-one-of-some costs cost want rest [] at p = absurd p.0
-one-of-some costs cost want rest (k ∷ ks) at p = elim (Any-cases (λ e. e ≡ k) cost [] p.0.0) [
-  | inl h ↦ ((subst (λ x. Any (λ e. e ≡ x) costs) h at, p.0.1), p.1)
-  | inr h ↦ absurd (Any-none (λ e. e ≡ k) h)
-]
 
 -- what is left, one register further
 pub left-next : (whole part rest new : List ℕ) (i taken left entry : ℕ) → i < length whole → i < length part → length rest ≡ i → taken ≡ get_or part i 0 → entry ≡ get_or whole i 0 → taken + left ≡ entry
@@ -156,14 +131,6 @@ none-of-next costs cost want rest i picked lt is none last before wide =
     let e : take (i + 1) costs ≡ take i costs ++ cost ∷ [] = rw add-one (take-push costs i cost lt ∙ ap (λ x. take i costs ++ x ∷ []) (sym is)) in
     let long : length cost ≡ length want = wide.0 cost (i, cost, lt, sym is, refl) in
     subst (λ l. NoneOf l rest want) (sym e) (none-of-more (take i costs) cost want rest (before wide) (subst (IsPick ((cost ∷ []) ∷ rest) want) none (last long wide.1)))
-
--- one of the costs that goes with some of the others' costs
-pub one-of-next : (costs : List (List ℕ)) (cost want : List ℕ) (rest : List (List (List ℕ))) (i : ℕ) (picked : Option (List (List ℕ))) (ks : List (List ℕ)) → i < length costs → cost ≡ get_or costs i cost → picked ≡ Some ks
-    → (length cost ≡ length want → AreCostsWide (length want) rest → IsPick ((cost ∷ []) ∷ rest) want picked)
-    → AreCostsWide (length want) (costs ∷ rest) → IsPick (costs ∷ rest) want (Some ks)
-one-of-next costs cost want rest i picked ks lt is some last wide =
-    let long : length cost ≡ length want = wide.0 cost (i, cost, lt, sym is, refl) in
-    one-of-some costs cost want rest ks (i, cost, lt, sym is, refl) (subst (IsPick ((cost ∷ []) ∷ rest) want) some (last long wide.1))
 
 -- what isn't at most the other number is above it
 pub above : (a b : ℕ) → (a ≤ b → ⊥) → b < a

@@ -1,23 +1,10 @@
 -- What stands at a place of a list, and columns of lists.
-use Rattle.std.proofs.Common.{◌≡◌, ℕ, zero, suc, ◌+◌, ◌-◌, drop, ◌<◌, ◌≤◌, List, [], ◌∷◌, ◌++◌, length, map, take, get_or, slice_get, All, Some, None, refl, ap, sym, ◌∙◌, subst, arith, add-one, inl, inr}
+use Rattle.std.proofs.Common.{◌≡◌, ℕ, zero, suc, ◌+◌, ◌-◌, drop, ◌<◌, ◌≤◌, List, [], ◌∷◌, ◌++◌, length, map, take, get_or, slice_get, All, Some, refl, ap, sym, ◌∙◌, subst, arith, add-one, inl, inr}
 use Rattle.std.proofs.lemmas.List.{take_all}
-use Rattle.std.proofs.lemmas.Option.{slice_get_within, get_or_from_slice_get, slice_get-get_or}
-use Rattle.machine_core.specs.Lists.{slice_get-push_cases}
+use Rattle.std.proofs.lemmas.Option.{slice_get_within, get_or_from_slice_get, slice_get-get_or, none-some}
+use Rattle.sv_list.specs.Lists.{slice_get-push_cases, stands-at}
 use Rattle.machine_meet.proofs.JoinLemmas.{take-push}
 use Rattle.machine_meet.specs.Splits.{IsColumn}
-
-pub none-some : {X : Type 0} (x : X) → None ≡ Some x → ⊥
-none-some x e = cc
-
-pub got : {X : Type 0} (xs : List X) (i : ℕ) (x : X) → i < length xs → x ≡ get_or xs i x → slice_get xs i ≡ Some x
-got [] i x lt e = absurd (omega arith)
-got (y ∷ ys) zero x lt e = ap Some (sym e)
-got (y ∷ ys) (suc i) x lt e = got ys i x (omega arith) e
-
-pub got-below : {X : Type 0} (xs : List X) (i : ℕ) (x : X) → slice_get xs i ≡ Some x → i < length xs
-got-below [] i x e = absurd (none-some x e)
-got-below (y ∷ ys) zero x e = omega arith
-got-below (y ∷ ys) (suc i) x e = let r = got-below ys i x e in omega arith
 
 -- what stands at the same place of a list of the same length
 pub beside : {X Y : Type 0} (xs : List X) (ys : List Y) (i : ℕ) (x : X) → length ys ≡ length xs → slice_get xs i ≡ Some x → (y : Y) × (slice_get ys i ≡ Some y)
@@ -26,18 +13,10 @@ beside (x' ∷ xs) [] i x e f = absurd (omega arith)
 beside (x' ∷ xs) (y ∷ ys) zero x e f = (y, refl)
 beside (x' ∷ xs) (y ∷ ys) (suc i) x e f = beside xs ys i x (omega arith) f
 
-pub same_some : {X : Type 0} (xs : List X) (i : ℕ) (x y : X) → slice_get xs i ≡ Some x → slice_get xs i ≡ Some y → x ≡ y
-same_some xs i x y p q = let e : Some x ≡ Some y = sym p ∙ q in cc
-
 pub take-got : {X : Type 0} (xs : List X) (i : ℕ) (x : X) → slice_get xs i ≡ Some x → take (suc i) xs ≡ take i xs ++ x ∷ []
 take-got [] i x e = absurd (none-some x e)
 take-got (y ∷ ys) zero x e = let same : y ≡ x = cc in ap (λ z. z ∷ []) same
 take-got (y ∷ ys) (suc i) x e = ap (λ l. y ∷ l) (take-got ys i x e)
-
-pub map-got : {X Y : Type 0} (f : X → Y) (xs : List X) (i : ℕ) (x : X) → slice_get xs i ≡ Some x → slice_get (map f xs) i ≡ Some (f x)
-map-got f [] i x e = absurd (none-some x e)
-map-got f (y ∷ ys) zero x e = let same : y ≡ x = cc in ap (λ z. Some (f z)) same
-map-got f (y ∷ ys) (suc i) x e = map-got f ys i x e
 
 pub map-each : {X Y : Type 0} (f : X → Y) (xs : List X) (ys : List Y) → length xs ≡ length ys
     → ((i : ℕ) (x : X) → slice_get xs i ≡ Some x → (y : Y) → slice_get ys i ≡ Some y → f x ≡ y) → map f xs ≡ ys
@@ -48,11 +27,6 @@ map-each f (x ∷ xs) (y ∷ ys) e h =
     let head = h zero x refl y refl in
     let tail = map-each f xs ys (omega arith) (λ i. h (suc i)) in
     cc
-
-pub none-got : {X : Type 0} (xs : List X) (i : ℕ) → slice_get xs i ≡ None → i < length xs → ⊥
-none-got [] i e lt = omega arith
-none-got (x ∷ xs) zero e lt = none-some x (sym e)
-none-got (x ∷ xs) (suc i) e lt = none-got xs i e (omega arith)
 
 pub length-push : {X : Type 0} (xs : List X) (x : X) → length (xs ++ x ∷ []) ≡ suc (length xs)
 length-push [] x = refl
@@ -79,10 +53,10 @@ module _ {X : Type 0} (at : ℕ) where
     each = λ i r y p q. elim (slice_get-push_cases rows row i r p) [
       | inl a ↦ elim (slice_get-push_cases column x i y q) [
         | inl b ↦ h.each i r y a b
-        | inr b ↦ let lt = got-below rows i r a in let n = h.count in let at = b.0 in absurd (omega arith)
+        | inr b ↦ let lt = slice_get_within rows i r a in let n = h.count in let at = b.0 in absurd (omega arith)
       ]
       | inr a ↦ elim (slice_get-push_cases column x i y q) [
-        | inl b ↦ let lt = got-below column i y b in let n = h.count in let at = a.0 in absurd (omega arith)
+        | inl b ↦ let lt = slice_get_within column i y b in let n = h.count in let at = a.0 in absurd (omega arith)
         | inr b ↦ subst (λ z. slice_get z at ≡ Some y) a.1 (e ∙ ap Some b.1)
       ]
     ];
@@ -94,7 +68,7 @@ pub column-next : {X : Type 0} (at : ℕ) (rows : List (List X)) (column new : L
 column-next {X} at rows column new i row items x y lt is h inside same read copied pushed =
     let e : take (i + 1) rows ≡ take i rows ++ row ∷ [] = rw add-one (take-push rows i row lt ∙ ap (λ r. take i rows ++ r ∷ []) (sym is)) in
     let long : at < length row = subst (λ r. at < length r) (sym is) inside in
-    let here : slice_get row at ≡ Some y = got row at x long (subst (λ l. x ≡ get_or l at x) same read) ∙ ap Some (sym copied) in
+    let here : slice_get row at ≡ Some y = stands-at row at x long (subst (λ l. x ≡ get_or l at x) same read) ∙ ap Some (sym copied) in
     subst (λ r. IsColumn at r new) (sym e) (subst (IsColumn at (take i rows ++ row ∷ [])) (sym pushed) (column-push at (take i rows) column row y h here))
 
 pub column-all : {X : Type 0} (at : ℕ) (rows : List (List X)) (column : List X) (i : ℕ) → length rows ≤ i → IsColumn at (take i rows) column → IsColumn at rows column
@@ -102,7 +76,7 @@ column-all at rows column i le h = subst (λ r. IsColumn at r column) (take_all 
 
 -- a read through a list that is the same, of an element that is the same
 pub got-through : {X : Type 0} (xs ys : List X) (i : ℕ) (x y : X) → ys ≡ xs → i < length xs → x ≡ get_or ys i x → y ≡ x → slice_get xs i ≡ Some y
-got-through xs ys i x y same lt read copied = got xs i x lt (subst (λ l. x ≡ get_or l i x) same read) ∙ ap Some (sym copied)
+got-through xs ys i x y same lt read copied = stands-at xs i x lt (subst (λ l. x ≡ get_or l i x) same read) ∙ ap Some (sym copied)
 
 pub all-got : {X : Type 0} (P : X → Type 0) (xs : List X) → All P xs → (i : ℕ) (x : X) → slice_get xs i ≡ Some x → P x
 all-got P xs h i x e = subst P (get_or_from_slice_get xs i x x e) (h i x (slice_get_within xs i x e))

@@ -1,24 +1,17 @@
 -- The product's moves, one machine after another, from the last.
-use Rattle.std.proofs.Common.{◌≡◌, ℕ, zero, suc, ◌+◌, ◌<◌, ◌≤◌, ◌^◌, ◌↔◌, inl, inr, nat_le, List, [], ◌∷◌, ◌++◌, length, drop, map, nat_eq, true, false, get_or, Any, Contains, refl, ap, sym, ◌∙◌, subst, arith}
+use Rattle.std.proofs.Common.{◌≡◌, ℕ, zero, suc, ◌+◌, ◌<◌, ◌≤◌, ◌^◌, ◌↔◌, inl, inr, nat_le, List, [], ◌∷◌, ◌++◌, length, drop, map, get_or, Any, Contains, refl, ap, sym, ◌∙◌, subst, arith, drop-cons, le-leb, leb-true}
 use Rattle.sv_word.specs.Ranges.{IsInhabited, in_ranges, least_of}
 use Rattle.machine_core.specs.Costs.{add_costs, zeros, IsCost, CanAdd}
-use Rattle.machine_core.specs.Lists.{Any-none, Any-here, Any-cases, Any-map, Any-from_map}
+use Rattle.sv_list.specs.Lists.{Any-none, Any-here, Any-cases, Any-map, Any-from_map}
 use Rattle.machine_core.specs.CostLaws.{add_costs-zeros, CanAdd-within}
 use Rattle.machine_core.specs.Moves.{Moves}
 use Rattle.machine_core.specs.declared.machine.Move.{Move}
 use Rattle.machine_meet.specs.Joins.{AreJoins, AreInhabited, listed}
 use Rattle.machine_meet.specs.Products.{AreStates, MeetSteps, AreProduct, IsNothing, summed}
 use Rattle.sv_word.specs.Words.{greatest_character}
-use Rattle.std.proofs.lemmas.Bool.Decides.{nat_tests}
 use Rattle.std.proofs.lemmas.List.{nil_from_length}
-use Rattle.std.proofs.lemmas.List.Elements.{All-nil}
-use Rattle.machine_meet.proofs.JoinLemmas.{All-push}
+use Rattle.std.proofs.lemmas.List.Elements.{All-nil, All-push}
 use Rattle.machine_meet.specs.ProductLaws.{meet_step-cost}
-
-pub drop-here : {X : Type 0} (xs : List X) (i : ℕ) (d : X) → i < length xs → drop i xs ≡ get_or xs i d ∷ drop (suc i) xs
-drop-here [] i d h = absurd (omega arith)
-drop-here (x ∷ xs) zero d h = refl
-drop-here (x ∷ xs) (suc i) d h = drop-here xs i d (omega arith)
 
 pub drop-end : {X : Type 0} (xs : List X) → drop (length xs) xs ≡ []
 drop-end [] = refl
@@ -85,8 +78,8 @@ module _ {P S : Type 0} (steps : P → S → ℕ → List ℕ → S → Type 0) 
       → ((c : ℕ) (cost : List ℕ) (t : S) → steps p s c cost t ↔ Any (Moves c cost t) heads)
       → AreProduct steps w (drop (suc i) ps) (drop (suc i) ss) tails → AreJoins heads tails all → AreProduct steps w (drop i ps) (drop i ss) all
   product-at ps ss i p s heads tails all lt len e f head tail joins =
-      let dp : drop i ps ≡ p ∷ drop (suc i) ps = drop-here ps i p lt ∙ ap (λ x. x ∷ drop (suc i) ps) (sym e) in
-      let ds : drop i ss ≡ s ∷ drop (suc i) ss = drop-here ss i s (omega arith) ∙ ap (λ x. x ∷ drop (suc i) ss) (sym f) in
+      let dp : drop i ps ≡ p ∷ drop (suc i) ps = drop-cons ps i p lt ∙ ap (λ x. x ∷ drop (suc i) ps) (sym e) in
+      let ds : drop i ss ≡ s ∷ drop (suc i) ss = drop-cons ss i s (omega arith) ∙ ap (λ x. x ∷ drop (suc i) ss) (sym f) in
       subst (λ xs. AreProduct steps w xs (drop i ss) all) (sym dp) (subst (λ xs. AreProduct steps w (p ∷ drop (suc i) ps) xs all) (sym ds)
       (product-step p (drop (suc i) ps) s (drop (suc i) ss) heads tails all head tail joins))
 
@@ -96,8 +89,8 @@ module _ {P S : Type 0} (steps : P → S → ℕ → List ℕ → S → Type 0) 
       → ((c : ℕ) (cost : List ℕ) (t : S) → steps p s c cost t → (c ≤ greatest_character) × (length cost ≡ w))
       → AreProduct steps w (drop i ps) (drop i ss) (map listed moves)
   product-last ps ss i p s moves last len e f exact told =
-      let dp : drop i ps ≡ p ∷ [] = drop-here ps i p (omega arith) ∙ ap (λ x. x ∷ drop (suc i) ps) (sym e) ∙ ap (λ l. p ∷ l) (subst (λ n. drop n ps ≡ []) (sym last) (drop-end ps)) in
-      let ds : drop i ss ≡ s ∷ [] = drop-here ss i s (omega arith) ∙ ap (λ x. x ∷ drop (suc i) ss) (sym f) ∙ ap (λ l. s ∷ l) (subst (λ n. drop n ss ≡ []) (len ∙ sym last) (drop-end ss)) in
+      let dp : drop i ps ≡ p ∷ [] = drop-cons ps i p (omega arith) ∙ ap (λ x. x ∷ drop (suc i) ps) (sym e) ∙ ap (λ l. p ∷ l) (subst (λ n. drop n ps ≡ []) (sym last) (drop-end ps)) in
+      let ds : drop i ss ≡ s ∷ [] = drop-cons ss i s (omega arith) ∙ ap (λ x. x ∷ drop (suc i) ss) (sym f) ∙ ap (λ l. s ∷ l) (subst (λ n. drop n ss ≡ []) (len ∙ sym last) (drop-end ss)) in
       subst (λ xs. AreProduct steps w xs (drop i ss) (map listed moves)) (sym dp) (subst (λ xs. AreProduct steps w (p ∷ []) xs (map listed moves)) (sym ds) one)
     where
       one : AreProduct steps w (p ∷ []) (s ∷ []) (map listed moves)
@@ -168,21 +161,6 @@ listed-inhabited [] h k d lt = absurd (omega arith)
 listed-inhabited (m ∷ ms) h zero d lt = h zero m (omega arith)
 listed-inhabited (m ∷ ms) h (suc k) d lt = listed-inhabited ms (λ j e l. h (suc j) e (omega arith)) k d (omega arith)
 
--- what a test for no part has told
-pub some-of : {X : Type 0} (xs : List X) → nat_eq (length xs) 0 ≡ false → 0 < length xs
-some-of [] e = cc
-some-of (x ∷ xs) e = omega arith
-
-pub nil-of : {X : Type 0} (xs : List X) → nat_eq (length xs) 0 ≡ true → xs ≡ []
-nil-of [] e = refl
-nil-of (x ∷ xs) e = absurd (grind (arith, nat_tests))
-
-le-true : (a b : ℕ) → a ≤ b → nat_le a b ≡ true
-le-true a b h = grind (arith, nat_tests)
-
-true-le : (a b : ℕ) → nat_le a b ≡ true → a ≤ b
-true-le a b h = grind (arith, nat_tests)
-
 -- one move on every character, at no cost and to no state
 pub nothing-made : {S : Type 0} (width : ℕ) (on : List (ℕ × ℕ)) (free : List ℕ) (to : List S) (none all : List (Move (List S)))
     → ((c : ℕ) → in_ranges on c ≡ nat_le c greatest_character) → IsInhabited on → free ≡ zeros width → to ≡ [] → none ≡ []
@@ -191,9 +169,9 @@ nothing-made {S} width on free to none all set some costless end empty made =
     let m : Move (List S) = record { on = on; cost = free; to = to } in
     let whole : all ≡ m ∷ [] = made ∙ ap (λ l. l ++ m ∷ []) empty in (
       λ c cost t. (
-        λ h. subst (Any (Moves c cost t)) (sym whole) (Any-here (Moves c cost t) m [] (set c ∙ le-true c greatest_character h.0, costless ∙ sym h.1, end ∙ sym h.2)),
+        λ h. subst (Any (Moves c cost t)) (sym whole) (Any-here (Moves c cost t) m [] (set c ∙ le-leb c greatest_character h.0, costless ∙ sym h.1, end ∙ sym h.2)),
         λ a. elim (Any-cases (Moves c cost t) m [] (subst (Any (Moves c cost t)) whole a)) [
-          | inl p ↦ (true-le c greatest_character (sym (set c) ∙ p.0), sym p.1 ∙ costless, sym p.2 ∙ end)
+          | inl p ↦ (leb-true c greatest_character (sym (set c) ∙ p.0), sym p.1 ∙ costless, sym p.2 ∙ end)
           | inr q ↦ absurd (Any-none (Moves c cost t) q)
         ],
       ),

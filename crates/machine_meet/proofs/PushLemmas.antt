@@ -1,5 +1,5 @@
 -- Lists that a loop adds to, one element in a turn.
-use Rattle.std.proofs.Common.{◌≡◌, ℕ, ◌+◌, ◌<◌, ◌≤◌, List, [], ◌∷◌, ◌++◌, length, map, take, get_or, sym, ap, ◌∙◌, subst, append_assoc, append-nil, arith}
+use Rattle.std.proofs.Common.{◌≡◌, ℕ, ◌+◌, ◌<◌, ◌≤◌, List, [], ◌∷◌, ◌++◌, length, map, take, get_or, sym, ap, ◌∙◌, subst, append_assoc, append-nil}
 use Rattle.std.proofs.lemmas.List.{map-append, map_more, take_all}
 
 module _ {X Y : Type 0} (f : X → Y) (xs ys : List X) where
@@ -23,8 +23,3 @@ module _ {X Y : Type 0} (f : X → Y) (xs ys : List X) where
 
 pub mapped-more : {X Y : Type 0} (f : X → Y) (xs : List X) (old new : List Y) (x : X) → old ≡ map f xs → new ≡ old ++ f x ∷ [] → new ≡ map f (xs ++ x ∷ [])
 mapped-more f xs old new x before made = made ∙ ap (λ l. l ++ f x ∷ []) before ∙ sym (map-append f xs (x ∷ []))
-
--- a loop that goes through its list to the end
-pub all-yielded : {X : Type 0} (all ys rest : List X) → all ≡ ys ++ rest → length rest ≡ 0 → ys ≡ all
-all-yielded all ys [] e none = sym (e ∙ append-nil ys)
-all-yielded all ys (x ∷ rest) e none = absurd (omega arith)

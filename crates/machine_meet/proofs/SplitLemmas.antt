@@ -6,13 +6,13 @@ use Rattle.machine_core.specs.CostLaws.{add_costs-swap, zeros-add_costs-zeros}
 use Rattle.machine_core.specs.Runs.{IsPath, IsRun, run_total}
 use Rattle.machine_core.specs.RunLaws.{path_lengths, run_formed}
 use Rattle.std.proofs.lemmas.List.{take_all}
-use Rattle.std.proofs.lemmas.Option.{slice_get-get_or}
-use Rattle.machine_core.specs.Lists.{slice_get-push_cases}
+use Rattle.std.proofs.lemmas.Option.{slice_get-get_or, none-some}
+use Rattle.sv_list.specs.Lists.{slice_get-push_cases, some-once, slice_get-mapped}
 use Rattle.machine_core.specs.Costs.{IsCost}
 use Rattle.machine_meet.specs.Products.{AreStates, MeetEnds, MeetSteps}
 use Rattle.machine_meet.specs.ProductLaws.{first-states, step-states, meet_step-cost, meet_end-cost}
 use Rattle.machine_meet.specs.Splits.{AreSteps, IsSplitRow, IsColumn, ArePartRuns, as_step}
-use Rattle.machine_meet.proofs.PlaceLemmas.{none-some, got-through, beside, same_some, map-got, map-each, take-got}
+use Rattle.machine_meet.proofs.PlaceLemmas.{got-through, beside, map-each, take-got}
 
 -- what the rows cost at each part, added up by parts
 abbrev pub add_each : List (List ℕ) → List (List ℕ) → List (List ℕ)
@@ -131,8 +131,8 @@ module _ {P S : Type 0} (ends : P → S → List ℕ → Type 0) (steps : P → 
           let at = beside part.states run.states i x (sym n) ex2 in
           (at.0, at.1, column.each i at.0 x at.1 ex2) in
           let head = state zero s refl in
-          let begun : head.0 ≡ map first ps = same_some run.states zero head.0 (map first ps) head.1 (ap (λ l. slice_get l zero) r.states) in
-          let start : s ≡ first p = same_some (map first ps) j s (first p) (subst (λ l. slice_get l j ≡ Some s) begun head.2) (map-got first ps j p ep) in
+          let begun : head.0 ≡ map first ps = some-once (slice_get run.states zero) head.0 (map first ps) head.1 (ap (λ l. slice_get l zero) r.states) in
+          let start : s ≡ first p = some-once (slice_get (map first ps) j) s (first p) (subst (λ l. slice_get l j ≡ Some s) begun head.2) (slice_get-mapped first ps j p ep) in
           let path = path-from (steps p) s us part.word part.costs (omega arith) (omega arith) (λ i x y c q ex ey ec eq.
           let from = state i x ex in
           let to = state (suc i) y ey in
@@ -221,7 +221,7 @@ module _ {P S : Type 0} (ends : P → S → List ℕ → Type 0) (steps : P → 
       let stop = path-end (MeetSteps steps w ps) (map first ps) r.after run.word run.costs r.stop r.path in
       let stop2 : slice_get run.states (length run.word) ≡ Some r.stop = subst (λ l. slice_get l (length run.word) ≡ Some r.stop) (sym r.states)
       (subst (λ n. slice_get (map first ps ∷ r.after) n ≡ Some r.stop) p.0 stop) in
-      subst (λ x. MeetEnds ends w ps x run.last) (same_some run.states (length run.word) r.stop at stop2 e) r.last
+      subst (λ x. MeetEnds ends w ps x run.last) (some-once (slice_get run.states (length run.word)) r.stop at stop2 e) r.last
 
   -- and where it ends
   pub read-end : (states : List (List S)) (n : ℕ) (item at : List S) → states ≡ run.states → n ≡ length run.word → item ≡ get_or states n item → at ≡ item
@@ -248,10 +248,10 @@ module _ {P S : Type 0} (steps : P → S → ℕ → List ℕ → S → Type 0) 
   row-is i from to c cost row h is sum = record {
     count = is.count;
     steps_are = λ u v d eu ev ed.
-        subst (λ x. AreSteps steps ps x d v row) (same_some run.states i from u h.from_is eu)
-        (subst (λ x. AreSteps steps ps from x v row) (same_some run.word i c d h.character_is ed)
-        (subst (λ x. AreSteps steps ps from c x row) (same_some run.states (suc i) to v h.to_is ev) is));
-    sum = λ k e. sum ∙ same_some run.costs i cost k h.cost_is e;
+        subst (λ x. AreSteps steps ps x d v row) (some-once (slice_get run.states i) from u h.from_is eu)
+        (subst (λ x. AreSteps steps ps from x v row) (some-once (slice_get run.word i) c d h.character_is ed)
+        (subst (λ x. AreSteps steps ps from c x row) (some-once (slice_get run.states (suc i)) to v h.to_is ev) is));
+    sum = λ k e. sum ∙ some-once (slice_get run.costs i) cost k h.cost_is e;
   }
 
 -- the sum of the parts' costs is what the run costs

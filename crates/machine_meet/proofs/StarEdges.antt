@@ -7,7 +7,7 @@ use Rattle.machine_core.specs.declared.graph.Graph.{Graph}
 use Rattle.machine_core.specs.declared.machine.Move.{Move}
 use Rattle.machine_core.specs.Costs.{add_costs, cost_top}
 use Rattle.machine_core.specs.CostLaws.{top_by-least}
-use Rattle.machine_core.specs.Lists.{Any-none, Any-here, Any-cases}
+use Rattle.sv_list.specs.Lists.{Any-none, Any-here, Any-cases}
 use Rattle.machine_core.specs.Moves.{Moves}
 use Rattle.machine_core.specs.Edges.{edge, ending, move_of, EndsAt, StepsBy}
 use Rattle.machine_core.specs.EdgeLaws.{step_target, step_cost, end_cost}

@@ -1,18 +1,16 @@
 -- The end costs of a product, one machine after another, from the last.
-use Rattle.std.proofs.Common.{◌≡◌, ℕ, zero, suc, ◌+◌, ◌<◌, ◌^◌, ◌↔◌, inl, inr, List, [], ◌∷◌, ◌++◌, length, take, drop, get_or, Any, Contains, refl, ap, sym, ◌∙◌, subst, arith, add-one}
+use Rattle.std.proofs.Common.{◌≡◌, ℕ, zero, suc, ◌+◌, ◌<◌, ◌^◌, ◌↔◌, inl, inr, List, [], ◌∷◌, ◌++◌, length, take, drop, get_or, Any, Contains, refl, ap, sym, ◌∙◌, subst, arith, add-one, drop-cons}
+use Rattle.std.proofs.lemmas.List.Quantifiers.{Any-push}
 use Rattle.machine_core.specs.Costs.{add_costs, zeros, IsCost, CanAdd}
 use Rattle.machine_core.specs.CostLaws.{CanAdd-within}
 use Rattle.machine_meet.specs.Joins.{AddsSums, AreSums}
 use Rattle.machine_meet.specs.Products.{AreStates, AreEndCosts, summed}
 use Rattle.machine_meet.specs.ProductLaws.{meet_end-cost}
-use Rattle.machine_core.specs.Lists.{Any-none, Any-push_cases}
-use Rattle.machine_meet.proofs.JoinLemmas.{take-push, take-all, Any-push, Any-old}
-use Rattle.machine_meet.proofs.ProductLemmas.{drop-here, drop-end, states-at, states-drop, top-drop, Contains-drop}
+use Rattle.sv_list.specs.Lists.{Any-none, Any-push_cases}
+use Rattle.machine_meet.proofs.JoinLemmas.{take-push, take-all, Any-old}
+use Rattle.machine_meet.proofs.ProductLemmas.{drop-end, states-at, states-drop, top-drop, Contains-drop}
 
 module _ (head : List ℕ) where
-  sums-start : (old : List (List ℕ)) → AddsSums head [] old old
-  sums-start old cost = (λ h. inl h, λ h. elim h [ inl k ↦ k | inr k ↦ absurd (Any-none (λ b. add_costs head b ≡ cost) k) ])
-
   sums-step : (tails old mid : List (List ℕ)) (tail : List ℕ) → AddsSums head tails old mid → AddsSums head (tails ++ tail ∷ []) old (mid ++ add_costs head tail ∷ [])
   sums-step tails old mid tail g cost =
       let P : List ℕ → Type 0 = λ b. add_costs head b ≡ cost in
@@ -72,8 +70,8 @@ module _ {P S : Type 0} (ends : P → S → List ℕ → Type 0) (w : ℕ) where
       → ((cost : List ℕ) → ends p s cost ↔ Any (λ e. e ≡ cost) heads)
       → AreEndCosts ends w (drop (suc i) ps) (drop (suc i) ss) tails → AreSums heads tails all → AreEndCosts ends w (drop i ps) (drop i ss) all
   ends-at ps ss i p s heads tails all lt len e f head tail sums =
-      let dp : drop i ps ≡ p ∷ drop (suc i) ps = drop-here ps i p lt ∙ ap (λ x. x ∷ drop (suc i) ps) (sym e) in
-      let ds : drop i ss ≡ s ∷ drop (suc i) ss = drop-here ss i s (omega arith) ∙ ap (λ x. x ∷ drop (suc i) ss) (sym f) in
+      let dp : drop i ps ≡ p ∷ drop (suc i) ps = drop-cons ps i p lt ∙ ap (λ x. x ∷ drop (suc i) ps) (sym e) in
+      let ds : drop i ss ≡ s ∷ drop (suc i) ss = drop-cons ss i s (omega arith) ∙ ap (λ x. x ∷ drop (suc i) ss) (sym f) in
       subst (λ xs. AreEndCosts ends w xs (drop i ss) all) (sym dp) (subst (λ xs. AreEndCosts ends w (p ∷ drop (suc i) ps) xs all) (sym ds)
       (ends-step p (drop (suc i) ps) s (drop (suc i) ss) heads tails all head tail sums))
 

@@ -4,7 +4,7 @@ use Rattle.std.proofs.Common.{arith, refl, sym, subst}
 use Rattle.machine_core.specs.Costs.{IsCost}
 use Rattle.machine_core.specs.CostLaws.{IsCost-add, IsCost-zeros}
 use Rattle.machine_core.specs.Counts.{AreAtMost, at_most-weaker, at_most-one, at_most-made, at_most-pairs}
-use Rattle.machine_core.specs.Lists.{Contains-here, Contains-there}
+use Rattle.sv_list.specs.Lists.{Contains-here, Contains-there}
 use Rattle.machine_meet.specs.Products.{AreStates, MeetEnds, MeetSteps, summed, multiplied}
 use Rattle.sv_word.specs.Words.{greatest_character}
 

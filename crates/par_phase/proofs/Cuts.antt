@@ -1,5 +1,5 @@
 -- Outcomes beside their jobs, as jobs and shares are added at the end.
-use Rattle.std.proofs.Common.{◌≡◌, ℕ, zero, suc, ◌+◌, ◌-◌, ◌<◌, ◌≤◌, take, drop, length, List, [], ◌∷◌, ◌++◌, slice_index_or, subst, sym, ◌∙◌, ap, IfOk, Ok, Result, arith, length-append, refl}
+use Rattle.std.proofs.Common.{◌≡◌, ℕ, suc, ◌+◌, ◌-◌, ◌<◌, ◌≤◌, take, drop, length, List, [], ◌∷◌, ◌++◌, slice_index_or, subst, sym, ◌∙◌, ap, IfOk, Ok, Result, arith, length-append}
 use Rattle.std.specs.List.{AllZip}
 use Rattle.std.proofs.lemmas.List.{take_more}
 use Rattle.std.proofs.Math.Seq.{take-add, get_or-append_seam}
@@ -36,11 +36,6 @@ one_more_share {J} {T} R js xs ys zs shares k grown share before =
     let P : List J → Type 0 = λ l. AllZip R l ys in
     let Q : List T → Type 0 = λ l. AllZip R (take a js ++ share_of js shares k) l in
     subst P (sym whole) (subst Q (sym grown) (AllZip-append R (take a js) (share_of js shares k) xs zs before share))
-
--- behind the last share there is no job
-pub first_of_end : (jobs shares : ℕ) → (shares ≡ 0 → jobs ≡ 0) → first_of jobs shares shares ≡ jobs
-first_of_end jobs zero none = let nothing : jobs ≡ 0 = none refl in omega arith
-first_of_end jobs (suc s) none = omega arith
 
 -- what holds of each part holds of the part whose turn it is
 pub part_at : {V E : Type 0} (P : ℕ → V → Type 0) (parts yielded rest : List (Result V E)) (part : Result V E) (v : V)

@@ -9,14 +9,15 @@ use Rattle.sv_linear.specs.Points.{unit}
 use Rattle.sv_linear.specs.Terms.{coefficient, AscendsWithin}
 use Rattle.sv_linear.specs.declared.form.Form.{Form}
 use Rattle.sv_linear.specs.declared.row.Row.{Row}
+use Rattle.sv_linear.proofs.Ascending.{AscendsWithin-widen}
 use Rattle.machine_core.specs.declared.edge.Edge.{Edge}
 use Rattle.machine_core.specs.declared.end.End.{End}
 use Rattle.machine_core.specs.declared.graph.Graph.{Graph}
 use Rattle.parikh_flow.specs.Rows.{terms_by, machine_terms, edge_balance, end_balance, state_row, IsSameRow, AreSameRows}
 use Rattle.parikh_flow.specs.Building.{AreTermsAdded, IsTermAdded, AreAdded, AreOpened, AreStateForms, equation_row}
-use Rattle.parikh_flow.proofs.FormLemmas.{added-join, added-term, added-zero, ascends-more, ascends-push, terms-more}
+use Rattle.parikh_flow.proofs.FormLemmas.{added-join, added-term, added-zero, ascends-push, terms-more}
 
-by_same : {P : Type 0} (m n : ℕ) → (m ≡ n → P) → ((m ≡ n → ⊥) → P) → P
+pub by_same : {P : Type 0} (m n : ℕ) → (m ≡ n → P) → ((m ≡ n → ⊥) → P) → P
 by_same zero zero f g = f refl
 by_same zero (suc n) f g = g (λ e. absurd (omega arith))
 by_same (suc m) zero f g = g (λ e. absurd (omega arith))
@@ -55,7 +56,7 @@ pub added-nothing : (ts : ℕ → List (ℕ × ℤ)) (next more : ℕ) (a : List
 added-nothing ts next more a le ascend none = record {
   size = refl;
   each = λ s f g e h. (let same : f ≡ g = cc in subst (AreTermsAdded (ts s) f) same (none s f));
-  ascend = λ s g e. ascends-more 0 next more g.coefficients le (ascend s g e);
+  ascend = λ s g e. AscendsWithin-widen 0 next more g.coefficients le (ascend s g e);
 }
 
 pub added-both : (ts us : ℕ → List (ℕ × ℤ)) (m n : ℕ) (a b d : List Form) → AreAdded ts m a b → AreAdded us n b d → AreAdded (λ s. ts s ++ us s) n a d
@@ -140,7 +141,7 @@ module _ (e : Edge) (unknown : ℕ) (a b d : List Form) (ascend : (s : ℕ) (f :
 
   first : IsTermAdded e.to unknown (pos 1) a b → AreAdded (λ s. (unknown, unit s e.to) ∷ []) (unknown + 1) a b
   first p = added-at e.to unknown (pos 1) (λ s. unit s e.to) a b (λ z. absurd (omega (arith, ints))) (unit-same e.to e.to refl) (λ s ne. unit-other s e.to (λ z. ne (sym z)))
-      (λ f h. ascend e.to f h) (λ s f h. ascends-more 0 unknown (unknown + 1) f.coefficients (omega arith) (ascend s f h)) p
+      (λ f h. ascend e.to f h) (λ s f h. AscendsWithin-widen 0 unknown (unknown + 1) f.coefficients (omega arith) (ascend s f h)) p
 
   pub second-below : (e.from ≡ e.to → ⊥) → IsTermAdded e.to unknown (pos 1) a b → (f : Form) → slice_get b e.from ≡ Some f → AscendsWithin 0 unknown f.coefficients
   second-below ne p f h = ascend e.from f (sym (get-other a e.to e.from p.now ne) ∙ subst (λ l. slice_get l e.from ≡ Some f) p.set h)
@@ -160,7 +161,7 @@ pub added-end : (e : End) (unknown : ℕ) (a b : List Form) → ((s : ℕ) (f : 
 added-end e unknown a b ascend p =
     added-at e.at unknown (negsuc 0) (λ s. end_balance s e) a b (λ z. absurd (omega (arith, ints))) (let z = unit-same e.at e.at refl in omega (arith, ints))
     (λ s other. (let z = unit-other s e.at (λ z. other (sym z)) in omega (arith, ints)))
-    (λ f h. ascend e.at f h) (λ s f h. ascends-more 0 unknown (unknown + 1) f.coefficients (omega arith) (ascend s f h)) p
+    (λ f h. ascend e.at f h) (λ s f h. AscendsWithin-widen 0 unknown (unknown + 1) f.coefficients (omega arith) (ascend s f h)) p
 
 -- one more of the edges or ends
 pub added-more : {X : Type 0} (by : ℕ → X → ℤ) (base i unknown : ℕ) (xs : List X) (x : X) (a b d : List Form) → i < length xs → x ≡ get_or xs i x → unknown ≡ base + i

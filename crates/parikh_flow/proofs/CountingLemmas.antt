@@ -1,5 +1,5 @@
 -- Counts that are collected from the end of a run.
-use Rattle.std.proofs.Common.{◌≡◌, ℕ, zero, suc, ◌+◌, ◌-◌, ◌<◌, ◌≤◌, Bool, true, false, cond, nat_eq, List, [], ◌∷◌, length, drop, replicate, slice_get, get_or, slice_index, slice_set, Some, refl, ap, sym, ◌∙◌, subst, arith}
+use Rattle.std.proofs.Common.{◌≡◌, ℕ, zero, suc, ◌+◌, ◌-◌, ◌<◌, ◌≤◌, Bool, true, false, cond, nat_eq, List, [], ◌∷◌, length, drop, replicate, slice_get, get_or, slice_index, slice_set, Some, refl, ap, sym, ◌∙◌, subst, arith, length-set}
 use Rattle.std.proofs.Math.Seq.{drop-cons}
 use Rattle.std.proofs.lemmas.Option.{slice_get_within, slice_get-get_or}
 use Rattle.machine_core.specs.declared.edge.Edge.{Edge}
@@ -18,7 +18,8 @@ use Rattle.parikh_flow.specs.Counts.{occurrences, size_of}
 use Rattle.parikh_flow.specs.Balance.{one_at}
 use Rattle.parikh_flow.specs.Flows.{IsFlow}
 use Rattle.std.proofs.lemmas.Bool.Decides.{nat_tests}
-use Rattle.parikh_flow.proofs.CountLemmas.{length-set, one_at-is, one_at-suc}
+use Rattle.std.proofs.lemmas.List.{drop_all}
+use Rattle.parikh_flow.proofs.CountLemmas.{one_at-is, one_at-suc}
 use Rattle.parikh_flow.proofs.FlowLemmas.{walk-within}
 
 -- the step at a place of a path
@@ -39,12 +40,6 @@ path-end edges s [] (x ∷ word) costs t h = absurd h
 path-end edges s (v ∷ us) [] costs t h = absurd h
 path-end edges s (v ∷ us) (x ∷ word) [] t h = absurd h
 path-end edges s (v ∷ us) (x ∷ word) (y ∷ costs) t h = path-end edges v us word costs t h.1
-
-drop-all : {X : Type 0} (xs : List X) (n : ℕ) → length xs ≤ n → drop n xs ≡ []
-drop-all [] zero h = refl
-drop-all [] (suc n) h = refl
-drop-all (x ∷ xs) zero h = absurd (omega arith)
-drop-all (x ∷ xs) (suc n) h = drop-all xs n (omega arith)
 
 -- a count that rises by one
 pub index-rise : (f : List ℕ) (p q : ℕ) → p < length f → slice_index (slice_set f p (slice_index f p + 1)) q ≡ slice_index f q + one_at q p
@@ -72,7 +67,7 @@ module _ (m : Graph) (states : List ℕ) (after word : List ℕ) (costs : List (
           within = omega arith;
           size = length-noughts (length m.edges + length m.ends);
           places = [];
-          leads = rw (drop-all after (length word) (let a = l.0 in omega arith), drop-all word (length word) (omega arith), drop-all costs (length word) (let b = l.1 in omega arith))
+          leads = rw (drop_all (length word) after (let a = l.0 in omega arith), drop_all (length word) word (omega arith), drop_all (length word) costs (let b = l.1 in omega arith))
               (ap (λ l. get_or l (length word) 0) are ∙ path-end m.edges 0 after word costs stop path);
           tally = λ p. noughts-at (length m.edges + length m.ends) p;
           few = λ p. (let z = noughts-at (length m.edges + length m.ends) p in omega arith);

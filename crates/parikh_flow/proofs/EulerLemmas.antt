@@ -8,7 +8,7 @@ use Rattle.machine_core.specs.declared.edge.Edge.{Edge}
 use Rattle.machine_core.specs.declared.end.End.{End}
 use Rattle.machine_core.specs.declared.graph.Graph.{Graph}
 use Rattle.machine_core.specs.declared.run.Run.{Run}
-use Rattle.machine_core.specs.Lists.{slice_get-contains, slice_get-some}
+use Rattle.sv_list.specs.Lists.{slice_get-contains, slice_get-some}
 use Rattle.machine_core.specs.Walks.{LeadsAlong}
 use Rattle.parikh_flow.specs.Counts.{total_count, size_of}
 use Rattle.parikh_flow.specs.Balance.{one_at, AreBalanced}

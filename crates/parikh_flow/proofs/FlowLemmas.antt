@@ -12,7 +12,7 @@ use Rattle.machine_core.specs.Graphs.{IsRunOf}
 use Rattle.machine_core.specs.Runs.{IsPath}
 use Rattle.machine_core.specs.Walks.{LeadsAlong}
 use Rattle.machine_core.specs.WalkLaws.{along_walk}
-use Rattle.machine_core.specs.Lists.{slice_get-contains}
+use Rattle.sv_list.specs.Lists.{slice_get-contains}
 use Rattle.std.proofs.lemmas.Bool.Decides.{nat_tests}
 use Rattle.farkas_check.specs.declared.net.NetEdge.{NetEdge}
 use Rattle.farkas_check.specs.Systems.{Reached, reached_start, reached_edge}
@@ -71,7 +71,7 @@ take-past (x ∷ f) zero (suc p) h = refl
 take-past (x ∷ f) (suc n) zero h = absurd (omega arith)
 take-past (x ∷ f) (suc n) (suc p) h = take-past f n p (omega arith)
 
-by_less : {P : Type 0} (m n : ℕ) → (m < n → P) → (n ≤ m → P) → P
+pub by_less : {P : Type 0} (m n : ℕ) → (m < n → P) → (n ≤ m → P) → P
 by_less m zero f g = g (omega arith)
 by_less zero (suc n) f g = f (omega arith)
 by_less (suc m) (suc n) f g = by_less m n (λ lt. f (omega arith)) (λ le. g (omega arith))

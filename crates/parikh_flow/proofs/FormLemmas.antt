@@ -1,16 +1,16 @@
 -- Terms that are added to forms, one after another, and machines in their order.
-use Rattle.std.proofs.Common.{◌≡◌, ℕ, zero, suc, ◌+◌, ◌<◌, ◌≤◌, ℤ, pos, ◌+ℤ◌, Bool, true, false, cond, nat_eq, List, [], ◌∷◌, ◌++◌, length, map, take, get_or, replicate, unsigned_abs, append_assoc, negsuc, refl, ap, sym, ◌∙◌, subst, arith}
+use Rattle.std.proofs.Common.{◌≡◌, ℕ, zero, suc, ◌+◌, ◌<◌, ◌≤◌, ℤ, pos, ◌+ℤ◌, Bool, true, false, cond, nat_eq, List, [], ◌∷◌, ◌++◌, length, map, take, get_or, replicate, unsigned_abs, append_assoc, negsuc, refl, ap, sym, ◌∙◌, subst, arith, length-take-le}
 use Rattle.std.proofs.lemmas.Int.{ints}
 use Rattle.std.proofs.lemmas.List.{take_all, take_more}
 use Rattle.sv_linear.specs.Terms.{coefficient, AscendsWithin}
 use Rattle.sv_linear.specs.declared.form.Form.{Form}
+use Rattle.sv_linear.specs.TermLaws.{coefficient-append}
 use Rattle.machine_core.specs.declared.graph.Graph.{Graph}
 use Rattle.parikh_flow.specs.Counts.{size_of}
 use Rattle.parikh_flow.specs.Nets.{net_of, nets_of, net_edge, net_edges}
 use Rattle.machine_core.specs.declared.edge.Edge.{Edge}
 use Rattle.parikh_flow.specs.Rows.{terms_by, by_machine, unknowns_after}
 use Rattle.parikh_flow.specs.Building.{numbered, AreTermsAdded}
-use Rattle.parikh_flow.proofs.ValueLemmas.{coefficient-append}
 
 pub added-none : (f : Form) → AreTermsAdded [] f f
 added-none f = record { terms = λ u. omega (arith, ints); constant = refl }
@@ -32,11 +32,6 @@ added-zero unknown c f z = record { terms = λ u. by_test u (nat_eq unknown u); 
     by_test u true = omega (arith, ints)
     by_test u false = omega (arith, ints)
 
--- unknowns that ascend below one number do so below a greater one, and with one more at the end
-pub ascends-more : (low high more : ℕ) (ts : List (ℕ × ℤ)) → high ≤ more → AscendsWithin low high ts → AscendsWithin low more ts
-ascends-more low high more [] le h = omega arith
-ascends-more low high more (t ∷ ts) le h = (h.0, (h.1.0, ascends-more (t.0 + 1) high more ts le h.1.1))
-
 pub ascends-push : (low unknown : ℕ) (c : ℤ) (ts : List (ℕ × ℤ)) → (c ≡ pos 0 → ⊥) → AscendsWithin low unknown ts → AscendsWithin low (unknown + 1) (ts ++ (unknown, c) ∷ [])
 ascends-push low unknown c [] some h = (h, (not-zero c some, omega arith))
   where
@@ -51,16 +46,10 @@ pub terms-push : {X : Type 0} (by : X → ℤ) (base : ℕ) (xs : List X) (x : X
 terms-push by base [] x = ap (λ n. (n, by x) ∷ []) (let z : base ≡ base + 0 = omega arith in z)
 terms-push by base (y ∷ ys) x = ap (λ l. (base, by y) ∷ l) (terms-push by (suc base) ys x ∙ ap (λ n. terms_by by (suc base) ys ++ (n, by x) ∷ []) (let z : suc base + length ys ≡ base + suc (length ys) = omega arith in z))
 
-length-front : {X : Type 0} (xs : List X) (i : ℕ) → i ≤ length xs → length (take i xs) ≡ i
-length-front [] zero h = refl
-length-front [] (suc i) h = absurd (omega arith)
-length-front (x ∷ xs) zero h = refl
-length-front (x ∷ xs) (suc i) h = ap suc (length-front xs i (omega arith))
-
 pub terms-more : {X : Type 0} (by : X → ℤ) (base : ℕ) (xs : List X) (i : ℕ) (x d : X) → i < length xs → x ≡ get_or xs i d → terms_by by base (take (i + 1) xs) ≡ terms_by by base (take i xs) ++ (base + i, by x) ∷ []
 terms-more by base xs i x d lt e =
     ap (terms_by by base) (take_more xs i d lt ∙ ap (λ y. take i xs ++ y ∷ []) (sym e)) ∙ terms-push by base (take i xs) x
-    ∙ ap (λ n. terms_by by base (take i xs) ++ (base + n, by x) ∷ []) (length-front xs i (omega arith))
+    ∙ ap (λ n. terms_by by base (take i xs) ++ (base + n, by x) ∷ []) (length-take-le i xs (omega arith))
 
 -- the terms by coefficients that were listed before
 pub numbered-map : {X : Type 0} (by : X → ℤ) (base : ℕ) (xs : List X) → numbered base (map by xs) ≡ terms_by by base xs
@@ -125,7 +114,7 @@ net-push base (x ∷ es) e = ap (λ l. net_edge base x ∷ l) (net-push (suc bas
 pub net-more : (base : ℕ) (es : List Edge) (i : ℕ) (e : Edge) → i < length es → e ≡ get_or es i e → net_edges base (take (i + 1) es) ≡ net_edges base (take i es) ++ net_edge (base + i) e ∷ []
 net-more base es i e lt read =
     ap (net_edges base) (take_more es i e lt ∙ ap (λ y. take i es ++ y ∷ []) (sym read)) ∙ net-push base (take i es) e
-    ∙ ap (λ n. net_edges base (take i es) ++ net_edge (base + n) e ∷ []) (length-front es i (omega arith))
+    ∙ ap (λ n. net_edges base (take i es) ++ net_edge (base + n) e ∷ []) (length-take-le i es (omega arith))
 
 -- one coefficient more
 pub added-next : (base i unknown : ℕ) (cs : List ℤ) (c : ℤ) (f g h : Form) → i < length cs → unknown ≡ base + i → c ≡ get_or cs i (pos 0)

@@ -6,6 +6,7 @@ use Rattle.std.proofs.lemmas.List.Elements.{All-nil, All-cons, All-head, All-tai
 use Rattle.sv_linear.specs.Terms.{terms_value}
 use Rattle.sv_linear.specs.Rows.{MeetsRow, NameUnknowns, unknowns_of}
 use Rattle.sv_linear.specs.declared.row.Row.{Row}
+use Rattle.sv_linear.proofs.Ascending.{terms_value-append}
 use Rattle.machine_core.specs.declared.edge.Edge.{Edge}
 use Rattle.machine_core.specs.declared.graph.Graph.{Graph}
 use Rattle.machine_core.specs.declared.run.Run.{Run}
@@ -27,7 +28,6 @@ use Rattle.parikh_flow.specs.Solutions.{HaveFlowsAt, HaveJoinedCounts}
 use Rattle.parikh_flow.proofs.CountLemmas.{front-length, total-fall}
 use Rattle.parikh_flow.proofs.FlowLemmas.{tally-first, tally-rest, edge-tally, end-tally, total-none}
 use Rattle.parikh_flow.proofs.RunLemmas.{goes-run}
-use Rattle.parikh_flow.proofs.ValueLemmas.{value-append}
 use Rattle.parikh_flow.proofs.WeightLemmas.{weighted, weighted-fall, weighted-none, weighted-one, weighted-zero, machine_value}
 use Rattle.parikh_flow.proofs.SolutionLemmas.{all-first, all-second, all-unmap, all-range, run-rows-met, family-counts}
 
@@ -165,7 +165,7 @@ runs-cost x registers k (m ∷ ms) (r ∷ rs) base h flows =
     let w = flow-cost m r flows.0.0 flows.0.2 k in
     let same = flow-width m r flows.0.0 flows.0.2 ∙ All-head (λ g. g.registers ≡ registers) m ms h ∙ sym (runs-width x registers ms rs (base + size_of m) (All-tail (λ g. g.registers ≡ registers) m ms h) flows.1) in
     let e = add_costs-entry (run_total r) (runs_total registers rs) k same in
-    value-append x (machine_terms (edge_cost k) (end_cost k) base m) (family_terms (edge_cost k) (end_cost k) (base + size_of m) ms)
+    terms_value-append x (machine_terms (edge_cost k) (end_cost k) base m) (family_terms (edge_cost k) (end_cost k) (base + size_of m) ms)
     ∙ omega (arith, ints, rest, v, w, e)
 
 pub runs-of : (x : ℕ → ℤ) (ms : List Graph) (rs : List (Run ℕ)) (base : ℕ) → HaveFlowsAt x base ms rs → AreRunsOf ms rs
@@ -186,7 +186,7 @@ runs-length x (m ∷ ms) (r ∷ rs) base flows =
     let one = weighted-one m.edges (edge_counts m flows.0.0) (front-length flows.0.0 (length m.edges) (length m.ends) flows.0.1.size) in
     let none = weighted-zero m.ends (end_counts m flows.0.0) in
     let l = flow-length m r flows.0.0 flows.0.2 in
-    value-append x (machine_terms (λ _. pos 1) (λ _. pos 0) base m) (family_terms (λ _. pos 1) (λ _. pos 0) (base + size_of m) ms)
+    terms_value-append x (machine_terms (λ _. pos 1) (λ _. pos 0) base m) (family_terms (λ _. pos 1) (λ _. pos 0) (base + size_of m) ms)
     ∙ omega (arith, ints, rest, v, one, none, l)
 
 -- values that agree on the unknowns of a row

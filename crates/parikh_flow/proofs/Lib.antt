@@ -1,5 +1,3 @@
-pub mod FillLemmas
-pub mod PlaceLemmas
 pub mod CountLemmas
 pub mod TourLemmas
 pub mod RunLemmas
@@ -16,7 +14,7 @@ pub mod CountingLemmas
 pub mod ReadyLemmas
 mod EulerLemmas
 pub mod FormLemmas
-mod BalanceLemmas
+pub mod BalanceLemmas
 mod RowLemmas
 mod WithinLemmas
 mod EdgeCountLemmas

@@ -1,27 +1,17 @@
 -- Lists that grow in order, marks, and the one count that is used.
-use Rattle.std.proofs.Common.{◌≡◌, ℕ, zero, suc, ◌+◌, ◌<◌, ◌≤◌, ◌⊎◌, ◌↔◌, inl, inr, Bool, true, false, cond, nat_eq, List, [], ◌∷◌, ◌++◌, length, length-append, take, drop, Contains, slice_get, get_or, slice_index, slice_set, Some, refl, ap, sym, ◌∙◌, subst, arith}
+use Rattle.std.proofs.Common.{◌≡◌, ℕ, zero, suc, ◌+◌, ◌<◌, ◌≤◌, ◌⊎◌, ◌↔◌, inl, inr, Bool, true, false, cond, nat_eq, List, [], ◌∷◌, ◌++◌, length, length-append, take, drop, Contains, slice_get, get_or, slice_index, slice_set, Some, refl, ap, sym, ◌∙◌, subst, arith, length-set}
 use Rattle.std.proofs.lemmas.List.{take_all, take_more}
 use Rattle.std.proofs.lemmas.Option.{slice_get-get_or}
 use Rattle.std.proofs.lemmas.Bool.Decides.{nat_tests}
 use Rattle.std.specs.List.Sorted.{IsStrictlyIncreasing}
 use Rattle.machine_core.specs.declared.edge.Edge.{Edge}
 use Rattle.machine_core.specs.declared.graph.Graph.{Graph}
-use Rattle.machine_core.specs.Lists.{slice_get-push_cases, slice_get-append, slice_get-end, slice_get-contains}
+use Rattle.sv_list.specs.Lists.{slice_get-push_cases, slice_get-append, slice_get-end, slice_get-contains, slice_get-set_same, marked-kept}
 use Rattle.parikh_flow.specs.Counts.{total_count}
 use Rattle.parikh_flow.specs.Balance.{one_at}
 use Rattle.parikh_flow.specs.Tours.{IsMet}
-use Rattle.parikh_flow.proofs.CountLemmas.{length-set}
-
-by_less : {P : Type 0} (m n : ℕ) → (m < n → P) → (n ≤ m → P) → P
-by_less m zero f g = g (omega arith)
-by_less zero (suc n) f g = f (omega arith)
-by_less (suc m) (suc n) f g = by_less m n (λ lt. f (omega arith)) (λ le. g (omega arith))
-
-by_same : {P : Type 0} (m n : ℕ) → (m ≡ n → P) → ((m ≡ n → ⊥) → P) → P
-by_same zero zero f g = f refl
-by_same zero (suc n) f g = g (λ e. absurd (omega arith))
-by_same (suc m) zero f g = g (λ e. absurd (omega arith))
-by_same (suc m) (suc n) f g = by_same m n (λ e. f (ap suc e)) (λ ne. g (λ e. ne (omega arith)))
+use Rattle.parikh_flow.proofs.FlowLemmas.{by_less}
+use Rattle.parikh_flow.proofs.BalanceLemmas.{by_same}
 
 -- the used count
 total-zero : (f : List ℕ) (k : ℕ) → total_count f ≡ 0 → slice_index f k ≡ 0
@@ -122,18 +112,6 @@ get-set (x ∷ xs) zero (suc k) b e = inl e
 get-set (x ∷ xs) (suc i) zero b e = inl e
 get-set (x ∷ xs) (suc i) (suc k) b e = elim (get-set xs i k b e) [ inl h ↦ inl h | inr h ↦ inr (ap suc h.0, h.1) ]
 
-set-get : (xs : List Bool) (i : ℕ) → i < length xs → slice_get (slice_set xs i true) i ≡ Some true
-set-get [] i h = absurd (omega arith)
-set-get (x ∷ xs) zero h = refl
-set-get (x ∷ xs) (suc i) h = set-get xs i (omega arith)
-
-set-keeps : (xs : List Bool) (i k : ℕ) → slice_get xs k ≡ Some true → slice_get (slice_set xs i true) k ≡ Some true
-set-keeps [] i k e = cc
-set-keeps (x ∷ xs) zero zero e = refl
-set-keeps (x ∷ xs) zero (suc k) e = e
-set-keeps (x ∷ xs) (suc i) zero e = e
-set-keeps (x ∷ xs) (suc i) (suc k) e = set-keeps xs i k e
-
 pub marked-push : (edges : List Edge) (states : ℕ) (back : List ℕ) (met new : List Bool) (p : ℕ) (e : Edge) → slice_get edges p ≡ Some e → length met ≡ states → e.to < states
     → new ≡ slice_set met e.to true → Marked edges states back met → (length new ≡ states) × Marked edges states (back ++ p ∷ []) new
 marked-push edges states back met new p e is size inside push m = rw push (
@@ -144,11 +122,11 @@ marked-push edges states back met new p e is size inside push m = rw push (
       | inr h ↦ inr (length back, p, e, slice_get-end back p, is, sym h.0)
     ]),
     (λ t. elim t [
-      | inl z ↦ set-keeps met e.to s ((m s lt).1 (inl z))
+      | inl z ↦ marked-kept met e.to s ((m s lt).1 (inl z))
       | inr (i, q, d, a, b, c) ↦ elim (slice_get-push_cases back p i q a) [
-        | inl old ↦ set-keeps met e.to s ((m s lt).1 (inr (i, q, d, old, b, c)))
+        | inl old ↦ marked-kept met e.to s ((m s lt).1 (inr (i, q, d, old, b, c)))
         | inr now ↦ (let pq : p ≡ q = now.1 in let same : e ≡ d = cc in
-            subst (λ n. slice_get (slice_set met e.to true) n ≡ Some true) (subst (λ (x : Edge). x.to ≡ s) (sym same) c) (set-get met e.to (omega arith)))
+            subst (λ n. slice_get (slice_set met e.to true) n ≡ Some true) (subst (λ (x : Edge). x.to ≡ s) (sym same) c) (slice_get-set_same met e.to true (omega arith)))
       ]
     ]),
   ),

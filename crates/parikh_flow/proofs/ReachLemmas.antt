@@ -1,17 +1,16 @@
 -- One step of a search of a net.
-use Rattle.std.proofs.Common.{◌≡◌, ℕ, ℤ, pos, zero, suc, ◌+◌, ◌<◌, ◌≤◌, ◌<ℤ◌, ◌⊎◌, ◌↔◌, inl, inr, Bool, true, false, List, [], ◌∷◌, ◌++◌, length, length-append, Contains, All, slice_get, slice_set, get_or, Some, replicate, take, refl, ap, sym, ◌∙◌, subst, arith}
+use Rattle.std.proofs.Common.{◌≡◌, ℕ, ℤ, pos, zero, suc, ◌+◌, ◌<◌, ◌≤◌, ◌<ℤ◌, ◌⊎◌, ◌↔◌, inl, inr, Bool, true, false, List, [], ◌∷◌, ◌++◌, length, length-append, Contains, All, slice_get, slice_set, get_or, Some, replicate, take, refl, ap, sym, ◌∙◌, subst, arith, length-set}
 use Rattle.std.proofs.lemmas.List.{take_all, take_more}
 use Rattle.std.proofs.lemmas.Option.{slice_get_within, slice_get-get_or}
 use Rattle.std.specs.List.Sorted.{IsStrictlyIncreasing}
 use Rattle.machine_core.specs.Places.{places, add_to, IsIndex}
-use Rattle.machine_core.specs.Lists.{slice_get-append, slice_get-push_cases, slice_get-end, slice_get-contains}
+use Rattle.sv_list.specs.Lists.{slice_get-append, slice_get-push_cases, slice_get-end, slice_get-contains, marked-cases, slice_get-set_same, marked-kept}
 use Rattle.farkas_check.specs.Systems.{Reached, reached_start, reached_edge}
 use Rattle.farkas_check.specs.Cuts.{IsNetWithin, IsUnreached}
 use Rattle.farkas_check.specs.declared.net.Net.{Net}
 use Rattle.farkas_check.specs.declared.net.NetEdge.{NetEdge}
 use Rattle.parikh_flow.specs.Reaching.{source_of, unmarked_count, Traverses, IsReaching}
-use Rattle.parikh_flow.proofs.PlaceLemmas.{places-in, places-all}
-use Rattle.machine_core.specs.PlaceLaws.{index-add, length-add_to}
+use Rattle.machine_core.specs.PlaceLaws.{index-add, length-add_to, places-in, places-all}
 
 -- what a property of all elements says of the one at a place
 pub all-at : {X : Type 0} (P : X → Type 0) (xs : List X) (p : ℕ) (x : X) → All P xs → slice_get xs p ≡ Some x → P x
@@ -21,39 +20,12 @@ all-at P xs p x h e =
     let same : get_or xs p x ≡ x = cc in
     subst P same (h p x lt)
 
-set-length : (xs : List Bool) (i : ℕ) → length (slice_set xs i true) ≡ length xs
-set-length [] i = refl
-set-length (y ∷ ys) zero = refl
-set-length (y ∷ ys) (suc i) = ap suc (set-length ys i)
-
-set-get : (seen : List Bool) (i s : ℕ) → slice_get (slice_set seen i true) s ≡ Some true → (s ≡ i) ⊎ (slice_get seen s ≡ Some true)
-set-get [] i s e = inr e
-set-get (b ∷ bs) zero zero e = inl refl
-set-get (b ∷ bs) zero (suc s) e = inr e
-set-get (b ∷ bs) (suc i) zero e = inr e
-set-get (b ∷ bs) (suc i) (suc s) e = elim (set-get bs i s e) [ inl h ↦ inl (ap suc h) | inr h ↦ inr h ]
-
-set-here : (xs : List Bool) (i : ℕ) → i < length xs → slice_get (slice_set xs i true) i ≡ Some true
-set-here [] i h = absurd (omega arith)
-set-here (x ∷ xs) zero h = refl
-set-here (x ∷ xs) (suc i) h = set-here xs i (omega arith)
-
-set-keeps : (xs : List Bool) (i k : ℕ) → slice_get xs k ≡ Some true → slice_get (slice_set xs i true) k ≡ Some true
-set-keeps [] i k e = cc
-set-keeps (x ∷ xs) zero zero e = refl
-set-keeps (x ∷ xs) zero (suc k) e = e
-set-keeps (x ∷ xs) (suc i) zero e = e
-set-keeps (x ∷ xs) (suc i) (suc k) e = set-keeps xs i k e
-
 count-set : (seen : List Bool) (i : ℕ) → slice_get seen i ≡ Some false → suc (unmarked_count (slice_set seen i true)) ≡ unmarked_count seen
 count-set [] i e = cc
 count-set (false ∷ bs) zero e = refl
 count-set (true ∷ bs) zero e = cc
 count-set (true ∷ bs) (suc i) e = count-set bs i e
 count-set (false ∷ bs) (suc i) e = ap suc (count-set bs i e)
-
-get-lt : {X : Type 0} (xs : List X) (i : ℕ) (x : X) → slice_get xs i ≡ Some x → i < length xs
-get-lt = slice_get_within
 
 module _ (x : ℕ → ℤ) (net : Net) (found : List ℕ) (seen : List Bool) (at : ℕ) (done : List ℕ) (h : IsReaching x net found seen at done)
     (s : ℕ) (here : slice_get found at ≡ Some s) (p : ℕ) (d : NetEdge) (edge : slice_get net.edges p ≡ Some d) (from : d.from ≡ s) (inside : d.to < net.states) where
@@ -81,16 +53,16 @@ module _ (x : ℕ → ℤ) (net : Net) (found : List ℕ) (seen : List Bool) (at
   step-new : (new : List ℕ) (now : List Bool) → pos 0 <ℤ x d.unknown → slice_get seen d.to ≡ Some false → new ≡ found ++ d.to ∷ [] → now ≡ slice_set seen d.to true
       → IsReaching x net new now at (done ++ p ∷ [])
   step-new new now used t a b =
-      let keep : (u : ℕ) → slice_get seen u ≡ Some true → slice_get now u ≡ Some true = λ u g. rw b (set-keeps seen d.to u g) in
-      let mark : slice_get now d.to ≡ Some true = rw b (set-here seen d.to (get-lt seen d.to false t)) in
+      let keep : (u : ℕ) → slice_get seen u ≡ Some true → slice_get now u ≡ Some true = λ u g. rw b (marked-kept seen d.to u g) in
+      let mark : slice_get now d.to ≡ Some true = rw b (slice_get-set_same seen d.to true (slice_get_within seen d.to false t)) in
       let last : slice_get new (length found) ≡ Some d.to = rw a (slice_get-end found d.to) in
       let kept : (i u : ℕ) → slice_get found i ≡ Some u → slice_get new i ≡ Some u = λ i u g. rw a (slice_get-append found (d.to ∷ []) i u g) in
       let split : (i u : ℕ) → slice_get new i ≡ Some u → (slice_get found i ≡ Some u) ⊎ ((i ≡ length found) × (d.to ≡ u)) = λ i u g. slice_get-push_cases found d.to i u (rw a at g) in
-      let below : at < length found = get-lt found at s here in
+      let below : at < length found = slice_get_within found at s here in
       let gone : Reached x net d.to = reached_edge d (slice_get-contains net.edges p d edge) used (subst (Reached x net) (sym from) (h.reached at s here)) in
       record {
         start = keep net.start h.start;
-        known = λ u g. elim (set-get seen d.to u (rw b at g)) [
+        known = λ u g. elim (marked-cases seen d.to u (rw b at g)) [
           | inl o ↦ (length found, subst (λ n. slice_get new (length found) ≡ Some n) (sym o) last)
           | inr o ↦ (let r = h.known u o in (r.0, kept r.0 u r.1))
         ];
@@ -102,7 +74,7 @@ module _ (x : ℕ → ℤ) (net : Net) (found : List ℕ) (seen : List Bool) (at
         ];
         doing = doing-more now keep (λ w. mark);
         count = rw (a, b, length-append) (let u = count-set seen d.to t in let v = h.count in omega arith);
-        size = rw b (set-length seen d.to ∙ h.size);
+        size = rw b (length-set seen d.to true ∙ h.size);
       }
 
   pub step-traverse : (new : List ℕ) (now : List Bool) → Traverses x d found new seen now → IsReaching x net new now at (done ++ p ∷ [])
@@ -201,14 +173,14 @@ module _ (x : ℕ → ℤ) (net : Net) (inside : net.start < net.states) where
 
   pub reach-start : (found : List ℕ) (seen : List Bool) → found ≡ net.start ∷ [] → seen ≡ slice_set (replicate net.states false) net.start true → IsReaching x net found seen 0 []
   reach-start found seen a b = rw (a, b) (record {
-    start = set-here (replicate net.states false) net.start (rw sized inside);
-    known = λ s g. elim (set-get (replicate net.states false) net.start s g) [ inl o ↦ (0, ap Some (sym o)) | inr o ↦ absurd (all-false net.states s o) ];
+    start = slice_get-set_same (replicate net.states false) net.start true (rw sized inside);
+    known = λ s g. elim (marked-cases (replicate net.states false) net.start s g) [ inl o ↦ (0, ap Some (sym o)) | inr o ↦ absurd (all-false net.states s o) ];
     inside = λ i s g. subst (λ n. n < net.states) (only i s g) inside;
     reached = λ i s g. subst (Reached x net) (only i s g) reached_start;
     closed = λ i s p e lt g k m used. absurd (omega arith);
     doing = λ i p e k m used. cc;
     count = (let c = count-set (replicate net.states false) net.start (is-false net.states net.start inside) in let d = counts net.states in omega arith);
-    size = set-length (replicate net.states false) net.start ∙ sized net.states;
+    size = length-set (replicate net.states false) net.start true ∙ sized net.states;
   })
 
 -- a search that is done has marked what is reached
@@ -220,7 +192,7 @@ reach-done x net found seen at h le s = ((λ g. let r = h.known s g in h.reached
     marked s reached_start = h.start
     marked s (reached_edge e is used r) =
         let k = h.known e.from (marked e.from r) in
-        let lt = get-lt found k.0 e.from k.1 in
+        let lt = slice_get_within found k.0 e.from k.1 in
         h.closed k.0 e.from is.0 e (omega arith) k.1 (slice_get-get_or net.edges is.0 e is.1 ∙ ap Some is.2) refl used
 
 -- the answer

@@ -4,7 +4,7 @@ use Rattle.std.proofs.lemmas.Option.{slice_get_within, slice_get-get_or}
 use Rattle.std.proofs.lemmas.List.Elements.{All-nil, All-cons}
 use Rattle.sv_linear.specs.declared.row.Row.{Row}
 use Rattle.machine_core.specs.declared.graph.Graph.{Graph}
-use Rattle.machine_core.specs.Lists.{slice_get-contains}
+use Rattle.sv_list.specs.Lists.{slice_get-contains}
 use Rattle.farkas_check.specs.declared.net.NetEdge.{NetEdge}
 use Rattle.farkas_check.specs.declared.system.System.{System}
 use Rattle.farkas_check.specs.Cuts.{IsNetWithin}
@@ -12,6 +12,7 @@ use Rattle.parikh_flow.specs.Counts.{size_of}
 use Rattle.parikh_flow.specs.Nets.{net_edges, net_of, nets_of}
 use Rattle.parikh_flow.specs.Rows.{unknowns_after, IsSystemOf}
 use Rattle.parikh_flow.proofs.RunLemmas.{net-out}
+use Rattle.parikh_flow.proofs.FormLemmas.{after-most}
 
 net-within : (m : Graph) (base n : ℕ) → base + size_of m ≤ n → IsNetWithin n (net_of base m)
 net-within m base n le = record {
@@ -26,14 +27,10 @@ net-within m base n le = record {
       subst (λ (x : NetEdge). (x.«from» < m.states) × (x.to < m.states)) (sym e.3) (f.from, f.to);
 }
 
-after-more : (base : ℕ) (ms : List Graph) → base ≤ unknowns_after base ms
-after-more base [] = omega arith
-after-more base (m ∷ ms) = let r = after-more (base + size_of m) ms in omega arith
-
 family-within : (ms : List Graph) (base n : ℕ) → unknowns_after base ms ≤ n → All (IsNetWithin n) (nets_of base ms)
 family-within [] base n le = All-nil (IsNetWithin n)
 family-within (m ∷ ms) base n le =
-    let more = after-more (base + size_of m) ms in
+    let more = after-most (base + size_of m) ms in
     All-cons (IsNetWithin n) (net_of base m) (nets_of (base + size_of m) ms) (net-within m base n (omega arith)) (family-within ms (base + size_of m) n le)
 
 pub system-within : (machines : List Graph) (integers registers : ℕ) (rows : List Row) (reach : Option ℕ) (s : System) → IsSystemOf machines integers registers rows reach s → All (IsNetWithin s.unknowns) s.nets

@@ -9,7 +9,7 @@ use Rattle.machine_core.specs.declared.run.Run.{Run}
 use Rattle.machine_core.specs.Edges.{IsWalk}
 use Rattle.machine_core.specs.Graphs.{IsRunOf}
 use Rattle.machine_core.specs.WalkLaws.{along_run}
-use Rattle.machine_core.specs.Lists.{slice_get-contains, Contains-here, Contains-there, slice_get-some}
+use Rattle.sv_list.specs.Lists.{slice_get-contains, Contains-here, Contains-there, slice_get-some}
 use Rattle.farkas_check.specs.declared.net.NetEdge.{NetEdge}
 use Rattle.farkas_check.specs.Systems.{Reached, reached_start, reached_edge, Joined}
 use Rattle.farkas_check.specs.Cuts.{IsUnreached}

@@ -10,7 +10,7 @@ use Rattle.sv_linear.specs.declared.row.Row.{Row}
 use Rattle.machine_core.specs.declared.edge.Edge.{Edge}
 use Rattle.machine_core.specs.declared.graph.Graph.{Graph}
 use Rattle.machine_core.specs.Edges.{from_of, at_of}
-use Rattle.machine_core.specs.Lists.{slice_get-contains}
+use Rattle.sv_list.specs.Lists.{slice_get-contains}
 use Rattle.farkas_check.specs.declared.net.NetEdge.{NetEdge}
 use Rattle.farkas_check.specs.declared.system.System.{System}
 use Rattle.farkas_check.specs.Systems.{Constraint, constraint_of, constraint_value, Meets, Reached, reached_start, reached_edge, Joined, rows_of}
@@ -23,6 +23,7 @@ use Rattle.parikh_flow.proofs.CountLemmas.{counts_at-none, rest-length}
 use Rattle.parikh_flow.proofs.ValueLemmas.{same-value}
 use Rattle.parikh_flow.proofs.WeightLemmas.{machine_value, end_value, weighted, weighted-balance, weighted-ends, weighted-one}
 use Rattle.parikh_flow.proofs.RunLemmas.{net-in, net-out}
+use Rattle.parikh_flow.proofs.FlowLemmas.{by_less}
 
 module _ {X : Type 0} (P : X → Type 0) where
   pub all-first : (xs ys : List X) → All P (xs ++ ys) → All P xs
@@ -107,16 +108,11 @@ module _ (x : ℕ → ℤ) (base : ℕ) (m : Graph) (f : List ℕ) (counts : Are
       let z : one_at s 0 ≡ 0 = ap (λ b. cond b 1 0) t in
       omega arith
 
-  compare : {P : Type 0} (a b : ℕ) → (a < b → P) → (b ≤ a → P) → P
-  compare a zero f g = g (omega arith)
-  compare zero (suc b) f g = f (omega arith)
-  compare (suc a) (suc b) f g = compare a b (λ lt. f (omega arith)) (λ le. g (omega arith))
-
   pub counts-balanced : AreBalanced m f
   counts-balanced = record {
     size = counts.size;
     one_end = one-end;
-    at_each = λ s. compare s m.states (balanced-within s) (balanced-past s);
+    at_each = λ s. by_less s m.states (balanced-within s) (balanced-past s);
   }
 
 -- a net that is joined by the values is joined by the counts

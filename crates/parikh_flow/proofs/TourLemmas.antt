@@ -1,16 +1,16 @@
 -- What the steps of a tour keep.
-use Rattle.std.proofs.Common.{◌≡◌, ℕ, zero, suc, ◌+◌, ◌-◌, ◌<◌, ◌≤◌, ◌⊎◌, inl, inr, List, [], ◌∷◌, ◌++◌, length, reverse, slice_get, get_or, slice_index, slice_set, Some, None, replicate, refl, ap, sym, ◌∙◌, subst, arith}
+use Rattle.std.proofs.Common.{◌≡◌, ℕ, zero, suc, ◌+◌, ◌-◌, ◌<◌, ◌≤◌, ◌⊎◌, inl, inr, List, [], ◌∷◌, ◌++◌, length, reverse, slice_get, get_or, slice_index, slice_set, Some, None, replicate, refl, ap, sym, ◌∙◌, subst, arith, length-set}
 use Rattle.std.proofs.lemmas.Option.{slice_get-get_or, slice_get_within}
 use Rattle.std.proofs.lemmas.List.{reverse-append}
 use Rattle.machine_core.specs.declared.edge.Edge.{Edge}
+use Rattle.machine_core.specs.PlaceLaws.{places-in, places-all}
 use Rattle.machine_core.specs.Edges.{from_of, IsWalk}
-use Rattle.machine_core.specs.Lists.{slice_get-push_cases}
+use Rattle.sv_list.specs.Lists.{slice_get-push_cases}
 use Rattle.machine_core.specs.Places.{places}
-use Rattle.parikh_flow.proofs.PlaceLemmas.{places-in, places-all}
 use Rattle.parikh_flow.specs.Counts.{counts_at, to_of}
 use Rattle.parikh_flow.specs.Balance.{one_at}
 use Rattle.parikh_flow.specs.Tours.{IsDrained, Balances, ArePassed, IsTour, IsToured, IsNextLeft}
-use Rattle.parikh_flow.proofs.CountLemmas.{length-set, counts_at-fall, index-fall, index-falls, occurrences-push, counts_at-none, one_at-same, one_at-is, occurs, occurs-at, occurrences-reverse}
+use Rattle.parikh_flow.proofs.CountLemmas.{counts_at-fall, index-fall, index-falls, occurrences-push, counts_at-none, one_at-same, one_at-is, occurs, occurs-at, occurrences-reverse}
 
 pub walk-push : (edges : List Edge) (s : ℕ) (ps : List ℕ) (t p : ℕ) (e : Edge) → IsWalk edges s ps t → slice_get edges p ≡ Some e → e.from ≡ t → IsWalk edges s (ps ++ p ∷ []) e.to
 walk-push edges s [] t p e w g f = (e, g, f ∙ sym w, refl)

@@ -3,6 +3,7 @@ use Rattle.std.proofs.Common.{◌≡◌, ℕ, zero, suc, ◌+◌, ◌<◌, ℤ, 
 use Rattle.std.proofs.lemmas.Int.{ints}
 use Rattle.sv_linear.specs.Terms.{terms_value}
 use Rattle.sv_linear.specs.Integers.{mul-add}
+use Rattle.sv_linear.proofs.Ascending.{terms_value-append}
 use Rattle.machine_core.specs.declared.edge.Edge.{Edge}
 use Rattle.machine_core.specs.declared.end.End.{End}
 use Rattle.machine_core.specs.declared.graph.Graph.{Graph}
@@ -10,7 +11,6 @@ use Rattle.machine_core.specs.Edges.{from_of, at_of}
 use Rattle.parikh_flow.specs.Counts.{counts_at, total_count, to_of, edge_counts, end_counts}
 use Rattle.parikh_flow.specs.Rows.{terms_by, machine_terms, edge_balance, end_balance}
 use Rattle.parikh_flow.specs.Solutions.{AreCountsAt}
-use Rattle.parikh_flow.proofs.ValueLemmas.{value-append}
 use Rattle.parikh_flow.proofs.CountLemmas.{front-length, rest-length}
 use Rattle.parikh_flow.proofs.RunLemmas.{index-take, index-drop}
 
@@ -43,7 +43,7 @@ module _ (x : ℕ → ℤ) (base : ℕ) (m : Graph) (f : List ℕ) (counts : Are
 
   pub machine_value : (of_edge : Edge → ℤ) (of_end : End → ℤ) → terms_value x (machine_terms of_edge of_end base m) ≡ weighted of_edge m.edges (edge_counts m f) +ℤ weighted of_end m.ends (end_counts m f)
   machine_value of_edge of_end =
-      value-append x (terms_by of_edge base m.edges) (terms_by of_end (base + length m.edges) m.ends)
+      terms_value-append x (terms_by of_edge base m.edges) (terms_by of_end (base + length m.edges) m.ends)
       ∙ ap (λ v. v +ℤ terms_value x (terms_by of_end (base + length m.edges) m.ends)) (edge_value of_edge)
       ∙ ap (λ v. weighted of_edge m.edges (edge_counts m f) +ℤ v) (end_value of_end)
 

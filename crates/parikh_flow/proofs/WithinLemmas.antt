@@ -8,9 +8,10 @@ use Rattle.sv_linear.specs.Combining.{IsSymmetric}
 use Rattle.sv_linear.specs.Points.{unit}
 use Rattle.sv_linear.specs.Rows.{IsRowWithin, HasSymmetricEntries}
 use Rattle.sv_linear.specs.Terms.{coefficient, AscendsWithin}
-use Rattle.sv_linear.specs.TermLaws.{below_low, met, passed}
+use Rattle.sv_linear.specs.TermLaws.{below_low, met, passed, coefficient-append}
 use Rattle.sv_linear.specs.declared.column.Column.TheVariants.{Unknown, Constant}
 use Rattle.sv_linear.specs.declared.row.Row.{Row}
+use Rattle.sv_linear.proofs.Ascending.{AscendsWithin-widen}
 use Rattle.machine_core.specs.declared.edge.Edge.{Edge}
 use Rattle.machine_core.specs.declared.end.End.{End}
 use Rattle.machine_core.specs.declared.graph.Graph.{Graph}
@@ -19,14 +20,9 @@ use Rattle.farkas_check.specs.declared.system.System.{System}
 use Rattle.parikh_flow.specs.Building.{CostsFit}
 use Rattle.parikh_flow.specs.Counts.{size_of}
 use Rattle.parikh_flow.specs.Rows.{unknowns_after, terms_by, machine_terms, family_terms, edge_cost, end_cost, register_row, not_negative_row, end_row, edge_balance, end_balance, state_row, machine_rows, family_rows, reach_rows, run_rows, IsSameRow, AreSameRows, IsSystemOf}
-use Rattle.parikh_flow.proofs.FormLemmas.{after-most, ascends-more}
+use Rattle.parikh_flow.proofs.FormLemmas.{after-most}
 use Rattle.parikh_flow.proofs.PointLemmas.{range-all}
-use Rattle.parikh_flow.proofs.ValueLemmas.{coefficient-append}
-
-by_less : {P : Type 0} (m n : ℕ) → (m < n → P) → (n ≤ m → P) → P
-by_less m zero f g = g (omega arith)
-by_less zero (suc n) f g = f (omega arith)
-by_less (suc m) (suc n) f g = by_less m n (λ lt. f (omega arith)) (λ le. g (omega arith))
+use Rattle.parikh_flow.proofs.FlowLemmas.{by_less}
 
 small-symmetric : (z : ℤ) → unsigned_abs z ≤ 2 → IsSymmetric z
 small-symmetric z h = omega arith
@@ -224,7 +220,7 @@ within-append n (x ∷ rs) qs a b zero r e = a zero r e
 within-append n (x ∷ rs) qs a b (suc i) r e = within-append n rs qs (λ i. a (suc i)) b i r e
 
 row-wider : (n m : ℕ) (r : Row) → n ≤ m → IsRowWithin n r → IsRowWithin m r
-row-wider n m r le h = record { unknowns = ascends-more 0 n m r.form.coefficients le h.unknowns; symmetric = h.symmetric }
+row-wider n m r le h = record { unknowns = AscendsWithin-widen 0 n m r.form.coefficients le h.unknowns; symmetric = h.symmetric }
 
 pub rows-within : (machines : List Graph) (integers registers : ℕ) (rows : List Row) (reach : Option ℕ) (s : System) → IsSystemOf machines integers registers rows reach s
     → ((k : ℕ) → k < registers → All (CostsFit k) machines) → IfSome reach (λ most. most < 2 ^ 64)

@@ -3,15 +3,17 @@ use Rattle.std.proofs.Common.{◌≡◌, ℕ, zero, suc, ◌+◌, ◌<◌, ◌�
 use Rattle.std.specs.Prelude.{nat_lt}
 use Rattle.std.proofs.lemmas.Bool.Decides.{nat_tests}
 use Rattle.std.proofs.lemmas.List.{append_assoc, drop_more}
+use Rattle.replace_machines.proofs.RowLemmas.{less_or_not}
 use Rattle.sv_word.specs.Words.{IsWord, greatest_character}
+use Rattle.sv_word.specs.Ranges.{in_pair}
 use Rattle.sv_terms.specs.Language.{Word}
 use Rattle.machine_core.specs.declared.graph.Graph.{Graph}
 use Rattle.regex_machine.specs.Laws.{drop-get}
 use Rattle.part_machines.specs.declared.table.TableRow.{TableRow}
-use Rattle.part_machines.specs.Chains.{AreRanges, chain_row, chain_rows, follows, ranges_of, within}
+use Rattle.part_machines.specs.Chains.{AreRanges, chain_row, chain_rows, follows, ranges_of}
 use Rattle.part_machines.specs.Parts.{Decides}
 use Rattle.part_machines.specs.Tables.{IsOfTable, IsRow, after, lead_by, leg, next, row_of}
-use Rattle.part_machines.proofs.TableLemmas.{lead-here, lead-later, less_or_not, table-decides}
+use Rattle.part_machines.proofs.TableLemmas.{lead-here, lead-later, table-decides}
 
 pub ranges-formed : (w : Word) → IsWord w → AreRanges (ranges_of w)
 ranges-formed [] h = tt
@@ -76,23 +78,23 @@ module _ (ranges : List (ℕ × ℕ)) (longer : Bool) where
   N = next (chain_rows longer lost 0 ranges)
 
   -- where each state leads
-  inside-bounds : (r : ℕ × ℕ) (c : ℕ) → within r c ≡ true → (r.0 ≤ c) × (c ≤ r.1)
+  inside-bounds : (r : ℕ × ℕ) (c : ℕ) → in_pair r c ≡ true → (r.0 ≤ c) × (c ≤ r.1)
   inside-bounds r c h = (grind (arith, nat_tests), grind (arith, nat_tests))
 
-  outside-bounds : (r : ℕ × ℕ) (c : ℕ) → within r c ≡ false → (c < r.0) ⊎ ((r.0 ≤ c) × (r.1 + 1 ≤ c))
+  outside-bounds : (r : ℕ × ℕ) (c : ℕ) → in_pair r c ≡ false → (c < r.0) ⊎ ((r.0 ≤ c) × (r.1 + 1 ≤ c))
   outside-bounds r c h = ⊎_elim
       (λ a. inl a.0)
       (λ b. ⊎_elim
       (λ d.
       let low = b.0 in
       let high : c ≤ r.1 = (let y = d.0 in omega (arith, y)) in
-      let t : within r c ≡ true = grind (arith, nat_tests) in
+      let t : in_pair r c ≡ true = grind (arith, nat_tests) in
       absurd (let z : true ≡ false = sym t ∙ h in cc))
       (λ d. inr (b.0, d.0))
       (less_or_not c (r.1 + 1)))
       (less_or_not c r.0)
 
-  along : (s : ℕ) (r : ℕ × ℕ) (c : ℕ) → slice_get ranges s ≡ Some r → within r c ≡ true → N s c ≡ suc s
+  along : (s : ℕ) (r : ℕ × ℕ) (c : ℕ) → slice_get ranges s ≡ Some r → in_pair r c ≡ true → N s c ≡ suc s
   along s r c e h =
       let b = inside-bounds r c h in
       let row = chain-along ranges longer lost 0 s r e in
@@ -102,7 +104,7 @@ module _ (ranges : List (ℕ × ℕ)) (longer : Bool) where
       let same : 0 + s + 1 ≡ suc s = omega arith in
       ap (λ o. lead_by o s c) row ∙ lead-later lost (leg r.0 lost) (second ∷ []) c b.0 ∙ lead-here lost second [] c below ∙ same
 
-  astray : (s : ℕ) (r : ℕ × ℕ) (c : ℕ) → slice_get ranges s ≡ Some r → within r c ≡ false → N s c ≡ lost
+  astray : (s : ℕ) (r : ℕ × ℕ) (c : ℕ) → slice_get ranges s ≡ Some r → in_pair r c ≡ false → N s c ≡ lost
   astray s r c e h =
       let row = chain-along ranges longer lost 0 s r e in
       let second = leg (r.1 + 1) (0 + s + 1) in
@@ -160,7 +162,7 @@ module _ (ranges : List (ℕ × ℕ)) (longer : Bool) where
       let e = (drop-get ranges s r left d).0 in
       let lt = in-list s r e in
       (λ f. absurd (omega (arith, f, lt)), λ f. cc)
-  tells (c ∷ w) (r ∷ left) s d h = by (within r c) refl (tells w left (suc s) at.1 (omega (arith, lt)))
+  tells (c ∷ w) (r ∷ left) s d h = by (in_pair r c) refl (tells w left (suc s) at.1 (omega (arith, lt)))
     where
       at : (slice_get ranges s ≡ Some r) × (drop (suc s) ranges ≡ left)
       at = drop-get ranges s r left d
@@ -168,14 +170,14 @@ module _ (ranges : List (ℕ × ℕ)) (longer : Bool) where
       lt : s < last
       lt = in-list s r at.0
 
-      by : (b : Bool) → within r c ≡ b → (after N (suc s) w ≡ last) ↔ (follows longer left w ≡ true) → (after N s (c ∷ w) ≡ last) ↔ (follows longer (r ∷ left) (c ∷ w) ≡ true)
+      by : (b : Bool) → in_pair r c ≡ b → (after N (suc s) w ≡ last) ↔ (follows longer left w ≡ true) → (after N s (c ∷ w) ≡ last) ↔ (follows longer (r ∷ left) (c ∷ w) ≡ true)
       by true e rest =
           let f = ap (λ t. after N t w) (along s r c at.0 e) in
-          let g : (within r c && follows longer left w) ≡ follows longer left w = ap (λ b. b && follows longer left w) e in
+          let g : (in_pair r c && follows longer left w) ≡ follows longer left w = ap (λ b. b && follows longer left w) e in
           (λ x. g ∙ rest.0 (sym f ∙ x), λ x. f ∙ rest.1 (sym g ∙ x))
       by false e rest =
           let f = ap (λ t. after N t w) (astray s r c at.0 e) ∙ gone-after w in
-          let g : (within r c && follows longer left w) ≡ false = ap (λ b. b && follows longer left w) e in
+          let g : (in_pair r c && follows longer left w) ≡ false = ap (λ b. b && follows longer left w) e in
           (λ x. absurd (not-last (sym f ∙ x)), λ x. cc)
 
   -- no state is left
@@ -187,7 +189,7 @@ module _ (ranges : List (ℕ × ℕ)) (longer : Bool) where
   stays : (s c : ℕ) → s < lost + 1 → N s c < lost + 1
   stays s c h = by (less_or_not s last) (less_or_not last s)
     where
-      by_range : (r : ℕ × ℕ) → slice_get ranges s ≡ Some r → s < last → (b : Bool) → within r c ≡ b → N s c < lost + 1
+      by_range : (r : ℕ × ℕ) → slice_get ranges s ≡ Some r → s < last → (b : Bool) → in_pair r c ≡ b → N s c < lost + 1
       by_range r e lt true t = let n = along s r c e t in omega (arith, n, lt)
       by_range r e lt false t = let n = astray s r c e t in omega (arith, n)
 
@@ -196,7 +198,7 @@ module _ (ranges : List (ℕ × ℕ)) (longer : Bool) where
       by_longer false t = let n = behind c ∙ ap (λ b. if b then last else lost) t in omega (arith, n)
 
       by : ((s < last) × (nat_lt s last ≡ true)) ⊎ ((last ≤ s) × (nat_lt s last ≡ false)) → ((last < s) × (nat_lt last s ≡ true)) ⊎ ((s ≤ last) × (nat_lt last s ≡ false)) → N s c < lost + 1
-      by (inl a) b = let g = get-in ranges s a.0 in by_range g.0 g.1 a.0 (within g.0 c) refl
+      by (inl a) b = let g = get-in ranges s a.0 in by_range g.0 g.1 a.0 (in_pair g.0 c) refl
       by (inr a) (inl b) = let x = b.0 in let e : lost ≡ s = omega (arith, x, h) in let n = ap (λ k. N k c) (sym e) ∙ gone c in omega (arith, n)
       by (inr a) (inr b) = let x = a.0 in let y = b.0 in let e : last ≡ s = omega (arith, x, y) in subst (λ k. N k c < lost + 1) e (by_longer longer refl)
 

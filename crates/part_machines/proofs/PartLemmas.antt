@@ -2,14 +2,15 @@
 use Rattle.std.proofs.Common.{◌≡◌, ℕ, zero, suc, ◌+◌, ◌*◌, ◌<◌, ◌≤◌, ◌↔◌, Bool, true, false, ◌&&◌, nat_eq, if◌then◌else◌, List, [], ◌∷◌, ◌++◌, length, get_or, refl, sym, ap, ◌∙◌, subst, arith, mul-le-mul}
 use Rattle.std.specs.Prelude.{Result, Ok, Err, IfOk}
 use Rattle.std.specs.List.{AllByRecursion}
-use Rattle.std.proofs.lemmas.Bool.{eqb-true, eq-eqb}
+use Rattle.std.proofs.lemmas.Bool.{eqb-true, eq-eqb, and_parts, false_from_ne_true}
 use Rattle.std.proofs.lemmas.Bool.Decides.{nat_tests}
 use Rattle.std.proofs.lemmas.Result.{IfOk-weaker}
+use Rattle.sv_list.specs.Bools.{and-true, and-false}
+use Rattle.sv_word.specs.Ranges.{in_pair}
 use Rattle.sv_word.specs.Words.{IsWord}
 use Rattle.sv_terms.specs.Language.{Word, In, InAllOf}
 use Rattle.sv_terms.specs.Meaning.{is_digit}
 use Rattle.sv_terms.specs.Replacement.{begins}
-use Rattle.sv_terms.specs.ReplacementLaws.{both, refuted}
 use Rattle.sv_terms.specs.Bounds.{size}
 use Rattle.sv_terms.specs.BoundLaws.{size-some, size-Comp}
 use Rattle.sv_terms.specs.Opened.{In-Comp}
@@ -27,20 +28,20 @@ use Rattle.cube_bounds.specs.Bounds.{part_bound, product_by}
 use Rattle.flat_cubes.specs.Satisfying.{MeetsPart, Says}
 use Rattle.flat_cubes.specs.declared.variable.Own.{Own}
 use Rattle.flat_cubes.specs.declared.variable.Own.TheVariants as own
-use Rattle.part_machines.specs.Chains.{follows, ranges_of, within}
+use Rattle.part_machines.specs.Chains.{follows, ranges_of}
 use Rattle.part_machines.specs.Patterns.{finds}
 use Rattle.part_machines.specs.Parts.{AreOfParts, Decides, IsOfPart, ReadsParts}
 
 -- the tests
-within-one : (a c : ℕ) → within (a, a) c ≡ nat_eq a c
+within-one : (a c : ℕ) → in_pair (a, a) c ≡ nat_eq a c
 within-one a c = by (nat_eq a c) refl
   where
-    by : (b : Bool) → nat_eq a c ≡ b → within (a, a) c ≡ nat_eq a c
+    by : (b : Bool) → nat_eq a c ≡ b → in_pair (a, a) c ≡ nat_eq a c
     by true e =
         let h : a ≡ c = eqb-true a c e in
-        let t : within (a, a) c ≡ true = grind (arith, nat_tests) in
+        let t : in_pair (a, a) c ≡ true = grind (arith, nat_tests) in
         t ∙ sym e
-    by false e = refuted (within (a, a) c) (λ t.
+    by false e = false_from_ne_true (in_pair (a, a) c) (λ t.
         let low : a ≤ c = grind (arith, nat_tests) in
         let high : c ≤ a = grind (arith, nat_tests) in
         let f = eq-eqb a c (omega (arith, low, high)) in cc) ∙ sym e
@@ -55,7 +56,7 @@ follows-prefix (a ∷ p) (c ∷ w) = ap (λ b. b && follows true (ranges_of p) w
 follows-next : (a c : ℕ) (u w : Word) → (follows false (ranges_of u) w ≡ true) ↔ (w ≡ u) → (follows false (ranges_of (a ∷ u)) (c ∷ w) ≡ true) ↔ ((c ∷ w) ≡ a ∷ u)
 follows-next a c u w rest = (
   λ e.
-      let b = both (within (a, a) c) (follows false (ranges_of u) w) e in
+      let b = and_parts (in_pair (a, a) c) (follows false (ranges_of u) w) e in
       let f : a ≡ c = eqb-true a c (sym (within-one a c) ∙ b.0) in
       let g = rest.0 b.1 in
       cc,
@@ -71,18 +72,10 @@ follows-word [] (c ∷ w) = (λ e. cc, λ e. cc)
 follows-word (a ∷ u) [] = (λ e. cc, λ e. cc)
 follows-word (a ∷ u) (c ∷ w) = follows-next a c u w (follows-word u w)
 
-and-true : (a : Bool) → (a && true) ≡ a
-and-true true = refl
-and-true false = refl
-
-and-false : (a : Bool) → (a && false) ≡ false
-and-false true = refl
-and-false false = refl
-
 follows-digit : (w : Word) → follows false ((48, 57) ∷ []) w ≡ is_digit w
 follows-digit [] = refl
-follows-digit (c ∷ []) = and-true (within (48, 57) c)
-follows-digit (c ∷ d ∷ w) = and-false (within (48, 57) c)
+follows-digit (c ∷ []) = and-true (in_pair (48, 57) c)
+follows-digit (c ∷ d ∷ w) = and-false (in_pair (48, 57) c)
 
 -- a machine that decides what the part says is one of the part
 pub part-decides : (o : Own) (b : Bool) (test : Word → Bool) (most : ℕ) (m : Graph) → ((w : Word) → (test w ≡ true) ↔ Says o w) → most ≤ part_bound (o, b) → Decides test b most m → IsOfPart (o, b) m
@@ -101,7 +94,7 @@ part-decides o false test most m tells fits d = record {
     plain = d.reads.plain;
     words = λ w. (
       λ r. let h = (d.reads.words w).0 r in (h.0, λ s. let t = (tells w).1 s in let f = h.1 in cc),
-      λ h. (d.reads.words w).1 (h.0, refuted (test w) (λ t. h.1 ((tells w).0 t))),
+      λ h. (d.reads.words w).1 (h.0, false_from_ne_true (test w) (λ t. h.1 ((tells w).0 t))),
     );
   };
   few = (let x = d.few in omega (arith, x, fits));

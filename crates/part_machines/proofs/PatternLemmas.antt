@@ -4,6 +4,7 @@ use Rattle.std.specs.Prelude.{reverse}
 use Rattle.std.specs.List.{AllByRecursion}
 use Rattle.std.proofs.lemmas.Bool.{eqb-true, eq-eqb}
 use Rattle.std.proofs.lemmas.List.{append-nil, append_assoc, length-append, length-reverse, get_or-reverse, get_or_append_left, reverse-append, reverse-reverse}
+use Rattle.sv_list.specs.Lists.{slice_get-some}
 use Rattle.sv_word.specs.Words.{greatest_character}
 use Rattle.sv_terms.specs.Language.{Word}
 use Rattle.sv_terms.specs.Replacement.{begins, occurs}
@@ -12,21 +13,13 @@ use Rattle.sv_terms.specs.PatternLaws.{fits}
 use Rattle.machine_core.specs.declared.graph.Graph.{Graph}
 use Rattle.replace_machines.specs.Borders.{IsBorder, IsNext}
 use Rattle.replace_machines.specs.Rows.{at, target, Ascends, AreMatchRows, IsBorderOf}
+use Rattle.replace_machines.proofs.RowLemmas.{less_or_not, target-below}
 use Rattle.part_machines.specs.declared.table.TableLeg.{TableLeg}
 use Rattle.part_machines.specs.declared.table.TableRow.{TableRow}
 use Rattle.part_machines.specs.Parts.{Decides}
 use Rattle.part_machines.specs.Patterns.{ArePatternRows, NextOfWhole, finds, spread, spread_row}
 use Rattle.part_machines.specs.Tables.{IsOfTable, IsRow, after, lead, lead_by, leg, next}
-use Rattle.part_machines.proofs.TableLemmas.{lead-here, lead-later, less_or_not, table-decides}
-
--- the rows
-target-below : (row : List (ℕ × ℕ)) (low c : ℕ) → Ascends low row → c < low → target row c ≡ 0
-target-below [] low c h l = refl
-target-below (p ∷ row) low c h l = by (nat_eq p.0 c) refl (let y = h.0 in target-below row (suc p.0) c h.2 (omega (arith, y, l)))
-  where
-    by : (b : Bool) → nat_eq p.0 c ≡ b → target row c ≡ 0 → target (p ∷ row) c ≡ 0
-    by true e rest = let x = eqb-true p.0 c e in let y = h.0 in absurd (omega (arith, x, y, l))
-    by false e rest = ap (λ b. if b then p.1 else target row c) e ∙ rest
+use Rattle.part_machines.proofs.TableLemmas.{lead-here, lead-later, table-decides}
 
 pub lead-spread : (row : List (ℕ × ℕ)) (low c : ℕ) → Ascends low row → lead 0 (spread row) c ≡ target row c
 lead-spread [] low c h = refl
@@ -345,15 +338,6 @@ pattern-decides false p holds rows m are size table =
     (λ f w. let x = end-within p rows are w [] 0 (first-longest p) in omega (arith, x, size))
     (omega (arith, size))
 
--- the rows of a pattern
-pub whole-stays : (stays : Bool) (p : Word) (n : ℕ) → stays ≡ true → n ≡ length p → (c : ℕ) → NextOfWhole stays p c n
-whole-stays true p n e is c = is
-whole-stays false p n e is c = cc
-
-pub whole-empty : (stays : Bool) (p : Word) → stays ≡ false → length p ≡ 0 → (c : ℕ) → NextOfWhole stays p c 0
-whole-empty true p e z c = cc
-whole-empty false p e z c = inl (z, refl)
-
 no-row : (rows : List (List (ℕ × ℕ))) (m : ℕ) (back : List (ℕ × ℕ)) → length rows ≡ 0 → slice_get rows m ≡ Some back → ⊥
 no-row [] m back e got = cc
 no-row (x ∷ rows) m back e got = omega (arith, e)
@@ -390,17 +374,12 @@ spread-size : (rows : List (List (ℕ × ℕ))) (last : TableRow) → length (ma
 spread-size [] last = refl
 spread-size (x ∷ rows) last = let e = spread-size rows last in omega (arith, e)
 
-row-in : {X : Type 0} (xs : List X) (q : ℕ) → q < length xs → (x : X) × (slice_get xs q ≡ Some x)
-row-in [] q h = absurd (omega (arith, h))
-row-in (x ∷ xs) zero h = (x, refl)
-row-in (x ∷ xs) (suc q) h = row-in xs q (omega (arith, h))
-
 pub rows-made : (stays : Bool) (p : Word) (parts : List (List (ℕ × ℕ))) (last : TableRow) (rows : List TableRow) → length parts ≡ length p → AreMatchRows p parts → ((c : ℕ) → NextOfWhole stays p c (lead last.rest last.legs c))
     → rows ≡ map spread_row parts ++ last ∷ [] → ArePatternRows stays p rows
 rows-made stays p parts last rows size are whole is = subst (ArePatternRows stays p) (sym is) (record {
   size = spread-size parts last ∙ ap (λ n. n + 1) size;
   part = λ q c lt.
-      let g = row-in parts q (omega (arith, lt, size)) in
+      let g = slice_get-some parts q (omega (arith, lt, size)) in
       let r = are.row q g.0 g.1 in
       subst (IsNext (at p) q c) (sym (ap (λ o. lead_by o q c) (spread-at parts last q g.0 g.1) ∙ lead-spread g.0 0 c r.ascends)) (r.next c);
   whole = λ c. subst (NextOfWhole stays p c) (sym (ap (λ n. next (map spread_row parts ++ last ∷ []) n c) (sym size) ∙ ap (λ o. lead_by o (length parts) c) (last-at parts last))) (whole c);

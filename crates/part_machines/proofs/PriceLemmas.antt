@@ -1,11 +1,11 @@
 -- A machine without registers, and the same one with a cost for each character.
-use Rattle.std.proofs.Common.{◌≡◌, ℕ, zero, suc, ◌+◌, ◌*◌, ◌<◌, ◌≤◌, ◌↔◌, List, [], ◌∷◌, ◌++◌, length, map, Contains, refl, ap, sym, ◌∙◌, subst, arith, get_or, take}
+use Rattle.std.proofs.Common.{◌≡◌, ℕ, suc, ◌+◌, ◌*◌, ◌<◌, ◌≤◌, ◌↔◌, List, [], ◌∷◌, ◌++◌, length, map, refl, ap, sym, ◌∙◌, subst, arith, get_or, take}
 use Rattle.std.specs.Prelude.{slice_index}
-use Rattle.std.proofs.lemmas.List.{map_more, nil_from_length, take_all}
+use Rattle.std.proofs.lemmas.List.{map_more, nil_from_length}
 use Rattle.std.proofs.Math.Nat.{suc-mul}
 use Rattle.machine_core.specs.Costs.{add_costs, zeros}
 use Rattle.machine_core.specs.CostLaws.{zeros-entry}
-use Rattle.machine_core.specs.Lists.{Any-map, Any-from_map}
+use Rattle.sv_list.specs.Lists.{Any-map, Any-from_map}
 use Rattle.machine_core.specs.declared.graph.Graph.{Graph}
 use Rattle.machine_core.specs.declared.edge.Edge.{Edge}
 use Rattle.machine_core.specs.declared.end.End.{End}
@@ -99,18 +99,6 @@ is-priced each m n plain registers states edges ends = record {
         let e = ap (λ k. slice_index k register) p.1 in
         let z = zeros-entry (length each) register in
         omega (arith, e, z)
-
--- an element that a loop read
-pub read-in : {X : Type 0} (xs ys : List X) (i : ℕ) (x : X) → ys ≡ xs → i < length ys → x ≡ get_or ys i x → Contains xs x
-read-in xs ys i x e lt h = (i, subst (λ l. i < length l) e lt, sym (subst (λ l. x ≡ get_or l i x) e h))
-
-pub took-all : {X : Type 0} (xs ys : List X) (i : ℕ) → ys ≡ xs → length ys ≤ i → take i xs ≡ xs
-took-all xs ys i e h = take_all i xs (subst (λ l. length l ≤ i) e h)
-
-pub read-alike : {X : Type 0} (xs : List X) (i : ℕ) (d e : X) → i < length xs → get_or xs i d ≡ get_or xs i e
-read-alike [] i d e lt = absurd (omega (arith, lt))
-read-alike (x ∷ xs) zero d e lt = refl
-read-alike (x ∷ xs) (suc i) d e lt = read-alike xs i d e (omega (arith, lt))
 
 -- one element more of a list that a loop makes
 pub made-more : {X Y : Type 0} (f : X → Y) (xs ys : List X) (old new : List Y) (i : ℕ) (x : X) → ys ≡ xs → i < length ys → x ≡ get_or ys i x

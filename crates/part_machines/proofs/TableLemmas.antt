@@ -1,38 +1,26 @@
 -- The edges of rows, and the words of a machine by a table.
-use Rattle.std.proofs.Common.{◌≡◌, ℕ, zero, suc, ◌+◌, ◌-◌, ◌<◌, ◌≤◌, ◌↔◌, ◌⊎◌, inl, inr, ⊎_elim, max, Bool, true, false, ◌&&◌, nat_le, if◌then◌else◌, IsTrue, List, [], ◌∷◌, ◌++◌, length, drop, get_or, slice_get, Some, Any, refl, sym, ap, ◌∙◌, subst, arith, rules}
-use Rattle.std.specs.Prelude.{nat_eq, nat_lt, not, Result, Ok, Err, IfOk}
+use Rattle.std.proofs.Common.{◌≡◌, ℕ, zero, suc, ◌+◌, ◌-◌, ◌<◌, ◌≤◌, ◌↔◌, ◌⊎◌, inl, inr, ⊎_elim, max, Bool, true, false, ◌&&◌, nat_le, if◌then◌else◌, IsTrue, List, [], ◌∷◌, ◌++◌, length, drop, get_or, slice_get, Some, Any, refl, sym, ap, ◌∙◌, subst, arith}
+use Rattle.std.specs.Prelude.{nat_eq, nat_lt, not}
 use Rattle.std.proofs.Math.Bool.{beq}
 use Rattle.std.specs.List.{AllByRecursion}
-use Rattle.std.proofs.lemmas.Bool.{eqb-true, eq-eqb}
+use Rattle.std.proofs.lemmas.Bool.{eqb-true, eq-eqb, false_from_ne_true}
 use Rattle.std.proofs.lemmas.Bool.Decides.{nat_tests}
 use Rattle.std.proofs.lemmas.List.{drop_more}
+use Rattle.replace_machines.proofs.RowLemmas.{less_or_not}
 use Rattle.sv_word.specs.Ranges.{in_ranges}
 use Rattle.sv_word.specs.Words.{IsWord, greatest_character}
 use Rattle.sv_terms.specs.Language.{Word}
-use Rattle.sv_terms.specs.ReplacementLaws.{refuted}
 use Rattle.machine_core.specs.declared.graph.Graph.{Graph}
 use Rattle.machine_core.specs.declared.edge.Edge.{Edge}
 use Rattle.machine_core.specs.declared.end.End.{End}
 use Rattle.machine_core.specs.Language.{RunsFrom}
 use Rattle.machine_core.specs.Edges.{edge, ending, move_of, EndsAt, StepsBy}
 use Rattle.machine_core.specs.Moves.{Moves}
-use Rattle.machine_core.specs.Lists.{Any-none, Any-here, Any-push_cases, Any-append_left, Any-append_right}
+use Rattle.sv_list.specs.Lists.{Any-none, Any-here, Any-push_cases, Any-append_left, Any-append_right}
 use Rattle.part_machines.specs.declared.table.TableLeg.{TableLeg}
 use Rattle.part_machines.specs.declared.table.TableRow.{TableRow}
 use Rattle.part_machines.specs.Parts.{Decides}
 use Rattle.part_machines.specs.Tables.{IsEndState, IsOfTable, IsRow, StepsAlong, StepsOfRow, after, lead, lead_by, next}
-
--- what follows from two clauses on one result
-pub IfOk-both : {X E : Type 0} (r : Result X E) (P Q R : X → Type 0) → IfOk r P → IfOk r Q → ((x : X) → P x → Q x → R x) → IfOk r R
-IfOk-both (Ok x) P Q R p q f = f x p q
-IfOk-both (Err e) P Q R p q f = tt
-
-pub less_or_not : (a b : ℕ) → ((a < b) × (nat_lt a b ≡ true)) ⊎ ((b ≤ a) × (nat_lt a b ≡ false))
-less_or_not a b = by (nat_lt a b) refl
-  where
-    by : (t : Bool) → nat_lt a b ≡ t → ((a < b) × (nat_lt a b ≡ true)) ⊎ ((b ≤ a) × (nat_lt a b ≡ false))
-    by true e = inl (search (rules, e), e)
-    by false e = inr (search (rules, e), e)
 
 -- no edge is added
 or-none : {A B : Type 0} → (B → ⊥) → A ↔ (A ⊎ B)
@@ -176,10 +164,10 @@ alike false true h = cc
 alike false false h = (λ e. e, λ e. refl)
 
 pub left-out : (at last : ℕ) (holds : Bool) → not (beq (nat_eq at last) holds) ≡ true → (at ≡ last → holds ≡ false) × ((at ≡ last → ⊥) → holds ≡ true)
-left-out at last holds h = let b = unlike (nat_eq at last) holds h in (λ e. b.0 (eq-eqb at last e), λ n. b.1 (refuted (nat_eq at last) (λ t. n (eqb-true at last t))))
+left-out at last holds h = let b = unlike (nat_eq at last) holds h in (λ e. b.0 (eq-eqb at last e), λ n. b.1 (false_from_ne_true (nat_eq at last) (λ t. n (eqb-true at last t))))
 
 pub taken : (at last : ℕ) (holds : Bool) → not (beq (nat_eq at last) holds) ≡ false → (at ≡ last → holds ≡ true) × ((at ≡ last → ⊥) → holds ≡ false)
-taken at last holds h = let b = alike (nat_eq at last) holds h in (λ e. b.0 (eq-eqb at last e), λ n. b.1 (refuted (nat_eq at last) (λ t. n (eqb-true at last t))))
+taken at last holds h = let b = alike (nat_eq at last) holds h in (λ e. b.0 (eq-eqb at last e), λ n. b.1 (false_from_ne_true (nat_eq at last) (λ t. n (eqb-true at last t))))
 
 pub end-left-out : (E : List End) (at last : ℕ) (holds : Bool) → ((at ≡ last → holds ≡ false) × ((at ≡ last → ⊥) → holds ≡ true)) → (s : ℕ) (cost : List ℕ) → EndsAt E s cost ↔ (EndsAt E s cost ⊎ ((at ≡ s) × ([] ≡ cost) × IsEndState holds last s))
 end-left-out E at last true h s cost = or-none (λ b. let e = h.0 (b.0 ∙ b.2) in cc)
@@ -325,7 +313,7 @@ table-decides false step last most test m table stuck tells among all few = reco
   reads = record {
     plain = table.plain;
     words = λ w. (
-      λ r. let o = read-out step last false m table w 0 [] r in (o.0, refuted (test w) (λ t. o.2 ((tells w).1 t))),
+      λ r. let o = read-out step last false m table w 0 [] r in (o.0, false_from_ne_true (test w) (λ t. o.2 ((tells w).1 t))),
       λ h. read-in step last false m table stuck w 0 h.0 m.started (all refl w) (λ e. let t = (tells w).0 e in let f = h.1 in cc),
     );
   };

@@ -1,21 +1,18 @@
 -- Words that have a character of each of some ranges in turn.
-use Rattle.std.specs.Prelude.{ℕ, ◌+◌, ◌≤◌, Bool, true, false, ◌&&◌, nat_le, if◌then◌else◌, List, [], ◌∷◌, map}
+use Rattle.std.specs.Prelude.{ℕ, ◌+◌, ◌≤◌, Bool, true, false, ◌&&◌, if◌then◌else◌, List, [], ◌∷◌, map}
 use Rattle.std.specs.List.{AllByRecursion}
 use Rattle.sv_word.specs.Words.{greatest_character}
+use Rattle.sv_word.specs.Ranges.{in_pair}
 use Rattle.sv_terms.specs.Language.{Word}
 use Rattle.part_machines.specs.Tables.{leg, row_of}
 use Rattle.part_machines.specs.declared.table.TableRow.{TableRow}
-
--- a first and a last character
-abbrev pub within : ℕ × ℕ → ℕ → Bool
-within r c = nat_le r.0 c && nat_le c r.1
 
 -- the word has a character of each range in turn; behind them it stops, or where it may be longer, goes on with any
 abbrev pub follows : Bool → List (ℕ × ℕ) → Word → Bool
 follows longer [] [] = true
 follows longer [] (c ∷ w) = longer
 follows longer (r ∷ ranges) [] = false
-follows longer (r ∷ ranges) (c ∷ w) = within r c && follows longer ranges w
+follows longer (r ∷ ranges) (c ∷ w) = in_pair r c && follows longer ranges w
 
 -- the borders of each range are characters
 abbrev pub AreRanges : List (ℕ × ℕ) → Type 0

@@ -7,7 +7,7 @@ use Rattle.machine_core.specs.Costs.{add_costs, CanAdd}
 use Rattle.machine_core.specs.Moves.{Moves}
 use Rattle.machine_core.specs.Language.{RunsFrom}
 use Rattle.machine_core.specs.LanguageLaws.{runs_join, runs_cut}
-use Rattle.machine_core.specs.Lists.{Any-contains, contained}
+use Rattle.sv_list.specs.Lists.{Any-contains, contained}
 use Rattle.machine_core.specs.Edges.{EndsAt, StepsBy, edges_top, ends_top}
 use Rattle.machine_core.specs.EdgeLaws.{end_most, listed_paths, path_target, path_width, run_width}
 use Rattle.sv_terms.specs.Language.{Word}

@@ -1,7 +1,7 @@
 -- Leads gone on by a step: where a machine may be once it went along one character more.
-use Rattle.std.proofs.Common.{◌≡◌, ℕ, zero, suc, ◌+◌, ◌*◌, ◌<◌, ◌≤◌, ◌^◌, ◌↔◌, inl, inr, ◌&&◌, nat_le, Bool, true, false, IsTrue, List, [], ◌∷◌, ◌++◌, length, Any, All, Contains, refl, sym, ap, ◌∙◌, subst, mul-le-mul_left, arith}
+use Rattle.std.proofs.Common.{◌≡◌, ℕ, zero, suc, ◌+◌, ◌*◌, ◌<◌, ◌≤◌, ◌^◌, ◌↔◌, inl, inr, ◌&&◌, nat_le, IsTrue, List, [], ◌∷◌, ◌++◌, length, Any, All, Contains, refl, sym, ap, ◌∙◌, subst, mul-le-mul_left, arith}
 use Rattle.std.proofs.lemmas.List.{length-map}
-use Rattle.std.proofs.lemmas.Bool.{leb-true, le-leb}
+use Rattle.std.proofs.lemmas.Bool.{leb-true, le-leb, and_from}
 use Rattle.sv_word.specs.Ranges.{in_ranges, IsInhabited, least_of}
 use Rattle.machine_core.specs.declared.machine.Move.{Move}
 use Rattle.machine_core.specs.declared.graph.Graph.{Graph}
@@ -10,50 +10,13 @@ use Rattle.machine_core.specs.CostLaws.{add_costs-zeros}
 use Rattle.machine_core.specs.Moves.{Moves}
 use Rattle.machine_core.specs.Language.{StopsAt}
 use Rattle.machine_core.specs.LanguageLaws.{runs_join, runs_cut}
-use Rattle.machine_core.specs.Lists.{Any-none, Any-here, Any-cases, Any-append_left, Any-append_right, Any-contains, contained}
+use Rattle.sv_list.specs.Lists.{Any-none, Any-here, Any-cases, Any-contains, contained}
+use Rattle.sv_list.specs.Bools.{and-first, and-second}
 use Rattle.machine_core.specs.Edges.{StepsBy, edges_top}
 use Rattle.machine_core.specs.EdgeLaws.{step_most, listed_paths, path_target, path_width}
 use Rattle.sv_terms.specs.Language.{Word}
 use Rattle.pre_image.specs.declared.letter.Letter.{Letter}
 use Rattle.pre_image.specs.Leading.{next_of, spelled, Goes, GoesOn, Led, IsLead, AreLeads}
-
-and-true : (a b : Bool) → IsTrue a → IsTrue b → IsTrue (a && b)
-and-true true true p q = refl
-and-true true false p q = cc
-and-true false b p q = cc
-
-and-left : (a b : Bool) → IsTrue (a && b) → IsTrue a
-and-left true b p = refl
-and-left false b p = cc
-
-and-right : (a b : Bool) → IsTrue (a && b) → IsTrue b
-and-right true b p = p
-and-right false b p = cc
-
-module _ (lead step : Move ℕ) (next : Letter) (on : List (ℕ × ℕ))
-    (both : (c : ℕ) → in_ranges on c ≡ (in_ranges lead.on c && in_ranges step.on (next_of next c))) where
-  pub follow-some : (cost : List ℕ) → cost ≡ add_costs lead.cost step.cost → (c : ℕ) (k : List ℕ) (to : ℕ)
-      → GoesOn next lead c k to step ↔ Moves c k to (record { on = on; cost = cost; to = step.to })
-  follow-some cost e c k to = (
-    λ g. (subst IsTrue (sym (both c)) (and-true (in_ranges lead.on c) (in_ranges step.on (next_of next c)) g.0 g.1), e ∙ g.2, g.3),
-    λ g. let b = subst IsTrue (both c) g.0 in
-        (and-left (in_ranges lead.on c) (in_ranges step.on (next_of next c)) b, and-right (in_ranges lead.on c) (in_ranges step.on (next_of next c)) b, sym e ∙ g.1, g.2),
-  )
-
-  pub follow-none : on ≡ [] → (c : ℕ) (k : List ℕ) (to : ℕ) → GoesOn next lead c k to step → ⊥
-  follow-none e c k to g =
-      let t = and-true (in_ranges lead.on c) (in_ranges step.on (next_of next c)) g.0 g.1 in
-      let b = both c in
-      let n = ap (λ l. in_ranges l c) e in
-      cc
-
--- a list of which an element more is looked at
-module _ {X : Type 0} (P : X → Type 0) where
-  pub any-push : (xs : List X) (x : X) → P x → Any P (xs ++ x ∷ [])
-  any-push xs x p = Any-append_right P xs (x ∷ []) (Any-here P x [] p)
-
-  pub any-kept : (xs : List X) (x : X) → Any P xs → Any P (xs ++ x ∷ [])
-  any-kept xs x a = Any-append_left P xs (x ∷ []) a
 
 -- the moves of a machine, each joined to a lead, are its steps joined to it
 pub steps-led : (m : Graph) (next : Letter) (lead : Move ℕ) (steps : List (Move ℕ))
@@ -187,6 +150,6 @@ spelled-length nexts c = length-map nexts (λ n. next_of n c)
 pub between-set : (on : List (ℕ × ℕ)) (low high : ℕ) → ((c : ℕ) → in_ranges on c ≡ (nat_le low c && nat_le c high)) → (c : ℕ) → IsTrue (in_ranges on c) ↔ ((low ≤ c) × (c ≤ high))
 between-set on low high set c = (
   λ t. let b = sym (set c) ∙ t in
-      (leb-true low c (and-left (nat_le low c) (nat_le c high) b), leb-true c high (and-right (nat_le low c) (nat_le c high) b)),
-  λ h. set c ∙ and-true (nat_le low c) (nat_le c high) (le-leb low c h.0) (le-leb c high h.1),
+      (leb-true low c (and-first (nat_le low c) (nat_le c high) b), leb-true c high (and-second (nat_le low c) (nat_le c high) b)),
+  λ h. set c ∙ and_from (nat_le low c) (nat_le c high) (le-leb low c h.0) (le-leb c high h.1),
 )

@@ -2,8 +2,7 @@
 use Rattle.std.proofs.Common.{◌≡◌, ℕ, ◌+◌, ◌<◌, ◌≤◌, ◌↔◌, ◌⊎◌, inl, inr, List, [], ◌∷◌, ◌++◌, length, take, get_or, Any, Contains, refl, sym, ap, ◌∙◌, subst, append_assoc}
 use Rattle.std.proofs.lemmas.List.{take_more, take_all}
 use Rattle.std.proofs.lemmas.List.Elements.{Contains-push_cases}
-use Rattle.machine_core.specs.Lists.{Any-none, Any-here, Any-push_cases, Any-append_left, Any-append_right}
-use Rattle.sv_terms.specs.Language.{Word}
+use Rattle.sv_list.specs.Lists.{Any-none, Any-here, Any-push_cases, Any-append_left, Any-append_right, take-read}
 use Rattle.pre_image.specs.Spelling.{moved_to, spelling}
 use Rattle.pre_image.specs.declared.letter.Letter.{Letter}
 use Rattle.pre_image.specs.declared.letter.Letter.TheVariants.{Fixed}
@@ -21,14 +20,11 @@ any-more P xs new x e = (
 pub each-more : {X : Type 0} (P : X → Type 0) (xs new : List X) (x : X) → new ≡ xs ++ x ∷ [] → ((y : X) → Contains xs y → P y) → P x → (y : X) → Contains new y → P y
 each-more P xs new x e old here y i = elim (Contains-push_cases xs x y (subst (λ l. Contains l y) e i)) [ inl a ↦ old y a | inr s ↦ subst P s here ]
 
-pub taken : {X : Type 0} (xs : List X) (i : ℕ) (x : X) → i < length xs → x ≡ get_or xs i x → take (i + 1) xs ≡ take i xs ++ x ∷ []
-taken xs i x lt e = take_more xs i x lt ∙ ap (λ y. take i xs ++ y ∷ []) (sym e)
-
 -- one more was looked at
 pub more-of : {X : Type 0} (P : X → Type 0) (xs : List X) (i : ℕ) (x : X) → i < length xs → x ≡ get_or xs i x → (New Old B : Type 0)
     → Old ↔ (B ⊎ Any P (take i xs)) → New ↔ (Old ⊎ P x) → New ↔ (B ⊎ Any P (take (i + 1) xs))
 more-of P xs i x lt e New Old B old new =
-    let more = any-more P (take i xs) (take (i + 1) xs) x (taken xs i x lt e) in (
+    let more = any-more P (take i xs) (take (i + 1) xs) x (take-read xs i x lt e) in (
       λ n. elim (new.0 n) [
         | inl o ↦ elim (old.0 o) [ inl b ↦ inl b | inr a ↦ inr (more.1 (inl a)) ]
         | inr p ↦ inr (more.1 (inr p))
@@ -42,7 +38,7 @@ more-of P xs i x lt e New Old B old new =
 pub more-alone : {X : Type 0} (P : X → Type 0) (xs : List X) (i : ℕ) (x : X) → i < length xs → x ≡ get_or xs i x → (New Old : Type 0)
     → Old ↔ Any P (take i xs) → New ↔ (Old ⊎ P x) → New ↔ Any P (take (i + 1) xs)
 more-alone P xs i x lt e New Old old new =
-    let more = any-more P (take i xs) (take (i + 1) xs) x (taken xs i x lt e) in (
+    let more = any-more P (take i xs) (take (i + 1) xs) x (take-read xs i x lt e) in (
       λ n. elim (new.0 n) [ inl o ↦ more.1 (inl (old.0 o)) | inr p ↦ more.1 (inr p) ],
       λ a. elim (more.0 a) [ inl l ↦ new.1 (inl (old.1 l)) | inr p ↦ new.1 (inr p) ],
     )
@@ -51,7 +47,7 @@ more-alone P xs i x lt e New Old old new =
 pub more-none : {X : Type 0} (P : X → Type 0) (xs : List X) (i : ℕ) (x : X) → i < length xs → x ≡ get_or xs i x → (Old : Type 0)
     → Old ↔ Any P (take i xs) → (P x → ⊥) → Old ↔ Any P (take (i + 1) xs)
 more-none P xs i x lt e Old old out =
-    let more = any-more P (take i xs) (take (i + 1) xs) x (taken xs i x lt e) in (
+    let more = any-more P (take i xs) (take (i + 1) xs) x (take-read xs i x lt e) in (
       λ o. more.1 (inl (old.0 o)),
       λ a. elim (more.0 a) [ inl l ↦ old.1 l | inr p ↦ absurd (out p) ],
     )
@@ -62,10 +58,6 @@ all-of P xs i done New B h = subst (λ l. New ↔ (B ⊎ Any P l)) (take_all i x
 
 pub all-alone : {X : Type 0} (P : X → Type 0) (xs : List X) (i : ℕ) → length xs ≤ i → (New : Type 0) → New ↔ Any P (take i xs) → New ↔ Any P xs
 all-alone P xs i done New h = subst (λ l. New ↔ Any P l) (take_all i xs done) h
-
--- nothing was looked at
-pub none-yet : {X Y : Type 0} (P : X → Type 0) (Q : Y → Type 0) → Any P [] ↔ Any Q []
-none-yet P Q = (λ a. absurd (Any-none P a), λ a. absurd (Any-none Q a))
 
 pub old-yet : {Y : Type 0} (Q : Y → Type 0) (Old : Type 0) → Old ↔ (Old ⊎ Any Q [])
 old-yet Q Old = (λ o. inl o, λ h. elim h [ inl o ↦ o | inr a ↦ absurd (Any-none Q a) ])
@@ -80,9 +72,6 @@ alike New Old P Q h e = (
   λ s. elim s [ inl o ↦ h.1 (inl o) | inr q ↦ h.1 (inr (e.1 q)) ],
 )
 
-pub same-as : (A B C : Type 0) → A ↔ B → B ↔ C → A ↔ C
-same-as A B C h e = (λ a. e.0 (h.0 a), λ c. h.1 (e.1 c))
-
 -- what is spelled, with one character more
 pub spelled-more : (xs new : List Letter) (n : Letter) (c : ℕ) → new ≡ xs ++ n ∷ [] → spelled new c ≡ spelled xs c ++ next_of n c ∷ []
 spelled-more xs new n c e = ap (λ l. spelled l c) e ∙ by xs
@@ -90,11 +79,6 @@ spelled-more xs new n c e = ap (λ l. spelled l c) e ∙ by xs
     by : (l : List Letter) → spelled (l ++ n ∷ []) c ≡ spelled l c ++ next_of n c ∷ []
     by [] = refl
     by (x ∷ l) = ap (λ r. next_of x c ∷ r) (by l)
-
-pub spelled-word : (xs old new : List Letter) (word : Word) (i d : ℕ) (c : ℕ) → i < length word → d ≡ get_or word i d → new ≡ old ++ Fixed d ∷ []
-    → spelled old c ≡ spelled xs c ++ take i word → spelled new c ≡ spelled xs c ++ take (i + 1) word
-spelled-word xs old new word i d c lt e n h =
-    spelled-more old new (Fixed d) c n ∙ ap (λ l. l ++ d ∷ []) h ∙ append_assoc (spelled xs c) (take i word) (d ∷ []) ∙ ap (λ l. spelled xs c ++ l) (sym (taken word i d lt e))
 
 -- what items write, with one item more
 written-append : (c : ℕ) (is js : List Item) → spelling c (is ++ js) ≡ spelling c is ++ spelling c js
@@ -105,7 +89,7 @@ written-append c (item.Shift k ∷ is) js = ap (λ l. moved_to k c ∷ l) (writt
 pub spelled-item : (old new : List Letter) (items : List Item) (i : ℕ) (x : Item) (c : ℕ) → i < length items → x ≡ get_or items i x
     → spelled new c ≡ spelled old c ++ spelling c (x ∷ []) → spelled old c ≡ spelling c (take i items) → spelled new c ≡ spelling c (take (i + 1) items)
 spelled-item old new items i x c lt e n h =
-    n ∙ ap (λ l. l ++ spelling c (x ∷ [])) h ∙ sym (written-append c (take i items) (x ∷ [])) ∙ ap (spelling c) (sym (taken items i x lt e))
+    n ∙ ap (λ l. l ++ spelling c (x ∷ [])) h ∙ sym (written-append c (take i items) (x ∷ [])) ∙ ap (spelling c) (sym (take-read items i x lt e))
 
 pub spelled-next : (nexts : List Letter) (i : ℕ) (c : ℕ) → i < length nexts → spelled (take (i + 1) nexts) c ≡ spelled (take i nexts) c ++ next_of (get_or nexts i (Fixed 0)) c ∷ []
 spelled-next nexts i c lt = spelled-more (take i nexts) (take (i + 1) nexts) (get_or nexts i (Fixed 0)) c (take_more nexts i (Fixed 0) lt)

@@ -4,6 +4,7 @@ use Rattle.std.specs.Option.{unwrap_or}
 use Rattle.std.proofs.lemmas.Bool.{leb-true, le-leb}
 use Rattle.std.proofs.lemmas.List.{take_more}
 use Rattle.std.proofs.lemmas.List.Folds.{list_any-append}
+use Rattle.sv_list.specs.Bools.{or-false}
 use Rattle.sv_word.specs.Ranges.{in_pair, in_ranges, IsApartFrom}
 use Rattle.sv_terms.specs.Transduction.{character}
 use Rattle.pre_image.specs.Spelling.{moved_to, no_character}
@@ -23,10 +24,6 @@ in-top low (p ∷ ps) c h e = by (nat_le p.0 c) (nat_le c p.1) refl e (in-top (p
     by true true below f later = let le = leb-true c p.1 below in let top = h.2 in omega (arith, le, top)
     by true false below f later = later f
     by false b below f later = later f
-
-or-false : (b : Bool) → (b || false) ≡ b
-or-false true = refl
-or-false false = refl
 
 -- beside a set, those of the lead that are in the pair once they are moved
 pub moved-joined : (lead on window more new : List (ℕ × ℕ)) (pair : ℕ × ℕ) (k : ℤ) (c : ℕ) → IsApartFrom 0 lead

@@ -7,7 +7,7 @@ use Rattle.machine_core.specs.CostLaws.{add_costs-comm}
 use Rattle.machine_core.specs.Language.{RunsFrom, StopsAt}
 use Rattle.machine_core.specs.Edges.{EndsAt, StepsBy}
 use Rattle.machine_core.specs.EdgeLaws.{path_width, run_cut}
-use Rattle.machine_core.specs.Lists.{Any-contains, contained}
+use Rattle.sv_list.specs.Lists.{Any-contains, contained}
 use Rattle.machine_core.specs.Runs.{IsPath}
 use Rattle.pre_image.specs.Leading.{Goes}
 use Rattle.pre_image.specs.Lifts.{IsRest}

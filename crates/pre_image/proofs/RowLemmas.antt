@@ -3,10 +3,10 @@ use Rattle.std.proofs.Common.{◌≡◌, ℕ, ◌+◌, ◌<◌, ◌↔◌, ◌�
 use Rattle.std.specs.List.{filter}
 use Rattle.std.proofs.lemmas.Bool.Decides.{nat_tests}
 use Rattle.std.proofs.lemmas.List.{length-take}
-use Rattle.machine_core.specs.Lists.{Any-here, Any-there, Any-cases}
+use Rattle.sv_list.specs.Lists.{Any-here, Any-there, Any-cases, take-read}
 use Rattle.machine_core.specs.PlaceLaws.{pick-more, pick-places, places-within, index-add}
 use Rattle.machine_core.specs.Places.{places, pick, add_to, IsIndex}
-use Rattle.pre_image.proofs.MoreLemmas.{any-more, taken}
+use Rattle.pre_image.proofs.MoreLemmas.{any-more}
 
 -- of those that have the key alone, some have what some have of all, where it comes only with the key
 module _ {X : Type 0} (key : X → ℕ) (s : ℕ) (P : X → Type 0) (keyed : (x : X) → P x → key x ≡ s) where
@@ -61,4 +61,4 @@ pub index-step : {X : Type 0} (key : X → ℕ) (items : List X) (place : ℕ) (
 index-step key items place x rows new lt read h made =
     let long : length (take place items) ≡ place = length-take place items ∙ omega (arith, lt) in
     let grown = subst (λ n. IsIndex key (take place items ++ x ∷ []) (add_to (key x) n rows)) long (index-add key (take place items) x rows h) in
-    subst (IsIndex key (take (place + 1) items)) (sym made) (subst (λ l. IsIndex key l (add_to (key x) place rows)) (sym (taken items place x lt read)) grown)
+    subst (IsIndex key (take (place + 1) items)) (sym made) (subst (λ l. IsIndex key l (add_to (key x) place rows)) (sym (take-read items place x lt read)) grown)

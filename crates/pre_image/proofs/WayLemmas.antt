@@ -6,7 +6,7 @@ use Rattle.machine_core.specs.declared.graph.Graph.{Graph}
 use Rattle.machine_core.specs.Costs.{add_costs, zeros, total_of}
 use Rattle.machine_core.specs.CostLaws.{add_costs-assoc, add_costs-zeros, zeros-add_costs, total_of-append}
 use Rattle.machine_core.specs.Moves.{Moves}
-use Rattle.machine_core.specs.Lists.{Any-contains, contained}
+use Rattle.sv_list.specs.Lists.{Any-contains, contained}
 use Rattle.machine_core.specs.Edges.{StepsBy}
 use Rattle.machine_core.specs.Runs.{IsPath}
 use Rattle.machine_core.specs.RunLaws.{path_push, path_stops}
@@ -181,15 +181,3 @@ some-works m at c rest to cost steps exact g =
         sum = ap (λ k. add_costs k g.2) f.2.1 ∙ sym g.5;
       },
     )
-
--- the word from a place on begins with what stands there
-pub drop-at : (word : List ℕ) (i : ℕ) → i < length word → drop i word ≡ get_or word i 0 ∷ drop (i + 1) word
-drop-at [] i lt = absurd (omega (arith, lt))
-drop-at (x ∷ word) zero lt = ap (λ (l : List ℕ). x ∷ l) (sym (drop-none word))
-  where
-    drop-none : (l : List ℕ) → drop 0 l ≡ l
-    drop-none [] = refl
-    drop-none (y ∷ l) = refl
-drop-at (x ∷ word) (suc i) lt =
-    let e : suc (i + 1) ≡ suc i + 1 = omega arith in
-    drop-at word i (omega (arith, lt)) ∙ ap (λ n. get_or word i 0 ∷ drop n (x ∷ word)) e

@@ -3,6 +3,7 @@ use Rattle.std.specs.Prelude.{◌≡◌, ℕ, ◌+◌, ℤ, pos, ◌+ℤ◌, ◌
 use Rattle.std.specs.Option.{option_map, unwrap_or}
 use Rattle.std.proofs.Common.{refl, sym, ap, ◌∙◌, arith}
 use Rattle.std.proofs.lemmas.List.{length-append}
+use Rattle.std.proofs.lemmas.Option.{same_Some}
 use Rattle.sv_word.specs.Words.{IsWord, greatest_character}
 use Rattle.sv_terms.specs.Language.{Word}
 use Rattle.sv_terms.specs.Transduction.{character, item_at, then_word, written_at}
@@ -37,15 +38,12 @@ spelling-length c [] = refl
 spelling-length c (item.Text w ∷ is) = let e = length-append w (spelling c is) in let rest = spelling-length c is in omega arith
 spelling-length c (item.Shift k ∷ is) = let rest = spelling-length c is in omega arith
 
-some_same : {X : Type 0} (a b : X) → Some a ≡ Some b → a ≡ b
-some_same a b e = cc
-
 -- what is written is what is spelled
 pub spelling-written : (c : ℕ) (is : List Item) (v : Word) → written_at c is ≡ Some v → v ≡ spelling c is
-spelling-written c [] v e = sym (some_same [] v e)
+spelling-written c [] v e = sym (same_Some [] v e)
 spelling-written c (item.Text w ∷ is) v e =
     let k = then_some (Some w) (written_at c is) v e in
-    k.4 ∙ ap (λ (l : List ℕ). l ++ k.1) (sym (some_same w k.0 k.2)) ∙ ap (λ (l : List ℕ). w ++ l) (spelling-written c is k.1 k.3)
+    k.4 ∙ ap (λ (l : List ℕ). l ++ k.1) (sym (same_Some w k.0 k.2)) ∙ ap (λ (l : List ℕ). w ++ l) (spelling-written c is k.1 k.3)
 spelling-written c (item.Shift z ∷ is) v e =
     let k = then_some (item_at c (item.Shift z)) (written_at c is) v e in
     k.4 ∙ ap (λ (l : List ℕ). l ++ k.1) (one (character (pos c +ℤ z)) k.2) ∙ ap (λ (l : List ℕ). moved_to z c ∷ l) (spelling-written c is k.1 k.3)

@@ -34,11 +34,6 @@ pub onok-as : {A E : Type 0} (r : Result A E) (P Q : Type 0) → (P → Q) → O
 onok-as (Ok x) P Q f h = f h
 onok-as (Err e) P Q f h = tt
 
--- a copy has what its source has
-pub copy-is : (r : Result Graph AllocError) (m : Graph) (P : Graph → Type 0) → IfOk r (λ x. x ≡ m) → P m → IfOk r P
-copy-is (Ok x) m P e p = subst P (sym e) p
-copy-is (Err e) m P is p = tt
-
 -- what was made, where it fits
 pub fits-builds : (P : Word → Type 0) (size limit : ℕ) (made : Result Graph AllocError) (r : Result Graph BuildFault)
     → IfOk made (HasWords P) → IfOk made (λ m. m.states ≤ size) → FitsStates limit made r → Builds P size limit r

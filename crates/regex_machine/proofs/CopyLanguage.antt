@@ -12,7 +12,7 @@ use Rattle.regex_machine.proofs.WordLemmas.{From, from-step, step-from}
 use Rattle.regex_machine.proofs.CopyLemmas.{Pieces, last, piece, runs-out, runs-in}
 use Rattle.regex_machine.proofs.PieceLemmas.{pieces-power, power-pieces, power-all, power-more, pieces-repeated, repeated-pieces}
 
-not-zero : (n : ℕ) → nat_eq (suc n) 0 ≡ false
+pub not-zero : (n : ℕ) → nat_eq (suc n) 0 ≡ false
 not-zero n = grind (arith, nat_tests)
 
 own-start : (least : ℕ) (empty : Bool) → (nat_eq least 0 && not empty) ≡ true → (least ≡ 0) × (empty ≡ false)

@@ -1,12 +1,11 @@
 -- What leaves a state of copies.
-use Rattle.std.proofs.Common.{◌≡◌, ℕ, suc, ◌+◌, ◌<◌, ◌≤◌, ◌↔◌, inl, inr, Bool, true, false, IsTrue, cond, ◌&&◌, not, nat_eq, nat_le, List, [], Any, refl, ap, ◌∙◌, arith}
-use Rattle.std.proofs.lemmas.Bool.Decides.{nat_tests}
+use Rattle.std.proofs.Common.{◌≡◌, ℕ, suc, ◌+◌, ◌<◌, ◌↔◌, inl, inr, Bool, false, IsTrue, not, List, [], Any, arith}
 use Rattle.machine_core.specs.declared.graph.Graph.{Graph}
 use Rattle.machine_core.specs.declared.machine.Move.{Move}
 use Rattle.machine_core.specs.Edges.{EndsAt}
 use Rattle.machine_core.specs.Moves.{Moves}
 use Rattle.regex_machine.specs.Stepped.{AddsSteps, AreLed, AreEndsIf}
-use Rattle.regex_machine.specs.Copied.{NextCopy, AreEnough, IsCopyState, CopyEnds, CopySteps, copy_start}
+use Rattle.regex_machine.specs.Copied.{NextCopy, AreEnough, IsCopyState, CopyEnds, CopySteps}
 
 module _ (m : Graph) (least most : ℕ) (again empty : Bool) (k s : ℕ) where
   -- in the start of its own
@@ -72,55 +71,6 @@ module _ (m : Graph) (least most : ℕ) (again empty : Bool) (k s : ℕ) where
           | inr st ↦ (st.0, inr (inl (lt, end, (next to.0).1 st.1, st.2)))
         ],
       )
-
--- the copy after a copy
-pub next-some : (most : ℕ) (again : Bool) (k : ℕ) → k + 1 < most → (l : ℕ) → NextCopy most again k l ↔ (l ≡ k + 1)
-next-some most again k h l = (out, λ e. inl (omega arith, e ∙ omega arith))
-  where
-    out : NextCopy most again k l → l ≡ k + 1
-    out (inl n) = omega arith
-    out (inr n) = absurd (omega arith)
-
-pub next-again : (most : ℕ) (again : Bool) (k : ℕ) → k < most → most ≤ k + 1 → again ≡ true → (l : ℕ) → NextCopy most again k l ↔ (l ≡ k)
-next-again most again k lt h t l = (out, λ e. inr (t, omega arith, e))
-  where
-    out : NextCopy most again k l → l ≡ k
-    out (inl n) = absurd (omega arith)
-    out (inr n) = n.2
-
-pub next-none : (most : ℕ) (again : Bool) (k : ℕ) → most ≤ k + 1 → again ≡ false → (l : ℕ) → NextCopy most again k l → ⊥
-next-none most again k h f l (inl n) = absurd (omega arith)
-next-none most again k h f l (inr n) = (let t = n.0 in cc)
-
-pub enough-empty : (least n : ℕ) (empty : Bool) → empty ≡ true → IsTrue true ↔ AreEnough least empty n
-enough-empty least n empty e = (λ t. inr e, λ h. refl)
-
-pub enough-by : (least n : ℕ) (empty : Bool) → empty ≡ false → IsTrue (nat_le least n) ↔ AreEnough least empty n
-enough-by least n empty e = (λ t. inl (grind (arith, nat_tests)), back)
-  where
-    back : AreEnough least empty n → IsTrue (nat_le least n)
-    back (inl h) = grind (arith, nat_tests)
-    back (inr h) = cc
-
--- the start
-start-test : (b c : Bool) (p q : ℕ × ℕ) → c ≡ false → q ≡ cond (b && c) p q
-start-test true c p q e = rw e refl
-start-test false c p q e = refl
-
-pub start-empty : (least most : ℕ) (empty : Bool) → empty ≡ true → ◌≡◌ {A = ℕ × ℕ} (0, 0) (copy_start least most empty)
-start-empty least most empty e = start-test (nat_eq least 0) (not empty) (most, 0) (0, 0) (ap not e)
-
-first-test : (b c : Bool) (p q : ℕ × ℕ) → b ≡ false → q ≡ cond (b && c) p q
-first-test b c p q e = rw e refl
-
-own-test : (b c : Bool) (p q : ℕ × ℕ) → b ≡ true → c ≡ true → p ≡ cond (b && c) p q
-own-test b c p q e f = rw (e, f) refl
-
-pub start-first : (least most : ℕ) (empty : Bool) → 0 < least → ◌≡◌ {A = ℕ × ℕ} (0, 0) (copy_start least most empty)
-start-first least most empty h = first-test (nat_eq least 0) (not empty) (most, 0) (0, 0) (grind (arith, nat_tests))
-
-pub start-own : (least most : ℕ) (empty : Bool) → least ≤ 0 → empty ≡ false → ◌≡◌ {A = ℕ × ℕ} (most, 0) (copy_start least most empty)
-start-own least most empty h e = own-test (nat_eq least 0) (not empty) (most, 0) (0, 0) (grind (arith, nat_tests)) (ap not e)
 
 pub in-copy : (m : Graph) (least most : ℕ) (at : ℕ × ℕ) → IsCopyState m least most at → (at.0 ≡ most → ⊥) → at.0 < most
 in-copy m least most at (inl h) other = h.0

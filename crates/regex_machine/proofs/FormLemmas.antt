@@ -18,9 +18,10 @@ use Rattle.regex_machine.specs.declared.kind.JoinKind.{JoinKind}
 use Rattle.regex_machine.specs.declared.kind.JoinKind.TheVariants as kind
 use Rattle.regex_machine.proofs.BuiltLemmas.{builds-as, builds-form}
 use Rattle.regex_machine.proofs.CopyLanguage.{star-copied, plus-copied, opt-copied, loop-copied, copied-same}
-use Rattle.regex_machine.proofs.KindLemmas.{formed, formed-words, formed-size, first-fewer, power-more}
+use Rattle.regex_machine.proofs.KindLemmas.{formed, formed-words, formed-size, first-fewer}
 use Rattle.regex_machine.proofs.LanguageLemmas.{first-made}
 use Rattle.sv_terms.specs.BoundLaws.{size-Star, size-Plus, size-Opt, size-Comp, size-Diff, size-Loop}
+use Rattle.sv_terms.specs.CutOff.{power-more}
 
 module _ (regex : Regex) (limit : ℕ) (x : Result Graph BuildFault) where
   pub builds-list : (k : JoinKind) (rs slice : List Regex) → slice ≡ rs → regex ≡ formed k rs

@@ -2,7 +2,7 @@
 use Rattle.std.proofs.Common.{◌≡◌, ℕ, zero, suc, ◌+◌, ◌*◌, ◌^◌, ◌-◌, ◌<◌, ◌≤◌, ◌⊎◌, inl, inr, max, List, [], ◌∷◌, ◌++◌, length, map, take, get_or, Contains, refl, sym, ap, ◌∙◌, subst, arith}
 use Rattle.std.proofs.lemmas.List.{append_assoc, append-nil, take_more, take_all}
 use Rattle.std.proofs.lemmas.List.Elements.{Contains-append_cases}
-use Rattle.std.proofs.Math.Nat.{mul_assoc, mul-le-mul, pow-le-pow_right}
+use Rattle.std.proofs.Math.Nat.{mul_assoc, mul-le-mul}
 use Rattle.sv_word.specs.Words.{IsWord}
 use Rattle.machine_core.specs.declared.graph.Graph.{Graph}
 use Rattle.machine_meet.specs.Products.{summed, multiplied}
@@ -11,12 +11,13 @@ use Rattle.sv_terms.specs.declared.regex.Regex.TheVariants as v
 use Rattle.sv_terms.specs.Language.{Word, Language, In, InOneOf, InEachInTurn, InAllOf}
 use Rattle.sv_terms.specs.Opened.{In-Concat, In-Union, In-Inter}
 use Rattle.sv_terms.specs.Bounds.{size, from_left, fold_left, in_turn_size, choice_size, both_size, without_size}
-use Rattle.regex_machine.specs.Joined.{WordsOf, HasWords, HaveNoRegisters, AreMade}
+use Rattle.regex_machine.specs.Joined.{WordsOf, HaveNoRegisters, AreMade}
 use Rattle.regex_machine.specs.Kinds.{Together, weight, most_states, states_of}
 use Rattle.regex_machine.specs.Parts.{AddsParts}
 use Rattle.regex_machine.specs.declared.kind.JoinKind.{JoinKind}
 use Rattle.regex_machine.specs.declared.kind.JoinKind.TheVariants as kind
 use Rattle.sv_terms.specs.BoundLaws.{size-Concat, size-Union, size-Inter, size-some}
+use Rattle.sv_terms.specs.CutOff.{power-more}
 
 -- two lists, one after the other
 module _ {X : Type 0} (P : X → Language) where
@@ -69,12 +70,6 @@ module _ {X Y : Type 0} (P : X → Language) (Q : Y → Language) where
   within-none kind.One w h = absurd h
   within-none kind.All w h = h
 
-  within-one : (k : JoinKind) (x : X) (y : Y) → ((w : Word) → P x w → Q y w) → Within k (x ∷ []) (y ∷ [])
-  within-one kind.Turn x y f w h = (h.0, h.1, h.2, f h.0 h.3, h.4)
-  within-one kind.One x y f w (inl h) = inl (f w h)
-  within-one kind.One x y f w (inr h) = absurd h
-  within-one kind.All x y f w h = (f w h.0, h.1)
-
 -- weights
 pub summed-append : {X : Type 0} (f : X → ℕ) (xs ys : List X) → summed f (xs ++ ys) ≡ summed f xs + summed f ys
 summed-append f [] ys = omega arith
@@ -101,11 +96,6 @@ weight-append kind.One f g xs ys us vs p q = let a = summed-append (λ x. f x + 
 weight-append kind.All f g xs ys us vs p q =
     let both : multiplied f xs * multiplied f ys ≤ multiplied g us * multiplied g vs = mul-le-mul p q in
     rw (multiplied-append f xs ys, multiplied-append g us vs) both
-
-weight-one : {X Y : Type 0} (k : JoinKind) (f : X → ℕ) (g : Y → ℕ) (x : X) (y : Y) → f x ≤ g y → weight k f (x ∷ []) ≤ weight k g (y ∷ [])
-weight-one kind.Turn f g x y h = omega arith
-weight-one kind.One f g x y h = omega arith
-weight-one kind.All f g x y h = omega arith
 
 weight-none : {X Y : Type 0} (k : JoinKind) (f : X → ℕ) (g : Y → ℕ) → weight k f [] ≤ weight k g []
 weight-none kind.Turn f g = omega arith
@@ -200,22 +190,6 @@ adds-more k rs qs old mid new a b = record {
   light = weight-append k states_of size a.more b.more rs qs a.light b.light;
 }
 
-pub adds-one : (k : JoinKind) (r : Regex) (old new : List Graph) (m : Graph) → new ≡ old ++ m ∷ [] → HasWords (In r) m → m.states ≤ size r → AddsParts k (r ∷ []) old new
-adds-one k r old new m e reads few = record {
-  more = m ∷ [];
-  grown = e;
-  plain = λ n i. alone n i;
-  words = λ w. (
-    within-one WordsOf In k m r (λ u. (reads.words u).0) w,
-    within-one In WordsOf k r m (λ u. (reads.words u).1) w,
-  );
-  light = weight-one k states_of size m r few;
-}
-  where
-    alone : (n : Graph) → Contains (m ∷ []) n → n.registers ≡ 0
-    alone n (zero, lt, e) = subst (λ (x : Graph). x.registers ≡ 0) e reads.plain
-    alone n (suc j, lt, e) = absurd (omega arith)
-
 pub adds-inner : (k : JoinKind) (r : Regex) (rs slice : List Regex) (old new : List Graph) → r ≡ formed k rs → slice ≡ rs → AddsParts k slice old new → AddsParts k (r ∷ []) old new
 adds-inner k r rs slice old new is seen h =
     let a = subst (λ l. AddsParts k l old new) seen h in
@@ -286,10 +260,6 @@ first-size (q ∷ qs) r (suc n, lt, e) =
     let there = multiplied-least (λ x. 2 ^ size x) some-power qs r (n, omega arith, e) in
     let both : 1 * 2 ^ size r ≤ size q * multiplied (λ x. 2 ^ size x) qs = mul-le-mul (size-some q) there in
     omega arith
-
--- machines in place of expressions
-pub power-more : (n m : ℕ) → n ≤ m → 2 ^ n ≤ 2 ^ m
-power-more n m h = pow-le-pow_right (omega arith) h
 
 powers-fewer : (rs : List Regex) (ms : List Graph) → AreMade rs ms → multiplied (λ (x : Graph). 2 ^ x.states) ms ≤ multiplied (λ x. 2 ^ size x) rs
 powers-fewer [] [] h = omega arith

@@ -7,8 +7,6 @@ use Rattle.sv_terms.specs.Language.{Word, In, Power, InOneOf, InFirstOnly}
 use Rattle.sv_terms.specs.declared.regex.Regex.{Regex}
 use Rattle.sv_word.specs.Ranges.{in_ranges}
 use Rattle.sv_terms.specs.Bounds.{size}
-use Rattle.regex_machine.specs.Kinds.{weight, most_states, states_of}
-use Rattle.regex_machine.specs.declared.kind.JoinKind.TheVariants.{One}
 use Rattle.regex_machine.specs.Joined.{WordsOf, HasWords, HaveNoRegisters, AreMade}
 use Rattle.sv_word.specs.Words.{greatest_character}
 
@@ -41,24 +39,6 @@ first-made (r ∷ rs) (m ∷ ms) h w = (
   λ x. ((h.0.words w).0 x.0, λ y. x.1 ((one-made rs ms h.2 w).1 y)),
   λ x. ((h.0.words w).1 x.0, λ y. x.1 ((one-made rs ms h.2 w).0 y)),
 )
-
--- the only one of a list
-pub alone-reads : (ms : List Graph) (m : Graph) → length ms ≡ 1 → m ≡ get_or ms 0 m → HaveNoRegisters ms → HasWords (InOneOf WordsOf ms) m
-alone-reads [] m one is plain = absurd (omega arith)
-alone-reads (x ∷ y ∷ ms) m one is plain = absurd (omega arith)
-alone-reads (x ∷ []) m one is plain = record {
-  plain = plain m (0, omega arith, sym is);
-  words = λ w. (λ h. inl (subst (λ n. WordsOf n w) is h), back w);
-}
-  where
-    back : (w : Word) → InOneOf WordsOf (x ∷ []) w → WordsOf m w
-    back w (inl h) = subst (λ n. WordsOf n w) (sym is) h
-    back w (inr h) = absurd h
-
-pub alone-states : (ms : List Graph) (m : Graph) → length ms ≡ 1 → m ≡ get_or ms 0 m → m.states ≤ most_states One (weight One states_of ms)
-alone-states [] m one is = absurd (omega arith)
-alone-states (x ∷ y ∷ ms) m one is = absurd (omega arith)
-alone-states (x ∷ []) m one is = let same = ap states_of is in omega arith
 
 pub made-more : (rs : List Regex) (i : ℕ) (r : Regex) (ms : List Graph) (m : Graph) → i < length rs → r ≡ get_or rs i r → HasWords (In r) m → m.states ≤ size r → AreMade (take i rs) ms → AreMade (take (i + 1) rs) (ms ++ m ∷ [])
 made-more rs i r ms m lt is read few h =

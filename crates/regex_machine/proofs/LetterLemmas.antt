@@ -1,6 +1,7 @@
 -- The words of small machines, by their lists of edges and ends.
 use Rattle.std.proofs.Common.{◌≡◌, ℕ, zero, suc, ◌+◌, ◌<◌, ◌≤◌, ◌↔◌, ◌⊎◌, inl, inr, ◌&&◌, IsTrue, nat_le, List, [], ◌∷◌, ◌++◌, length, drop, slice_get, Some, Any, refl, ap, sym, ◌∙◌, subst, arith, min}
 use Rattle.std.proofs.lemmas.Bool.Decides.{nat_tests}
+use Rattle.std.proofs.lemmas.Option.{slice_get_within}
 use Rattle.sv_word.specs.Ranges.{in_ranges}
 use Rattle.sv_word.specs.Words.{IsWord, greatest_character}
 use Rattle.machine_core.specs.declared.graph.Graph.{Graph}
@@ -9,11 +10,10 @@ use Rattle.machine_core.specs.declared.end.End.{End}
 use Rattle.machine_core.specs.Language.{RunsFrom}
 use Rattle.machine_core.specs.Edges.{edge, ending, move_of, EndsAt, StepsBy}
 use Rattle.machine_core.specs.Moves.{Moves}
-use Rattle.machine_core.specs.Lists.{Any-none, Any-here, Any-cases, Any-push_cases, Any-append_left, Any-append_right}
+use Rattle.sv_list.specs.Lists.{Any-none, Any-here, Any-cases, Any-push_cases, Any-append_left, Any-append_right, below_next-cases, drop-found}
 use Rattle.sv_terms.specs.Language.{Word}
 use Rattle.regex_machine.specs.Joined.{HasWords}
 use Rattle.regex_machine.specs.Laws.{drop-get}
-use Rattle.regex_machine.proofs.WordLemmas.{get-drop, get-within, split-last}
 
 -- the one edge and the one end of a list
 abbrev IsStep : ℕ → List (ℕ × ℕ) → ℕ → ℕ → ℕ → List ℕ → ℕ → Type 0
@@ -144,7 +144,7 @@ spells-more word n c0 on old new at set e g s c cost t =
         | inl a ↦ (let r = (g s c cost t).0 a in (omega arith, r.1, r.2, r.3))
         | inr p ↦ (below n s p.0, subst (λ k. slice_get word k ≡ Some c) p.0 (subst (λ d. slice_get word n ≡ Some d) (only c p.1.0) at), sym p.1.1, sym p.1.2 ∙ ap (λ k. k + 1) p.0)
       ],
-      λ h. subst (Any P) (sym e) (by_place (split-last s n h.0) h),
+      λ h. subst (Any P) (sym e) (by_place (below_next-cases s n h.0) h),
     )
   where
     below : (n s : ℕ) → n ≡ s → s < n + 1
@@ -179,7 +179,7 @@ module _ (word : Word) (edges : List Edge) (spells : Spells word (length word) e
   spelling-out (c ∷ w) s cost r =
       let st = (spells s c r.0 r.1).0 r.3 in
       let next : r.1 ≡ suc s = st.3 ∙ (omega arith) in
-      ap (λ l. c ∷ l) (spelling-out w r.1 r.2 r.4 ∙ ap (λ k. drop k word) next) ∙ sym (get-drop word s c st.1)
+      ap (λ l. c ∷ l) (spelling-out w r.1 r.2 r.4 ∙ ap (λ k. drop k word) next) ∙ sym (drop-found word s c st.1)
 
   at-end : (xs : Word) (s : ℕ) → s ≤ length xs → drop s xs ≡ [] → length xs ≡ s
   at-end [] zero h e = refl
@@ -191,7 +191,7 @@ module _ (word : Word) (edges : List Edge) (spells : Spells word (length word) e
   spelling-in [] s h e = subst (λ k. EndsAt (ending (length word) [] ∷ []) k []) (at-end word s h (sym e)) (end-one (length word))
   spelling-in (c ∷ w) s h e =
       let d = drop-get word s c w (sym e) in
-      let lt = get-within word s c d.0 in
+      let lt = slice_get_within word s c d.0 in
       let next : suc s ≡ s + 1 = omega arith in
       ([], s + 1, [], (spells s c [] (s + 1)).1 (lt, d.0, refl, refl), spelling-in w (s + 1) (omega arith) (sym d.1 ∙ ap (λ k. drop k word) next), refl)
 
@@ -236,10 +236,6 @@ only-empty P same m r = record {
   plain = r.plain;
   words = λ w. (λ h. (same w).1 ((r.words w).0 h).0, λ h. let e = (same w).0 h in (r.words w).1 (e, subst IsWord (sym e) tt));
 }
-
--- no word
-pub no-words : (P : Word → Type 0) → ((w : Word) → P w → ⊥) → (m : Graph) → HasWords (λ w. ⊥) m → HasWords P m
-no-words P none m r = record { plain = r.plain; words = λ w. (λ h. absurd ((r.words w).0 h), λ h. absurd (none w h)) }
 
 pub at-most : (n m : ℕ) → n ≡ m → n ≤ m
 at-most n m e = omega arith

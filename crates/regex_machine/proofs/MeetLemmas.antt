@@ -1,5 +1,6 @@
 -- The words of machines together.
 use Rattle.std.proofs.Common.{◌≡◌, ℕ, ◌<◌, ◌≤◌, ◌^◌, ◌↔◌, List, [], ◌∷◌, map, Contains, refl, sym, ◌∙◌, subst, arith}
+use Rattle.std.proofs.lemmas.List.{nil_from_length}
 use Rattle.sv_word.specs.Words.{IsWord}
 use Rattle.machine_core.specs.declared.graph.Graph.{Graph}
 use Rattle.machine_core.specs.declared.edge.Edge.{Edge}
@@ -10,16 +11,16 @@ use Rattle.machine_core.specs.Language.{RunsFrom}
 use Rattle.machine_core.specs.Edges.{EndsAt, StepsBy, listed_top}
 use Rattle.machine_core.specs.EdgeLaws.{step_target, step_character}
 use Rattle.machine_core.specs.LanguageLaws.{runs_are_words}
-use Rattle.machine_core.specs.Lists.{Contains-here, Contains-there}
+use Rattle.sv_list.specs.Lists.{Contains-here, Contains-there}
 use Rattle.machine_meet.specs.Products.{meet_width, summed, MeetEnds, MeetSteps, AllRead, MeetsAll}
 use Rattle.sv_terms.specs.Language.{Word, InAllOf}
 use Rattle.regex_machine.specs.Joined.{WordsOf, HaveNoRegisters}
-use Rattle.regex_machine.proofs.WordLemmas.{no-cost, run-free}
+use Rattle.regex_machine.proofs.WordLemmas.{run-free}
 
 plain-top : (m : Graph) → m.registers ≡ 0 → listed_top m.edges m.ends ≡ 0
 plain-top m plain =
-    let e = top_by-least (λ (e : Edge). cost_top e.cost) m.edges 0 (λ e i. subst (λ k. cost_top k ≤ 0) (sym (no-cost e.cost ((m.formed.edge e i).cost ∙ plain))) (omega arith)) in
-    let f = top_by-least (λ (e : End). cost_top e.cost) m.ends 0 (λ e i. subst (λ k. cost_top k ≤ 0) (sym (no-cost e.cost ((m.formed.ending e i).cost ∙ plain))) (omega arith)) in
+    let e = top_by-least (λ (e : Edge). cost_top e.cost) m.edges 0 (λ e i. subst (λ k. cost_top k ≤ 0) (sym (nil_from_length e.cost ((m.formed.edge e i).cost ∙ plain))) (omega arith)) in
+    let f = top_by-least (λ (e : End). cost_top e.cost) m.ends 0 (λ e i. subst (λ k. cost_top k ≤ 0) (sym (nil_from_length e.cost ((m.formed.ending e i).cost ∙ plain))) (omega arith)) in
     omega arith
 
 plain-rest : (m : Graph) (ms : List Graph) → HaveNoRegisters (m ∷ ms) → HaveNoRegisters ms

@@ -1,11 +1,12 @@
 -- States made from the end of an expression on.
 use Rattle.std.proofs.Common.{◌≡◌, ℕ, zero, suc, ◌+◌, ◌<◌, ◌≤◌, ◌↔◌, inl, inr, ◌-◌, ◌&&◌, ◌||◌, nat_le, drop, get_or, Bool, true, false, IsTrue, Option, Some, None, List, [], ◌∷◌, ◌++◌, length, slice_get, Any, Contains, refl, ap, sym, ◌∙◌, subst, append_assoc, arith}
 use Rattle.std.proofs.lemmas.Bool.Decides.{nat_tests}
-use Rattle.std.proofs.lemmas.List.{append-nil, length_push}
+use Rattle.std.proofs.lemmas.List.{append-nil, length_push, drop_all}
 use Rattle.std.proofs.lemmas.List.Elements.{Contains-push_cases}
+use Rattle.std.proofs.lemmas.Option.{slice_get_within, same_Some}
 use Rattle.sv_word.specs.Ranges.{in_ranges, IsInhabited, IsApartFrom}
 use Rattle.sv_word.specs.Words.{IsWord, greatest_character}
-use Rattle.machine_core.specs.Lists.{Any-none, Any-here, contained, slice_get-append, slice_get-end, slice_get-contains}
+use Rattle.sv_list.specs.Lists.{Any-none, Any-here, contained, slice_get-append, slice_get-end, slice_get-contains, append-longer}
 use Rattle.machine_core.specs.Moves.{Moves, IsMove}
 use Rattle.machine_core.specs.declared.machine.Move.{Move}
 use Rattle.sv_terms.specs.Language.{Word, Then}
@@ -14,18 +15,10 @@ use Rattle.regex_machine.specs.Onwards.{ReadsOn, IsOnward, AreClosed, IsFormedRe
 use Rattle.regex_machine.specs.declared.onward.Onward.{Onward}
 use Rattle.regex_machine.specs.declared.onward.Rest.{Rest}
 
-pub get-below : {X : Type 0} (xs : List X) (n : ℕ) (x : X) → slice_get xs n ≡ Some x → n < length xs
-get-below [] n x e = cc
-get-below (z ∷ zs) zero x e = omega arith
-get-below (z ∷ zs) (suc n) x e = let h = get-below zs n x e in omega arith
-
 get-front : {X : Type 0} (xs ys : List X) (n : ℕ) (x : X) → n < length xs → slice_get (xs ++ ys) n ≡ Some x → slice_get xs n ≡ Some x
 get-front [] ys n x lt e = absurd (omega arith)
 get-front (z ∷ zs) ys zero x lt e = e
 get-front (z ∷ zs) ys (suc n) x lt e = get-front zs ys n x (omega arith) e
-
-some-same : {X : Type 0} (x y : X) → Some x ≡ Some y → x ≡ y
-some-same x y e = cc
 
 -- the same words are read where more states stand behind
 pub reads-more : (old more : List Onward) (o : Onward) (w : Word) → IsOnward (length old) o → AreClosed old → ReadsOn (old ++ more) o w ↔ ReadsOn old o w
@@ -48,13 +41,9 @@ onward-weaker n m o le f = record {
   characters = f.characters;
 }
 
-longer : {X : Type 0} (xs ys : List X) → length xs ≤ length (xs ++ ys)
-longer [] ys = omega arith
-longer (x ∷ xs) ys = let h = longer xs ys in omega arith
-
 pub rest-grown : (old new more : List Onward) (rest : Rest) → new ≡ old ++ more → IsFormedRest old rest → IsFormedRest new rest
 rest-grown old new more rest e h = record {
-  onward = onward-weaker (length old) (length new) rest.onward (subst (λ l. length old ≤ length l) (sym e) (longer old more)) h.onward;
+  onward = onward-weaker (length old) (length new) rest.onward (subst (λ l. length old ≤ length l) (sym e) (append-longer old more)) h.onward;
   state = λ s is. subst (λ l. slice_get l s ≡ Some rest.onward) (sym e) (slice_get-append old more s rest.onward (h.state s is));
 }
 
@@ -80,7 +69,7 @@ state-made old new rest now o s begun none copied pushed at same made = record {
     formed = record {
       onward = onward-weaker (length old) (length new) now.onward grows (subst (IsOnward (length old)) (sym same) begun.formed.onward);
       state = λ t e.
-          let here : length old ≡ t = sym at ∙ some-same s t (sym made ∙ e) in
+          let here : length old ≡ t = sym at ∙ same_Some s t (sym made ∙ e) in
           subst (λ n. slice_get new n ≡ Some now.onward) here (subst (λ l. slice_get l (length old) ≡ Some now.onward) (sym pushed) (slice_get-end old o ∙ ap Some (copied ∙ sym same)));
     };
   };
@@ -132,7 +121,7 @@ letter-made old new rest now front on s m begun has some below is free leads mov
       moves = λ e i. subst (IsMove (length new) 0) (only e i) (record {
         on = subst IsInhabited (sym is) some;
         cost = ap length free;
-        to = subst (λ n. n < length new) (sym leads) (get-below new s now.onward at);
+        to = subst (λ n. n < length new) (sym leads) (slice_get_within new s now.onward at);
       });
       characters = λ e i c h. below c (subst (λ l. IsTrue (in_ranges l c)) (sym (ap (λ (x : Move ℕ). x.on) (only e i)) ∙ is) h);
     };
@@ -162,7 +151,7 @@ letter-made old new rest now front on s m begun has some below is free leads mov
         let e = only a.0 a.1 in
         let reads : IsTrue (in_ranges on c) = subst (λ l. IsTrue (in_ranges l c)) (sym (ap (λ (x : Move ℕ). x.on) e) ∙ is) a.2.0 in
         let to : s ≡ h.0 = sym leads ∙ ap (λ (x : Move ℕ). x.to) e ∙ a.2.2 in
-        let there : now.onward ≡ h.1 = some-same now.onward h.1 (sym at ∙ subst (λ n. slice_get new n ≡ Some h.1) (sym to) h.3) in
+        let there : now.onward ≡ h.1 = same_Some now.onward h.1 (sym at ∙ subst (λ n. slice_get new n ≡ Some h.1) (sym to) h.3) in
         (c ∷ [], w, refl, (c, reads, refl), (same-reads w).0 (subst (λ o. ReadsOn new o w) (sym there) h.4))
 
     cons-first : (x y : ℕ) (xs ys : Word) → (x ∷ xs) ≡ (y ∷ ys) → x ≡ y
@@ -252,16 +241,10 @@ drop-at [] n d lt = absurd (omega arith)
 drop-at (x ∷ xs) zero d lt = refl
 drop-at (x ∷ xs) (suc n) d lt = drop-at xs n d (omega arith)
 
-pub drop-all : {X : Type 0} (xs : List X) (n : ℕ) → length xs ≤ n → drop n xs ≡ []
-drop-all [] zero le = refl
-drop-all [] (suc n) le = refl
-drop-all (x ∷ xs) zero le = absurd (omega arith)
-drop-all (x ∷ xs) (suc n) le = drop-all xs n (omega arith)
-
 pub text-none : (l : Word) (n k : ℕ) (old new : List Onward) (rest now front : Rest) → length l ≡ n → front ≡ now → PrecedesRest (λ u. u ≡ []) k old rest new now now
     → PrecedesRest (λ w. w ≡ drop n l) (k + (length l - n)) old rest new now front
 text-none l n k old new rest now front all copied p =
-    let none = drop-all l n (omega arith) in
+    let none = drop_all n l (omega arith) in
     subst (PrecedesRest (λ w. w ≡ drop n l) (k + (length l - n)) old rest new now) (sym copied)
     (precedes-as (λ u. u ≡ []) (λ w. w ≡ drop n l) k (k + (length l - n)) old new rest now now (λ w. (λ h. h ∙ sym none, λ h. h ∙ none)) (omega arith) p)
 

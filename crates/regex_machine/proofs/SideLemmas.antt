@@ -12,7 +12,7 @@ use Rattle.machine_core.specs.Costs.{add_costs}
 use Rattle.machine_core.specs.Language.{RunsFrom}
 use Rattle.machine_core.specs.Edges.{EndsAt, StepsBy}
 use Rattle.machine_core.specs.Moves.{Moves}
-use Rattle.machine_core.specs.Lists.{Any-map, Any-from_map, Any-weaker, Any-contains, contained}
+use Rattle.sv_list.specs.Lists.{Any-map, Any-from_map, Any-weaker, Any-contains, contained}
 use Rattle.subset_machine.specs.Subsets.{IsStateSet, SubsetEnds, SubsetSteps, SubsetAccepts, HasSignedWord}
 use Rattle.machine_meet.specs.Products.{meet_width, summed, multiplied, MeetEnds, MeetSteps, AllRead, MeetsAll}
 use Rattle.sv_terms.specs.Language.{Word, InOneOf, InFirstOnly}

@@ -10,10 +10,11 @@ use Rattle.machine_core.specs.declared.end.End.{End}
 use Rattle.machine_core.specs.Edges.{EndsAt, StepsBy, at_of}
 use Rattle.machine_core.specs.Places.{places_from, places}
 use Rattle.machine_core.specs.Moves.{Moves}
-use Rattle.machine_core.specs.Lists.{Any-none, Any-here, Any-there, Any-cases, Any-append_left, Any-append_right, Any-append_cases, Any-weaker, Any-map, Any-from_map, contained, Any-contains}
+use Rattle.sv_list.specs.Lists.{Any-none, Any-here, Any-there, Any-cases, Any-append_left, Any-append_right, Any-append_cases, Any-weaker, Any-map, Any-from_map, contained, Any-contains}
 use Rattle.machine_meet.specs.Joins.{AreInhabited}
 use Rattle.regex_machine.specs.Stepped.{LeadsToPart, led, AddsSteps, AreLed, AreEndsIf}
 use Rattle.regex_machine.proofs.WordLemmas.{step-free, end-free}
+use Rattle.regex_machine.proofs.CopyLanguage.{not-zero}
 
 -- one element more, pushed behind what a list began with
 pub mapped-more : {X Y : Type 0} (f : X → Y) (start : List Y) (xs : List X) (old new : List Y) (x : X) → old ≡ start ++ map f xs → new ≡ old ++ f x ∷ []
@@ -89,9 +90,6 @@ missed s k (e ∷ ends) h a = by_test (missed s (suc k) ends) (nat_eq (at_of e) 
         → cond b (k ∷ places_from at_of s (suc k) ends) (places_from at_of s (suc k) ends) ≡ [] → ⊥
     by_test later true t g = cc
     by_test later false t g = elim (Any-cases (Stands s) e ends a) [ inl same ↦ clash t same | inr i ↦ later g i ]
-
-not-zero : (n : ℕ) → nat_eq (suc n) 0 ≡ false
-not-zero n = grind (arith, nat_tests)
 
 pub end-found : (m : Graph) → m.registers ≡ 0 → (s : ℕ) → (places at_of s m.ends ≡ [] → ⊥) → EndsAt m.ends s []
 end-found m plain s h =

@@ -1,10 +1,10 @@
 -- Lists of parts, written from the end on.
-use Rattle.std.proofs.Common.{◌≡◌, ℕ, zero, suc, ◌+◌, ◌-◌, ◌<◌, ◌≤◌, ◌↔◌, ◌⊎◌, inl, inr, ◌||◌, max, nat_eq, Bool, true, false, IsTrue, None, List, [], ◌∷◌, ◌++◌, length, take, drop, get_or, Any, Contains, Result, refl, ap, sym, ◌∙◌, subst, append_assoc, length-append, arith}
-use Rattle.std.proofs.lemmas.List.{append-nil, take_more, take_all}
+use Rattle.std.proofs.Common.{◌≡◌, ℕ, zero, suc, ◌+◌, ◌-◌, ◌<◌, ◌≤◌, ◌↔◌, ◌⊎◌, inl, inr, ◌||◌, max, Bool, true, false, IsTrue, None, List, [], ◌∷◌, ◌++◌, length, take, drop, get_or, Any, Contains, Result, refl, ap, sym, ◌∙◌, subst, append_assoc, length-append, arith}
+use Rattle.std.proofs.lemmas.List.{append-nil, take_more, take_all, drop_all}
 use Rattle.std.proofs.lemmas.List.Elements.{Contains-append_cases}
 use Rattle.machine_core.specs.declared.graph.Graph.{Graph}
 use Rattle.machine_core.specs.declared.machine.Move.{Move}
-use Rattle.machine_core.specs.Lists.{Any-none, Any-append_left, Any-append_right, Any-append_cases}
+use Rattle.sv_list.specs.Lists.{Any-none, Any-append_left, Any-append_right, Any-append_cases}
 use Rattle.machine_core.specs.Moves.{Moves}
 use Rattle.machine_meet.specs.Products.{summed}
 use Rattle.sv_terms.specs.Bounds.{size}
@@ -22,31 +22,10 @@ use Rattle.regex_machine.specs.Letters.{OneOf}
 use Rattle.regex_machine.specs.declared.kind.JoinKind.{JoinKind}
 use Rattle.regex_machine.proofs.OnwardLemmas.{reads-grown, onward-weaker, before-both, precedes-as, unmade-most}
 
--- what follows, with nothing before it
-pub nothing-there : (states : List Onward) (rest : Rest) → AreBegun states rest → PrecedesRest (λ u. u ≡ []) (length states + unmade rest.state) states rest states rest rest
-nothing-there states rest begun = record {
-  more = [];
-  grown = sym (append-nil states);
-  begun = begun;
-  same = refl;
-  formed = begun.formed;
-  words = λ w. (
-    λ h. ([], w, refl, refl, h),
-    λ h. subst (ReadsOn states rest.onward) (sym (h.2 ∙ ap (λ u. u ++ h.1) h.3)) h.4,
-  );
-  few = omega arith;
-}
-
 pub drop-first : {X : Type 0} (xs : List X) (n : ℕ) (x : X) → n < length xs → x ≡ get_or xs n x → drop n xs ≡ x ∷ drop (suc n) xs
 drop-first [] n x lt e = absurd (omega arith)
 drop-first (y ∷ ys) zero x lt e = ap (λ z. z ∷ ys) (sym e)
 drop-first (y ∷ ys) (suc n) x lt e = drop-first ys n x (omega arith) e
-
-pub drop-none : {X : Type 0} (xs : List X) (n : ℕ) → length xs ≤ n → drop n xs ≡ []
-drop-none [] zero le = refl
-drop-none [] (suc n) le = refl
-drop-none (x ∷ xs) zero le = absurd (omega arith)
-drop-none (x ∷ xs) (suc n) le = drop-none xs n (omega arith)
 
 module _ (rs : List Regex) (old : List Onward) (rest : Rest) where
   -- the parts from the nth on are written
@@ -55,7 +34,7 @@ module _ (rs : List Regex) (old : List Onward) (rest : Rest) where
 
   pub each-last : (n : ℕ) (r : Regex) (new : List Onward) (now front : Rest) → suc n ≡ length rs → r ≡ get_or rs n r → PrecedesRest (In r) (length old + size r) old rest new now front → IsWritten n new now front
   each-last n r new now front last is p =
-      let one : drop n rs ≡ r ∷ [] = drop-first rs n r (omega arith) is ∙ ap (λ l. r ∷ l) (drop-none rs (suc n) (omega arith)) in
+      let one : drop n rs ≡ r ∷ [] = drop-first rs n r (omega arith) is ∙ ap (λ l. r ∷ l) (drop_all (suc n) rs (omega arith)) in
       subst (λ l. PrecedesRest (InEachInTurn In l) (length old + summed size l) old rest new now front) (sym one)
       (precedes-as (In r) (InEachInTurn In (r ∷ [])) (length old + size r) (length old + (size r + 0)) old new rest now front alone (omega arith) p)
     where
@@ -258,7 +237,3 @@ before-inner k regex rs slice old new rest now front is seen p =
     let few = formed-size k rs in
     before-form regex (formed k rs) (Together k In rs) (length old + most_states k (weight k size rs)) old new rest now front is (formed-words k rs) (omega arith)
     (subst (λ l. PrecedesRest (Together k In l) (length old + most_states k (weight k size l)) old rest new now front) seen p)
-
-pub some-parts : {X : Type 0} (xs : List X) → nat_eq (length xs) 0 ≡ false → 0 < length xs
-some-parts [] e = cc
-some-parts (x ∷ xs) e = omega arith

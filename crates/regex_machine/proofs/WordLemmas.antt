@@ -1,18 +1,13 @@
 -- Words that are read from the states of a machine without registers.
-use Rattle.std.proofs.Common.{◌≡◌, ℕ, zero, suc, ◌+◌, ◌<◌, ◌↔◌, ◌⊎◌, inl, inr, Bool, true, false, IsTrue, nat_eq, List, [], ◌∷◌, length, drop, get_or, slice_get, Some, refl, ap, ◌∙◌, subst, arith}
-use Rattle.std.proofs.lemmas.Bool.Decides.{nat_tests}
+use Rattle.std.proofs.Common.{◌≡◌, ℕ, ◌<◌, ◌↔◌, Bool, true, false, IsTrue, List, [], ◌∷◌, length, drop, get_or, refl, ap, ◌∙◌, subst, arith}
+use Rattle.std.proofs.lemmas.List.{nil_from_length}
 use Rattle.machine_core.specs.declared.graph.Graph.{Graph}
 use Rattle.machine_core.specs.Costs.{add_costs}
 use Rattle.machine_core.specs.Language.{RunsFrom}
 use Rattle.machine_core.specs.Edges.{EndsAt, StepsBy}
 use Rattle.machine_core.specs.EdgeLaws.{step_cost, end_cost}
-use Rattle.machine_core.specs.Lists.{slice_get-contains}
 use Rattle.sv_terms.specs.Language.{Word}
-use Rattle.regex_machine.specs.Joined.{HaveNoRegisters, HasWords}
-
-pub no-cost : (k : List ℕ) → length k ≡ 0 → k ≡ []
-no-cost [] e = refl
-no-cost (x ∷ k) e = absurd (omega arith)
+use Rattle.regex_machine.specs.Joined.{HasWords}
 
 -- the words that are read from a state
 abbrev pub From : Graph → ℕ → Word → Type 0
@@ -20,10 +15,10 @@ From m s w = RunsFrom (EndsAt m.ends) (StepsBy m.edges) s w []
 
 module _ (m : Graph) (plain : m.registers ≡ 0) where
   pub step-free : (s t c : ℕ) (k : List ℕ) → StepsBy m.edges s c k t → k ≡ []
-  step-free s t c k st = no-cost k ((step_cost m.states m.registers m.edges m.ends m.formed s t c k st).entries ∙ plain)
+  step-free s t c k st = nil_from_length k ((step_cost m.states m.registers m.edges m.ends m.formed s t c k st).entries ∙ plain)
 
   pub end-free : (s : ℕ) (k : List ℕ) → EndsAt m.ends s k → k ≡ []
-  end-free s k e = no-cost k ((end_cost m.states m.registers m.edges m.ends m.formed s k e).entries ∙ plain)
+  end-free s k e = nil_from_length k ((end_cost m.states m.registers m.edges m.ends m.formed s k e).entries ∙ plain)
 
   pub run-free : (w : Word) (s : ℕ) (k : List ℕ) → RunsFrom (EndsAt m.ends) (StepsBy m.edges) s w k → k ≡ []
   run-free [] s k r = end-free s k r
@@ -43,29 +38,6 @@ module _ (m : Graph) (plain : m.registers ≡ 0) where
 pub step-from : (m : Graph) (s c t : ℕ) (w : Word) → StepsBy m.edges s c [] t → From m t w → From m s (c ∷ w)
 step-from m s c t w st r = ([], t, [], st, r, refl)
 
-pub plain-at : (ms : List Graph) → HaveNoRegisters ms → (k : ℕ) (m : Graph) → slice_get ms k ≡ Some m → m.registers ≡ 0
-plain-at ms plain k m e = plain m (slice_get-contains ms k m e)
-
-pub same-at : {X : Type 0} (xs : List X) (k : ℕ) (x y : X) → slice_get xs k ≡ Some x → slice_get xs k ≡ Some y → x ≡ y
-same-at xs k x y e f = cc
-
-pub get-within : {X : Type 0} (xs : List X) (k : ℕ) (x : X) → slice_get xs k ≡ Some x → k < length xs
-get-within [] k x e = cc
-get-within (y ∷ ys) zero x e = omega arith
-get-within (y ∷ ys) (suc k) x e = let h = get-within ys k x e in omega arith
-
-pub split-last : (k n : ℕ) → k < n + 1 → (k < n) ⊎ (k ≡ n)
-split-last zero zero h = inr refl
-split-last (suc k) zero h = absurd (omega arith)
-split-last zero (suc n) h = inl (omega arith)
-split-last (suc k) (suc n) h = elim (split-last k n (omega arith)) [ inl l ↦ inl (omega arith) | inr e ↦ inr (ap suc e) ]
-
--- an element and what follows it
-pub get-drop : {X : Type 0} (xs : List X) (k : ℕ) (x : X) → slice_get xs k ≡ Some x → drop k xs ≡ x ∷ drop (suc k) xs
-get-drop [] k x e = cc
-get-drop (y ∷ ys) zero x e = (let f : y ≡ x = cc in ap (λ z. z ∷ ys) f)
-get-drop (y ∷ ys) (suc k) x e = get-drop ys k x e
-
 -- a machine whose words are others that are the same
 pub reads-same : (P Q : Word → Type 0) (m : Graph) → ((w : Word) → P w ↔ Q w) → HasWords P m → HasWords Q m
 reads-same P Q m same r = record {
@@ -79,15 +51,6 @@ surely b P says t = says.0 t
 
 pub never : (b : Bool) (P : Type 0) → IsTrue b ↔ P → b ≡ false → P → ⊥
 never b P says f p = let t = says.1 p in cc
-
--- what a test of emptiness says
-pub none-left : {X : Type 0} (xs : List X) → nat_eq (length xs) 0 ≡ true → xs ≡ []
-none-left [] e = refl
-none-left (x ∷ xs) e = absurd (grind (arith, nat_tests))
-
-pub some-left : {X : Type 0} (xs : List X) → nat_eq (length xs) 0 ≡ false → 0 < length xs
-some-left [] e = cc
-some-left (x ∷ xs) e = omega arith
 
 pub split-first : {X : Type 0} (xs : List X) (x : X) → 0 < length xs → x ≡ get_or xs 0 x → x ∷ drop 1 xs ≡ xs
 split-first [] x some is = absurd (omega arith)

@@ -8,9 +8,9 @@ use Rattle.machine_core.specs.declared.graph.Graph.{Graph}
 use Rattle.machine_core.specs.declared.machine.Move.{Move}
 use Rattle.machine_core.specs.Costs.{add_costs}
 use Rattle.machine_core.specs.Edges.{EndsAt, StepsBy}
-use Rattle.machine_core.specs.EdgeLaws.{step_target, step_character, step_cost, end_cost}
+use Rattle.machine_core.specs.EdgeLaws.{step_target, step_character, step_cost}
 use Rattle.machine_core.specs.Language.{RunsFrom}
-use Rattle.machine_core.specs.Lists.{Any-map, Any-from_map, Any-contains, Any-append_left, Any-append_right, Any-append_cases, contained, slice_get-contains, slice_get-push_cases}
+use Rattle.sv_list.specs.Lists.{Any-map, Any-from_map, Any-contains, Any-append_left, Any-append_right, Any-append_cases, contained, slice_get-contains, slice_get-push_cases, some-once}
 use Rattle.machine_core.specs.Moves.{Moves, IsMove}
 use Rattle.sv_terms.specs.Language.{Word, Then}
 use Rattle.regex_machine.specs.Joined.{WordsOf}
@@ -20,20 +20,18 @@ use Rattle.regex_machine.specs.Woven.{WovenEnds, WovenSteps, woven-free, IsPlace
 use Rattle.regex_machine.specs.declared.onward.Onward.{Onward}
 use Rattle.regex_machine.specs.declared.onward.Rest.{Rest}
 use Rattle.regex_machine.proofs.OnwardLemmas.{reads-grown, onward-weaker, rest-grown}
-
-same-some : {X : Type 0} (xs : List X) (n : ℕ) (x y : X) → slice_get xs n ≡ Some x → slice_get xs n ≡ Some y → x ≡ y
-same-some xs n x y e f = let g : Some x ≡ Some y = sym e ∙ f in cc
+use Rattle.regex_machine.proofs.WordLemmas.{run-free}
 
 pub woven-reads : (states : List Onward) → AreClosed states → (w : Word) (s : ℕ) (o : Onward) → slice_get states s ≡ Some o
     → RunsFrom (WovenEnds states) (WovenSteps states) s w [] ↔ ReadsOn states o w
 woven-reads states closed [] s o at = (
-  λ h. subst (λ (x : Onward). IsTrue x.may_end) (same-some states s h.0 o h.1 at) h.3,
+  λ h. subst (λ (x : Onward). IsTrue x.may_end) (some-once (slice_get states s) h.0 o h.1 at) h.3,
   λ h. (o, at, refl, h),
 )
 woven-reads states closed (c ∷ w) s o at = (
   λ h.
       let st = h.3 in
-      let moves = subst (λ (x : Onward). Any (Moves c h.0 h.1) x.moves) (same-some states s st.0 o st.1 at) st.2 in
+      let moves = subst (λ (x : Onward). Any (Moves c h.0 h.1) x.moves) (some-once (slice_get states s) st.0 o st.1 at) st.2 in
       let free : h.0 ≡ [] = woven-free states closed s c h.0 h.1 st in
       let rest : h.2 ≡ [] = runs-free w h.1 h.2 h.4 in
       let m = contained (Moves c h.0 h.1) o.moves moves in
@@ -55,10 +53,6 @@ woven-reads states closed (c ∷ w) s o at = (
 module _ (m : Graph) (plain : m.registers ≡ 0) where
   free-step : (u c v : ℕ) (k : List ℕ) → StepsBy m.edges u c k v → k ≡ []
   free-step u c v k h = nil_from_length k ((step_cost m.states m.registers m.edges m.ends m.formed u v c k h).entries ∙ plain)
-
-  free-run : (w : Word) (s : ℕ) (k : List ℕ) → RunsFrom (EndsAt m.ends) (StepsBy m.edges) s w k → k ≡ []
-  free-run [] s k h = nil_from_length k ((end_cost m.states m.registers m.edges m.ends m.formed s k h).entries ∙ plain)
-  free-run (c ∷ w) s k h = h.5 ∙ ap (λ l. add_costs l h.2) (free-step s c h.1 h.0 h.3)
 
   module _ (old new : List Onward) (rest : Rest) (begun : AreBegun old rest) (placed : ArePlaced m m.states rest.onward old new) where
     at-place : (s : ℕ) (o : Onward) → slice_get new (length old + s) ≡ Some o → IsPlaced m s (length old) rest.onward o
@@ -88,7 +82,7 @@ module _ (m : Graph) (plain : m.registers ≡ 0) where
     placed-in [] (c ∷ v) s o at r h = let n = (same-rest (c ∷ v)).1 h in (n.0, n.1, ((at-place s o at).moves c n.0).1 (inr (r, n.2)), n.3, n.4)
     placed-in (c ∷ u) v s o at r h =
         let step = subst (λ k. StepsBy m.edges s c k r.1) (free-step s c r.1 r.0 r.3) r.3 in
-        let run = subst (RunsFrom (EndsAt m.ends) (StepsBy m.edges) r.1 u) (free-run u r.1 r.2 r.4) r.4 in
+        let run = subst (RunsFrom (EndsAt m.ends) (StepsBy m.edges) r.1 u) (run-free m plain u r.1 r.2 r.4) r.4 in
         let to = step_target m.states m.registers m.edges m.ends m.formed s r.1 c [] step in
         let t = there placed.more r.1 (let n = placed.count in omega arith) in
         let e = subst (λ l. slice_get l (length old + r.1) ≡ Some t.0) (sym placed.grown) (behind old placed.more r.1 t.0 t.1) in
@@ -219,22 +213,17 @@ placed-more m n base rest o old mid new at pushed one h = record {
   ];
 }
 
-pub stands-at : {X : Type 0} (xs : List X) (at : ℕ) (x : X) → at < length xs → x ≡ get_or xs at x → slice_get xs at ≡ Some x
-stands-at [] at x lt e = absurd (omega (arith, lt))
-stands-at (y ∷ ys) zero x lt e = ap Some (sym e)
-stands-at (y ∷ ys) (suc at) x lt e = stands-at ys at x (omega (arith, lt)) e
-
 pub woven-ends : (states : List Onward) (s : ℕ) (o : Onward) → slice_get states s ≡ Some o → (costs : List (List ℕ)) → AreEndsIf o.may_end costs
     → (cost : List ℕ) → WovenEnds states s cost ↔ Any (λ e. e ≡ cost) costs
 woven-ends states s o at costs exact cost = (
-  λ h. (exact cost).1 (h.2, subst (λ (x : Onward). IsTrue x.may_end) (same-some states s h.0 o h.1 at) h.3),
+  λ h. (exact cost).1 (h.2, subst (λ (x : Onward). IsTrue x.may_end) (some-once (slice_get states s) h.0 o h.1 at) h.3),
   λ a. let e = (exact cost).0 a in (o, at, e.0, e.1),
 )
 
 pub woven-moves : (states : List Onward) (s : ℕ) (o : Onward) → slice_get states s ≡ Some o → (moves : List (Move ℕ)) → moves ≡ o.moves
     → (c : ℕ) (cost : List ℕ) (t : ℕ) → WovenSteps states s c cost t ↔ Any (Moves c cost t) moves
 woven-moves states s o at moves same c cost t = (
-  λ h. subst (Any (Moves c cost t)) (ap (λ (x : Onward). x.moves) (same-some states s h.0 o h.1 at) ∙ sym same) h.2,
+  λ h. subst (Any (Moves c cost t)) (ap (λ (x : Onward). x.moves) (some-once (slice_get states s) h.0 o h.1 at) ∙ sym same) h.2,
   λ a. (o, at, subst (Any (Moves c cost t)) same a),
 )
 

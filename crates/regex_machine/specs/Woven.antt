@@ -1,12 +1,13 @@
 -- The machine of states that are made from the end on, and states of a part that are put among them.
-use Rattle.std.specs.Prelude.{◌≡◌, ℕ, ◌+◌, ◌<◌, ◌≤◌, ◌↔◌, ◌⊎◌, IsTrue, Some, List, [], ◌∷◌, ◌++◌, length, slice_get, Any}
-use Rattle.std.proofs.Common.{refl, sym, ◌∙◌, subst, arith}
+use Rattle.std.specs.Prelude.{◌≡◌, ℕ, ◌+◌, ◌<◌, ◌≤◌, ◌↔◌, ◌⊎◌, IsTrue, Some, List, [], ◌++◌, length, slice_get, Any}
+use Rattle.std.proofs.Common.{sym, ◌∙◌, subst}
+use Rattle.std.proofs.lemmas.List.{nil_from_length}
 use Rattle.sv_word.specs.Words.{greatest_character}
 use Rattle.machine_core.specs.declared.graph.Graph.{Graph}
 use Rattle.machine_core.specs.declared.machine.Move.{Move}
 use Rattle.machine_core.specs.Costs.{IsCost}
 use Rattle.machine_core.specs.Edges.{EndsAt, StepsBy}
-use Rattle.machine_core.specs.Lists.{contained, slice_get-contains}
+use Rattle.sv_list.specs.Lists.{contained, slice_get-contains}
 use Rattle.machine_core.specs.Moves.{Moves}
 use Rattle.regex_machine.specs.Laws.{no-cost}
 use Rattle.regex_machine.specs.Onwards.{IsOnward, AreClosed}
@@ -30,14 +31,10 @@ woven-character states closed s c cost t h =
     let m = contained (Moves c cost t) h.0.moves h.2 in
     (closed h.0 (slice_get-contains states s h.0 h.1)).characters m.0 m.1 c m.2.0
 
-nil-cost : (cost : List ℕ) → length cost ≡ 0 → cost ≡ []
-nil-cost [] e = refl
-nil-cost (x ∷ xs) e = absurd (omega arith)
-
 pub woven-free : (states : List Onward) → AreClosed states → (s c : ℕ) (cost : List ℕ) (t : ℕ) → WovenSteps states s c cost t → cost ≡ []
 woven-free states closed s c cost t h =
     let m = contained (Moves c cost t) h.0.moves h.2 in
-    sym m.2.1 ∙ nil-cost m.0.cost ((closed h.0 (slice_get-contains states s h.0 h.1)).moves m.0 m.1).cost
+    sym m.2.1 ∙ nil_from_length m.0.cost ((closed h.0 (slice_get-contains states s h.0 h.1)).moves m.0 m.1).cost
 
 pub woven-cost : (states : List Onward) → AreClosed states → (s c : ℕ) (cost : List ℕ) (t : ℕ) → WovenSteps states s c cost t → IsCost 0 0 cost
 woven-cost states closed s c cost t h = no-cost cost (woven-free states closed s c cost t h)

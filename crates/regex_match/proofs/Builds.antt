@@ -10,14 +10,10 @@ use Rattle.regex_match.specs.Derivative.{SameWords}
 use Rattle.sv_terms.specs.Opened.{In-Empty, In-All, In-Text, In-Concat, In-Union, In-Inter, In-Diff, In-Comp, In-Loop}
 use Rattle.sv_terms.specs.Matches.{matches}
 use Rattle.sv_terms.specs.OnlyWords.{In-word}
-use Rattle.regex_match.proofs.Lefts.{of-pair, in-pair}
+use Rattle.regex_match.proofs.Lefts.{of-pair, in-pair, append_nil}
 
 pub same-refl : (a : Regex) → SameWords a a
 same-refl a = record { only = λ w h. h; all = λ w h. h }
-
--- in turn
-append_nil : (u : Word) → u ++ [] ≡ u
-append_nil u = grind (arith, common_steps)
 
 pub then-none : (b : Regex) → SameWords v.Empty (v.Concat (v.Empty ∷ b ∷ []))
 then-none b = record {

@@ -14,7 +14,7 @@ After c P w = P (c ∷ w)
 
 -- over bare languages
 
-append_nil : (u : Word) → u ++ [] ≡ u
+pub append_nil : (u : Word) → u ++ [] ≡ u
 append_nil u = grind (arith, common_steps)
 
 then_split : (P Q : Language) (c : ℕ) (w u v : Word) → c ∷ w ≡ u ++ v → P u → Q v → Then (After c P) Q w ⊎ (P [] × Q (c ∷ w))

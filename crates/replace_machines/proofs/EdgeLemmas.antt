@@ -1,7 +1,8 @@
 -- Edges of a row.
-use Rattle.std.proofs.Common.{◌≡◌, refl, sym, ap, ◌∙◌, subst, ℕ, zero, suc, ◌-◌, ◌≤◌, ◌<◌, ◌⊎◌, inl, inr, ⊎_elim, arith, rules, Bool, true, false, if◌then◌else◌, List, [], ◌∷◌, ◌++◌, take, Contains}
+use Rattle.std.proofs.Common.{◌≡◌, refl, sym, ap, ◌∙◌, subst, ℕ, suc, ◌-◌, ◌≤◌, ◌<◌, ◌⊎◌, ⊎_elim, arith, Bool, true, false, if◌then◌else◌, List, [], ◌∷◌, ◌++◌, take, Contains, leb-true, le-leb, lt-ltb, ltb-true}
 use Rattle.std.specs.Prelude.{nat_le, nat_lt}
 use Rattle.std.proofs.lemmas.List.Elements.{Contains-append_left, Contains-append_right, Contains-append_cases}
+use Rattle.sv_list.specs.Lists.{Contains-cases, Contains-here, Contains-there, below-cases}
 use Rattle.sv_terms.specs.declared.transducer.TransEdge.{TransEdge}
 use Rattle.replace_machines.specs.Borders.{IsNext}
 use Rattle.replace_machines.specs.Rows.{at, target, Ascends, IsMatchRow}
@@ -9,34 +10,12 @@ use Rattle.replace_machines.specs.Edges.{edge_for, edges_of, AreEdges, AreEnds}
 use Rattle.replace_machines.proofs.RowLemmas.{less_or_not, target-here, target-later, target-below}
 use Rattle.sv_word.specs.Words.{greatest_character}
 
-pub contains_cons : {X : Type 0} (x y : X) (xs : List X) → Contains (y ∷ xs) x → (y ≡ x) ⊎ Contains xs x
-contains_cons x y xs (zero, lt, e) = inl e
-contains_cons x y xs (suc k, lt, e) = inr (k, omega (arith, lt), e)
-
-pub contains_first : {X : Type 0} (x : X) (xs : List X) → Contains (x ∷ xs) x
-contains_first x xs = (zero, omega arith, refl)
-
-pub contains_later : {X : Type 0} (x y : X) (xs : List X) → Contains xs x → Contains (y ∷ xs) x
-contains_later x y xs c = (suc c.0, omega (arith, c.1), c.2)
-
-pub le_of : (a b : ℕ) → nat_le a b ≡ true → a ≤ b
-le_of a b e = search (rules, e)
-
-pub of_le : (a b : ℕ) → a ≤ b → nat_le a b ≡ true
-of_le a b h = search (rules, h)
-
-of_lt : (a b : ℕ) → a < b → nat_lt a b ≡ true
-of_lt a b h = search (rules, h)
-
-lt_of : (a b : ℕ) → nat_lt a b ≡ true → a < b
-lt_of a b e = search (rules, e)
-
 maybe_one : (t : Bool) (x e : TransEdge) → Contains (if t then x ∷ [] else []) e → (t ≡ true) × (x ≡ e)
-maybe_one true x e c = (refl, ⊎_elim (λ s. s) (λ d. let k = d.1 in absurd (omega (arith, k))) (contains_cons e x [] c))
+maybe_one true x e c = (refl, ⊎_elim (λ s. s) (λ d. let k = d.1 in absurd (omega (arith, k))) (Contains-cases x [] e c))
 maybe_one false x e c = let k = c.1 in absurd (omega (arith, k))
 
 one_if : (t : Bool) (x : TransEdge) → t ≡ true → Contains (if t then x ∷ [] else []) x
-one_if true x h = contains_first x []
+one_if true x h = Contains-here x []
 one_if false x h = absurd (cc)
 
 -- each edge reads characters that lead where it leads
@@ -65,14 +44,14 @@ part-weaker edge low p row e h k = record {
 pub edges_of-sound : (edge : ℕ → ℕ → ℕ → TransEdge) (low : ℕ) (row : List (ℕ × ℕ)) → Ascends low row → (e : TransEdge) → Contains (edges_of edge low row) e → IsPart edge low row e
 edges_of-sound edge low [] h e c =
     let k = maybe_one (nat_le low greatest_character) (edge low greatest_character 0) e c in
-    record { lo = low; hi = greatest_character; j = 0; is = sym k.1; after = omega arith; order = le_of low greatest_character k.0; top = omega arith; leads = λ c g l. refl }
-edges_of-sound edge low (p ∷ row) h e c = ⊎_elim gap (λ d. ⊎_elim single (λ more. part-weaker edge low p row e h.0 (edges_of-sound edge (suc p.0) row h.2 e more)) (contains_cons e (edge p.0 p.0 p.1) (edges_of edge (suc p.0) row) d))
+    record { lo = low; hi = greatest_character; j = 0; is = sym k.1; after = omega arith; order = leb-true low greatest_character k.0; top = omega arith; leads = λ c g l. refl }
+edges_of-sound edge low (p ∷ row) h e c = ⊎_elim gap (λ d. ⊎_elim single (λ more. part-weaker edge low p row e h.0 (edges_of-sound edge (suc p.0) row h.2 e more)) (Contains-cases (edge p.0 p.0 p.1) (edges_of edge (suc p.0) row) e d))
     (Contains-append_cases (if nat_lt low p.0 then edge low (p.0 - 1) 0 ∷ [] else []) (edge p.0 p.0 p.1 ∷ edges_of edge (suc p.0) row) e c)
   where
     gap : Contains (if nat_lt low p.0 then edge low (p.0 - 1) 0 ∷ [] else []) e → IsPart edge low (p ∷ row) e
     gap d =
         let k = maybe_one (nat_lt low p.0) (edge low (p.0 - 1) 0) e d in
-        let l = lt_of low p.0 k.0 in
+        let l = ltb-true low p.0 k.0 in
         let t = h.1 in
         record { lo = low; hi = p.0 - 1; j = 0; is = sym k.1; after = omega arith; order = omega (arith, l); top = omega (arith, t); leads = λ c g m. target-below (p ∷ row) p.0 c (omega arith, t, h.2) (omega (arith, l, m)) }
 
@@ -91,34 +70,25 @@ covered-more : (edge : ℕ → ℕ → ℕ → TransEdge) (xs ys : List TransEdg
 covered-more edge xs ys c k = record { lo = k.lo; hi = k.hi; j = k.j; has = Contains-append_right xs ys (edge k.lo k.hi k.j) k.has; after = k.after; before = k.before }
 
 covered-later : (edge : ℕ → ℕ → ℕ → TransEdge) (x : TransEdge) (ys : List TransEdge) (c : ℕ) → IsCovered edge ys c → IsCovered edge (x ∷ ys) c
-covered-later edge x ys c k = record { lo = k.lo; hi = k.hi; j = k.j; has = contains_later (edge k.lo k.hi k.j) x ys k.has; after = k.after; before = k.before }
+covered-later edge x ys c k = record { lo = k.lo; hi = k.hi; j = k.j; has = Contains-there x ys (edge k.lo k.hi k.j) k.has; after = k.after; before = k.before }
 
 pub edges_of-total : (edge : ℕ → ℕ → ℕ → TransEdge) (low : ℕ) (row : List (ℕ × ℕ)) → Ascends low row → (c : ℕ) → low ≤ c → c ≤ greatest_character → IsCovered edge (edges_of edge low row) c
-edges_of-total edge low [] h c l t = record { lo = low; hi = greatest_character; j = 0; has = one_if (nat_le low greatest_character) (edge low greatest_character 0) (of_le low greatest_character (omega (arith, l, t))); after = l; before = t }
+edges_of-total edge low [] h c l t = record { lo = low; hi = greatest_character; j = 0; has = one_if (nat_le low greatest_character) (edge low greatest_character 0) (le-leb low greatest_character (omega (arith, l, t))); after = l; before = t }
 edges_of-total edge low (p ∷ row) h c l t = ⊎_elim below (λ m. covered-more edge front (edge p.0 p.0 p.1 ∷ edges_of edge (suc p.0) row) c (⊎_elim (λ g. covered-later edge (edge p.0 p.0 p.1) (edges_of edge (suc p.0) row) c (edges_of-total edge (suc p.0) row h.2 c g.0 t)) (λ g. here m.0 g.0) (less_or_not p.0 c))) (less_or_not c p.0)
   where
     front : List TransEdge
     front = if nat_lt low p.0 then edge low (p.0 - 1) 0 ∷ [] else []
 
     below : (c < p.0) × (nat_lt c p.0 ≡ true) → IsCovered edge (edges_of edge low (p ∷ row)) c
-    below k = let g = k.0 in record { lo = low; hi = p.0 - 1; j = 0; has = Contains-append_left front (edge p.0 p.0 p.1 ∷ edges_of edge (suc p.0) row) (edge low (p.0 - 1) 0) (one_if (nat_lt low p.0) (edge low (p.0 - 1) 0) (of_lt low p.0 (omega (arith, l, g)))); after = l; before = omega (arith, g) }
+    below k = let g = k.0 in record { lo = low; hi = p.0 - 1; j = 0; has = Contains-append_left front (edge p.0 p.0 p.1 ∷ edges_of edge (suc p.0) row) (edge low (p.0 - 1) 0) (one_if (nat_lt low p.0) (edge low (p.0 - 1) 0) (lt-ltb low p.0 (omega (arith, l, g)))); after = l; before = omega (arith, g) }
 
     here : p.0 ≤ c → c ≤ p.0 → IsCovered edge (edge p.0 p.0 p.1 ∷ edges_of edge (suc p.0) row) c
-    here g m = record { lo = p.0; hi = p.0; j = p.1; has = contains_first (edge p.0 p.0 p.1) (edges_of edge (suc p.0) row); after = g; before = m }
-
-pub edges_none : (pattern by : List ℕ) (after : ℕ) → AreEdges pattern by after 0 []
-edges_none pattern by after = record {
-  edge = λ e c. let k = c.1 in absurd (omega (arith, k));
-  some = λ q c h. absurd (omega (arith, h));
-}
+    here g m = record { lo = p.0; hi = p.0; j = p.1; has = Contains-here (edge p.0 p.0 p.1) (edges_of edge (suc p.0) row); after = g; before = m }
 
 -- what is said of each edge of the states below `count`
 abbrev IsHeld : List ℕ → List ℕ → ℕ → ℕ → TransEdge → Type 0
 IsHeld pattern by after count e = (e.from < count) × (e.lo ≤ e.hi) × (e.hi ≤ greatest_character)
     × ((c : ℕ) → e.lo ≤ c → c ≤ e.hi → (j : ℕ) × IsNext (at pattern) e.from c j × (e ≡ edge_for pattern by after e.from e.lo e.hi j))
-
-below_or_last : (q n : ℕ) → q < suc n → (q < n) ⊎ (q ≡ n)
-below_or_last q n h = ⊎_elim (λ l. inl l.0) (λ m. inr (let k = m.0 in omega (arith, h, k))) (less_or_not q n)
 
 pub edges_more : (pattern by : List ℕ) (after n : ℕ) (row : List (ℕ × ℕ)) (edges new : List TransEdge) → IsMatchRow pattern n row → AreEdges pattern by after n edges
     → new ≡ edges ++ edges_of (edge_for pattern by after n) 0 row → AreEdges pattern by after (suc n) new
@@ -142,13 +112,7 @@ edges_more pattern by after n row edges new r h e = subst (AreEdges pattern by a
         (λ less. let k = h.some q c less t in (k.0, Contains-append_left edges (edges_of made 0 row) k.0 k.1, k.2, k.3, k.4))
         (λ same. let k = edges_of-total made 0 row r.ascends c (omega arith) t in
         (made k.lo k.hi k.j, Contains-append_right edges (edges_of made 0 row) (made k.lo k.hi k.j) k.has, sym same, k.after, k.before))
-        (below_or_last q n l)
-
-pub ends_none : (pattern : List ℕ) → AreEnds pattern 0 []
-ends_none pattern = record {
-  ending = λ e c. let k = c.1 in absurd (omega (arith, k));
-  some = λ q h. absurd (omega (arith, h));
-}
+        (below-cases q n l)
 
 pub ends_more : (pattern : List ℕ) (n : ℕ) (ends new : List (ℕ × List ℕ)) → AreEnds pattern n ends → new ≡ ends ++ (n, take n pattern) ∷ [] → AreEnds pattern (suc n) new
 ends_more pattern n ends new h e = subst (AreEnds pattern (suc n)) (sym e) (record { ending = each; some = covers })
@@ -159,11 +123,11 @@ ends_more pattern n ends new h e = subst (AreEnds pattern (suc n)) (sym e) (reco
     each : (e : ℕ × List ℕ) → Contains (ends ++ last ∷ []) e → (e.0 < suc n) × (e.1 ≡ take e.0 pattern)
     each e c = ⊎_elim
         (λ d. let k = h.ending e d in ((let x = k.0 in omega (arith, x)), k.1))
-        (λ d. ⊎_elim (λ s. (let x : n ≡ e.0 = ap (λ (p : ℕ × List ℕ). p.0) s in omega (arith, x), sym (ap (λ (p : ℕ × List ℕ). p.1) s) ∙ ap (λ k. take k pattern) (ap (λ (p : ℕ × List ℕ). p.0) s))) (λ z. let k = z.1 in absurd (omega (arith, k))) (contains_cons e last [] d))
+        (λ d. ⊎_elim (λ s. (let x : n ≡ e.0 = ap (λ (p : ℕ × List ℕ). p.0) s in omega (arith, x), sym (ap (λ (p : ℕ × List ℕ). p.1) s) ∙ ap (λ k. take k pattern) (ap (λ (p : ℕ × List ℕ). p.0) s))) (λ z. let k = z.1 in absurd (omega (arith, k))) (Contains-cases last [] e d))
         (Contains-append_cases ends (last ∷ []) e c)
 
     covers : (q : ℕ) → q < suc n → Contains (ends ++ last ∷ []) (q, take q pattern)
     covers q l = ⊎_elim
         (λ less. Contains-append_left ends (last ∷ []) (q, take q pattern) (h.some q less))
-        (λ same. subst (λ k. Contains (ends ++ last ∷ []) (k, take k pattern)) (sym same) (Contains-append_right ends (last ∷ []) last (contains_first last [])))
-        (below_or_last q n l)
+        (λ same. subst (λ k. Contains (ends ++ last ∷ []) (k, take k pattern)) (sym same) (Contains-append_right ends (last ∷ []) last (Contains-here last [])))
+        (below-cases q n l)

@@ -1,23 +1,24 @@
 -- The machines of replacement, from their edges and ends.
-use Rattle.std.proofs.Common.{◌≡◌, refl, sym, ap, ◌∙◌, subst, ℕ, zero, suc, ◌+◌, ◌-◌, ◌*◌, ◌≤◌, ◌<◌, ◌⊎◌, inl, inr, ⊎_elim, arith, Bool, true, false, nat_eq, if◌then◌else◌, List, [], ◌∷◌, ◌++◌, length, take, Some, Contains, max}
+use Rattle.std.proofs.Common.{◌≡◌, refl, sym, ap, ◌∙◌, subst, ℕ, zero, suc, ◌+◌, ◌-◌, ◌*◌, ◌≤◌, ◌<◌, ◌⊎◌, inl, inr, ⊎_elim, arith, Bool, true, false, nat_eq, if◌then◌else◌, List, [], ◌∷◌, ◌++◌, length, take, Some, Contains, max, add-mul}
 use Rattle.std.specs.Prelude.{nat_lt, pos}
 use Rattle.std.specs.Option.{option_map}
 use Rattle.std.proofs.lemmas.List.{append-nil, append_assoc, length-append, length-take-le}
 use Rattle.std.proofs.lemmas.List.Elements.{Contains-append_left, Contains-append_right, Contains-append_cases}
+use Rattle.std.proofs.lemmas.Option.{same_Some}
+use Rattle.sv_list.specs.Lists.{Contains-cases, Contains-here, Contains-there}
 use Rattle.sv_word.specs.Words.{IsWord, greatest_character}
 use Rattle.sv_terms.specs.Replacement.{replace_first, replace_all}
 use Rattle.sv_terms.specs.ReplacementLaws.{first-here, first-skips, all-here, all-skips}
 use Rattle.sv_terms.specs.Transduction.{then_word, written_at, Transduces, AreItems, IsFormed, IsFormedEdge, IsFormedEnd}
 use Rattle.sv_terms.specs.TransducerSizes.{items_size, edges_most, ends_most}
 use Rattle.sv_terms.specs.TransducerSizeLaws.{written_size}
-use Rattle.sv_terms.specs.TransductionLaws.{Computes, computes-exact, Owes, owes_within, within_weaker}
+use Rattle.sv_terms.specs.TransductionLaws.{Computes, computes-exact, Owes, owes_within, within_weaker, one_more}
 use Rattle.sv_terms.specs.declared.transducer.Item.TheVariants.{Text, Shift}
 use Rattle.sv_terms.specs.declared.transducer.TransEdge.{TransEdge}
 use Rattle.sv_terms.specs.declared.transducer.Transducer.{Transducer}
 use Rattle.replace_machines.specs.Relating.{Relates}
 use Rattle.replace_machines.specs.Edges.{items_for, to_for, edge_for, AreEdges, AreEnds, copy_edge, front_edge, machine}
 use Rattle.replace_machines.proofs.RowLemmas.{same_or_not, less_or_not}
-use Rattle.replace_machines.proofs.EdgeLemmas.{contains_cons, contains_first, contains_later}
 use Rattle.replace_machines.proofs.WordLemmas.{Replaces, answer, answer-held, answer-end, IsStep, step, shift-none}
 
 take_word : (n : ℕ) (w : List ℕ) → IsWord w → IsWord (take n w)
@@ -26,26 +27,13 @@ take_word zero (c ∷ w) h = tt
 take_word (suc n) [] h = tt
 take_word (suc n) (c ∷ w) h = (h.0, take_word n w h.1)
 
-one_more : (n rate : ℕ) → suc n * rate ≡ rate + n * rate
-one_more n rate = grind arith
-
-times_add : (a b rate : ℕ) → (a + b) * rate ≡ a * rate + b * rate
-times_add zero b rate = omega arith
-times_add (suc a) b rate =
-    let l : suc a + b ≡ suc (a + b) = omega arith in
-    let m = ap (λ n. n * rate) l in
-    let x = one_more (a + b) rate in
-    let y = one_more a rate in
-    let z = times_add a b rate in
-    omega (arith, m, x, y, z)
-
 one_times : (n rate : ℕ) → 1 ≤ rate → n ≤ n * rate
 one_times zero rate h = omega arith
 one_times (suc n) rate h = let x = one_more n rate in let y = one_times n rate h in omega (arith, x, y, h)
 
 times_more : (a b rate : ℕ) → a ≤ b → a * rate ≤ b * rate
 times_more a b rate h =
-    let x = times_add (b - a) a rate in
+    let x = add-mul (b - a) a rate in
     let s : b - a + a ≡ b = omega (arith, h) in
     let y = ap (λ n. n * rate) s in
     omega (arith, x, y)
@@ -62,9 +50,6 @@ items-words p u q j h g = by (nat_eq j (length p)) (nat_eq j 0)
 pub record Pays (p u : List ℕ) (after rate : ℕ) (owed : ℕ → ℕ) : Type 0 where
   pub whole : (q : ℕ) → suc q ≡ length p → length u + owed after ≤ rate + owed q
   pub part : (q j n : ℕ) → q < length p → j < length p → n + j ≡ q + 1 → n + owed j ≤ rate + owed q
-
-some_same : {X : Type 0} (a b : X) → Some a ≡ Some b → a ≡ b
-some_same a b e = cc
 
 module _ (p u : List ℕ) (after : ℕ) (edges : List TransEdge) (are : AreEdges p u after (length p) edges) where
   held-to : (states : ℕ) → after < states → length p ≤ states → (e : TransEdge) → Contains edges e → e.to < states
@@ -110,7 +95,7 @@ module _ (p u : List ℕ) (after : ℕ) (edges : List TransEdge) (are : AreEdges
     held-owes rate owed pays e s c v has moves =
         let k = held-step e has c moves.1 moves.2 in
         let st = k.2 in
-        let same : v ≡ st.text = some_same v st.text (sym moves.3 ∙ ap (λ (x : TransEdge). written_at c x.items) k.1 ∙ st.written) in
+        let same : v ≡ st.text = same_Some v st.text (sym moves.3 ∙ ap (λ (x : TransEdge). written_at c x.items) k.1 ∙ st.written) in
         let size = ap length same in
         let to = ap (λ (x : TransEdge). owed x.to) k.1 in
         let from = ap owed moves.0 in
@@ -121,11 +106,11 @@ module _ (p u : List ℕ) (after : ℕ) (edges : List TransEdge) (are : AreEdges
 
 edges-least : (es : List TransEdge) (b : ℕ) → ((e : TransEdge) → Contains es e → items_size e.items ≤ b) → edges_most es ≤ b
 edges-least [] b h = omega arith
-edges-least (e ∷ es) b h = let x = h e (contains_first e es) in let y = edges-least es b (λ d c. h d (contains_later d e es c)) in omega (arith, x, y)
+edges-least (e ∷ es) b h = let x = h e (Contains-here e es) in let y = edges-least es b (λ d c. h d (Contains-there e es d c)) in omega (arith, x, y)
 
 ends-least : (es : List (ℕ × List ℕ)) (b : ℕ) → ((e : ℕ × List ℕ) → Contains es e → length e.1 ≤ b) → ends_most es ≤ b
 ends-least [] b h = omega arith
-ends-least (e ∷ es) b h = let x = h e (contains_first e es) in let y = ends-least es b (λ d c. h d (contains_later d e es c)) in omega (arith, x, y)
+ends-least (e ∷ es) b h = let x = h e (Contains-here e es) in let y = ends-least es b (λ d c. h d (Contains-there e es d c)) in omega (arith, x, y)
 
 relates : (t : Transducer) (answer : ℕ → List ℕ → List ℕ) (value : List ℕ → List ℕ) (rate base : ℕ) (owed bound : ℕ → ℕ)
     → IsFormed t → Computes t answer → Owes t rate owed → ((w : List ℕ) → answer t.start w ≡ value w) → ((s : ℕ) → s < t.states → owed s ≤ base) → ((n : ℕ) → n * rate + base ≤ bound n)
@@ -164,7 +149,7 @@ module _ (a : ℕ) (p u : List ℕ) (edges : List TransEdge) (ends : List (ℕ �
   all-pays rate one most = record {
     whole = λ q e. omega (arith, most);
     part = λ q j n l m e.
-        let x = times_add n j rate in
+        let x = add-mul n j rate in
         let y = one_times n rate one in
         let z = one_more q rate in
         let s : n + j ≡ suc q = omega (arith, e) in
@@ -180,7 +165,7 @@ module _ (a : ℕ) (p u : List ℕ) (edges : List TransEdge) (ends : List (ℕ �
       (record { move = held-owes (a ∷ p) u 0 edges are (replace_all (a ∷ p) u) (replace_all (a ∷ p) u) all-replaces all-goes (max 1 (length u)) (λ s. s * max 1 (length u)) (all-pays (max 1 (length u)) (omega arith) (omega arith)); ended = owed-last })
       all-goes
       (λ s l. times_more s (length (a ∷ p)) (max 1 (length u)) (omega (arith, l)))
-      (λ n. let x = times_add n (length (a ∷ p)) (max 1 (length u)) in omega (arith, x)))
+      (λ n. let x = add-mul n (length (a ∷ p)) (max 1 (length u)) in omega (arith, x)))
     where
       ended : (e : ℕ × List ℕ) → Contains ends e → IsFormedEnd (length (a ∷ p)) e
       ended e c = let m = end.ending e c in record { at = m.0; word = subst IsWord (sym m.1) (take_word e.0 (a ∷ p) h) }
@@ -251,10 +236,10 @@ module _ (a : ℕ) (p u : List ℕ) (held : List TransEdge) (held_ends : List (�
       all_ends = held_ends ++ last_end ∷ []
 
       either : (P : TransEdge → Type 0) → ((e : TransEdge) → Contains held e → P e) → P copy → (e : TransEdge) → Contains all_edges e → P e
-      either P f x e c = ⊎_elim (f e) (λ d. ⊎_elim (λ s. subst P s x) (λ z. let k = z.1 in absurd (omega (arith, k))) (contains_cons e copy [] d)) (Contains-append_cases held (copy ∷ []) e c)
+      either P f x e c = ⊎_elim (f e) (λ d. ⊎_elim (λ s. subst P s x) (λ z. let k = z.1 in absurd (omega (arith, k))) (Contains-cases copy [] e d)) (Contains-append_cases held (copy ∷ []) e c)
 
       either_end : (P : ℕ × List ℕ → Type 0) → ((e : ℕ × List ℕ) → Contains held_ends e → P e) → P last_end → (e : ℕ × List ℕ) → Contains all_ends e → P e
-      either_end P f x e c = ⊎_elim (f e) (λ d. ⊎_elim (λ s. subst P s x) (λ z. let k = z.1 in absurd (omega (arith, k))) (contains_cons e last_end [] d)) (Contains-append_cases held_ends (last_end ∷ []) e c)
+      either_end P f x e c = ⊎_elim (f e) (λ d. ⊎_elim (λ s. subst P s x) (λ z. let k = z.1 in absurd (omega (arith, k))) (Contains-cases last_end [] e d)) (Contains-append_cases held_ends (last_end ∷ []) e c)
 
       formed : IsFormed (machine (size + 1) all_edges all_ends)
       formed = record {
@@ -270,13 +255,13 @@ module _ (a : ℕ) (p u : List ℕ) (held : List TransEdge) (held_ends : List (�
             (λ c l m. (c ∷ [], copy-move size c m, λ w. first-copies (c ∷ w) ∙ ap (λ (v : List ℕ). c ∷ v) (sym (first-copies w))));
         edge = λ s c l t. ⊎_elim
             (λ x. let k = are.some s c x.0 t in (k.0, Contains-append_left held (copy ∷ []) k.0 k.1, k.2, k.3, k.4))
-            (λ y. (copy, Contains-append_right held (copy ∷ []) copy (contains_first copy []), (let x = y.0 in omega (arith, x, l)), omega arith, t))
+            (λ y. (copy, Contains-append_right held (copy ∷ []) copy (Contains-here copy []), (let x = y.0 in omega (arith, x, l)), omega arith, t))
             (less_or_not s size);
         ending = λ s l. ⊎_elim
             (λ x. subst (λ (w : List ℕ). Contains all_ends (s, w)) (sym (answer-end (a ∷ p) u (replace_first (a ∷ p) u) (λ w. w) first-replaces s x.0)) (Contains-append_left held_ends (last_end ∷ []) (s, take s (a ∷ p)) (end.some s x.0)))
             (λ y. let same : size ≡ s = (let x = y.0 in omega (arith, x, l)) in
             subst (λ n. Contains all_ends (n, answer (a ∷ p) (replace_first (a ∷ p) u) n [])) same
-            (subst (λ (w : List ℕ). Contains all_ends (size, w)) (sym (first-copies [])) (Contains-append_right held_ends (last_end ∷ []) last_end (contains_first last_end []))))
+            (subst (λ (w : List ℕ). Contains all_ends (size, w)) (sym (first-copies [])) (Contains-append_right held_ends (last_end ∷ []) last_end (Contains-here last_end []))))
             (less_or_not s size);
         ended = either_end (λ e. e.1 ≡ answer (a ∷ p) (replace_first (a ∷ p) u) e.0 [])
             (λ e c. let m = end.ending e c in m.1 ∙ sym (answer-end (a ∷ p) u (replace_first (a ∷ p) u) (λ w. w) first-replaces e.0 m.0))
@@ -288,7 +273,7 @@ module _ (a : ℕ) (p u : List ℕ) (held : List TransEdge) (held_ends : List (�
         move = λ e s c v has moves. either (λ e. (s c : ℕ) (v : List ℕ) → Transduces s c v e → length v + first-owed e.to ≤ 1 + first-owed s)
             (λ e has s c v moves. held-owes (a ∷ p) u size held are (replace_first (a ∷ p) u) (λ w. w) first-replaces first-copies 1 first-owed first-pays e s c v has moves)
             (λ s c v moves.
-            let same : c ∷ [] ≡ v = some_same (c ∷ []) v (sym (copy-move size c moves.2) ∙ moves.3) in
+            let same : c ∷ [] ≡ v = same_Some (c ∷ []) v (sym (copy-move size c moves.2) ∙ moves.3) in
             let n = ap length same in
             let m = ap first-owed moves.0 in
             omega (arith, n, m))
@@ -329,10 +314,10 @@ first-relates (a ∷ p) u held edges held_ends ends k n e are end h g ee ed =
     first-made a p u held held_ends (subst (λ s. AreEdges (a ∷ p) u s (length (a ∷ p)) held) e are) end h g k edges ends e ee ed
 
 only_one : {X : Type 0} (P : X → Type 0) (x : X) → P x → (y : X) → Contains (x ∷ []) y → P y
-only_one P x h y c = ⊎_elim (λ s. subst P s h) (λ z. let k = z.1 in absurd (omega (arith, k))) (contains_cons y x [] c)
+only_one P x h y c = ⊎_elim (λ s. subst P s h) (λ z. let k = z.1 in absurd (omega (arith, k))) (Contains-cases x [] y c)
 
 only_two : {X : Type 0} (P : X → Type 0) (x z : X) → P x → P z → (y : X) → Contains (x ∷ z ∷ []) y → P y
-only_two P x z h g y c = ⊎_elim (λ s. subst P s h) (only_one P z g y) (contains_cons y x (z ∷ []) c)
+only_two P x z h g y c = ⊎_elim (λ s. subst P s h) (only_one P z g y) (Contains-cases x (z ∷ []) y c)
 
 below_one : (s : ℕ) → s < 1 → 0 ≡ s
 below_one s h = omega (arith, h)
@@ -347,13 +332,13 @@ copy-relates u = relates t (λ s w. w) (replace_all [] u) 1 0 (λ s. 0) (λ n. (
     })
     (record {
       move = only_one (λ e. (c : ℕ) → e.lo ≤ c → c ≤ e.hi → (v : List ℕ) × (written_at c e.items ≡ Some v) × ((w : List ℕ) → c ∷ w ≡ v ++ w)) (copy_edge 0) (λ c l m. (c ∷ [], copy-move 0 c m, λ w. refl));
-      edge = λ s c l m. (copy_edge 0, contains_first (copy_edge 0) [], below_one s l, omega arith, m);
-      ending = λ s l. subst (λ n. Contains {X = ℕ × List ℕ} ((0, []) ∷ []) (n, [])) (below_one s l) (contains_first (0, []) []);
+      edge = λ s c l m. (copy_edge 0, Contains-here (copy_edge 0) [], below_one s l, omega arith, m);
+      ending = λ s l. subst (λ n. Contains {X = ℕ × List ℕ} ((0, []) ∷ []) (n, [])) (below_one s l) (Contains-here (0, []) []);
       ended = only_one (λ e. e.1 ≡ []) (0, []) refl;
     })
     (record {
       move = λ e s c v has moves. only_one (λ e. (s c : ℕ) (v : List ℕ) → Transduces s c v e → length v + 0 ≤ 1 + 0) (copy_edge 0)
-          (λ s c v m. let n = ap length (some_same (c ∷ []) v (sym (copy-move 0 c m.2) ∙ m.3)) in omega (arith, n)) e has s c v moves;
+          (λ s c v m. let n = ap length (same_Some (c ∷ []) v (sym (copy-move 0 c m.2) ∙ m.3)) in omega (arith, n)) e has s c v moves;
       ended = only_one (λ e. length e.1 ≤ 0) (0, []) (omega arith);
     })
     (λ w. refl)
@@ -392,19 +377,19 @@ front-relates u g = relates (machine 2 (front_edge u ∷ copy_edge 1 ∷ []) ((0
           (λ c l m. (u ++ (c ∷ []), front-move u c m, λ w. sym (append_assoc u (c ∷ []) w)))
           (λ c l m. (c ∷ [], copy-move 1 c m, λ w. refl));
       edge = λ s c l m. ⊎_elim
-          (λ e. (front_edge u, contains_first (front_edge u) (copy_edge 1 ∷ []), e, omega arith, m))
-          (λ e. (copy_edge 1, contains_later (copy_edge 1) (front_edge u) (copy_edge 1 ∷ []) (contains_first (copy_edge 1) []), e, omega arith, m))
+          (λ e. (front_edge u, Contains-here (front_edge u) (copy_edge 1 ∷ []), e, omega arith, m))
+          (λ e. (copy_edge 1, Contains-there (front_edge u) (copy_edge 1 ∷ []) (copy_edge 1) (Contains-here (copy_edge 1) []), e, omega arith, m))
           (below_two s l);
       ending = λ s l. ⊎_elim
-          (λ e. subst (λ n. Contains {X = ℕ × List ℕ} ((0, u) ∷ (1, []) ∷ []) (n, front_answer u n [])) e (subst (λ (w : List ℕ). Contains {X = ℕ × List ℕ} ((0, u) ∷ (1, []) ∷ []) (0, w)) (sym (append-nil u)) (contains_first (0, u) ((1, []) ∷ []))))
-          (λ e. subst (λ n. Contains {X = ℕ × List ℕ} ((0, u) ∷ (1, []) ∷ []) (n, front_answer u n [])) e (contains_later (1, []) (0, u) ((1, []) ∷ []) (contains_first (1, []) [])))
+          (λ e. subst (λ n. Contains {X = ℕ × List ℕ} ((0, u) ∷ (1, []) ∷ []) (n, front_answer u n [])) e (subst (λ (w : List ℕ). Contains {X = ℕ × List ℕ} ((0, u) ∷ (1, []) ∷ []) (0, w)) (sym (append-nil u)) (Contains-here (0, u) ((1, []) ∷ []))))
+          (λ e. subst (λ n. Contains {X = ℕ × List ℕ} ((0, u) ∷ (1, []) ∷ []) (n, front_answer u n [])) e (Contains-there (0, u) ((1, []) ∷ []) (1, []) (Contains-here (1, []) [])))
           (below_two s l);
       ended = only_two (λ e. e.1 ≡ front_answer u e.0 []) (0, u) (1, []) (sym (append-nil u)) refl;
     })
     (record {
       move = λ e s c v has moves. only_two (λ e. (s c : ℕ) (v : List ℕ) → Transduces s c v e → length v + front_owed u e.to ≤ 1 + front_owed u s) (front_edge u) (copy_edge 1)
-          (λ s c v m. let n = ap length (some_same (u ++ (c ∷ [])) v (sym (front-move u c m.2) ∙ m.3)) in let k = length-append u (c ∷ []) in let z = ap (front_owed u) m.0 in omega (arith, n, k, z))
-          (λ s c v m. let n = ap length (some_same (c ∷ []) v (sym (copy-move 1 c m.2) ∙ m.3)) in let z = ap (front_owed u) m.0 in omega (arith, n, z))
+          (λ s c v m. let n = ap length (same_Some (u ++ (c ∷ [])) v (sym (front-move u c m.2) ∙ m.3)) in let k = length-append u (c ∷ []) in let z = ap (front_owed u) m.0 in omega (arith, n, k, z))
+          (λ s c v m. let n = ap length (same_Some (c ∷ []) v (sym (copy-move 1 c m.2) ∙ m.3)) in let z = ap (front_owed u) m.0 in omega (arith, n, z))
           e has s c v moves;
       ended = only_two (λ e. length e.1 ≤ front_owed u e.0) (0, u) (1, []) (omega arith) (omega arith);
     })

@@ -6,7 +6,7 @@ use Rattle.std.proofs.lemmas.List.{drop_more}
 use Rattle.sv_word.specs.Words.{IsWord, greatest_character}
 use Rattle.replace_machines.specs.Borders.{IsNext, IsFailure}
 use Rattle.replace_machines.specs.Rows.{at, target, put, Ascends, IsMatchRow, AreMatchRows, IsBorderOf}
-use Rattle.replace_machines.proofs.BorderLemmas.{next-match, next-none, next-back, failure-first, failure-more}
+use Rattle.replace_machines.proofs.BorderLemmas.{next-match, next-back, failure-more}
 
 pub same_or_not : (a b : ℕ) → ((a ≡ b) × (nat_eq a b ≡ true)) ⊎ ((a ≡ b → ⊥) × (nat_eq a b ≡ false))
 same_or_not a b = by (nat_eq a b) refl
@@ -93,16 +93,6 @@ ascends-put (p ∷ row) low c to h l t = by (put_cases c to p row) (λ l. ascend
     by (instead g s) rest = subst (Ascends low) (sym s) (l, t, subst (λ n. Ascends (suc n) row) g h.2)
     by (before g s) rest = subst (Ascends low) (sym s) (l, t, ((let x = g in omega (arith, x)), h.1, h.2))
 
--- the row of a state from that of its longest shorter border
-pub row-first : (pattern : List ℕ) (new : List (ℕ × ℕ)) → at pattern 0 ≤ greatest_character → new ≡ put (at pattern 0) 1 [] → IsMatchRow pattern 0 new
-row-first pattern new top e = record {
-  ascends = subst (Ascends 0) (sym e) (ascends-put [] 0 (at pattern 0) 1 tt (omega arith) top);
-  next = λ c. ⊎_elim
-      (λ k. subst (IsNext (at pattern) 0 c) (sym (ap (λ r. target r c) e ∙ target-put-here [] (at pattern 0) 1 c k.0)) (next-match (at pattern) 0 c k.0))
-      (λ k. subst (IsNext (at pattern) 0 c) (sym (ap (λ r. target r c) e ∙ target-put-other [] (at pattern 0) 1 c k.0)) (next-none (at pattern) c k.0))
-      (same_or_not (at pattern 0) c);
-}
-
 pub row-back : (pattern : List ℕ) (q m : ℕ) (row new : List (ℕ × ℕ)) → IsFailure (at pattern) q m → IsMatchRow pattern m row → at pattern q ≤ greatest_character → new ≡ put (at pattern q) (suc q) row → IsMatchRow pattern q new
 row-back pattern q m row new f r top e = record {
   ascends = subst (Ascends 0) (sym e) (ascends-put row 0 (at pattern q) (suc q) r.ascends (omega arith) top);
@@ -126,13 +116,6 @@ slice_get_pushed [] y r (suc q) e = absurd (cc)
 slice_get_pushed (x ∷ xs) y r zero e = inl e
 slice_get_pushed (x ∷ xs) y r (suc q) e = ⊎_elim inl (λ k. inr (ap suc k.0, k.1)) (slice_get_pushed xs y r q e)
 
-pub rows_none : (pattern : List ℕ) → AreMatchRows pattern []
-rows_none pattern = record { row = none }
-  where
-    none : (q : ℕ) (r : List (ℕ × ℕ)) → slice_get [] q ≡ Some r → IsMatchRow pattern q r
-    none zero r e = absurd (cc)
-    none (suc q) r e = absurd (cc)
-
 pub rows_more : (pattern : List ℕ) (rows new : List (List (ℕ × ℕ))) (r : List (ℕ × ℕ)) → AreMatchRows pattern rows → IsMatchRow pattern (length rows) r → new ≡ rows ++ r ∷ [] → AreMatchRows pattern new
 rows_more pattern rows new r h is e = subst (AreMatchRows pattern) (sym e) (record {
   row = λ q s g. ⊎_elim (λ a. h.row q s a) (λ k. subst (IsMatchRow pattern q) k.1 (subst (λ n. IsMatchRow pattern n r) (sym k.0) is)) (slice_get_pushed rows r s q g);
@@ -146,17 +129,6 @@ word_at [] i h = subst (λ n. n ≤ greatest_character) (sym (none i)) (omega ar
     none (suc i) = refl
 word_at (c ∷ w) zero h = h.0
 word_at (c ∷ w) (suc i) h = word_at w i h.1
-
--- the row of the next state, and the longest border behind it
-pub row_added_first : (pattern : List ℕ) (rows new : List (List (ℕ × ℕ))) (row : List (ℕ × ℕ)) (c : ℕ) → length rows ≡ 0 → IsWord pattern → c ≡ at pattern (length rows)
-    → row ≡ put c 1 [] → AreMatchRows pattern rows → new ≡ rows ++ row ∷ [] → AreMatchRows pattern new
-row_added_first pattern rows new row c z h e r are is =
-    let first : c ≡ at pattern 0 = e ∙ ap (at pattern) z in
-    let made = row-first pattern row (word_at pattern 0 h) (r ∙ ap (λ d. put d 1 []) first) in
-    rows_more pattern rows new row are (subst (λ n. IsMatchRow pattern n row) (sym z) made) is
-
-pub border_first : (pattern : List ℕ) (n : ℕ) → n ≡ 0 → IsBorderOf pattern (suc n) 0
-border_first pattern n z = subst (λ k. IsBorderOf pattern (suc k) 0) (sym z) (inr (failure-first (at pattern)))
 
 failure_of : (pattern : List ℕ) (q m : ℕ) → (q ≡ 0 → ⊥) → IsBorderOf pattern q m → IsFailure (at pattern) q m
 failure_of pattern q m n b = ⊎_elim (λ k. absurd (n k.0)) (λ f. f) b

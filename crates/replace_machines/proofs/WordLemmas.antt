@@ -1,10 +1,11 @@
 -- What the machine has read, written and holds, against the replacement of words.
-use Rattle.std.proofs.Common.{◌≡◌, refl, sym, ap, ◌∙◌, ℕ, zero, suc, ◌+◌, ◌-◌, ◌≤◌, ◌<◌, ◌⊎◌, inl, inr, ⊎_elim, arith, true, false, nat_eq, if◌then◌else◌, List, [], ◌∷◌, ◌++◌, length, get_or, drop, take, Some, None}
+use Rattle.std.proofs.Common.{◌≡◌, refl, sym, ap, ◌∙◌, ℕ, zero, suc, ◌+◌, ◌-◌, ◌≤◌, ◌<◌, ◌⊎◌, inl, inr, ⊎_elim, arith, true, false, nat_eq, if◌then◌else◌, List, [], ◌∷◌, ◌++◌, length, get_or, drop, take, Some, None, le-leb}
 use Rattle.std.specs.Prelude.{nat_lt, pos, ◌+ℤ◌}
 use Rattle.std.specs.Option.{option_map}
 use Rattle.std.proofs.lemmas.List.{append-nil, append_assoc, length-append, length-take-le, get_or_append_left, get_or-append_right, get_or-take, get_or-drop, length-drop, take_more}
 use Rattle.std.proofs.lemmas.Grind.{same_number_lists}
 use Rattle.std.proofs.Math.Seq.{take-length}
+use Rattle.sv_list.specs.Lists.{below-cases}
 use Rattle.sv_terms.specs.Replacement.{begins}
 use Rattle.sv_terms.specs.ReplacementLaws.{begins-not}
 use Rattle.sv_terms.specs.Transduction.{character, then_word, written_at}
@@ -12,9 +13,7 @@ use Rattle.sv_terms.specs.declared.transducer.Item.TheVariants.{Text, Shift}
 use Rattle.replace_machines.specs.Borders.{IsBorder, IsNext}
 use Rattle.replace_machines.specs.Rows.{at}
 use Rattle.replace_machines.specs.Edges.{items_for, to_for}
-use Rattle.replace_machines.proofs.BorderLemmas.{last_or_before}
 use Rattle.replace_machines.proofs.RowLemmas.{same_or_not, less_or_not}
-use Rattle.replace_machines.proofs.EdgeLemmas.{of_le}
 use Rattle.sv_word.specs.Words.{greatest_character}
 
 -- the first q characters of the pattern, and then a character and a word
@@ -63,16 +62,13 @@ split-held p q c i h b e =
     ⊎_elim
     (λ l. held-at p q c [] k h (omega (arith, l, x, y)) ∙ ap (at p) (let s : k ≡ q - i + (k - (q - i)) = omega (arith, y) in s) ∙ b.1 (k - (q - i)) l ∙ sym there)
     (λ s. held-last p q c [] k h (omega (arith, s, x, y)) ∙ sym e ∙ ap (at p) (sym s) ∙ sym there)
-    (last_or_before (k - (q - i)) i within))
+    (below-cases (k - (q - i)) i within))
     (less_or_not k (q - i)))
-
-drop-append : (i : ℕ) (v w rest : List ℕ) → v ≡ w → drop i (v ++ rest) ≡ drop i (w ++ rest)
-drop-append i v w rest e = ap (λ (x : List ℕ). drop i (x ++ rest)) e
 
 pub shift-none : (c : ℕ) → c ≤ greatest_character → character (pos c +ℤ pos 0) ≡ Some c
 shift-none c h =
     let same : c + 0 ≡ c = omega arith in
-    ap (λ d. character (pos d)) same ∙ ap (λ b. if b then Some c else None) (of_le c greatest_character h)
+    ap (λ d. character (pos d)) same ∙ ap (λ b. if b then Some c else None) (le-leb c greatest_character h)
 
 -- a text is replaced: where the pattern doesn't stand, and where it does
 pub record Replaces (p u : List ℕ) (whole next : List ℕ → List ℕ) : Type 0 where

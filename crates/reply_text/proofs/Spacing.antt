@@ -2,12 +2,9 @@
 use Rattle.std.proofs.Common.{◌≡◌, refl, sym, ap, ◌∙◌, ℕ, ◌+◌, ◌<◌, List, [], ◌∷◌, ◌++◌, map, length, take, get_or, append_assoc, append-nil, arith}
 use Rattle.std.specs.List.{flat_map}
 use Rattle.std.proofs.lemmas.Grind.{flat_map-append}
-use Rattle.std.proofs.lemmas.List.{map-append, length-take-le, take_more}
+use Rattle.std.proofs.lemmas.List.{map-append, length-take-le}
+use Rattle.sv_list.specs.Lists.{take-read}
 use Rattle.reply_text.specs.Replies.{Text, spaced}
-
--- the first items, and one more
-one-more : {X : Type 0} (xs : List X) (i : ℕ) (x : X) → i < length xs → x ≡ get_or xs i x → take (i + 1) xs ≡ take i xs ++ x ∷ []
-one-more xs i x l e = take_more xs i x l ∙ ap (λ z. take i xs ++ z ∷ []) (sym e)
 
 spaced-more : (t u : Text) (ts : List Text) → spaced (t ∷ ts ++ u ∷ []) ≡ spaced (t ∷ ts) ++ 32 ∷ u
 spaced-more t u [] = refl
@@ -30,7 +27,7 @@ module _ {X : Type 0} (f : X → Text) where
   spaced-first xs x i start old new l e z o n =
       n ∙ ap (λ t. t ++ f x) o ∙ append_assoc start (spaced (map f (take i xs))) (f x)
       ∙ ap (λ t. start ++ t) (first-of (take i xs) x (taken xs i l ∙ z))
-      ∙ ap (λ l. start ++ spaced (map f l)) (sym (one-more xs i x l e))
+      ∙ ap (λ l. start ++ spaced (map f l)) (sym (take-read xs i x l e))
 
   -- and each other one behind a space
   pub spaced-next : (xs : List X) (x : X) (i : ℕ) (start old mid new : Text) → i < length xs → x ≡ get_or xs i x → 0 < i → old ≡ start ++ spaced (map f (take i xs)) → mid ≡ old ++ 32 ∷ [] → new ≡ mid ++ f x → new ≡ start ++ spaced (map f (take (i + 1) xs))
@@ -38,7 +35,7 @@ module _ {X : Type 0} (f : X → Text) where
       n ∙ ap (λ t. t ++ f x) (m ∙ ap (λ t. t ++ 32 ∷ []) o ∙ append_assoc start (spaced (map f (take i xs))) (32 ∷ []))
       ∙ append_assoc start (spaced (map f (take i xs)) ++ 32 ∷ []) (f x)
       ∙ ap (λ t. start ++ t) (next-of (take i xs) x (let k = taken xs i l in omega (arith, k, z)))
-      ∙ ap (λ l. start ++ spaced (map f l)) (sym (one-more xs i x l e))
+      ∙ ap (λ l. start ++ spaced (map f l)) (sym (take-read xs i x l e))
 
   -- one text behind another
   pub joined-next : (xs : List X) (x : X) (i : ℕ) (start old new : Text) → i < length xs → x ≡ get_or xs i x → old ≡ start ++ flat_map f (take i xs) → new ≡ old ++ f x → new ≡ start ++ flat_map f (take (i + 1) xs)
@@ -46,7 +43,7 @@ module _ {X : Type 0} (f : X → Text) where
       n ∙ ap (λ t. t ++ f x) o ∙ append_assoc start (flat_map f (take i xs)) (f x)
       ∙ ap (λ t. start ++ (flat_map f (take i xs) ++ t)) (sym (append-nil (f x)))
       ∙ ap (λ t. start ++ t) (sym (flat_map-append f (take i xs) (x ∷ [])))
-      ∙ ap (λ l. start ++ flat_map f l) (sym (one-more xs i x l e))
+      ∙ ap (λ l. start ++ flat_map f l) (sym (take-read xs i x l e))
 
 -- what was added is added together
 after : (t u v x y : Text) → u ≡ t ++ x → v ≡ u ++ y → v ≡ t ++ (x ++ y)

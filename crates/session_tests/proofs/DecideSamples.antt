@@ -3,6 +3,7 @@ use Rattle.std.proofs.Common.{◌≡◌, ap, ◌∙◌, ℕ, Bool, true, ◌&&�
 use Rattle.std.specs.Map.{lookup}
 use Rattle.std.specs.Cmp.Lexicographic.{pointwise}
 use Rattle.std.specs.List.{AllByRecursion}
+use Rattle.std.proofs.lemmas.List.Elements.{All-from_recursion}
 use Rattle.sv_terms.specs.Language.{Word}
 use Rattle.sv_terms.specs.Meaning.{all_of}
 use Rattle.sv_terms.specs.Sorting.{applied_sort_if, is_of, is_valued, sort_of, sort_step, tested_sort}
@@ -16,7 +17,6 @@ use Rattle.sv_terms.specs.declared.term.Term.TheVariants as v
 use Rattle.sv_terms.specs.declared.term.Term.TheOpen.{Term-F}
 use Rattle.assertion_parts.specs.Constants.{ConstantsHaveOneSort}
 use Rattle.decide.specs.Samples.{IsSample, sample}
-use Rattle.assertion_parts.proofs.Fillings.{at-places}
 use Rattle.assertion_parts.proofs.Terms.{at, every-Apply, every-Constant, every-InRe, every-Text}
 
 abbrev of_any : List ℕ → Sort → Bool
@@ -62,4 +62,4 @@ module _ (a b : Term) (x : IsSample sort.Bool a) (y : IsSample sort.Bool b) wher
   two-formed = (x.formed, (y.formed, tt))
 
   pub two-valued : ConstantsHaveOneSort (a ∷ b ∷ [])
-  two-valued = (sample, at-places (λ t. IsTrue (is_valued sample t)) (a ∷ b ∷ []) (x.valued, (y.valued, tt)))
+  two-valued = (sample, All-from_recursion (λ t. IsTrue (is_valued sample t)) (a ∷ b ∷ []) (x.valued, (y.valued, tt)))

@@ -1,24 +1,14 @@
 -- One byte more at the end of white space, of a comment, of a literal.
-use Rattle.std.proofs.Common.{◌≡◌, ℕ, ◌==◌, ◌&&◌, List, [], ◌∷◌, ◌++◌, Bool, true, false, IsTrue, if◌then◌else◌, refl, sym, ap, ◌∙◌, subst, append_assoc}
+use Rattle.std.proofs.Common.{◌≡◌, ℕ, ◌==◌, List, [], ◌∷◌, ◌++◌, Bool, true, false, IsTrue, if◌then◌else◌, refl, sym, ap, ◌∙◌, subst, append_assoc}
 use Rattle.std.specs.List.{list_all}
+use Rattle.std.proofs.lemmas.Bool.{and_from}
+use Rattle.sv_list.specs.Bools.{and-first, and-second}
 use Rattle.sexpr_reader.specs.Tokens.{doubled}
 use Rattle.sexpr_reader.specs.Lexes.{IsBlank, none, white, comment}
 
-pub and_left : (a b : Bool) → IsTrue (a && b) → IsTrue a
-and_left true b h = refl
-and_left false b h = cc
-
-pub and_right : (a b : Bool) → IsTrue (a && b) → IsTrue b
-and_right true b h = h
-and_right false b h = cc
-
-pub and_both : (a b : Bool) → IsTrue a → IsTrue b → IsTrue (a && b)
-and_both true b h g = g
-and_both false b h g = cc
-
 pub list_all-push : (p : ℕ → Bool) (xs : List ℕ) (b : ℕ) → IsTrue (list_all p xs) → IsTrue (p b) → IsTrue (list_all p (xs ++ b ∷ []))
-list_all-push p [] b h g = and_both (p b) true g refl
-list_all-push p (x ∷ xs) b h g = and_both (p x) _ (and_left (p x) _ h) (list_all-push p xs b (and_right (p x) _ h) g)
+list_all-push p [] b h g = and_from (p b) true g refl
+list_all-push p (x ∷ xs) b h g = and_from (p x) _ (and-first (p x) _ h) (list_all-push p xs b (and-second (p x) _ h) g)
 
 pub IsBlank-append : (xs ys : List ℕ) → IsBlank xs → IsBlank ys → IsBlank (xs ++ ys)
 IsBlank-append xs ys none h = h

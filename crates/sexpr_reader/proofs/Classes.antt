@@ -5,10 +5,11 @@ use Rattle.sexpr_reader.specs.declared.kind.TokenKind.{TokenKind}
 use Rattle.sexpr_reader.specs.declared.kind.TokenKind.TheVariants.{Numeral, Decimal, Hexadecimal, Binary, Symbol, Quoted, Keyword, Literal}
 use Rattle.sexpr_reader.specs.Bytes.{is_digit, is_symbol_byte}
 use Rattle.sexpr_reader.specs.Tokens.{is_numeral, is_symbol, is_keyword, are_some, IsPlain}
-use Rattle.sexpr_reader.proofs.Blanks.{and_left, and_right}
-use Rattle.sexpr_reader.proofs.Determined.{of_not, same_front}
+use Rattle.sexpr_reader.proofs.Determined.{same_front}
 use Rattle.std.proofs.Common.{◌+◌, ◌<◌, length, take, drop, add-one, drop-cons}
 use Rattle.std.proofs.lemmas.List.{take-append-drop}
+use Rattle.std.proofs.lemmas.Bool.{and_from, not-true}
+use Rattle.sv_list.specs.Bools.{and-first, and-second}
 
 -- what the first byte says: a digit, a symbol's byte, a colon, a hash
 class : ℕ → ℕ
@@ -53,23 +54,23 @@ class-35 = refl
 numeral_first : (bs rest : List ℕ) → IsTrue (is_numeral bs) → class (get_or (bs ++ rest) 0 0) ≡ 0
 numeral_first [] rest h = cc
 numeral_first (b ∷ []) rest h = class-digit b h
-numeral_first (b ∷ d ∷ bs) rest h = class-digit b (and_left (is_digit b) _ (and_right (not (b == 48)) _ h))
+numeral_first (b ∷ d ∷ bs) rest h = class-digit b (and-first (is_digit b) _ (and-second (not (b == 48)) _ h))
 
 numeral_all : (bs : List ℕ) → IsTrue (is_numeral bs) → IsTrue (list_all is_digit bs)
 numeral_all [] h = cc
 numeral_all (b ∷ []) h = rw h refl
-numeral_all (b ∷ d ∷ bs) h = and_right (not (b == 48)) _ h
+numeral_all (b ∷ d ∷ bs) h = and-second (not (b == 48)) _ h
 
 symbol_first : (bs : List ℕ) → IsTrue (is_symbol bs) → class (get_or bs 0 0) ≡ 1
 symbol_first [] h = cc
-symbol_first (b ∷ bs) h = class-symbol b (of_not _ (and_left (not (is_digit b)) _ h)) (and_left (is_symbol_byte b) _ (and_right (not (is_digit b)) _ h))
+symbol_first (b ∷ bs) h = class-symbol b (not-true _ (and-first (not (is_digit b)) _ h)) (and-first (is_symbol_byte b) _ (and-second (not (is_digit b)) _ h))
 
 is_number : (b n : ℕ) → IsTrue (b == n) → b ≡ n
 is_number b n h = search rules
 
 keyword_first : (bs : List ℕ) → IsTrue (is_keyword bs) → class (get_or bs 0 0) ≡ 2
 keyword_first [] h = cc
-keyword_first (b ∷ bs) h = class-at b 58 2 (is_number b 58 (and_left (b == 58) _ h)) class-58
+keyword_first (b ∷ bs) h = class-at b 58 2 (is_number b 58 (and-first (b == 58) _ h)) class-58
 
 plain_first : (k : TokenKind) (bs : List ℕ) → IsPlain k bs → class (get_or bs 0 0) ≡ kind_class k
 unfolding kind_class
@@ -87,8 +88,8 @@ plain_first Quoted bs h = absurd h
 plain_first Literal bs h = absurd h
 
 all_at : (q : ℕ → Bool) (xs : List ℕ) (b : ℕ) (ys : List ℕ) → IsTrue (list_all q (xs ++ b ∷ ys)) → IsTrue (q b)
-all_at q [] b ys h = and_left (q b) _ h
-all_at q (x ∷ xs) b ys h = all_at q xs b ys (and_right (q x) _ h)
+all_at q [] b ys h = and-first (q b) _ h
+all_at q (x ∷ xs) b ys h = all_at q xs b ys (and-second (q x) _ h)
 
 no_dot : (bs : List ℕ) → IsPlain Numeral bs → IsPlain Decimal bs → ⊥
 no_dot bs h g = let k : false ≡ true = all_at is_digit g.0 46 g.1 (subst (λ (l : List ℕ). IsTrue (list_all is_digit l)) g.2 (numeral_all bs h)) in cc
@@ -120,20 +121,13 @@ dot_at bs i h e =
     let ahead : drop i bs ≡ get_or bs i 0 ∷ drop (i + 1) bs = rw (add-one, drop-cons bs i 0) in
     sym (take-append-drop i bs) ∙ ap (λ (l : List ℕ). take i bs ++ l) (ahead ∙ ap (λ (x : ℕ). x ∷ drop (i + 1) bs) e)
 
-pub decimal_yes : (bs : List ℕ) (i : ℕ) → i < length bs → get_or bs i 0 ≡ 46 → (is_numeral (take i bs) && are_some is_digit (drop (i + 1) bs)) ≡ true → IsPlain Decimal bs
-decimal_yes bs i h e k = (take i bs, drop (i + 1) bs, dot_at bs i h e, and_left (is_numeral (take i bs)) _ k, and_right (is_numeral (take i bs)) _ k)
-
 digit_no_dot : (b : ℕ) (q : Bool) → (b == 46) ≡ q → IsTrue (is_digit b) → IsTrue (not q)
 digit_no_dot b true e h = let same : b ≡ 46 = is_number b 46 e in let k : is_digit b ≡ is_digit 46 = ap is_digit same in cc
 digit_no_dot b false e h = refl
 
-both : (a b : Bool) → IsTrue a → IsTrue b → IsTrue (a && b)
-both true b h g = g
-both false b h g = cc
-
 digits_no_dot : (bs : List ℕ) → IsTrue (list_all is_digit bs) → IsTrue (list_all (λ b. not (b == 46)) bs)
 digits_no_dot [] h = refl
-digits_no_dot (b ∷ bs) h = both (not (b == 46)) _ (digit_no_dot b (b == 46) refl (and_left (is_digit b) _ h)) (digits_no_dot bs (and_right (is_digit b) _ h))
+digits_no_dot (b ∷ bs) h = and_from (not (b == 46)) _ (digit_no_dot b (b == 46) refl (and-first (is_digit b) _ h)) (digits_no_dot bs (and-second (is_digit b) _ h))
 
 pub decimal_no : (bs : List ℕ) (i : ℕ) → i < length bs → get_or bs i 0 ≡ 46 → IsTrue (list_all (λ b. not (b == 46)) (take i bs)) → (is_numeral (take i bs) && are_some is_digit (drop (i + 1) bs)) ≡ false → IsPlain Decimal bs → ⊥
 decimal_no bs i h e front k g =
@@ -143,11 +137,8 @@ decimal_no bs i h e front k g =
     let part : g.1 ≡ drop (i + 1) bs = cc in
     let yes_whole : is_numeral (take i bs) ≡ true = subst (λ (l : List ℕ). is_numeral l ≡ true) whole g.3 in
     let yes_part : are_some is_digit (drop (i + 1) bs) ≡ true = subst (λ (l : List ℕ). are_some is_digit l ≡ true) part g.4 in
-    let all : (is_numeral (take i bs) && are_some is_digit (drop (i + 1) bs)) ≡ true = both _ _ yes_whole yes_part in
+    let all : (is_numeral (take i bs) && are_some is_digit (drop (i + 1) bs)) ≡ true = and_from _ _ yes_whole yes_part in
     false_true (sym k ∙ all)
   where
     false_true : false ≡ true → ⊥
     false_true q = cc
-
-pub decimal_none : (bs : List ℕ) → IsTrue (list_all (λ b. not (b == 46)) bs) → IsPlain Decimal bs → ⊥
-decimal_none bs h g = let k : false ≡ true = all_at (λ b. not (b == 46)) g.0 46 g.1 (subst (λ (l : List ℕ). IsTrue (list_all (λ b. not (b == 46)) l)) g.2 h) in cc

@@ -1,5 +1,6 @@
 -- What the end of the input brings.
 use Rattle.std.proofs.Common.{◌≡◌, ℕ, List, [], ◌∷◌, ◌++◌, inl, inr, Bool, true, false, Err, length, drop, refl, sym, ap, ◌∙◌, subst, append-nil, arith, length-drop, length-append, ◌≤◌, ◌-◌}
+use Rattle.std.proofs.lemmas.List.{nil_from_length}
 use Rattle.sexpr_reader.specs.declared.mode.Mode.{Mode}
 use Rattle.sexpr_reader.specs.declared.mode.Mode.TheVariants as m
 use Rattle.sexpr_reader.specs.declared.reader.Reader.{Reader}
@@ -16,7 +17,6 @@ use Rattle.sexpr_reader.specs.Standing.{At, HasGiven, AnswersEnd}
 use Rattle.sexpr_reader.specs.Progress.{AnswersStep, IsOpenToken}
 use Rattle.sexpr_reader.proofs.Fronts.{Stuck}
 use Rattle.sexpr_reader.proofs.Lasts.{reads}
-use Rattle.sexpr_reader.proofs.Nexts.{none_left}
 use Rattle.sexpr_reader.proofs.Places.{at_end}
 use Rattle.sexpr_reader.proofs.Tokens.{same_gap_token}
 use Rattle.sexpr_reader.proofs.Waits.{left_stuck}
@@ -89,7 +89,7 @@ open_gap m.Quote blank i gap = gap
 module _ (r : Reader) (bytes : List ℕ) (given : List Sexpr) (all : length r.pending.items ≡ r.at) (left : IsOpenToken r.mode) (s : HasGiven true r bytes given) where
   whole : drop r.start r.pending.items ≡ s.at.part
   whole =
-      let ahead : drop r.at r.pending.items ≡ [] = none_left _ (omega (arith, length-drop r.at r.pending.items)) in
+      let ahead : drop r.at r.pending.items ≡ [] = nil_from_length _ (omega (arith, length-drop r.at r.pending.items)) in
       s.at.split ∙ ap (λ (l : List ℕ). s.at.part ++ l) ahead ∙ append-nil s.at.part
 
   stuck : Stuck true (length r.nest.lists.items) (s.at.blank ++ drop r.start r.pending.items)

@@ -1,6 +1,7 @@
 -- What `next` answers.
 use Rattle.std.proofs.Common.{◌≡◌, ℕ, List, [], ◌∷◌, ◌++◌, ◌⊎◌, inl, inr, Bool, false, Option, Some, None, Ok, Err, Result, length, drop, refl, sym, ap, ◌∙◌, subst, append-nil, arith, length-drop}
 use Rattle.std.proofs.lemmas.List.Concat.{flat_map-append}
+use Rattle.std.proofs.lemmas.List.{nil_from_length}
 use Rattle.sexpr_reader.specs.declared.mode.Mode.{Mode}
 use Rattle.sexpr_reader.specs.declared.mode.Mode.TheVariants as m
 use Rattle.sexpr_reader.specs.declared.reader.Reader.{Reader}
@@ -19,10 +20,6 @@ use Rattle.sexpr_reader.proofs.Formed.{tokens_back}
 use Rattle.sexpr_reader.proofs.Fronts.{Stuck}
 use Rattle.sexpr_reader.proofs.Lasts.{reads, begins}
 use Rattle.sexpr_reader.proofs.Waits.{part_stuck}
-
-pub none_left : (xs : List ℕ) → length xs ≡ 0 → xs ≡ []
-none_left [] e = refl
-none_left (x ∷ xs) e = absurd (omega arith)
 
 -- what is lexed are tokens
 all_tokens : (ended : Bool) (bytes : List ℕ) (ts : List Token) (rest : List ℕ) → Lexes ended bytes ts rest → AreTokens ts
@@ -51,7 +48,7 @@ left m.Quote blank part gap is = inl (gap, inr (inr (inr is)))
 module _ (new : Reader) (bytes : List ℕ) (given : List Sexpr) (s : HasGiven false new bytes given) (all : length new.pending.items ≡ new.at) where
   whole : drop new.start new.pending.items ≡ s.at.part
   whole =
-      let ahead : drop new.at new.pending.items ≡ [] = none_left _ (omega (arith, length-drop new.at new.pending.items)) in
+      let ahead : drop new.at new.pending.items ≡ [] = nil_from_length _ (omega (arith, length-drop new.at new.pending.items)) in
       s.at.split ∙ ap (λ (l : List ℕ). s.at.part ++ l) ahead ∙ append-nil s.at.part
 
   lexed_part : Lexes false bytes (tokens_of_all given ++ open_tokens new.nest.lists.items) (s.at.blank ++ s.at.part)

@@ -1,5 +1,6 @@
 -- At one place stands one fault.
-use Rattle.std.proofs.Common.{◌≡◌, ℕ, ◌==◌, ◌||◌, List, [], ◌∷◌, ◌++◌, ⊎_elim, Bool, true, false, IsTrue, Some, length, refl, sym, ap, ◌∙◌, subst, append-nil, arith}
+use Rattle.std.proofs.Common.{◌≡◌, ℕ, ◌==◌, ◌||◌, List, [], ◌∷◌, ◌++◌, ⊎_elim, Bool, true, false, IsTrue, length, refl, sym, ap, ◌∙◌, subst, append-nil, arith}
+use Rattle.std.proofs.lemmas.Option.{same_Some}
 use Rattle.sexpr_reader.specs.declared.syntax_fault.SyntaxFault.{SyntaxFault}
 use Rattle.sexpr_reader.specs.declared.sexpr.Sexpr.{Sexpr}
 use Rattle.sexpr_reader.specs.Tokens.{doubled, is_barred}
@@ -76,15 +77,12 @@ same_sight ended n here there rest after x y (stands c b) (lacks u o) e f = absu
 same_sight ended n here there rest after x y (lacks v p) (stands d w) e f = absurd (not_open ended n after d rest w p (e ∙ bad_stays ended n after d w))
 same_sight ended n here there rest after x y (lacks v p) (lacks u o) e f = refl
 
-same_number : (n m : ℕ) → Some n ≡ Some m → n ≡ m
-same_number n m e = cc
-
 -- the first fault is one
 pub one_fault : (ended : Bool) (bytes : List ℕ) (x y : SyntaxFault) → SyntaxAt ended bytes x → SyntaxAt ended bytes y → x ≡ y
 one_fault ended bytes x y s t =
     let r = one_front ended s.front.tokens t.front.tokens (s.front.blank ++ s.rest) (t.front.blank ++ t.rest) s.level t.level s.front.level t.front.level
     (fault_stuck ended s.level s.rest s.here x s.front.blank s.front.gap s.found) (fault_stuck ended t.level t.rest t.here y t.front.blank t.front.gap t.found) bytes s.front.lexed t.front.lexed in
-    let deep : s.level ≡ t.level = same_number s.level t.level (sym s.front.level ∙ ap (levels 0) r.0 ∙ t.front.level) in
+    let deep : s.level ≡ t.level = same_Some s.level t.level (sym s.front.level ∙ ap (levels 0) r.0 ∙ t.front.level) in
     let rests : skip false s.rest ≡ skip false t.rest = sym (skip-blank s.front.blank s.rest s.front.gap) ∙ ap (skip false) r.1 ∙ skip-blank t.front.blank t.rest t.front.gap in
     same_sight ended t.level s.here t.here s.rest t.rest x y (subst (λ (n : ℕ). Sight ended n s.here s.rest x) deep (sight ended s.level s.here s.rest x s.found)) (sight ended t.level t.here t.rest y t.found) rests
     (λ e. omega (arith, s.behind, t.behind, ap length e))
@@ -104,5 +102,5 @@ pub no_fault_end : (bytes : List ℕ) (items : List Sexpr) (x : SyntaxFault) →
 no_fault_end bytes items x h s =
     let r = one_front true (tokens_of_all items) s.front.tokens h.rest (s.front.blank ++ s.rest) 0 s.level h.reads.begins.nested s.front.level
     (blank_stuck true 0 h.rest h.blank) (fault_stuck true s.level s.rest s.here x s.front.blank s.front.gap s.found) bytes h.reads.begins.lexed s.front.lexed in
-    let deep : s.level ≡ 0 = same_number s.level 0 (sym s.front.level ∙ sym (ap (levels 0) r.0) ∙ h.reads.begins.nested) in
+    let deep : s.level ≡ 0 = same_Some s.level 0 (sym s.front.level ∙ sym (ap (levels 0) r.0) ∙ h.reads.begins.nested) in
     end_sight s.level s.here s.rest h.rest x (sight true s.level s.here s.rest x s.found) deep (sym (skip-blank s.front.blank s.rest s.front.gap) ∙ sym (ap (skip false) r.1) ∙ skip-end h.rest h.blank)

@@ -1,5 +1,5 @@
 -- What each step keeps of the reader's place.
-use Rattle.std.proofs.Common.{get_or, drop, add-one, drop-cons, ◌≡◌, ℕ, suc, ◌+◌, ◌<◌, List, [], ◌∷◌, ◌++◌, Bool, true, false, Option, None, Some, length, refl, sym, ap, ◌∙◌, subst, append_assoc, append-nil, arith, length-append}
+use Rattle.std.proofs.Common.{◌≡◌, ℕ, suc, ◌+◌, List, [], ◌∷◌, ◌++◌, Bool, true, false, Option, None, Some, length, refl, sym, ap, ◌∙◌, subst, append_assoc, append-nil, arith, length-append}
 use Rattle.std.specs.Option.{option_to_list}
 use Rattle.std.proofs.lemmas.List.Concat.{flat_map-append}
 use Rattle.sexpr_reader.specs.declared.mode.Mode.{Mode}
@@ -160,9 +160,6 @@ module _ (ended : Bool) (mode : Mode) (lists : List (List Sexpr)) (place : ℕ) 
 
 pub at_lists : (ended : Bool) (mode : Mode) (lists lists_then : List (List Sexpr)) (place : ℕ) (kept ahead bytes : List ℕ) (given : List Sexpr) → At ended mode lists place kept ahead bytes given → lists_then ≡ lists → At ended mode lists_then place kept ahead bytes given
 at_lists ended mode lists lists_then place kept ahead bytes given at e = subst (λ (l : List (List Sexpr)). At ended mode l place kept ahead bytes given) (sym e) at
-
-pub byte_ahead : (p : List ℕ) (i : ℕ) → i < length p → drop i p ≡ get_or p i 0 ∷ drop (i + 1) p
-byte_ahead p i h = rw (add-one, drop-cons p i 0)
 
 -- the input ends
 pub at_end : (mode : Mode) (lists : List (List Sexpr)) (place : ℕ) (kept ahead bytes : List ℕ) (given : List Sexpr) → At false mode lists place kept ahead bytes given → At true mode lists place kept ahead bytes given

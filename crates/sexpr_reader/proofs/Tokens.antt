@@ -1,14 +1,15 @@
 -- At one place stands one token.
 use Rattle.std.proofs.Common.{◌≡◌, ℕ, ◌==◌, ◌||◌, not, List, [], ◌∷◌, ◌++◌, Bool, true, false, IsTrue, if◌then◌else◌, refl, sym, ap, ◌∙◌, subst, append_assoc, rules}
 use Rattle.std.specs.List.{list_all}
+use Rattle.std.proofs.lemmas.Bool.{not-true}
+use Rattle.sv_list.specs.Bools.{and-first}
 use Rattle.sexpr_reader.specs.declared.kind.TokenKind.{TokenKind}
 use Rattle.sexpr_reader.specs.declared.kind.TokenKind.TheVariants.{Quoted, Literal}
 use Rattle.sexpr_reader.specs.Bytes.{is_border}
 use Rattle.sexpr_reader.specs.Tokens.{doubled, is_barred, IsTokenRun, IsPlain, Token, Atomic, text, IsToken}
 use Rattle.sexpr_reader.specs.Lexes.{IsBlank, EndsOrPasses, IsEnded, Lexes}
-use Rattle.sexpr_reader.proofs.Blanks.{and_left}
 use Rattle.sexpr_reader.proofs.Classes.{kinds_apart}
-use Rattle.sexpr_reader.proofs.Determined.{skip, skip-blank, skip-token, View, view, opens, closes, bars, quotes, plain, of_not, same_front}
+use Rattle.sexpr_reader.proofs.Determined.{skip, skip-blank, skip-token, View, view, opens, closes, bars, quotes, plain, same_front}
 
 is_quote : (x : ℕ) → (x == 34) ≡ true → x ≡ 34
 is_quote x e = search rules
@@ -39,9 +40,6 @@ same_literal ended [] (y ∷ d) a b h g k = absurd (literal_end ended (y == 34) 
 same_literal ended (x ∷ c) [] a b h g k = absurd (literal_end ended (x == 34) x c b a refl g (sym k))
 same_literal ended (x ∷ c) (y ∷ d) a b h g k = literal_step (x == 34) (y == 34) x y c d a b refl refl (λ e. same_literal ended c d a b h g e) k
 
-bar_ends : (b : ℕ) (rest : List ℕ) (ended : Bool) → b ≡ 124 → EndsOrPasses (λ x. x == 124 || x == 92) ended (b ∷ rest)
-bar_ends b rest ended e = ap (λ (n : ℕ). n == 124 || n == 92) e
-
 same_bars : (ended : Bool) (c d a b : List ℕ) → IsTrue (is_barred c) → IsTrue (is_barred d) → c ++ 124 ∷ a ≡ d ++ 124 ∷ b → (c ≡ d) × (a ≡ b)
 same_bars ended c d a b h g k =
     let r = same_front (λ x. x == 124 || x == 92) ended c d (124 ∷ a) (124 ∷ b) h g refl refl k in
@@ -51,7 +49,7 @@ pub run_not : (bs after rest : List ℕ) (c : ℕ) → IsTokenRun bs → is_bord
 run_not [] after rest c h e k = cc
 run_not (b ∷ bs) after rest c h e k =
     let same : b ≡ c = cc in
-    let here : is_border b ≡ false = of_not (is_border b) (and_left (not (is_border b)) _ h) in
+    let here : is_border b ≡ false = not-true (is_border b) (and-first (not (is_border b)) _ h) in
     let there : is_border b ≡ true = ap is_border same ∙ e in cc
 
 pub run_all : (bs : List ℕ) → IsTokenRun bs → IsTrue (list_all (λ x. not (is_border x)) bs)

@@ -1,5 +1,7 @@
 -- Where all bytes were looked at, no further item is whole.
 use Rattle.std.proofs.Common.{◌≡◌, ℕ, ◌==◌, ◌||◌, not, List, [], ◌∷◌, ◌++◌, Bool, true, false, IsTrue, if◌then◌else◌, refl, sym, ap, ◌∙◌, subst, append_assoc, append-nil}
+use Rattle.std.proofs.lemmas.Bool.{not-true}
+use Rattle.sv_list.specs.Bools.{and-first, and-second}
 use Rattle.sexpr_reader.specs.declared.mode.Mode.{Mode}
 use Rattle.sexpr_reader.specs.declared.mode.Mode.TheVariants as m
 use Rattle.sexpr_reader.specs.Bytes.{is_line_end, is_border}
@@ -8,13 +10,12 @@ use Rattle.sexpr_reader.specs.Lexes.{EndsOrPasses, Lexes, is_comment}
 use Rattle.sexpr_reader.specs.Parts.{IsPart, IsGap}
 use Rattle.sexpr_reader.specs.Progress.{IsOpenToken}
 use Rattle.sexpr_reader.proofs.Fronts.{Stuck}
-use Rattle.sexpr_reader.proofs.Blanks.{and_left, and_right}
-use Rattle.sexpr_reader.proofs.Determined.{skip, skip-blank, skip-token, skip-stays, View, view, opens, closes, bars, quotes, plain, run_first, of_not, same_front, border_parts}
+use Rattle.sexpr_reader.proofs.Determined.{skip, skip-blank, skip-token, skip-stays, View, view, opens, closes, bars, quotes, plain, run_first, same_front, border_parts}
 use Rattle.sexpr_reader.proofs.Tokens.{run_not, run_all, differ, same_literal}
 
 pub skip-inside : (body : List ℕ) → IsTrue (is_comment body) → skip true body ≡ []
 skip-inside [] h = refl
-skip-inside (b ∷ body) h = ap (λ (c : Bool). if c then skip false body else skip true body) (of_not (is_line_end b) (and_left (not (is_line_end b)) _ h)) ∙ skip-inside body (and_right (not (is_line_end b)) _ h)
+skip-inside (b ∷ body) h = ap (λ (c : Bool). if c then skip false body else skip true body) (not-true (is_line_end b) (and-first (not (is_line_end b)) _ h)) ∙ skip-inside body (and-second (not (is_line_end b)) _ h)
 
 skip-run : (part : List ℕ) → IsTokenRun part → skip false part ≡ part
 skip-run part run = let f = run_first part run in let parts = border_parts f.0 f.3 in ap (skip false) f.2 ∙ skip-stays f.0 f.1 parts.0 parts.1 ∙ sym f.2

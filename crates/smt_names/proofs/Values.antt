@@ -1,8 +1,7 @@
 -- The numbers that digits write.
 use Rattle.std.proofs.Common.{◌≡◌, refl, ℕ, zero, suc, ◌+◌, ◌*◌, ◌-◌, ◌^◌, ◌<◌, ◌≤◌, List, [], ◌∷◌, length, get_or, drop, take, arith, add-one, le_trans}
-use Rattle.std.proofs.lemmas.Grind.{common_steps}
 use Rattle.std.proofs.lemmas.Int.Digits.{digits_value_more}
-use Rattle.std.proofs.lemmas.List.{take_all}
+use Rattle.std.proofs.lemmas.List.{take_all, drop_all}
 use Rattle.std.proofs.lemmas.List.Folds.{list_all_more, list_all_at}
 use Rattle.std.specs.Char.{digit_value}
 use Rattle.std.specs.Str.Parse.{digits_value}
@@ -29,12 +28,7 @@ value-tenfold n ds i h = rw (value_next n ds i 0 h) (le_trans (omega arith) (val
 pub value-over : (n : ℕ) (ds : List ℕ) (i e v limit : ℕ) → i < length ds → limit ≤ 10 * n + (get_or ds i e - 48) → value_from n (drop i ds) ≡ v → limit ≤ v
 value-over n ds i e v limit h g f = let k = value_above (10 * n + (get_or ds i e - 48)) (drop (suc i) ds) in rw (← f, value_next n ds i e h) (le_trans g k)
 
-pub drop-none : {A : Type 0} (as_ : List A) (i : ℕ) → length as_ ≤ i → drop i as_ ≡ []
-drop-none [] i h = grind (arith, common_steps)
-drop-none (a ∷ as_) zero h = absurd (omega arith)
-drop-none (a ∷ as_) (suc i) h = drop-none as_ i (omega arith)
-
-pub ruleset values = (value-more, value-least, value-tenfold, value-over, drop-none)
+pub ruleset values = (value-more, value-least, value-tenfold, value-over, drop_all)
 
 -- five hexadecimal digits write less than 2^20
 pub hex-next : (n d i : ℕ) → n < 16 ^ i → d < 16 → 16 * n + d < 16 ^ (i + 1)

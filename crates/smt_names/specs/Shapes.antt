@@ -5,7 +5,7 @@ use Rattle.sexpr_reader.specs.declared.sexpr.Sexpr.{Sexpr}
 use Rattle.sexpr_reader.specs.declared.sexpr.Sexpr.TheVariants as v
 use Rattle.sexpr_reader.specs.declared.sexpr.Sexpr.TheOpen.{Sexpr-F}
 use Rattle.sexpr_reader.specs.declared.sexpr.Sexpr.TheFolds.{fold-roll-Sexpr}
-use Rattle.smt_names.specs.Form.{Form, forms, form_layer, seen, token, group, end, ◌⨾◌, two, are_all}
+use Rattle.smt_names.specs.Form.{Form, forms, form_layer, seen, token, group, end, ◌⨾◌, two, are_all, count}
 
 pub seen-Atom : (k : TokenKind) (text : List ℕ) → seen (v.Atom k text) ≡ token k text
 seen-Atom k text = ap seen (sym (v.rolls-Atom k text)) ∙ fold-roll-Sexpr Form form_layer (Sexpr-F.Atom k text)
@@ -85,3 +85,7 @@ module _ (test : Form → Bool) where
 pub ruleset listing = (are-on, are-stop, are-end)
 
 pub ruleset shapes = (seen-Atom, seen-List, two-two, two-few, two-many)
+
+pub count-seen : (xs : List Sexpr) → count (forms (map seen xs)) ≡ length xs
+count-seen [] = refl
+count-seen (x ∷ xs) = ap suc (count-seen xs)

@@ -3,7 +3,7 @@ use Rattle.std.proofs.Common.{◌≡◌, refl, sym, ap, ◌∙◌, map, Bool, Is
 use Rattle.std.specs.List.{list_all}
 use Rattle.std.specs.Map.{lookup}
 use Rattle.std.specs.Cmp.Lexicographic.{pointwise}
-use Rattle.assertion_parts.proofs.Sorts.{both}
+use Rattle.std.proofs.lemmas.Bool.{and_parts}
 use Rattle.assertion_parts.proofs.Terms.{Each, at, induct}
 use Rattle.sort_check.specs.WellFormed.{constants_step, constants_are}
 use Rattle.sv_terms.specs.Matches.{matches}
@@ -34,8 +34,8 @@ module _ (b a : Named) (known : List ℕ → Sort → Bool) (stays : (n : List �
   agree-each : (ts : List Term) → Each Agrees ts → IsTrue (list_all (λ q. q) (map (constants_are known) ts)) → IsTrue (list_all (λ q. q) (map (is_valued a) ts)) → map (val b) ts ≡ map (val a) ts
   agree-each [] w h g = refl
   agree-each (t ∷ ts) w h g =
-      let p = both (constants_are known t) (list_all (λ q. q) (map (constants_are known) ts)) h in
-      let q = both (is_valued a t) (list_all (λ q. q) (map (is_valued a) ts)) g in
+      let p = and_parts (constants_are known t) (list_all (λ q. q) (map (constants_are known) ts)) h in
+      let q = and_parts (is_valued a t) (list_all (λ q. q) (map (is_valued a) ts)) g in
       λ i. w.0 p.0 q.0 i ∷ agree-each ts w.1 p.1 q.1 i
 
   pub agrees : (t : Term) → Agrees t
@@ -49,7 +49,7 @@ module _ (b a : Named) (known : List ℕ → Sort → Bool) (stays : (n : List �
       (λ t r w h g. joined _ (Term-F.InRe t r) (v.rolls-InRe t r)
       (ap (tested (matches r)) (w (known-from _ (Term-F.InRe t r) (v.rolls-InRe t r) h) (valued-from _ (Term-F.InRe t r) (v.rolls-InRe t r) g))))
       (λ m t u w z h g.
-      let p = both (constants_are known t) (constants_are known u) (known-from _ (Term-F.Related m t u) (v.rolls-Related m t u) h) in
-      let q = both (is_valued a t) (is_valued a u) (valued-from _ (Term-F.Related m t u) (v.rolls-Related m t u) g) in
+      let p = and_parts (constants_are known t) (constants_are known u) (known-from _ (Term-F.Related m t u) (v.rolls-Related m t u) h) in
+      let q = and_parts (is_valued a t) (is_valued a u) (valued-from _ (Term-F.Related m t u) (v.rolls-Related m t u) g) in
       joined _ (Term-F.Related m t u) (v.rolls-Related m t u) (λ i. related m (w p.0 q.0 i) (z p.1 q.1 i)))
       (λ s h g. joined _ (Term-F.Opaque s) (v.rolls-Opaque s) refl)

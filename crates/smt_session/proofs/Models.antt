@@ -5,16 +5,20 @@ use Rattle.std.proofs.lemmas.Option.{slice_get_within, get_or_from_slice_get}
 use Rattle.std.specs.List.{AllByRecursion}
 use Rattle.std.specs.Map.{lookup}
 use Rattle.std.proofs.lemmas.Bool.{true≢false}
+use Rattle.std.proofs.lemmas.List.Elements.{recursion_from_All, All-from_recursion}
+use Rattle.sv_list.specs.Bools.{and-first}
+use Rattle.sv_list.specs.Lists.{take-read}
 use Rattle.assert_stack.specs.Levels.{Symbol}
 use Rattle.assertion_parts.specs.Constants.{AreOnly, ConstantsHaveOneSort}
 use Rattle.assertion_parts.specs.Filling.{default, or_default}
-use Rattle.assertion_parts.proofs.Fillings.{by-places, at-places}
 use Rattle.assertion_parts.proofs.Sorts.{same-is, same-self}
+use Rattle.assertion_parts.proofs.Fillings.{worded-or}
 use Rattle.decide.specs.Completeness.{IsComplete}
 use Rattle.decide.specs.Verdicts.{RightVerdict}
 use Rattle.decide.specs.declared.verdict.Verdict.TheVariants.{Sat}
 use Rattle.term_weight.specs.Bodies.{is_escaped}
 use Rattle.sort_check.specs.WellFormed.{is_constant_of, is_declared, constants_known, is_entry, is_new, follow, is_well_formed, is_given, AreGiven}
+use Rattle.sv_terms.specs.NamedLaws.{one-name}
 use Rattle.sv_terms.specs.Meaning.{Named}
 use Rattle.sv_terms.specs.Sorting.{kind, same_sort, is_of, is_valued}
 use Rattle.sv_terms.specs.Truth.{AreTrueAt, AreValued, IsWorded}
@@ -28,7 +32,7 @@ use Rattle.smt_names.specs.Signature.{Name}
 use Rattle.smt_session.specs.Verdicts.{IsModelFor, constants_of, kinds_of}
 use Rattle.smt_session.specs.Models.{model_of}
 use Rattle.smt_session.proofs.Agreeing.{agrees}
-use Rattle.smt_session.proofs.Names.{same, one, one-more, parted, skip, cases, found-has}
+use Rattle.smt_session.proofs.Names.{same, parted, skip, cases, found-has}
 use mathlib.Core.Bool.{cond}
 
 pub model-joined : (words : Named) (xs ys : List Symbol) → model_of words (xs ++ ys) ≡ model_of words xs ++ model_of words ys
@@ -54,10 +58,6 @@ third true true c h = h
 third true false c h = absurd (true≢false (sym h))
 third false b c h = absurd (true≢false (sym h))
 
-first : (a b : Bool) → (a && b) ≡ true → a ≡ true
-first true b h = refl
-first false b h = absurd (true≢false (sym h))
-
 not-some : (a : Bool) (o : Option Entry) → (not a && not (is_some o)) ≡ true → o ≡ None
 not-some a None h = refl
 not-some true (Some e) h = absurd (true≢false (sym h))
@@ -67,7 +67,7 @@ follow-new : (before xs : List Symbol) (e : Symbol) (ys : List Symbol) → follo
 follow-new before [] e ys h =
     ap (λ z. lookup (same e.0) z) (append-nil before)
     ∙ not-some (is_escaped e.0) (lookup (same e.0) before)
-    (first (is_new before e.0) (is_entry before e.1) (first (is_new before e.0 && is_entry before e.1) (follow (before ++ e ∷ []) ys) h))
+    (and-first (is_new before e.0) (is_entry before e.1) (and-first (is_new before e.0 && is_entry before e.1) (follow (before ++ e ∷ []) ys) h))
 follow-new before (x ∷ xs) e ys h =
     ap (λ z. lookup (same e.0) z) (sym (append_assoc before (x ∷ []) xs))
     ∙ follow-new (before ++ x ∷ []) xs e ys (third (is_new before x.0) (is_entry before x.1) (follow (before ++ x ∷ []) (xs ++ e ∷ ys)) h)
@@ -114,7 +114,7 @@ in-model words n s ((m, entry.Constant t) ∷ xs) h =
     let branch : (b : Bool) → same n m ≡ b → lookup (same n) (model_of words ((m, entry.Constant t) ∷ xs)) ≡ cond b (Some (value_of m t)) (lookup (same n) (model_of words xs)) =
     λ b k. ap (λ b. cond b (Some (value_of m t)) (lookup (same n) (model_of words xs))) k in
     cases (same n m) t s (lookup (same n) (constants_of xs))
-    (λ k g. branch true k ∙ ap (λ z. Some (value_of z t)) (sym (one n m k)) ∙ ap (λ z. Some (value_of n z)) g)
+    (λ k g. branch true k ∙ ap (λ z. Some (value_of z t)) (sym (one-name n m k)) ∙ ap (λ z. Some (value_of n z)) g)
     (λ k g. branch false k ∙ in-model words n s xs g) h
 in-model words n s ((m, entry.Macro ps b) ∷ xs) h = in-model words n s xs h
 in-model words n s ((m, entry.Machine t) ∷ xs) h = in-model words n s xs h
@@ -166,21 +166,6 @@ kinds-cover values ((n, entry.Constant s) ∷ xs) h = λ i. (n, h.0 i) ∷ kinds
 kinds-cover values ((n, entry.Macro ps b) ∷ xs) h = kinds-cover values xs h.1
 kinds-cover values ((n, entry.Machine t) ∷ xs) h = kinds-cover values xs h.1
 
--- texts stay words
-worded-default : (s : Sort) → IsWorded (default s)
-worded-default sort.Bool = tt
-worded-default sort.Int = tt
-worded-default sort.String = tt
-worded-default sort.RegLan = tt
-
-worded-if : (s : Sort) (v : Value) (b : Bool) → IsWorded v → IsWorded (if b then v else default s)
-worded-if s v true w = w
-worded-if s v false w = worded-default s
-
-worded-or : (s : Sort) (o : Option Value) → ((v : Value) → o ≡ Some v → IsWorded v) → IsWorded (or_default s o)
-worded-or s None f = worded-default s
-worded-or s (Some v) f = worded-if s v (same_sort s (kind v)) (f v refl)
-
 worded-each : (values : Named) (xs : List Symbol) → AllByRecursion (λ (e : Name × Value). IsWorded e.1) values → AllByRecursion (λ (e : Name × Value). IsWorded e.1) (model_of values xs)
 worded-each values [] w = tt
 worded-each values ((n, entry.Constant s) ∷ xs) w = (worded-or s (lookup (same n) values) (λ v h. found-has (λ _ u. IsWorded u) values n v w h), worded-each values xs w)
@@ -206,7 +191,7 @@ abbrev pub Valued : Type 0
 Valued = (values : Named) (symbols : List Symbol) (term : Term) → AreGiven values symbols → IsTrue (constants_known symbols term) → IsTrue (is_valued values term)
 
 pub covers-all : Allowed → (symbols : List Symbol) (values : Named) → IsTrue (is_well_formed symbols) → kinds_of (model_of values symbols) ≡ constants_of symbols
-covers-all allowed symbols values formed = kinds-cover values symbols (all-suit values symbols symbols (by-places (λ (e : Symbol). IsTrue (is_entry symbols e.1)) symbols (allowed symbols formed)))
+covers-all allowed symbols values formed = kinds-cover values symbols (all-suit values symbols symbols (recursion_from_All (λ (e : Symbol). IsTrue (is_entry symbols e.1)) symbols (allowed symbols formed)))
 
 -- the values of a verdict make a model for the declared constants
 pub model-for : Allowed → (symbols : List Symbol) (live : List Term) (values : Named) → IsTrue (is_well_formed symbols) → AreOnly values live → IsModelFor symbols live (model_of values symbols)
@@ -235,7 +220,7 @@ given placed values symbols formed covers k d l = given-at values symbols (get_o
 pub model-more : (words : Named) (symbols : List Symbol) (i : ℕ) (e : Symbol) (model new : Named) → Some e ≡ slice_get symbols i → model ≡ model_of words (take i symbols) → new ≡ model ++ model_of words (e ∷ []) → new ≡ model_of words (take (i + 1) symbols)
 model-more words symbols i e model new h m n =
     n ∙ ap (λ z. z ++ model_of words (e ∷ [])) m ∙ sym (model-joined words (take i symbols) (e ∷ []))
-    ∙ ap (model_of words) (sym (one-more symbols i e (slice_get_within symbols i e (sym h)) (sym (get_or_from_slice_get symbols i e e (sym h)))))
+    ∙ ap (model_of words) (sym (take-read symbols i e (slice_get_within symbols i e (sym h)) (sym (get_or_from_slice_get symbols i e e (sym h)))))
 
 pub model-new : (words : Named) (symbols : List Symbol) (i : ℕ) (e : Symbol) (model : Named) → IsTrue (is_well_formed symbols) → Some e ≡ slice_get symbols i → model ≡ model_of words (take i symbols) → lookup (same e.0) model ≡ None
 model-new words symbols i e model formed h m =
@@ -252,7 +237,7 @@ valued-all : Allowed → Placed → Valued → (symbols : List Symbol) (live : L
 valued-all allowed placed valued symbols live values formed known k d l =
     valued (model_of values symbols) symbols (get_or live k d)
     (given placed (model_of values symbols) symbols formed (covers-all allowed symbols values formed))
-    (at-places (λ t. IsTrue (constants_known symbols t)) live known k d l)
+    (All-from_recursion (λ t. IsTrue (constants_known symbols t)) live known k d l)
 
 -- terms over well formed names have one sort for each name
 pub one-sort : Allowed → Placed → Valued → (symbols : List Symbol) (live : List Term) → IsTrue (is_well_formed symbols) → AllByRecursion (λ t. IsTrue (constants_known symbols t)) live → ConstantsHaveOneSort live
@@ -261,11 +246,11 @@ one-sort allowed placed valued symbols live formed known = (model_of [] symbols,
 -- what is true at the values of a verdict is true at the model
 pub true-at : Allowed → Placed → Valued → (symbols : List Symbol) (live : List Term) (values : Named) → IsTrue (is_well_formed symbols) → AllByRecursion (λ t. IsTrue (constants_known symbols t)) live → AreTrueAt values live → AreTrueAt (model_of values symbols) live
 true-at allowed placed valued symbols live values formed known h = record {
-  worded = at-places (λ (e : Name × Value). IsWorded e.1) (model_of values symbols) (worded-each values symbols (by-places (λ (e : Name × Value). IsWorded e.1) values h.worded));
+  worded = All-from_recursion (λ (e : Name × Value). IsWorded e.1) (model_of values symbols) (worded-each values symbols (recursion_from_All (λ (e : Name × Value). IsWorded e.1) values h.worded));
   valued = valued-all allowed placed valued symbols live values formed known;
   holds = λ k d l.
       agrees (model_of values symbols) values (is_declared symbols) (value-stays values symbols) (get_or live k d)
-      (at-places (λ t. IsTrue (constants_known symbols t)) live known k d l) (h.valued k d l)
+      (All-from_recursion (λ t. IsTrue (constants_known symbols t)) live known k d l) (h.valued k d l)
       ∙ h.holds k d l;
 }
 

@@ -21,8 +21,8 @@ use Rattle.smt_session.specs.declared.reply.Reply.TheVariants.{Error}
 use Rattle.smt_session.specs.declared.answering.Answering.{Answering}
 use Rattle.smt_session.specs.declared.status.Status.{Status}
 use Rattle.smt_session.specs.declared.status.Status.TheVariants.{Answered, ErrorAnswered, WrongWords, ReadFailed, WriteFailed, NoMemory}
-use Rattle.smt_session.specs.Runs.{IsAnswered, IsDone, IsLogCut, IsFront, IsPrompt, IsRead, IsAnsweredSoFar}
-use Rattle.smt_session.specs.Scripts.{FollowsScript, all, so_far, texts_of}
+use Rattle.smt_session.specs.Runs.{IsAnswered, IsDone, IsLogCut, IsFront, IsPrompt, IsRead}
+use Rattle.smt_session.specs.Scripts.{all, so_far, texts_of}
 use Rattle.smt_session.specs.Awaiting.{AddsReplies, IsWritten, IsAnswering, AwaitsItem, IsGiven, IsFaulty, Stops, Ended}
 use Rattle.smt_session.proofs.Counts.{begins_within, within_none}
 use Rattle.smt_session.proofs.Turns.{written_on, cut_here, one_more, exit_done, step_cut, fault_done, fault_cut, replies_count}
@@ -112,16 +112,6 @@ stops_ended ended bytes l0 l t0 t log NoMemory read h = record { ended = ended; 
 pub not_unread : (ended : Bool) (bytes : List ℕ) (t0 t : Option (List ℕ)) (log : List Reply) (s : Status) → Stops ended bytes t0 t log s → s ≡ ReadFailed → ⊥
 not_unread ended bytes t0 t log s h is = subst (Stops ended bytes t0 t log) is h
 
--- no more can be read
-pub unfinished : (l0 l t0 t : Option (List ℕ)) (a : Answering) (bytes : List ℕ) (log : List Reply) → Consumes l0 l bytes → AwaitsItem a bytes t0 t → log ≡ a.replies → IsAnsweredSoFar l0 l t0 t log
-unfinished l0 l t0 t a bytes log gave w is =
-    let k = w.answering in record {
-      bytes = bytes;
-      gave = gave;
-      right = record { items = k.items; session = a.session; waits = w.waits; follows = subst (λ (x : List Reply). FollowsScript opened k.items x a.session) (sym is) k.written.follows; goes_on = k.written.goes_on };
-      took = subst (λ (x : List Reply). Appends t0 t (texts_of x)) (sym is) k.written.took;
-    }
-
 -- what the reader gave, where it is known
 pub next_item : (r : Reader) (bytes : List ℕ) (given : List Sexpr) (found : Option Sexpr) (item : Sexpr) → Next r bytes given (Ok found) → found ≡ Some item → GivesItem false r bytes given item
 next_item r bytes given found item h is = subst (λ (x : Option Sexpr). Next r bytes given (Ok x)) is h
@@ -202,6 +192,3 @@ prompt_here before l0 l1 l read t0 t a log gave kept w is =
 -- the front of a buffer isn't longer
 pub taken_short : (n m : ℕ) (buffer : List ℕ) → length buffer ≡ m → length (take n buffer) ≤ m
 taken_short n m buffer is = omega (arith, length-take n buffer, is)
-
-pub no_reply : (log early late : List Reply) (r : Reply) → log ≡ [] → log ≡ early ++ r ∷ late → ⊥
-no_reply log early late r none is = omega (arith, ap length none, ap length is, length-append early (r ∷ late))

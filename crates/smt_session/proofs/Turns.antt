@@ -4,6 +4,7 @@ use Rattle.std.proofs.Math.Seq.{take-length, take-append-add}
 use Rattle.std.proofs.KnownBytes.{Appends-nil, Appends-trans}
 use Rattle.std.specs.declared.option.Option.{Option}
 use Rattle.std.specs.Io.KnownBytes.{Appends}
+use Rattle.sv_list.specs.Bools.{or-false}
 use Rattle.sexpr_reader.specs.Reads.{Begins, FaultAfter, Ends}
 use Rattle.sexpr_reader.specs.declared.sexpr.Sexpr.{Sexpr}
 use Rattle.sexpr_reader.specs.declared.syntax_fault.SyntaxFault.{SyntaxFault}
@@ -78,16 +79,12 @@ pub replies_count : (s t : State) (items : List Sexpr) (log : List Reply) → Fo
 replies_count s t items log (none a) = refl
 replies_count s t items log (next a b c i q is l goes step rest) = omega (arith, replies_count b t is l rest)
 
-or_none : (a : Bool) → (a || false) ≡ a
-or_none true = refl
-or_none false = refl
-
 or_assoc : (a b c : Bool) → (a || (b || c)) ≡ ((a || b) || c)
 or_assoc true b c = refl
 or_assoc false b c = refl
 
 one_error : (log : List Reply) (r : Reply) → has_error (log ++ r ∷ []) ≡ (has_error log || is_error r)
-one_error [] r = or_none (is_error r)
+one_error [] r = or-false (is_error r)
 one_error (x ∷ log) r = ap (λ (b : Bool). is_error x || b) (one_error log r) ∙ or_assoc (is_error x) (has_error log) (is_error r)
 
 -- whether there is an error once there is one reply more

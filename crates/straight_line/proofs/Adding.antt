@@ -4,6 +4,8 @@ use Rattle.std.specs.Prelude.{if◌then◌else◌}
 use Rattle.std.specs.List.{AllByRecursion, list_any}
 use Rattle.std.specs.Map.{lookup}
 use Rattle.std.specs.Cmp.Lexicographic.{pointwise, same_text}
+use Rattle.std.proofs.lemmas.Bool.{false≢true, and_parts}
+use Rattle.sv_list.specs.Lists.{AllByRecursion-push}
 use Rattle.sv_terms.specs.declared.value.Value.TheVariants as value
 use Rattle.sv_terms.specs.declared.op.Op.TheVariants as op
 use Rattle.sv_terms.specs.declared.transducer.Transducer.{Transducer}
@@ -18,9 +20,9 @@ use Rattle.flat_cubes.specs.Said.{Said, value_is, compares, holds, has_part, are
 use Rattle.flat_cubes.specs.Satisfying.{MeetsPart, HasValue}
 use Rattle.flat_cubes.specs.declared.variable.Own.{Own}
 use Rattle.flat_cubes.specs.declared.definition.By.TheVariants as by
-use Rattle.flat_cubes.proofs.Members.{never, all_push}
 use Rattle.cube_draft.proofs.Strings.{string_written}
-use Rattle.straight_line.proofs.Texts.{and_parts, word, word_written}
+use Rattle.cube_draft.proofs.Proper.{IsFormedSaid}
+use Rattle.straight_line.proofs.Texts.{word, word_written}
 use Rattle.straight_line.proofs.Meetings.{all_popped, all_last, ComparisonTrue, Fits, Holds, PartHolds, DefinitionHolds, EqualityHolds, TruthHolds, IsMet, is_met, with_part_holds, with_part_back}
 
 module _ (values : Named) (ws : ℕ → Word) where
@@ -75,9 +77,9 @@ module _ (values : Named) (ws : ℕ → Word) where
     unknowns_kept (apply op.Add (s ⨾ ss)) d e = all_unknowns_kept (s ⨾ ss) d e
     unknowns_kept (apply op.Subtract (s ⨾ ss)) d e = all_unknowns_kept (s ⨾ ss) d e
     unknowns_kept (apply op.Multiply (s ⨾ ss)) d e = all_unknowns_kept (s ⨾ ss) d (and_parts (is_linear s && are_linear ss) (is_product (linears (s ⨾ ss))) e).0
-    unknowns_kept (apply op.Length (s ⨾ t ⨾ ss)) d e = absurd (never e)
-    unknowns_kept (apply op.Length (s ⨾ end)) d e = absurd (never e)
-    unknowns_kept _ d e = absurd (never e)
+    unknowns_kept (apply op.Length (s ⨾ t ⨾ ss)) d e = absurd (false≢true e)
+    unknowns_kept (apply op.Length (s ⨾ end)) d e = absurd (false≢true e)
+    unknowns_kept _ d e = absurd (false≢true e)
 
     all_unknowns_kept : (ss : Shapes) (d : DraftView) → are_linear ss ≡ true → IsKept d (meet_all_unknowns ss d)
     all_unknowns_kept end d e = kept_same d
@@ -94,16 +96,6 @@ module _ (values : Named) (ws : ℕ → Word) where
   Truth (are_one s t) = word values s ≡ word values t
   Truth (written_by m s t) = Pairs m (word values s) (word values t)
   Truth outside = ⊥
-
-  -- its terms are of written forms
-  abbrev pub Formed : Said → Type 0
-  Formed (value_is n b) = Unit {0}
-  Formed (compares o s t b) = (is_linear s ≡ true) × (is_linear t ≡ true)
-  Formed (holds b) = Unit {0}
-  Formed (has_part s o b) = is_string s ≡ true
-  Formed (are_one s t) = (is_string s ≡ true) × (is_string t ≡ true)
-  Formed (written_by m s t) = (is_string s ≡ true) × (is_string t ≡ true)
-  Formed outside = ⊥
 
   pub record IsAdded (x : Said) (d e : DraftView) : Type 0 where
     pub earlier : Fits values ws e → Fits values ws d
@@ -127,7 +119,7 @@ module _ (values : Named) (ws : ℕ → Word) where
       let right : Fits values ws r.1 → ws r.0 ≡ word values t = λ f. n.at f ∙ word_written values t in
       record {
         earlier = λ f. m.earlier (n.earlier f);
-        keeps = λ f x h. let k = n.keeps f (m.keeps (n.earlier f) h) in record { parts = k.parts; definitions = k.definitions; equalities = all_push (EqualityHolds values ws) r.1.equalities (q.0, r.0) k.equalities (left f ∙ x ∙ sym (right f)); comparisons = k.comparisons; truths = k.truths; whole = k.whole };
+        keeps = λ f x h. let k = n.keeps f (m.keeps (n.earlier f) h) in record { parts = k.parts; definitions = k.definitions; equalities = AllByRecursion-push (EqualityHolds values ws) r.1.equalities (q.0, r.0) k.equalities (left f ∙ x ∙ sym (right f)); comparisons = k.comparisons; truths = k.truths; whole = k.whole };
         tells = λ f h. sym (left f) ∙ all_last (EqualityHolds values ws) r.1.equalities (q.0, r.0) h.equalities ∙ right f;
         back = λ h. m.back (n.back (record { parts = h.parts; definitions = h.definitions; equalities = all_popped (EqualityHolds values ws) r.1.equalities (q.0, r.0) h.equalities; comparisons = h.comparisons; truths = h.truths; whole = h.whole }));
       }
@@ -140,7 +132,7 @@ module _ (values : Named) (ws : ℕ → Word) where
         earlier = λ f. m.earlier (n.earlier f);
         keeps = λ f x h. let k = n.keeps f (m.keeps (n.earlier f) h) in
             let y : Pairs t (ws q.0) (ws r.0) = subst (λ w. Pairs t (ws q.0) w) (sym (right f)) (subst (λ w. Pairs t w (word values u)) (sym (left f)) x) in
-            record { parts = k.parts; definitions = all_push (DefinitionHolds values ws) r.1.definitions (r.0, by.Through t q.0) k.definitions y; equalities = k.equalities; comparisons = k.comparisons; truths = k.truths; whole = k.whole };
+            record { parts = k.parts; definitions = AllByRecursion-push (DefinitionHolds values ws) r.1.definitions (r.0, by.Through t q.0) k.definitions y; equalities = k.equalities; comparisons = k.comparisons; truths = k.truths; whole = k.whole };
         tells = λ f h. subst (λ w. Pairs t (word values s) w) (right f) (subst (λ w. Pairs t w (ws r.0)) (left f) (all_last (DefinitionHolds values ws) r.1.definitions (r.0, by.Through t q.0) h.definitions));
         back = λ h. m.back (n.back (record { parts = h.parts; definitions = all_popped (DefinitionHolds values ws) r.1.definitions (r.0, by.Through t q.0) h.definitions; equalities = h.equalities; comparisons = h.comparisons; truths = h.truths; whole = h.whole }));
       }
@@ -148,7 +140,7 @@ module _ (values : Named) (ws : ℕ → Word) where
   comparison_added : (c : Comparison) (d e : DraftView) → IsKept d e → IsAdded (compares c.op c.left c.right c.positive) d (with_comparison c e)
   comparison_added c d e k = record {
     earlier = k.earlier;
-    keeps = λ f t h. let l = k.keeps f h in record { parts = l.parts; definitions = l.definitions; equalities = l.equalities; comparisons = all_push (ComparisonTrue values) e.comparisons c l.comparisons t; truths = l.truths; whole = l.whole };
+    keeps = λ f t h. let l = k.keeps f h in record { parts = l.parts; definitions = l.definitions; equalities = l.equalities; comparisons = AllByRecursion-push (ComparisonTrue values) e.comparisons c l.comparisons t; truths = l.truths; whole = l.whole };
     tells = λ f h. all_last (ComparisonTrue values) e.comparisons c h.comparisons;
     back = λ h. k.back (record { parts = h.parts; definitions = h.definitions; equalities = h.equalities; comparisons = all_popped (ComparisonTrue values) e.comparisons c h.comparisons; truths = h.truths; whole = h.whole });
   }
@@ -196,7 +188,7 @@ module _ (values : Named) (ws : ℕ → Word) where
   truth_added : (n : List ℕ) (b : Bool) (d : DraftView) (o : Option Bool) → lookup (pointwise nat_eq n) d.truths ≡ o → IsAdded (value_is n b) d (with_value o n b d)
   truth_added n b d None e = record {
     earlier = λ f. f;
-    keeps = λ f t h. record { parts = h.parts; definitions = h.definitions; equalities = h.equalities; comparisons = h.comparisons; truths = all_push (TruthHolds values ws) d.truths (n, b) h.truths t; whole = h.whole };
+    keeps = λ f t h. record { parts = h.parts; definitions = h.definitions; equalities = h.equalities; comparisons = h.comparisons; truths = AllByRecursion-push (TruthHolds values ws) d.truths (n, b) h.truths t; whole = h.whole };
     tells = λ f h. all_last (TruthHolds values ws) d.truths (n, b) h.truths;
     back = λ h. record { parts = h.parts; definitions = h.definitions; equalities = h.equalities; comparisons = h.comparisons; truths = all_popped (TruthHolds values ws) d.truths (n, b) h.truths; whole = h.whole };
   }
@@ -216,7 +208,7 @@ module _ (values : Named) (ws : ℕ → Word) where
   }
 
   -- one more literal
-  pub is_added : (x : Said) (d : DraftView) → Formed x → IsAdded x d (add x d)
+  pub is_added : (x : Said) (d : DraftView) → IsFormedSaid x → IsAdded x d (add x d)
   is_added (value_is n b) d e = truth_added n b d (lookup (pointwise nat_eq n) d.truths) refl
   is_added (compares o s t b) d e = comparison_added (record { op = o; left = s; right = t; positive = b }) d (meet_unknowns t (meet_unknowns s d)) (kept_then d (meet_unknowns s d) (meet_unknowns t (meet_unknowns s d)) (unknowns_kept s d e.0) (unknowns_kept t (meet_unknowns s d) e.1))
   is_added (holds b) d e = fact_added b d

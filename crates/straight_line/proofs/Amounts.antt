@@ -5,6 +5,7 @@ use Rattle.std.specs.List.{list_all}
 use Rattle.std.specs.Map.{lookup}
 use Rattle.std.specs.Option.{option_map}
 use Rattle.std.specs.Cmp.Lexicographic.{pointwise}
+use Rattle.std.proofs.lemmas.Bool.{and_parts}
 use Rattle.sv_linear.specs.Integers.{mul_comm, add-mul, mul_assoc}
 use Rattle.sv_terms.specs.declared.value.Value.{Value}
 use Rattle.sv_terms.specs.declared.value.Value.TheVariants.{Truth, Number, Text}
@@ -18,8 +19,8 @@ use Rattle.sv_terms.specs.Meaning.{Named, all_of, each_of, number_of, applied, a
 use Rattle.sv_terms.specs.Sorting.{same_sort, is_of, is_valued}
 use Rattle.literal_forms.specs.Shapes.{Shape, Shapes, number, text, constant, apply, end, ◌⨾◌, raw, raws}
 use Rattle.literal_forms.specs.Linear.{Unknown, integer, length_of, other, Linear, added, scaled, less, minus_one, is_constant, multiplied, from_left, difference_of, length_form, linear, linears, is_string, is_linear, are_linear, is_product_from, is_product, written}
-use Rattle.sv_terms.specs.SortingLaws.{fold-at}
-use Rattle.straight_line.proofs.Texts.{and_parts, word, word_written, val_word, val_apply, valued_apply, valued_constant, val_constant}
+use Rattle.sv_terms.specs.SortingLaws.{fold-at, val-apply, valued-apply}
+use Rattle.straight_line.proofs.Texts.{word, word_written, val_word, valued_constant, val_constant}
 
 -- the sum of the terms, and with the constant, at the unknowns' values
 abbrev pub terms_sum : (Unknown → ℤ) → List (Unknown × ℤ) → ℤ
@@ -127,7 +128,7 @@ module _ (values : Named) where
 
   -- what a function of numbers gives of terms that have numbers
   of_numbers : (o : Op) (f : List ℤ → ℤ) → ((vs : List Value) → applied o vs ≡ option_map (λ ns. Number (f ns)) (each_of number_of vs)) → (ss : Shapes) → all_of (map (val values) (raws ss)) ≡ Some (map (λ n. Number n) (values_of amount (linears ss))) → val values (raw (apply o ss)) ≡ Some (Number (f (values_of amount (linears ss))))
-  of_numbers o f means ss e = val_apply values o (raws ss) ∙ ap (applied_if o) e ∙ means (map (λ n. Number n) (values_of amount (linears ss))) ∙ ap (option_map (λ ns. Number (f ns))) (each_number (values_of amount (linears ss)))
+  of_numbers o f means ss e = val-apply values o (raws ss) ∙ ap (applied_if o) e ∙ means (map (λ n. Number n) (values_of amount (linears ss))) ∙ ap (option_map (λ ns. Number (f ns))) (each_number (values_of amount (linears ss)))
 
   difference_is : (a : Linear) (bs : List Linear) → difference (values_of amount (a ∷ bs)) ≡ linear_value amount (difference_of (a ∷ bs))
   difference_is a [] = sym (value_scaled amount a minus_one)
@@ -139,17 +140,17 @@ module _ (values : Named) where
     val_number (number n) e h = fold-at (Option Value) (val_step values) _ (Term-F.Number n) (term.rolls-Number n) ∙ ap (λ z. Some (Number z)) (sym (zero_plus n))
     val_number (constant n s) e h = val_constant values n s ∙ number_is (lookup (pointwise nat_eq n) values) s e (sym (valued_constant values n s) ∙ h) ∙ ap (λ z. Some (Number z)) (sym (one_times (number_or (lookup (pointwise nat_eq n) values))))
     val_number (apply op.Length (s ⨾ end)) e h =
-        let k = sym (valued_apply values op.Length (raws (s ⨾ end))) ∙ h in
+        let k = sym (valued-apply values op.Length (raws (s ⨾ end))) ∙ h in
         let b = and_parts (is_valued values (raw s)) true k in
-        val_apply values op.Length (raws (s ⨾ end)) ∙ (λ i. applied_if op.Length (all_of (val_word values s e b.0 i ∷ []))) ∙ val_length s e b.0
+        val-apply values op.Length (raws (s ⨾ end)) ∙ (λ i. applied_if op.Length (all_of (val_word values s e b.0 i ∷ []))) ∙ val_length s e b.0
     val_number (apply op.Add (s ⨾ ss)) e h =
-        let k = sym (valued_apply values op.Add (raws (s ⨾ ss))) ∙ h in
+        let k = sym (valued-apply values op.Add (raws (s ⨾ ss))) ∙ h in
         of_numbers op.Add total (λ vs. refl) (s ⨾ ss) (val_numbers (s ⨾ ss) e k) ∙ ap (λ z. Some (Number z)) (sym (sums amount (linear s) (linears ss)))
     val_number (apply op.Subtract (s ⨾ ss)) e h =
-        let k = sym (valued_apply values op.Subtract (raws (s ⨾ ss))) ∙ h in
+        let k = sym (valued-apply values op.Subtract (raws (s ⨾ ss))) ∙ h in
         of_numbers op.Subtract difference (λ vs. refl) (s ⨾ ss) (val_numbers (s ⨾ ss) e k) ∙ ap (λ z. Some (Number z)) (difference_is (linear s) (linears ss))
     val_number (apply op.Multiply (s ⨾ ss)) e h =
-        let k = sym (valued_apply values op.Multiply (raws (s ⨾ ss))) ∙ h in
+        let k = sym (valued-apply values op.Multiply (raws (s ⨾ ss))) ∙ h in
         let p = and_parts (is_linear s && are_linear ss) (is_product (linears (s ⨾ ss))) e in
         of_numbers op.Multiply product (λ vs. refl) (s ⨾ ss) (val_numbers (s ⨾ ss) p.0 k) ∙ ap (λ z. Some (Number z)) (sym (products amount (linear s) (linears ss) p.1))
     val_number _ e h = absurd (cc)

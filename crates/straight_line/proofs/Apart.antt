@@ -3,8 +3,8 @@ use Rattle.std.proofs.Common.{◌≡◌, refl, sym, ap, ◌∙◌, subst, Bool, 
 use Rattle.std.specs.List.{list_any}
 use Rattle.std.proofs.lemmas.List.Folds.{list_any-append}
 use Rattle.std.specs.Cmp.Lexicographic.{pointwise, same_text}
+use Rattle.std.proofs.lemmas.Bool.{false≢true, or_parts, or_left, or_right}
 use Rattle.literal_forms.specs.Alike.{code_is}
-use Rattle.flat_cubes.proofs.Members.{neither, never}
 use Rattle.cube_draft.proofs.Sames.{string_code}
 use Rattle.literal_forms.specs.Shapes.{Shape}
 use Rattle.literal_forms.specs.Codes.{code, same}
@@ -20,10 +20,10 @@ IsPlain (other s) = ⊥
 unknown_is : (u v : Unknown) → IsPlain v → same_unknown u v ≡ true → u ≡ v
 unknown_is (integer m) (integer n) p e = ap integer (same_text m n (sym e))
 unknown_is (length_of s) (length_of t) p e = ap length_of (sym (string_code t s p (sym (code_is (code s) (code t) e))))
-unknown_is (integer m) (length_of t) p e = absurd (never e)
-unknown_is (length_of s) (integer n) p e = absurd (never e)
-unknown_is (other s) (integer n) p e = absurd (never e)
-unknown_is (other s) (length_of t) p e = absurd (never e)
+unknown_is (integer m) (length_of t) p e = absurd (false≢true e)
+unknown_is (length_of s) (integer n) p e = absurd (false≢true e)
+unknown_is (other s) (integer n) p e = absurd (false≢true e)
+unknown_is (other s) (length_of t) p e = absurd (false≢true e)
 unknown_is u (other t) p e = absurd p
 
 abbrev pub stands : Unknown → List Unknown → Bool
@@ -44,18 +44,18 @@ once_pushed u w (v ∷ us) e (inr o) = inr (o.0, once_pushed u w us e o.1)
 
 once_new : (u w : Unknown) (us : List Unknown) → IsPlain w → stands u us ≡ false → same_unknown u w ≡ true → Once u (us ++ w ∷ [])
 once_new u w [] p n e = inl (e, unknown_is u w p e, tt)
-once_new u w (v ∷ us) p n e = let h = neither (same_unknown u v) (stands u us) n in inr (h.0, once_new u w us p h.1 e)
+once_new u w (v ∷ us) p n e = let h = or_parts (same_unknown u v) (stands u us) n in inr (h.0, once_new u w us p h.1 e)
 
 pushed_cases : (a b : Bool) → (a || (b || false)) ≡ true → (a ≡ true) ⊎ ((a ≡ false) × (b ≡ true))
 pushed_cases true b e = inl refl
 pushed_cases false true e = inr (refl, refl)
-pushed_cases false false e = absurd (never e)
+pushed_cases false false e = absurd (false≢true e)
 
 apart_from : (u w : Unknown) (us : List Unknown) → IsPlain w → stands u us ≡ true → stands w us ≡ false → same_unknown u w ≡ false
 apart_from u w us p h n = by_test (same_unknown u w) refl
   where
     by_test : (b : Bool) → same_unknown u w ≡ b → b ≡ false
-    by_test true e = absurd (never (sym (sym (subst (λ v. stands v us ≡ true) (unknown_is u w p e) h) ∙ n)))
+    by_test true e = absurd (false≢true (sym (sym (subst (λ v. stands v us ≡ true) (unknown_is u w p e) h) ∙ n)))
     by_test false e = refl
 
 pub apart_pushed : (us : List Unknown) (w : Unknown) → IsPlain w → AreApart us → stands w us ≡ false → AreApart (us ++ w ∷ [])
@@ -111,17 +111,6 @@ name_stands n (m ∷ ns) = λ i. pointwise nat_eq n m || name_stands n ns i
 pub length_stands : (s : Shape) (rs : List (Shape × ℕ)) → stands (length_of s) (lengths_of rs) ≡ list_any (λ (r : Shape × ℕ). same s r.0) rs
 length_stands s [] = refl
 length_stands s (r ∷ rs) = λ i. same s r.0 || length_stands s rs i
-
-pub map_push : {X Y : Type 0} (f : X → Y) (xs : List X) (x : X) → map f (xs ++ x ∷ []) ≡ map f xs ++ f x ∷ []
-map_push f [] x = refl
-map_push f (y ∷ xs) x = ap (λ l. f y ∷ l) (map_push f xs x)
-
-or_left : (a b : Bool) → a ≡ true → (a || b) ≡ true
-or_left a b e = λ i. e i || b
-
-or_right : (a b : Bool) → b ≡ true → (a || b) ≡ true
-or_right true b e = refl
-or_right false b e = e
 
 pub stands_more : (u w : Unknown) (us : List Unknown) → stands u us ≡ true → stands u (us ++ w ∷ []) ≡ true
 stands_more u w us h = list_any-append (same_unknown u) us (w ∷ []) ∙ or_left (stands u us) (same_unknown u w || false) h

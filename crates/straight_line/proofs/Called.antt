@@ -7,6 +7,8 @@ use Rattle.std.specs.Option.{option_map}
 use Rattle.std.specs.Cmp.Lexicographic.{pointwise}
 use Rattle.std.proofs.lemmas.List.{append-nil}
 use Rattle.std.proofs.lemmas.Map.{NonePasses, none_passes_from_lookup}
+use Rattle.std.proofs.lemmas.Bool.{false≢true, and_parts}
+use Rattle.sv_list.specs.Lists.{AllByRecursion-push, AllByRecursion-filter}
 use Rattle.sv_terms.specs.Sorting.{same_sort}
 use Rattle.sv_terms.specs.declared.op.Op.{Op}
 use Rattle.sv_terms.specs.declared.op.Op.TheVariants as op
@@ -26,23 +28,21 @@ use Rattle.flat_cubes.specs.declared.flat.Flat.{Flat}
 use Rattle.flat_cubes.specs.declared.variable.Own.{Own}
 use Rattle.flat_cubes.specs.declared.variable.Own.TheVariants as own
 use Rattle.straight_line.proofs.Differing.{Differ, IsNone, all_differ, all_within, cross_by, cross_join, differ_join, differ_push, filter_differ, names_distinct, names_in, names_of_all, names_push, none_found, one_name, range_differ}
-use Rattle.flat_cubes.proofs.Members.{filter_within, all_push, never}
 use Rattle.cube_draft.proofs.Sames.{string_self}
 use Rattle.straight_line.proofs.Saying.{text_self}
 use Rattle.cube_draft.proofs.Strings.{string_written}
-use Rattle.straight_line.proofs.Texts.{and_parts}
 
 is_text_sort : (s : Sort) → same_sort s sort.String ≡ true → s ≡ sort.String
 is_text_sort sort.String e = refl
-is_text_sort sort.Bool e = absurd (never e)
-is_text_sort sort.Int e = absurd (never e)
-is_text_sort sort.RegLan e = absurd (never e)
+is_text_sort sort.Bool e = absurd (false≢true e)
+is_text_sort sort.Int e = absurd (false≢true e)
+is_text_sort sort.RegLan e = absurd (false≢true e)
 
 is_int_sort : (s : Sort) → same_sort s sort.Int ≡ true → s ≡ sort.Int
 is_int_sort sort.Int e = refl
-is_int_sort sort.Bool e = absurd (never e)
-is_int_sort sort.String e = absurd (never e)
-is_int_sort sort.RegLan e = absurd (never e)
+is_int_sort sort.Bool e = absurd (false≢true e)
+is_int_sort sort.String e = absurd (false≢true e)
+is_int_sort sort.RegLan e = absurd (false≢true e)
 
 module _ (sorts : List ℕ → Sort) where
   -- nested concatenations written as one
@@ -89,7 +89,7 @@ module _ (sorts : List ℕ → Sort) where
   map_none (Some i) e = absurd (cc)
 
   none_named : (n : List ℕ) (s : Sort) (ns : List (List ℕ)) → s ≡ sort.String → (t : Shape) → same (constant n s) t ≡ false → HasText t → IsNone n ns → IsNone n (one_name (name_of t) ns)
-  none_named n s ns e (constant m k) q h r = (λ g. let is : constant m k ≡ constant n s = ap (λ x. constant x k) (sym g) ∙ ap (constant n) (h.1 ∙ sym e) in never (sym q ∙ ap (same (constant n s)) is ∙ string_self (constant n s)), r)
+  none_named n s ns e (constant m k) q h r = (λ g. let is : constant m k ≡ constant n s = ap (λ x. constant x k) (sym g) ∙ ap (constant n) (h.1 ∙ sym e) in false≢true (sym q ∙ ap (same (constant n s)) is ∙ string_self (constant n s)), r)
   none_named n s ns e _ q h r = r
 
   none_placed : (n : List ℕ) (s : Sort) → s ≡ sort.String → (ts : List Shape) → AllByRecursion HasText ts → place_of (constant n s) ts ≡ None → IsNone n (names_in ts)
@@ -102,10 +102,10 @@ module _ (sorts : List ℕ → Sort) where
 
   constant_fits : (n : List ℕ) (s : Sort) (d : DraftView) → s ≡ sort.String → sorts n ≡ s → Fits d → (o : Option ℕ) → place_of (constant n s) d.terms ≡ o → Fits (known_or o d (length d.terms, with_term (constant n s) d)).1
   constant_fits n s d i e f (Some k) q = f
-  constant_fits n s d i e f None q = ((all_push HasText d.terms (constant n s) f.0.0 (e, i), subst Differ (sym (names_push d.terms (constant n s))) (differ_push (names_in d.terms) n f.0.1 (none_placed n s i d.terms f.0.0 q))), f.1)
+  constant_fits n s d i e f None q = ((AllByRecursion-push HasText d.terms (constant n s) f.0.0 (e, i), subst Differ (sym (names_push d.terms (constant n s))) (differ_push (names_in d.terms) n f.0.1 (none_placed n s i d.terms f.0.0 q))), f.1)
 
   pushed_fits : (t : Shape) (d : DraftView) → one_name (name_of t) [] ≡ [] → HasText t → Fits d → Fits (with_term t d)
-  pushed_fits t d e h f = ((all_push HasText d.terms t f.0.0 h, subst Differ (sym (append-nil (names_in d.terms)) ∙ ap (λ z. names_in d.terms ++ z) (sym e) ∙ sym (names_push d.terms t)) f.0.1), f.1)
+  pushed_fits t d e h f = ((AllByRecursion-push HasText d.terms t f.0.0 h, subst Differ (sym (append-nil (names_in d.terms)) ∙ ap (λ z. names_in d.terms ++ z) (sym e) ∙ sym (names_push d.terms t)) f.0.1), f.1)
 
   mutual
     term_fits : (s : Shape) (d : DraftView) → is_string s ≡ true → IsSortedBy sorts s → Fits d → Fits (meet s d).1
@@ -120,7 +120,7 @@ module _ (sorts : List ℕ → Sort) where
     term_fits (apply op.ReplaceAll (s ⨾ text p ⨾ text u ⨾ end)) d e o f =
         let t = apply op.ReplaceAll (s ⨾ text p ⨾ text u ⨾ end) in
         known_fits (place_of t d.terms) d (all_met (length d.terms) p u (meet s (with_term t d))) f (term_fits s (with_term t d) e o.0 (pushed_fits t d refl tt f))
-    term_fits _ d e o f = absurd (never e)
+    term_fits _ d e o f = absurd (false≢true e)
 
     terms_fit : (ss : Shapes) (d : DraftView) → are_strings ss ≡ true → AreSortedBy sorts ss → Fits d → Fits (meet_all ss d).1
     terms_fit end d e o f = f
@@ -134,7 +134,7 @@ module _ (sorts : List ℕ → Sort) where
 
   integer_fits : (n : List ℕ) (d : DraftView) → sorts n ≡ sort.Int → Fits d → (b : Bool) → list_any (pointwise nat_eq n) d.integers ≡ b → Fits (if b then d else record d { integers = d.integers ++ n ∷ [] })
   integer_fits n d e f true q = f
-  integer_fits n d e f false q = (f.0, ((all_push (λ m. sorts m ≡ sort.Int) d.integers n f.1.0.0 e, differ_push d.integers n f.1.0.1 (none_found n d.integers q)), f.1.1))
+  integer_fits n d e f false q = (f.0, ((AllByRecursion-push (λ m. sorts m ≡ sort.Int) d.integers n f.1.0.0 e, differ_push d.integers n f.1.0.1 (none_found n d.integers q)), f.1.1))
 
   length_fits : (s : Shape) (d : DraftView) → is_string s ≡ true → IsSortedBy sorts s → Fits d → (b : Bool) → Fits (if b then d else registered (written s) (meet (written s) d))
   length_fits s d e o f true = f
@@ -153,9 +153,9 @@ module _ (sorts : List ℕ → Sort) where
     unknowns_fit (apply op.Add (s ⨾ ss)) d e o f = all_unknowns_fit (s ⨾ ss) d e o f
     unknowns_fit (apply op.Subtract (s ⨾ ss)) d e o f = all_unknowns_fit (s ⨾ ss) d e o f
     unknowns_fit (apply op.Multiply (s ⨾ ss)) d e o f = all_unknowns_fit (s ⨾ ss) d (and_parts (is_linear s && are_linear ss) (is_product (linears (s ⨾ ss))) e).0 o f
-    unknowns_fit (apply op.Length (s ⨾ t ⨾ ss)) d e o f = absurd (never e)
-    unknowns_fit (apply op.Length (s ⨾ end)) d e o f = absurd (never e)
-    unknowns_fit _ d e o f = absurd (never e)
+    unknowns_fit (apply op.Length (s ⨾ t ⨾ ss)) d e o f = absurd (false≢true e)
+    unknowns_fit (apply op.Length (s ⨾ end)) d e o f = absurd (false≢true e)
+    unknowns_fit _ d e o f = absurd (false≢true e)
 
     all_unknowns_fit : (ss : Shapes) (d : DraftView) → are_linear ss ≡ true → AreSortedBy sorts ss → Fits d → Fits (meet_all_unknowns ss d)
     all_unknowns_fit end d e o f = f
@@ -168,7 +168,7 @@ module _ (sorts : List ℕ → Sort) where
     where
       others : (ts : List (List ℕ × Bool)) → NonePasses (pointwise nat_eq n) ts → IsNone n (truth_names ts)
       others [] h = tt
-      others (t ∷ ts) h = (λ q. never (sym h.0 ∙ ap (pointwise nat_eq n) (sym q) ∙ text_self n), others ts h.1)
+      others (t ∷ ts) h = (λ q. false≢true (sym h.0 ∙ ap (pointwise nat_eq n) (sym q) ∙ text_self n), others ts h.1)
 
   truths_push : (ts : List (List ℕ × Bool)) (t : List ℕ × Bool) → truth_names (ts ++ t ∷ []) ≡ truth_names ts ++ t.0 ∷ []
   truths_push [] t = refl
@@ -176,7 +176,7 @@ module _ (sorts : List ℕ → Sort) where
 
   value_fits : (n : List ℕ) (b : Bool) (d : DraftView) → sorts n ≡ sort.Bool → Fits d → (o : Option Bool) → lookup (pointwise nat_eq n) d.truths ≡ o → Fits (with_value o n b d)
   value_fits n b d e f (Some c) q = f
-  value_fits n b d e f None q = (f.0, (f.1.0, subst (AreOf sort.Bool) (sym (truths_push d.truths (n, b))) (all_push (λ m. sorts m ≡ sort.Bool) (truth_names d.truths) n f.1.1.0 e, differ_push (truth_names d.truths) n f.1.1.1 (none_valued n d.truths q))))
+  value_fits n b d e f None q = (f.0, (f.1.0, subst (AreOf sort.Bool) (sym (truths_push d.truths (n, b))) (AllByRecursion-push (λ m. sorts m ≡ sort.Bool) (truth_names d.truths) n f.1.1.0 e, differ_push (truth_names d.truths) n f.1.1.1 (none_valued n d.truths q))))
 
   -- the terms of a literal
   abbrev IsString : Shape → Type 0
@@ -281,7 +281,7 @@ module _ (sorts : List ℕ → Sort) where
       let texts = names_of_all d.terms (firsts_of d) (roots_of d) in
       let is_text = all_within d.terms (firsts_of d) (λ n. sorts n ≡ sort.String) (roots_of d) (texts_sorted d.terms f.0.0) in
       let texts_differ = all_differ d.terms (firsts_of d) (roots_of d) (range_differ _ 0 (length d.terms)).0 f.0.1 in
-      let is_int = filter_within (λ n. sorts n ≡ sort.Int) p d.integers f.1.0.0 in
+      let is_int = AllByRecursion-filter (λ n. sorts n ≡ sort.Int) p d.integers f.1.0.0 in
       let integers_differ = filter_differ p d.integers f.1.0.1 in
       let whole = differ_join texts (integers_of d ++ truth_names d.truths) texts_differ
       (differ_join (integers_of d) (truth_names d.truths) integers_differ f.1.1.1 (cross_by sorts sort.Int sort.Bool (λ e. cc) (integers_of d) (truth_names d.truths) is_int f.1.1.0))
@@ -298,7 +298,7 @@ module _ (sorts : List ℕ → Sort) where
       let names : string_names flat.variables ≡ names_of_all d.terms (firsts_of d) (roots_of d) = ap string_names g.variables ∙ names_met d (roots_of d) in
       record {
         strings = subst (AllByRecursion (λ n. sorts n ≡ sort.String)) (sym names) is_text;
-        integers = subst (AllByRecursion (λ n. sorts n ≡ sort.Int)) (sym g.integers) (filter_within (λ n. sorts n ≡ sort.Int) p d.integers f.1.0.0);
+        integers = subst (AllByRecursion (λ n. sorts n ≡ sort.Int)) (sym g.integers) (AllByRecursion-filter (λ n. sorts n ≡ sort.Int) p d.integers f.1.0.0);
         truths = subst (λ z. AllByRecursion (λ n. sorts n ≡ sort.Bool) (truth_names z)) (sym g.truths) f.1.1.0;
       }
 

@@ -3,11 +3,11 @@ use Rattle.std.proofs.Common.{◌≡◌, refl, sym, ap, ◌∙◌, Bool, true, f
 use Rattle.std.specs.Prelude.{filter, nat_eq}
 use Rattle.std.specs.Cmp.Lexicographic.{pointwise, same_text}
 use Rattle.std.specs.List.{AllByRecursion, IsDistinct, list_any}
-use Rattle.std.proofs.lemmas.Bool.{eqb-true}
+use Rattle.std.proofs.lemmas.Bool.{eqb-true, false≢true, or_parts}
 use Rattle.std.proofs.lemmas.Map.Keys.{IsDistinct-cons}
+use Rattle.sv_list.specs.Lists.{AllByRecursion-push, AllByRecursion-append, AllByRecursion-filter}
 use Rattle.literal_forms.specs.Shapes.{Shape}
 use Rattle.flat_cubes.specs.Flattening.{name_of, names_at, with_name}
-use Rattle.flat_cubes.proofs.Members.{all_joined, all_push, neither, never, filter_within}
 use Rattle.cube_order.proofs.Ordinals.{passing}
 use Rattle.straight_line.proofs.Saying.{text_self}
 
@@ -25,15 +25,15 @@ Cross xs ys = AllByRecursion (λ x. IsNone x ys) xs
 
 pub differ_push : {X : Type 0} (xs : List X) (y : X) → Differ xs → IsNone y xs → Differ (xs ++ y ∷ [])
 differ_push [] y d a = (tt, tt)
-differ_push (x ∷ xs) y d a = (all_push (λ z. x ≡ z → ⊥) xs y d.0 (λ e. a.0 (sym e)), differ_push xs y d.1 a.1)
+differ_push (x ∷ xs) y d a = (AllByRecursion-push (λ z. x ≡ z → ⊥) xs y d.0 (λ e. a.0 (sym e)), differ_push xs y d.1 a.1)
 
 pub differ_join : {X : Type 0} (xs ys : List X) → Differ xs → Differ ys → Cross xs ys → Differ (xs ++ ys)
 differ_join [] ys d e c = e
-differ_join (x ∷ xs) ys d e c = (all_joined (λ z. x ≡ z → ⊥) xs ys d.0 c.0, differ_join xs ys d.1 e c.1)
+differ_join (x ∷ xs) ys d e c = (AllByRecursion-append (λ z. x ≡ z → ⊥) xs ys d.0 c.0, differ_join xs ys d.1 e c.1)
 
 pub cross_join : {X : Type 0} (xs ys zs : List X) → Cross xs ys → Cross xs zs → Cross xs (ys ++ zs)
 cross_join [] ys zs a b = tt
-cross_join (x ∷ xs) ys zs a b = (all_joined (λ z. x ≡ z → ⊥) ys zs a.0 b.0, cross_join xs ys zs a.1 b.1)
+cross_join (x ∷ xs) ys zs a b = (AllByRecursion-append (λ z. x ≡ z → ⊥) ys zs a.0 b.0, cross_join xs ys zs a.1 b.1)
 
 cross_none : {X : Type 0} (xs : List X) → Cross xs []
 cross_none [] = tt
@@ -57,15 +57,15 @@ filter_differ p [] d = tt
 filter_differ p (x ∷ xs) d = by_test (p x) (filter_differ p xs d.1)
   where
     by_test : (b : Bool) → Differ (filter p xs) → Differ (cond b (x ∷ filter p xs) (filter p xs))
-    by_test true h = (filter_within (λ z. x ≡ z → ⊥) p xs d.0, h)
+    by_test true h = (AllByRecursion-filter (λ z. x ≡ z → ⊥) p xs d.0, h)
     by_test false h = h
 
 -- the tests by which names are looked for
 pub none_found : (n : List ℕ) (ns : List (List ℕ)) → list_any (pointwise nat_eq n) ns ≡ false → IsNone n ns
 none_found n [] e = tt
 none_found n (m ∷ ns) e =
-    let h = neither (pointwise nat_eq n m) (list_any (pointwise nat_eq n) ns) e in
-    (λ q. never (sym h.0 ∙ ap (pointwise nat_eq n) (sym q) ∙ text_self n), none_found n ns h.1)
+    let h = or_parts (pointwise nat_eq n m) (list_any (pointwise nat_eq n) ns) e in
+    (λ q. false≢true (sym h.0 ∙ ap (pointwise nat_eq n) (sym q) ∙ text_self n), none_found n ns h.1)
 
 not_same : (n m : List ℕ) → (n ≡ m → ⊥) → pointwise nat_eq n m ≡ false
 not_same n m f = by_test (pointwise nat_eq n m) refl
@@ -149,7 +149,7 @@ names_of_all ts fs (r ∷ rs) = names_at ts fs r ++ names_of_all ts fs rs
 module _ (ts : List Shape) (fs : List ℕ) where
   pub all_within : (P : List ℕ → Type 0) (rs : List ℕ) → AllByRecursion P (names_in ts) → AllByRecursion P (names_of_all ts fs rs)
   all_within P [] h = tt
-  all_within P (r ∷ rs) h = all_joined P (names_at ts fs r) (names_of_all ts fs rs) (names_within P ts fs r h) (all_within P rs h)
+  all_within P (r ∷ rs) h = AllByRecursion-append P (names_at ts fs r) (names_of_all ts fs rs) (names_within P ts fs r h) (all_within P rs h)
 
   cross_rest : (r : ℕ) (rs : List ℕ) → IsNone r rs → Differ (names_in ts) → Cross (names_at ts fs r) (names_of_all ts fs rs)
   cross_rest r [] n d = cross_none (names_at ts fs r)

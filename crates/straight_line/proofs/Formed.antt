@@ -4,6 +4,7 @@ use Rattle.std.specs.Prelude.{if◌then◌else◌, nat_eq, ⊤}
 use Rattle.std.specs.List.{AllByRecursion, list_any}
 use Rattle.std.specs.Map.{lookup}
 use Rattle.std.specs.Cmp.Lexicographic.{pointwise}
+use Rattle.sv_list.specs.Lists.{AllByRecursion-push}
 use Rattle.sv_terms.specs.Transduction.{IsFormed}
 use Rattle.sv_terms.specs.declared.op.Op.{Op}
 use Rattle.sv_terms.specs.declared.op.Op.TheVariants as op
@@ -25,7 +26,6 @@ use Rattle.flat_cubes.specs.declared.definition.By.TheVariants as by
 use Rattle.flat_cubes.specs.declared.definition.Definition.{Definition}
 use Rattle.flat_cubes.specs.declared.variable.Own.{Own}
 use Rattle.flat_cubes.specs.declared.variable.Own.TheVariants as own
-use Rattle.flat_cubes.proofs.Members.{all_push}
 use Rattle.cube_order.proofs.Ordered.{ordered_all}
 
 abbrev IsFormedAt : ℕ × By → Type 0
@@ -46,15 +46,15 @@ mutual
   term_formed (apply op.Concat ss) d h =
       let t = apply op.Concat ss in
       let r = meet_all ss (with_term t d) in
-      known_formed (place_of t d.terms) d (concat_met (length d.terms) r) h (all_push IsFormedAt r.1.definitions (length d.terms, by.Concat r.0) (terms_formed ss (with_term t d) h) tt)
+      known_formed (place_of t d.terms) d (concat_met (length d.terms) r) h (AllByRecursion-push IsFormedAt r.1.definitions (length d.terms, by.Concat r.0) (terms_formed ss (with_term t d) h) tt)
   term_formed (apply op.Replace (s ⨾ text p ⨾ text u ⨾ end)) d h =
       let t = apply op.Replace (s ⨾ text p ⨾ text u ⨾ end) in
       let r = meet s (with_term t d) in
-      known_formed (place_of t d.terms) d (first_met (length d.terms) p u r) h (all_push IsFormedAt r.1.definitions (length d.terms, by.First p u r.0) (term_formed s (with_term t d) h) tt)
+      known_formed (place_of t d.terms) d (first_met (length d.terms) p u r) h (AllByRecursion-push IsFormedAt r.1.definitions (length d.terms, by.First p u r.0) (term_formed s (with_term t d) h) tt)
   term_formed (apply op.ReplaceAll (s ⨾ text p ⨾ text u ⨾ end)) d h =
       let t = apply op.ReplaceAll (s ⨾ text p ⨾ text u ⨾ end) in
       let r = meet s (with_term t d) in
-      known_formed (place_of t d.terms) d (all_met (length d.terms) p u r) h (all_push IsFormedAt r.1.definitions (length d.terms, by.All p u r.0) (term_formed s (with_term t d) h) tt)
+      known_formed (place_of t d.terms) d (all_met (length d.terms) p u r) h (AllByRecursion-push IsFormedAt r.1.definitions (length d.terms, by.All p u r.0) (term_formed s (with_term t d) h) tt)
   term_formed _ d h = h
 
   terms_formed : (ss : Shapes) (d : DraftView) → AreFormed d → AreFormed (meet_all ss d).1
@@ -104,7 +104,7 @@ added_formed (are_one s t) d f h = term_formed (written t) (meet (written s) d).
 added_formed (written_by m s t) d f h =
     let r = meet (written s) d in
     let q = meet (written t) r.1 in
-    all_push IsFormedAt q.1.definitions (q.0, by.Through m r.0) (term_formed (written t) r.1 (term_formed (written s) d h)) f
+    AllByRecursion-push IsFormedAt q.1.definitions (q.0, by.Through m r.0) (term_formed (written t) r.1 (term_formed (written s) d h)) f
 added_formed outside d f h = h
 
 where_one : (c : Bool) (x : Said) → HasOne x → HasOne (where_true c x)

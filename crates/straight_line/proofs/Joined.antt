@@ -1,6 +1,6 @@
 -- From a draft to its flat cube: values make the literals true exactly where they extend to words and
 -- numbers that satisfy the flat cube.
-use Rattle.std.proofs.Common.{◌≡◌, refl, sym, ap, ◌∙◌, subst, Bool, true, false, ◌↔◌, IsTrue, ℕ, zero, suc, ◌+◌, ◌<◌, ℤ, pos, List, [], ◌∷◌, ◌++◌, map, length, get_or, cond, Option, Some, None, arith}
+use Rattle.std.proofs.Common.{◌≡◌, refl, sym, ap, ◌∙◌, subst, Bool, true, false, ◌↔◌, IsTrue, ℕ, zero, suc, ◌+◌, ◌<◌, ℤ, pos, List, [], ◌∷◌, ◌++◌, map, length, get_or, Option, Some, None, arith}
 use Rattle.std.specs.Prelude.{filter, nat_eq, nat_lt, slice_get}
 use Rattle.std.specs.List.{AllByRecursion, AllZip, range_with_len}
 use Rattle.std.specs.Map.{lookup}
@@ -8,6 +8,8 @@ use Rattle.std.specs.Cmp.Lexicographic.{pointwise}
 use Rattle.std.proofs.lemmas.Bool.{eq-eqb, eqb-true}
 use Rattle.std.proofs.lemmas.List.FromFn.{length-range_with_len, get_or-range_with_len}
 use Rattle.std.proofs.lemmas.Option.{get_or_from_slice_get}
+use Rattle.std.proofs.lemmas.List.{get_or-map}
+use Rattle.sv_list.specs.Lists.{AllByRecursion-weaker, AllByRecursion-filter, AllByRecursion-both}
 use Rattle.sv_word.specs.Words.{IsWord}
 use Rattle.sv_terms.specs.declared.sort.Sort.{Sort}
 use Rattle.sv_terms.specs.declared.regex.Regex.{Regex}
@@ -42,12 +44,12 @@ use Rattle.straight_line.proofs.Determined as draft
 use Rattle.flat_cubes.specs.Members.{Among}
 use Rattle.cube_draft.proofs.Entries.{At, at_within}
 use Rattle.cube_order.proofs.Identified.{AreOne, Rooted, first, identified_agrees, identified_are_one, identified_length, identified_rooted}
-use Rattle.straight_line.proofs.Lists.{all_by_among, all_filtered, all_two, among_all, among_map, filtered_among, filtered_range, get_map, map_all, map_join, zip_map_at, zip_maps}
+use Rattle.straight_line.proofs.Lists.{all_by_among, all_filtered, among_all, among_map, filtered_among, filtered_range, map_all, map_join, zip_map_at, zip_maps}
 use Rattle.straight_line.proofs.Meetings.{DefinitionHolds, EqualityHolds, Fits, FitsFrom, Holds, PartHolds, TruthHolds}
 use Rattle.cube_order.proofs.Ordered.{ordered_all, ordered_back}
 use Rattle.cube_order.proofs.Ordinals.{placed}
 use Rattle.straight_line.proofs.Parted.{IsSound}
-use Rattle.cube_draft.proofs.Ranges.{all_weaker, DefinitionIn, PartIn}
+use Rattle.cube_draft.proofs.Ranges.{DefinitionIn, PartIn}
 use Rattle.straight_line.proofs.Readied.{met_settled}
 use Rattle.straight_line.proofs.Settled.{HasNumber, IsSettled, PlaceIs}
 use Rattle.straight_line.proofs.Spelling.{term_word}
@@ -87,15 +89,6 @@ slice_of_get : (xs : List ℕ) (i d r : ℕ) → i < length xs → get_or xs i d
 slice_of_get [] i d r h e = absurd (omega arith)
 slice_of_get (x ∷ xs) zero d r h e = ap Some e
 slice_of_get (x ∷ xs) (suc i) d r h e = slice_of_get xs i d r (omega arith) e
-
--- what holds of all holds of those that are kept
-all_kept : {X : Type 0} (P : X → Type 0) (p : X → Bool) (xs : List X) → AllByRecursion P xs → AllByRecursion P (filter p xs)
-all_kept P p [] a = tt
-all_kept P p (x ∷ xs) a = by_test (p x) (all_kept P p xs a.1)
-  where
-    by_test : (b : Bool) → AllByRecursion P (filter p xs) → AllByRecursion P (cond b (x ∷ filter p xs) (filter p xs))
-    by_test true c = (a.0, c)
-    by_test false c = c
 
 -- places and their variables
 module _ (values : Named) (d : DraftView) (h : IsSettled values d) where
@@ -145,7 +138,7 @@ module _ (values : Named) (d : DraftView) (h : IsSettled values d) where
 
   -- each root is a place, and its own least place
   roots : AllByRecursion (λ r. (r < places) × (least r ≡ r)) (roots_of d)
-  roots = all_weaker (λ r. (r < 0 + places) × (is_root r ≡ true)) (λ r. (r < places) × (least r ≡ r)) (λ r a. (let m = a.0 in omega arith, eqb-true (least r) r a.1)) (roots_of d) (filtered_range is_root 0 places)
+  roots = AllByRecursion-weaker (λ r. (r < 0 + places) × (is_root r ≡ true)) (λ r. (r < places) × (least r ≡ r)) (λ r a. (let m = a.0 in omega arith, eqb-true (least r) r a.1)) (roots_of d) (filtered_range is_root 0 places)
 
   sound_at : (i : ℕ) (s : Shape) → At d.terms i s → IsSound values s
   sound_at i s a = subst (IsSound values) (get_or_from_slice_get d.terms i s (text []) a) (all_at (IsSound values) d.terms i (text []) (at_within d.terms i s a) h.sound)
@@ -179,10 +172,10 @@ module _ (values : Named) (d : DraftView) (h : IsSettled values d) where
     unknowns_are numbers e a = (λ i. e i ++ lengths_are (registers_of d) a i) ∙ sym (map_join (amount values) (map integer (integers_of d)) (map (λ (r : Shape × ℕ). length_of r.0) (registers_of d)))
 
   registers_have : (us : ℕ → Word) → ((i : ℕ) (s : Shape) → At d.terms i s → us i ≡ word values s) → AllByRecursion (λ (r : Shape × ℕ). us r.1 ≡ word values r.0) (registers_of d)
-  registers_have us f = all_kept (λ (r : Shape × ℕ). us r.1 ≡ word values r.0) (λ (r : Shape × ℕ). has_column (all_bounded d) (length_of r.0)) d.registers (all_weaker (PlaceIs values d.terms) (λ (r : Shape × ℕ). us r.1 ≡ word values r.0) (λ r a. f r.1 r.0 a) d.registers h.counted.places)
+  registers_have us f = AllByRecursion-filter (λ (r : Shape × ℕ). us r.1 ≡ word values r.0) (λ (r : Shape × ℕ). has_column (all_bounded d) (length_of r.0)) d.registers (AllByRecursion-weaker (PlaceIs values d.terms) (λ (r : Shape × ℕ). us r.1 ≡ word values r.0) (λ r a. f r.1 r.0 a) d.registers h.counted.places)
 
   have_numbers : AllByRecursion (HasNumber values) (integers_of d)
-  have_numbers = all_kept (HasNumber values) (λ (n : List ℕ). has_column (all_bounded d) (integer n)) d.integers h.counted.numbers
+  have_numbers = AllByRecursion-filter (HasNumber values) (λ (n : List ℕ). has_column (all_bounded d) (integer n)) d.integers h.counted.numbers
 
   -- forward: the words of the terms are words of the variables
   module _ (worded : AreWorded values) (holds : Holds values (words_at values d.terms) d) where
@@ -201,7 +194,7 @@ module _ (values : Named) (d : DraftView) (h : IsSettled values d) where
     made = map ws (roots_of d)
 
     made_at : (i : ℕ) → i < places → word_at made (variable_of d i) ≡ ws i
-    made_at i l = let r = number_of_root i l in get_map ws (roots_of d) (variable_of d i) [] 0 r.0 ∙ ap ws (r.1 0) ∙ sym (agree i l)
+    made_at i l = let r = number_of_root i l in get_or-map ws (roots_of d) (variable_of d i) 0 [] r.0 ∙ ap ws (r.1 0) ∙ sym (agree i l)
 
     made_all : (vs : List ℕ) → AreBelow places vs → map (us made) vs ≡ map ws vs
     made_all [] a = refl
@@ -216,7 +209,7 @@ module _ (values : Named) (d : DraftView) (h : IsSettled values d) where
 
     parts_meet : (r : ℕ) → AllByRecursion (MeetsPart (ws r)) (variable_at d r).parts
     parts_meet r = all_filtered (λ (p : ℕ × (Own × Bool)). PartIn places p × PartHolds values ws p) (MeetsPart (ws r)) (λ (p : ℕ × (Own × Bool)). nat_eq (get_or (firsts_of d) p.0 p.0) r) (λ (p : ℕ × (Own × Bool)). p.1)
-        (λ p a e. subst (λ w. MeetsPart w p.1) (agree p.0 a.0 ∙ ap ws (eqb-true (least p.0) r e)) a.1) d.parts (all_two (PartIn places) (PartHolds values ws) d.parts h.inside.parts holds.parts)
+        (λ p a e. subst (λ w. MeetsPart w p.1) (agree p.0 a.0 ∙ ap ws (eqb-true (least p.0) r e)) a.1) d.parts (AllByRecursion-both (PartIn places) (PartHolds values ws) d.parts h.inside.parts holds.parts)
 
     some_at : (ts : List Shape) (i : ℕ) → i < length ts → (s : Shape) × At ts i s
     some_at [] i l = absurd (omega arith)
@@ -251,14 +244,14 @@ module _ (values : Named) (d : DraftView) (h : IsSettled values d) where
       words = made;
       numbers = numbers_made;
       of = record {
-        names = subst (λ vs. AllZip (NamesHave values) vs made) (sym f.variables) (zip_maps (NamesHave values) (variable_at d) ws (roots_of d) (all_weaker (λ r. (r < places) × (least r ≡ r)) (λ r. NamesHave values (variable_at d r) (ws r)) names_have (roots_of d) roots));
+        names = subst (λ vs. AllZip (NamesHave values) vs made) (sym f.variables) (zip_maps (NamesHave values) (variable_at d) ws (roots_of d) (AllByRecursion-weaker (λ r. (r < places) × (least r ≡ r)) (λ r. NamesHave values (variable_at d r) (ws r)) names_have (roots_of d) roots));
         integers = subst (λ ns. AllZip (λ n z. HasValue values (value.Number z) n) ns numbers_made) (sym f.integers) (numbers_have (integers_of d) have_numbers);
         truths = subst (AllByRecursion (TruthHolds values ws)) (sym f.truths) holds.truths;
       };
       satisfied = record {
         strings = record {
-          parts = subst (λ vs. AllZip MeetsParts vs made) (sym f.variables) (zip_maps MeetsParts (variable_at d) ws (roots_of d) (all_weaker (λ r. (r < places) × (least r ≡ r)) (λ r. MeetsParts (variable_at d r) (ws r)) (λ r q. (is_word r q.0, parts_meet r)) (roots_of d) roots));
-          definitions = subst (AllByRecursion (Defines made)) (sym f.definitions) (ordered_all (Defines made) (definitions_of d) (map_all (Defines made) (definition_of d) d.definitions (all_weaker (λ e. DefinitionIn places e × DefinitionHolds values ws e) (λ e. Defines made (definition_of d e)) (λ e a. definition_made e a.0 a.1) d.definitions (all_two (DefinitionIn places) (DefinitionHolds values ws) d.definitions h.inside.definitions holds.definitions))));
+          parts = subst (λ vs. AllZip MeetsParts vs made) (sym f.variables) (zip_maps MeetsParts (variable_at d) ws (roots_of d) (AllByRecursion-weaker (λ r. (r < places) × (least r ≡ r)) (λ r. MeetsParts (variable_at d r) (ws r)) (λ r q. (is_word r q.0, parts_meet r)) (roots_of d) roots));
+          definitions = subst (AllByRecursion (Defines made)) (sym f.definitions) (ordered_all (Defines made) (definitions_of d) (map_all (Defines made) (definition_of d) d.definitions (AllByRecursion-weaker (λ e. DefinitionIn places e × DefinitionHolds values ws e) (λ e. Defines made (definition_of d e)) (λ e a. definition_made e a.0 a.1) d.definitions (AllByRecursion-both (DefinitionIn places) (DefinitionHolds values ws) d.definitions h.inside.definitions holds.definitions))));
         };
         rows = record {
           count = numbers_long (integers_of d) ∙ ap length (sym f.integers);
@@ -329,7 +322,7 @@ module _ (values : Named) (d : DraftView) (h : IsSettled values d) where
     held = record {
       parts = all_by_among (PartHolds values vs) d.parts (λ p a. part_back p a);
       definitions = all_by_among (DefinitionHolds values vs) d.definitions (λ e a. definition_back e a);
-      equalities = all_weaker (λ (e : ℕ × ℕ). AreOne (firsts_of d) e.0 e.1) (EqualityHolds values vs) equality_back d.equalities are_one;
+      equalities = AllByRecursion-weaker (λ (e : ℕ × ℕ). AreOne (firsts_of d) e.0 e.1) (EqualityHolds values vs) equality_back d.equalities are_one;
       comparisons =
           let e = numbers_are (integers_of d) x.numbers have_numbers (subst (λ ns. AllZip (λ n z. HasValue values (value.Number z) n) ns x.numbers) f.integers x.of.integers) in
           (comparisons_rows values d h.counted d.comparisons g.rows (λ c a. a) h.counted.comparisons f.rows).1

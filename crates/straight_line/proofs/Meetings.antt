@@ -3,6 +3,8 @@ use Rattle.std.proofs.Common.{◌≡◌, refl, sym, ap, ◌∙◌, subst, map, B
 use Rattle.std.specs.List.{AllByRecursion}
 use Rattle.std.specs.Option.{option_map}
 use Rattle.std.specs.Prelude.{if◌then◌else◌}
+use Rattle.std.proofs.lemmas.Bool.{and_parts}
+use Rattle.sv_list.specs.Lists.{AllByRecursion-push}
 use Rattle.sv_terms.specs.declared.value.Value.TheVariants as value
 use Rattle.sv_terms.specs.declared.op.Op.TheVariants as op
 use Rattle.sv_terms.specs.declared.sort.Sort.{Sort}
@@ -20,8 +22,7 @@ use Rattle.flat_cubes.specs.declared.variable.Own.{Own}
 use Rattle.flat_cubes.specs.declared.variable.Own.TheVariants as own
 use Rattle.flat_cubes.specs.declared.definition.By.{By}
 use Rattle.flat_cubes.specs.declared.definition.By.TheVariants as by
-use Rattle.straight_line.proofs.Texts.{and_parts, word, words}
-use Rattle.flat_cubes.proofs.Members.{all_push}
+use Rattle.straight_line.proofs.Texts.{word, words}
 
 pub all_popped : {X : Type 0} (P : X → Type 0) (xs : List X) (x : X) → AllByRecursion P (xs ++ x ∷ []) → AllByRecursion P xs
 all_popped P [] x a = tt
@@ -120,13 +121,13 @@ module _ (values : Named) (ws : ℕ → Word) where
   with_term_back s d h = record { parts = h.parts; definitions = h.definitions; equalities = h.equalities; comparisons = h.comparisons; truths = h.truths; whole = h.whole }
 
   with_definition_holds : (i : ℕ) (b : By) (d : DraftView) → Holds d → ComesBy ws (ws i) b → Holds (with_definition i b d)
-  with_definition_holds i b d h p = record { parts = h.parts; definitions = all_push DefinitionHolds d.definitions (i, b) h.definitions p; equalities = h.equalities; comparisons = h.comparisons; truths = h.truths; whole = h.whole }
+  with_definition_holds i b d h p = record { parts = h.parts; definitions = AllByRecursion-push DefinitionHolds d.definitions (i, b) h.definitions p; equalities = h.equalities; comparisons = h.comparisons; truths = h.truths; whole = h.whole }
 
   with_definition_back : (i : ℕ) (b : By) (d : DraftView) → Holds (with_definition i b d) → Holds d
   with_definition_back i b d h = record { parts = h.parts; definitions = all_popped DefinitionHolds d.definitions (i, b) h.definitions; equalities = h.equalities; comparisons = h.comparisons; truths = h.truths; whole = h.whole }
 
   pub with_part_holds : (i : ℕ) (p : Own × Bool) (d : DraftView) → Holds d → MeetsPart (ws i) p → Holds (with_part i p d)
-  with_part_holds i p d h m = record { parts = all_push PartHolds d.parts (i, p) h.parts m; definitions = h.definitions; equalities = h.equalities; comparisons = h.comparisons; truths = h.truths; whole = h.whole }
+  with_part_holds i p d h m = record { parts = AllByRecursion-push PartHolds d.parts (i, p) h.parts m; definitions = h.definitions; equalities = h.equalities; comparisons = h.comparisons; truths = h.truths; whole = h.whole }
 
   pub with_part_back : (i : ℕ) (p : Own × Bool) (d : DraftView) → Holds (with_part i p d) → Holds d
   with_part_back i p d h = record { parts = all_popped PartHolds d.parts (i, p) h.parts; definitions = h.definitions; equalities = h.equalities; comparisons = h.comparisons; truths = h.truths; whole = h.whole }

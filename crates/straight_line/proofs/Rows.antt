@@ -1,5 +1,5 @@
 -- A form over numbered unknowns that has the coefficients of a linear form has its value.
-use Rattle.std.proofs.Common.{◌≡◌, refl, sym, ap, ◌∙◌, subst, Bool, true, false, ℕ, zero, suc, ◌+◌, ◌<◌, ◌⊎◌, inl, inr, ℤ, pos, ◌+ℤ◌, ◌*ℤ◌, List, [], ◌∷◌, ◌++◌, map, length, get_or, slice_get, Some, length-append, add-one, arith}
+use Rattle.std.proofs.Common.{◌≡◌, refl, sym, ap, ◌∙◌, subst, Bool, true, false, ℕ, zero, suc, ◌+◌, ◌<◌, ◌⊎◌, inl, inr, ℤ, pos, ◌+ℤ◌, ◌*ℤ◌, List, [], ◌∷◌, ◌++◌, map, length, get_or, slice_get, Some, length-append, add-one, arith, ne_eqb}
 use Rattle.std.specs.Prelude.{filter, nat_eq, if◌then◌else◌}
 use Rattle.std.specs.List.{AllByRecursion}
 use Rattle.std.proofs.lemmas.Int.{ints}
@@ -12,7 +12,6 @@ use Rattle.literal_forms.specs.Linear.{Linear, Unknown, same_unknown}
 use Rattle.literal_forms.specs.Linear as form
 use Rattle.flat_cubes.specs.Flattening.{Bounded, IsRowFor, coefficient_at}
 use Rattle.straight_line.proofs.Amounts.{terms_sum, linear_value}
-use Rattle.cube_draft.proofs.Inserted.{not_equal}
 
 zero_times : (z w : ℤ) → pos 0 *ℤ z +ℤ w ≡ w
 zero_times z w = omega (arith, ints)
@@ -53,7 +52,7 @@ module _ (x : Unknown → ℤ) where
   single_below : (v : ℕ) (a : ℤ) (k : ℕ) (ws : List Unknown) → v < k → over (single v a) k ws ≡ pos 0
   single_below v a k [] h = refl
   single_below v a k (w ∷ ws) h =
-      let n : nat_eq v k ≡ false = not_equal v k (λ e. omega arith) in
+      let n : nat_eq v k ≡ false = ne_eqb v k (λ e. omega arith) in
       ap (λ b. (if b then a else pos 0) *ℤ x w +ℤ over (single v a) (suc k) ws) n ∙ zero_times (x w) (over (single v a) (suc k) ws) ∙ single_below v a (suc k) ws (omega arith)
 
   single_at : (i : ℕ) (a : ℤ) (k : ℕ) (ws : List Unknown) → over (single (k + i) a) k ws ≡ a *ℤ get_or (map x ws) i (pos 0)
@@ -62,7 +61,7 @@ module _ (x : Unknown → ℤ) where
       let n : nat_eq (k + 0) k ≡ true = eq-eqb (k + 0) k (omega arith) in
       ap (λ b. (if b then a else pos 0) *ℤ x w +ℤ over (single (k + 0) a) (suc k) ws) n ∙ ap (λ z. a *ℤ x w +ℤ z) (single_below (k + 0) a (suc k) ws (omega arith)) ∙ omega (arith, ints)
   single_at (suc i) a k (w ∷ ws) =
-      let n : nat_eq (k + suc i) k ≡ false = not_equal (k + suc i) k (λ e. omega arith) in
+      let n : nat_eq (k + suc i) k ≡ false = ne_eqb (k + suc i) k (λ e. omega arith) in
       let m : k + suc i ≡ suc k + i = omega arith in
       ap (λ b. (if b then a else pos 0) *ℤ x w +ℤ over (single (k + suc i) a) (suc k) ws) n ∙ zero_times (x w) (over (single (k + suc i) a) (suc k) ws)
       ∙ ap (λ v. over (single v a) (suc k) ws) m ∙ single_at i a (suc k) ws

@@ -2,7 +2,9 @@
 use Rattle.std.proofs.Common.{◌≡◌, refl, sym, ap, ◌∙◌, Bool, true, false, not, ◌&&◌, IsTrue, ◌↔◌, ℕ, List, [], ◌∷◌, Option, Some, nat_eq}
 use Rattle.std.specs.Prelude.{reverse}
 use Rattle.std.specs.Cmp.Lexicographic.{pointwise, same_text}
-use Rattle.std.proofs.lemmas.Bool.{eq-eqb}
+use Rattle.std.proofs.lemmas.Bool.{eq-eqb, and_parts}
+use Rattle.cube_draft.proofs.Proper.{IsFormedSaid}
+use Rattle.sv_list.specs.Bools.{and-true}
 use Rattle.sv_terms.specs.declared.value.Value.{Value}
 use Rattle.sv_terms.specs.declared.value.Value.TheVariants as value
 use Rattle.sv_terms.specs.declared.op.Op.{Op}
@@ -26,22 +28,18 @@ use Rattle.flat_cubes.specs.Said.{Said, compares, holds, has_part, are_one, writ
 use Rattle.flat_cubes.specs.Satisfying.{Says}
 use Rattle.flat_cubes.specs.declared.variable.Own.{Own}
 use Rattle.flat_cubes.specs.declared.variable.Own.TheVariants as own
-use Rattle.sv_terms.specs.SortingLaws.{fold-at}
-use Rattle.straight_line.proofs.Texts.{and_parts, word, val_word, val_apply, valued_apply, val_constant, val_text}
-use Rattle.straight_line.proofs.Adding.{Truth, Formed}
+use Rattle.sv_terms.specs.SortingLaws.{fold-at, val-apply, valued-apply}
+use Rattle.straight_line.proofs.Texts.{word, val_word, val_constant, val_text}
+use Rattle.straight_line.proofs.Adding.{Truth}
 
 pub text_self : (w : Word) → pointwise nat_eq w w ≡ true
 text_self [] = refl
 text_self (c ∷ w) = (λ i. eq-eqb c c refl i && pointwise nat_eq w w) ∙ text_self w
 
-pub and_true : (a : Bool) → (a && true) ≡ a
-and_true true = refl
-and_true false = refl
-
 module _ (values : Named) (ws : ℕ → Word) (decided : (r : Regex) (w : Word) → IsTrue (matches r w) ↔ In r w) (pairs_decided : (t : Transducer) (v w : Word) → IsTrue (writes t t.start v w) ↔ Pairs t v w) where
   -- the literal is true exactly where what it says is, and its terms are of written forms
   abbrev Tells : Term → Bool → Said → Type 0
-  Tells t b x = Formed values ws x × ((val values t ≡ Some (value.Truth b)) ↔ Truth values ws x)
+  Tells t b x = IsFormedSaid x × ((val values t ≡ Some (value.Truth b)) ↔ Truth values ws x)
 
   truth_is : (a b : Bool) → Some (value.Truth a) ≡ Some (value.Truth b) → a ≡ b
   truth_is a b e = cc
@@ -61,19 +59,19 @@ module _ (values : Named) (ws : ℕ → Word) (decided : (r : Regex) (w : Word) 
   where_tells t b false x o k = absurd (cc)
 
   val_two : (o : Op) (s t : Shape) (v w : Value) → val values (raw s) ≡ Some v → val values (raw t) ≡ Some w → val values (term.Apply o (raw s ∷ raw t ∷ [])) ≡ applied o (v ∷ w ∷ [])
-  val_two o s t v w e f = val_apply values o (raw s ∷ raw t ∷ []) ∙ (λ i. applied_if o (all_of (e i ∷ f i ∷ [])))
+  val_two o s t v w e f = val-apply values o (raw s ∷ raw t ∷ []) ∙ (λ i. applied_if o (all_of (e i ∷ f i ∷ [])))
 
   val_one : (o : Op) (s : Shape) (v : Value) → val values (raw s) ≡ Some v → val values (term.Apply o (raw s ∷ [])) ≡ applied o (v ∷ [])
-  val_one o s v e = val_apply values o (raw s ∷ []) ∙ (λ i. applied_if o (all_of (e i ∷ [])))
+  val_one o s v e = val-apply values o (raw s ∷ []) ∙ (λ i. applied_if o (all_of (e i ∷ [])))
 
   valued_two : (o : Op) (s t : Shape) → IsTrue (is_valued values (term.Apply o (raw s ∷ raw t ∷ []))) → IsTrue (is_valued values (raw s)) × IsTrue (is_valued values (raw t))
   valued_two o s t h =
-      let k = sym (valued_apply values o (raw s ∷ raw t ∷ [])) ∙ h in
+      let k = sym (valued-apply values o (raw s ∷ raw t ∷ [])) ∙ h in
       let a = and_parts (is_valued values (raw s)) (is_valued values (raw t) && true) k in
       (a.0, (and_parts (is_valued values (raw t)) true a.1).0)
 
   valued_one : (o : Op) (s : Shape) → IsTrue (is_valued values (term.Apply o (raw s ∷ []))) → IsTrue (is_valued values (raw s))
-  valued_one o s h = (and_parts (is_valued values (raw s)) true (sym (valued_apply values o (raw s ∷ [])) ∙ h)).0
+  valued_one o s h = (and_parts (is_valued values (raw s)) true (sym (valued-apply values o (raw s ∷ [])) ∙ h)).0
 
   same_words : (v w : Word) → IsTrue (pointwise nat_eq v w) ↔ (w ≡ v)
   same_words v w = (λ h. sym (same_text v w (sym h)), λ e. ap (pointwise nat_eq v) e ∙ text_self v)
@@ -82,20 +80,20 @@ module _ (values : Named) (ws : ℕ → Word) (decided : (r : Regex) (w : Word) 
   word_left : (w : Word) (t : Shape) (b : Bool) → IsTrue (is_valued values (raw t)) → is_outside (part_said t (own.Word w) b) ≡ false → Tells (term.Apply op.Equal (raw (text w) ∷ raw t ∷ [])) b (part_said t (own.Word w) b)
   word_left w t b h o = where_tells _ b (is_string t) (has_part t (own.Word w) b) o (λ f.
       part_tells _ t (own.Word w) b (pointwise nat_eq w (word values t)) f
-      (val_two op.Equal (text w) t (value.Text w) (value.Text (word values t)) (val_text values w) (val_word values t f h) ∙ ap (λ c. Some (value.Truth c)) (and_true (pointwise nat_eq w (word values t))))
+      (val_two op.Equal (text w) t (value.Text w) (value.Text (word values t)) (val_text values w) (val_word values t f h) ∙ ap (λ c. Some (value.Truth c)) (and-true (pointwise nat_eq w (word values t))))
       (same_words w (word values t)))
 
   word_right : (s : Shape) (w : Word) (b : Bool) → IsTrue (is_valued values (raw s)) → is_outside (part_said s (own.Word w) b) ≡ false → Tells (term.Apply op.Equal (raw s ∷ raw (text w) ∷ [])) b (part_said s (own.Word w) b)
   word_right s w b h o = where_tells _ b (is_string s) (has_part s (own.Word w) b) o (λ f.
       part_tells _ s (own.Word w) b (pointwise nat_eq (word values s) w) f
-      (val_two op.Equal s (text w) (value.Text (word values s)) (value.Text w) (val_word values s f h) (val_text values w) ∙ ap (λ c. Some (value.Truth c)) (and_true (pointwise nat_eq (word values s) w)))
+      (val_two op.Equal s (text w) (value.Text (word values s)) (value.Text w) (val_word values s f h) (val_text values w) ∙ ap (λ c. Some (value.Truth c)) (and-true (pointwise nat_eq (word values s) w)))
       (λ k. same_text (word values s) w (sym k), λ e. ap (λ u. pointwise nat_eq u w) e ∙ text_self w))
 
   one_tells : (s t : Shape) (b : Bool) → IsTrue (is_valued values (raw s)) → IsTrue (is_valued values (raw t)) → is_outside (one_said s t b) ≡ false → Tells (term.Apply op.Equal (raw s ∷ raw t ∷ [])) b (one_said s t b)
   one_tells s t false h k o = absurd (cc)
   one_tells s t true h k o = where_tells _ true (is_string s && is_string t) (are_one s t) o (λ f.
       let g = and_parts (is_string s) (is_string t) f in
-      let e : val values (term.Apply op.Equal (raw s ∷ raw t ∷ [])) ≡ Some (value.Truth (pointwise nat_eq (word values s) (word values t))) = val_two op.Equal s t (value.Text (word values s)) (value.Text (word values t)) (val_word values s g.0 h) (val_word values t g.1 k) ∙ ap (λ c. Some (value.Truth c)) (and_true (pointwise nat_eq (word values s) (word values t))) in (
+      let e : val values (term.Apply op.Equal (raw s ∷ raw t ∷ [])) ≡ Some (value.Truth (pointwise nat_eq (word values s) (word values t))) = val_two op.Equal s t (value.Text (word values s)) (value.Text (word values t)) (val_word values s g.0 h) (val_word values t g.1 k) ∙ ap (λ c. Some (value.Truth c)) (and-true (pointwise nat_eq (word values s) (word values t))) in (
         (g.0, g.1),
         (
           λ q. same_text (word values s) (word values t) (sym (truth_is (pointwise nat_eq (word values s) (word values t)) true (sym e ∙ q))),
@@ -105,7 +103,7 @@ module _ (values : Named) (ws : ℕ → Word) (decided : (r : Regex) (w : Word) 
 
   literals_tell : (v w : Word) (b : Bool) → Tells (term.Apply op.Equal (raw (text v) ∷ raw (text w) ∷ [])) b (holds (same_truth b (pointwise nat_eq v w)))
   literals_tell v w b =
-      let e : val values (term.Apply op.Equal (raw (text v) ∷ raw (text w) ∷ [])) ≡ Some (value.Truth (pointwise nat_eq v w)) = val_two op.Equal (text v) (text w) (value.Text v) (value.Text w) (val_text values v) (val_text values w) ∙ ap (λ c. Some (value.Truth c)) (and_true (pointwise nat_eq v w)) in
+      let e : val values (term.Apply op.Equal (raw (text v) ∷ raw (text w) ∷ [])) ≡ Some (value.Truth (pointwise nat_eq v w)) = val_two op.Equal (text v) (text w) (value.Text v) (value.Text w) (val_text values v) (val_text values w) ∙ ap (λ c. Some (value.Truth c)) (and-true (pointwise nat_eq v w)) in
       (tt, (λ h. same_of b (pointwise nat_eq v w) (truth_is (pointwise nat_eq v w) b (sym e ∙ h)), λ h. e ∙ ap (λ c. Some (value.Truth c)) (of_same b (pointwise nat_eq v w) h)))
     where
       same_of : (b c : Bool) → c ≡ b → same_truth b c ≡ true

@@ -5,12 +5,16 @@ use Rattle.std.specs.Prelude.{if◌then◌else◌}
 use Rattle.std.specs.List.{AllByRecursion, list_all, list_any}
 use Rattle.std.specs.Map.{lookup}
 use Rattle.std.specs.Cmp.Lexicographic.{pointwise}
+use Rattle.std.proofs.lemmas.Bool.{false≢true, and_parts}
+use Rattle.std.proofs.lemmas.List.{map_push}
+use Rattle.sv_list.specs.Lists.{AllByRecursion-weaker, AllByRecursion-push}
 use Rattle.sv_terms.specs.declared.op.Op.{Op}
 use Rattle.sv_terms.specs.declared.op.Op.TheVariants as op
 use Rattle.sv_terms.specs.declared.sort.Sort.{Sort}
 use Rattle.sv_terms.specs.declared.value.Value.TheVariants as value
 use Rattle.sv_terms.specs.Meaning.{Named}
 use Rattle.sv_terms.specs.Sorting.{is_valued}
+use Rattle.sv_terms.specs.SortingLaws.{valued-apply}
 use Rattle.literal_forms.specs.Shapes.{Shape, Shapes, number, text, constant, apply, end, ◌⨾◌, raw, raws}
 use Rattle.literal_forms.specs.Codes.{same}
 use Rattle.literal_forms.specs.Linear.{Linear, Unknown, integer, length_of, other, is_string, are_strings, is_linear, are_linear, is_product, linear, linears, written}
@@ -19,18 +23,17 @@ use Rattle.flat_cubes.specs.Met.{Comparison, DraftView, Found, with_term, with_d
 use Rattle.flat_cubes.specs.Said.{Said, value_is, compares, holds, has_part, are_one, written_by, outside}
 use Rattle.flat_cubes.specs.Satisfying.{HasValue}
 use Rattle.flat_cubes.specs.declared.definition.By.TheVariants as by
-use Rattle.flat_cubes.proofs.Members.{never, all_push}
 use Rattle.straight_line.proofs.Amounts.{amount, number_is}
-use Rattle.straight_line.proofs.Apart.{AreApart, Stands, apart_pushed, integers_of, lengths_of, length_stands, map_push, name_stands, stands, stands_last, stands_more}
+use Rattle.straight_line.proofs.Apart.{AreApart, Stands, apart_pushed, integers_of, lengths_of, length_stands, name_stands, stands, stands_last, stands_more}
 use Rattle.cube_draft.proofs.Fine.{fine_difference, fine_product, fine_sum}
 use Rattle.cube_draft.proofs.Sames.{string_self}
 use Rattle.straight_line.proofs.Compared.{HasRow}
 use Rattle.cube_draft.proofs.Entries.{among_left, At, at_within, Grows, entry_more, NewHave, first_have, is_entered}
 use Rattle.straight_line.proofs.Parted.{AllOf, IsSound, sound_passes, met_terms}
-use Rattle.cube_draft.proofs.Ranges.{all_weaker, AreIn, PartIn, DefinitionIn, PairIn, RegisterIn, is_placed}
+use Rattle.cube_draft.proofs.Ranges.{AreIn, PartIn, DefinitionIn, PairIn, RegisterIn, is_placed}
 use Rattle.straight_line.proofs.Saying.{text_self}
 use Rattle.straight_line.proofs.Sound.{sound_written}
-use Rattle.straight_line.proofs.Texts.{and_parts, valued_apply, valued_constant}
+use Rattle.straight_line.proofs.Texts.{valued_constant}
 
 -- what meeting a term leaves as it is
 abbrev pub Rest : Type 0
@@ -59,7 +62,7 @@ mutual
       let t = apply op.ReplaceAll (s ⨾ text p ⨾ text u ⨾ end) in
       let r = meet s (with_term t d) in
       known_leaves d (length d.terms, with_definition (length d.terms) (by.All p u r.0) r.1) (place_of t d.terms) (leaves s (with_term t d) e)
-  leaves _ d e = absurd (never e)
+  leaves _ d e = absurd (false≢true e)
 
   all_leave : (ss : Shapes) (d : DraftView) → are_strings ss ≡ true → rest (meet_all ss d).1 ≡ rest d
   all_leave end d e = refl
@@ -84,7 +87,7 @@ module _ (values : Named) where
       ((a.0, (b.0, w.0)), numeric_all ss a.1 b.1 w.1)
 
   numeric_arguments : (o : Op) (ss : Shapes) → are_linear ss ≡ true → IsTrue (is_valued values (raw (apply o ss))) → AreSpelled ss → AllOf IsNumeric ss
-  numeric_arguments o ss e h w = numeric_all ss e (sym (valued_apply values o (raws ss)) ∙ h) w
+  numeric_arguments o ss e h w = numeric_all ss e (sym (valued-apply values o (raws ss)) ∙ h) w
 
   -- an integer constant has a number
   abbrev pub HasNumber : List ℕ → Type 0
@@ -115,7 +118,7 @@ module _ (values : Named) where
     pub counted : AreCounted d.terms (rest d)
 
   counted_more : (ts us : List Shape) (r : Rest) → ((i : ℕ) (s : Shape) → At ts i s → At us i s) → AreCounted ts r → AreCounted us r
-  counted_more ts us r f c = record { numbers = c.numbers; places = all_weaker (PlaceIs ts) (PlaceIs us) (λ q a. f q.1 q.0 a) r.1.0 c.places; integers = c.integers; registers = c.registers; comparisons = c.comparisons }
+  counted_more ts us r f c = record { numbers = c.numbers; places = AllByRecursion-weaker (PlaceIs ts) (PlaceIs us) (λ q a. f q.1 q.0 a) r.1.0 c.places; integers = c.integers; registers = c.registers; comparisons = c.comparisons }
 
   -- a string term is met
   pub settled_met : (s : Shape) (d : DraftView) → IsSound values s → IsSettled d → IsSettled (meet s d).1
@@ -134,7 +137,7 @@ module _ (values : Named) where
   More d e = (u : Unknown) → Stands d.integers d.registers u → Stands e.integers e.registers u
 
   known_more : (d e : DraftView) → More d e → (a : Linear) → Known d.integers d.registers a → Known e.integers e.registers a
-  known_more d e f a k = all_weaker (λ (t : Unknown × ℤ). Stands d.integers d.registers t.0) (λ (t : Unknown × ℤ). Stands e.integers e.registers t.0) (λ t h. f t.0 h) a.terms k
+  known_more d e f a k = AllByRecursion-weaker (λ (t : Unknown × ℤ). Stands d.integers d.registers t.0) (λ (t : Unknown × ℤ). Stands e.integers e.registers t.0) (λ t h. f t.0 h) a.terms k
 
   ready_more : (d e : DraftView) → More d e → (c : Comparison) → IsReady d.integers d.registers c → IsReady e.integers e.registers c
   ready_more d e f c r = record { row = r.row; left = r.left; right = r.right; known_left = known_more d e f (linear c.left) r.known_left; known_right = known_more d e f (linear c.right) r.known_right }
@@ -160,11 +163,11 @@ module _ (values : Named) where
       sound = h.sound;
       entries = λ i t l a. entry_more d (with_name n d) (record { terms = λ j s x. x; parts = λ p x. x; definitions = λ q x. x }) i t (h.entries i t l a);
       counted = record {
-        numbers = all_push HasNumber d.integers n h.counted.numbers v;
+        numbers = AllByRecursion-push HasNumber d.integers n h.counted.numbers v;
         places = h.counted.places;
         integers = subst AreApart (sym (map_push integer d.integers n)) (apart_pushed (integers_of d.integers) (integer n) tt h.counted.integers (name_stands n d.integers ∙ e));
         registers = h.counted.registers;
-        comparisons = all_weaker (IsReady d.integers d.registers) (IsReady (with_name n d).integers (with_name n d).registers) (ready_more d (with_name n d) (name_more n d)) d.comparisons h.counted.comparisons;
+        comparisons = AllByRecursion-weaker (IsReady d.integers d.registers) (IsReady (with_name n d).integers (with_name n d).registers) (ready_more d (with_name n d) (name_more n d)) d.comparisons h.counted.comparisons;
       };
     };
     more = name_more n d;
@@ -182,15 +185,15 @@ module _ (values : Named) where
   length_standing : (s : Shape) (i : ℕ) (d : DraftView) → is_string s ≡ true → At d.terms i s → IsSettled d → list_any (λ (r : Shape × ℕ). same s r.0) d.registers ≡ false → IsStanding d (with_length s i d) (length_of s)
   length_standing s i d q a h e = record {
     settled = record {
-      inside = record { parts = h.inside.parts; definitions = h.inside.definitions; equalities = h.inside.equalities; registers = all_push (RegisterIn (length d.terms)) d.registers (s, i) h.inside.registers (at_within d.terms i s a) };
+      inside = record { parts = h.inside.parts; definitions = h.inside.definitions; equalities = h.inside.equalities; registers = AllByRecursion-push (RegisterIn (length d.terms)) d.registers (s, i) h.inside.registers (at_within d.terms i s a) };
       sound = h.sound;
       entries = λ j t l b. entry_more d (with_length s i d) (record { terms = λ k v x. x; parts = λ p x. x; definitions = λ p x. x }) j t (h.entries j t l b);
       counted = record {
         numbers = h.counted.numbers;
-        places = all_push (PlaceIs d.terms) d.registers (s, i) h.counted.places a;
+        places = AllByRecursion-push (PlaceIs d.terms) d.registers (s, i) h.counted.places a;
         integers = h.counted.integers;
         registers = subst AreApart (sym (map_push (λ (r : Shape × ℕ). length_of r.0) d.registers (s, i))) (apart_pushed (lengths_of d.registers) (length_of s) q h.counted.registers (length_stands s d.registers ∙ e));
-        comparisons = all_weaker (IsReady d.integers d.registers) (IsReady (with_length s i d).integers (with_length s i d).registers) (ready_more d (with_length s i d) (length_more s i d)) d.comparisons h.counted.comparisons;
+        comparisons = AllByRecursion-weaker (IsReady d.integers d.registers) (IsReady (with_length s i d).integers (with_length s i d).registers) (ready_more d (with_length s i d) (length_more s i d)) d.comparisons h.counted.comparisons;
       };
     };
     more = length_more s i d;
@@ -229,7 +232,7 @@ module _ (values : Named) where
   combined_counted d e ls a c f = record { settled = c.settled; more = c.more; known = f c.known }
 
   sound_argument : (s : Shape) → IsNumeric (apply op.Length (s ⨾ end)) → IsSound values s
-  sound_argument s q = (q.0, ((and_parts (is_valued values (raw s)) true (sym (valued_apply values op.Length (raws (s ⨾ end))) ∙ q.1.0)).0, q.1.1.0))
+  sound_argument s q = (q.0, ((and_parts (is_valued values (raw s)) true (sym (valued-apply values op.Length (raws (s ⨾ end))) ∙ q.1.0)).0, q.1.1.0))
 
   register_counted : (s : Shape) (d : DraftView) → IsNumeric (apply op.Length (s ⨾ end)) → IsSettled d → IsCounted d (with_register (written s) d) (record { terms = (length_of (written s), pos 1) ∷ []; constant = pos 0 })
   register_counted s d q h = one_counted d (with_register (written s) d) (length_of (written s)) (register_standing (written s) d (sound_written values s (sound_argument s q)) h (list_any (λ (r : Shape × ℕ). same (written s) r.0) d.registers) refl)
@@ -254,9 +257,9 @@ module _ (values : Named) where
         let e = meet_all_unknowns (s ⨾ ss) d in
         let p = and_parts (is_linear s && are_linear ss) (is_product (linears (s ⨾ ss))) q.0 in
         combined_counted d e (linears (s ⨾ ss)) (linear (apply op.Multiply (s ⨾ ss))) (all_unknowns_counted (s ⨾ ss) d (numeric_arguments op.Multiply (s ⨾ ss) p.0 q.1.0 q.1.1) h) (λ k. fine_product (Stands e.integers e.registers) (linear s) (linears ss) k.0 k.1)
-    unknowns_counted (apply op.Length (s ⨾ t ⨾ ss)) d q h = absurd (never q.0)
-    unknowns_counted (apply op.Length (s ⨾ end)) d q h = absurd (never q.0)
-    unknowns_counted _ d q h = absurd (never q.0)
+    unknowns_counted (apply op.Length (s ⨾ t ⨾ ss)) d q h = absurd (false≢true q.0)
+    unknowns_counted (apply op.Length (s ⨾ end)) d q h = absurd (false≢true q.0)
+    unknowns_counted _ d q h = absurd (false≢true q.0)
 
     all_unknowns_counted : (ss : Shapes) (d : DraftView) → AllOf IsNumeric ss → IsSettled d → AllCounted d (meet_all_unknowns ss d) (linears ss)
     all_unknowns_counted end d q h = record { settled = h; more = λ u k. k; known = tt }
@@ -289,7 +292,7 @@ module _ (values : Named) where
 
   settled_comparison : (c : Comparison) (d : DraftView) → IsSettled d → IsReady d.integers d.registers c → IsSettled (with_comparison c d)
   settled_comparison c d h r = settled_by d (with_comparison c d) h (record { terms = λ i s a. a; parts = λ p a. a; definitions = λ q a. a }) (λ i t a. a) (record { parts = h.inside.parts; definitions = h.inside.definitions; equalities = h.inside.equalities; registers = h.inside.registers }) h.sound
-      (record { numbers = h.counted.numbers; places = h.counted.places; integers = h.counted.integers; registers = h.counted.registers; comparisons = all_push (IsReady d.integers d.registers) d.comparisons c h.counted.comparisons r })
+      (record { numbers = h.counted.numbers; places = h.counted.places; integers = h.counted.integers; registers = h.counted.registers; comparisons = AllByRecursion-push (IsReady d.integers d.registers) d.comparisons c h.counted.comparisons r })
 
   -- a term that was met, with its place
   placed_written : (s : Shape) (d : DraftView) → IsSound values s → (meet (written s) d).0 < length (meet (written s) d).1.terms
@@ -307,7 +310,7 @@ module _ (values : Named) where
       let e = meet (written s) d in
       let k = settled_met (written s) d (sound_written values s r) h in
       settled_by (meet (written s) d).1 (add (has_part s o b) d) k (record { terms = λ i u a. a; parts = λ p a. among_left p (meet (written s) d).1.parts _ a; definitions = λ q a. a }) (λ i u a. a)
-      (record { parts = all_push (PartIn (length (meet (written s) d).1.terms)) (meet (written s) d).1.parts ((meet (written s) d).0, (o, b)) k.inside.parts (placed_written s d r); definitions = k.inside.definitions; equalities = k.inside.equalities; registers = k.inside.registers }) k.sound k.counted
+      (record { parts = AllByRecursion-push (PartIn (length (meet (written s) d).1.terms)) (meet (written s) d).1.parts ((meet (written s) d).0, (o, b)) k.inside.parts (placed_written s d r); definitions = k.inside.definitions; equalities = k.inside.equalities; registers = k.inside.registers }) k.sound k.counted
   is_settled (are_one s t) d r h =
       let k = settled_met (written s) d (sound_written values s r.0) h in
       let l = settled_met (written t) (meet (written s) d).1 (sound_written values t r.1) k in
@@ -315,7 +318,7 @@ module _ (values : Named) where
       let q = placed_written t (meet (written s) d).1 r.1 in
       let g = (is_placed (written t) (meet (written s) d).1 (sound_written values t r.1).0).grows in
       settled_by (meet (written t) (meet (written s) d).1).1 (add (are_one s t) d) l (record { terms = λ i u a. a; parts = λ p a. a; definitions = λ q a. a }) (λ i u a. a)
-      (record { parts = l.inside.parts; definitions = l.inside.definitions; equalities = all_push (PairIn (length (meet (written t) (meet (written s) d).1).1.terms)) (meet (written t) (meet (written s) d).1).1.equalities ((meet (written s) d).0, (meet (written t) (meet (written s) d).1).0) l.inside.equalities (omega arith, q); registers = l.inside.registers }) l.sound l.counted
+      (record { parts = l.inside.parts; definitions = l.inside.definitions; equalities = AllByRecursion-push (PairIn (length (meet (written t) (meet (written s) d).1).1.terms)) (meet (written t) (meet (written s) d).1).1.equalities ((meet (written s) d).0, (meet (written t) (meet (written s) d).1).0) l.inside.equalities (omega arith, q); registers = l.inside.registers }) l.sound l.counted
   is_settled (written_by m s t) d r h =
       let k = settled_met (written s) d (sound_written values s r.0) h in
       let l = settled_met (written t) (meet (written s) d).1 (sound_written values t r.1) k in
@@ -323,7 +326,7 @@ module _ (values : Named) where
       let q = placed_written t (meet (written s) d).1 r.1 in
       let g = (is_placed (written t) (meet (written s) d).1 (sound_written values t r.1).0).grows in
       settled_by (meet (written t) (meet (written s) d).1).1 (add (written_by m s t) d) l (record { terms = λ i u a. a; parts = λ p a. a; definitions = λ q a. among_left q (meet (written t) (meet (written s) d).1).1.definitions _ a }) (λ i u a. a)
-      (record { parts = l.inside.parts; definitions = all_push (DefinitionIn (length (meet (written t) (meet (written s) d).1).1.terms)) (meet (written t) (meet (written s) d).1).1.definitions ((meet (written t) (meet (written s) d).1).0, by.Through m (meet (written s) d).0) l.inside.definitions (q, (omega arith, tt)); equalities = l.inside.equalities; registers = l.inside.registers }) l.sound l.counted
+      (record { parts = l.inside.parts; definitions = AllByRecursion-push (DefinitionIn (length (meet (written t) (meet (written s) d).1).1.terms)) (meet (written t) (meet (written s) d).1).1.definitions ((meet (written t) (meet (written s) d).1).0, by.Through m (meet (written s) d).0) l.inside.definitions (q, (omega arith, tt)); equalities = l.inside.equalities; registers = l.inside.registers }) l.sound l.counted
   is_settled outside d r h = absurd r
 
   pub nothing_settled : IsSettled nothing_met
@@ -331,5 +334,5 @@ module _ (values : Named) where
     inside = record { parts = tt; definitions = tt; equalities = tt; registers = tt };
     sound = tt;
     entries = λ i t l a. absurd (let m = at_within [] i t a in omega arith);
-    counted = record { numbers = tt; places = tt; integers = λ u h. absurd (never h); registers = λ u h. absurd (never h); comparisons = tt };
+    counted = record { numbers = tt; places = tt; integers = λ u h. absurd (false≢true h); registers = λ u h. absurd (false≢true h); comparisons = tt };
   }

@@ -12,12 +12,9 @@ use Rattle.sv_terms.specs.Meaning.{Named, joined}
 use Rattle.sv_terms.specs.Replacement.{begins, replace_first, replace_from, replace_all}
 use Rattle.literal_forms.specs.Shapes.{Shape, Shapes, text, constant, apply, end, ◌⨾◌}
 use Rattle.sv_terms.specs.Truth.{IsWorded, AreWorded}
+use Rattle.sv_terms.specs.OnlyWords.{word_join}
 use Rattle.straight_line.specs.Laws.{IsSpelled, AreSpelled}
 use Rattle.straight_line.proofs.Texts.{word, words, text_or}
-
-pub word_join : (v w : Word) → IsWord v → IsWord w → IsWord (v ++ w)
-word_join [] w a b = b
-word_join (c ∷ v) w a b = (a.0, word_join v w a.1 b)
 
 word_drop : (n : ℕ) (w : Word) → IsWord w → IsWord (drop n w)
 word_drop zero w a = a

@@ -1,29 +1,24 @@
 -- The words of string terms under values.
-use Rattle.std.proofs.Common.{◌≡◌, refl, sym, ap, ◌∙◌, map, Bool, true, false, ◌&&◌, IsTrue, ℕ, List, [], ◌∷◌, ◌++◌, Option, Some, None, nat_eq, append_assoc}
+use Rattle.std.proofs.Common.{◌≡◌, refl, sym, ap, ◌∙◌, map, Bool, true, IsTrue, ℕ, List, [], ◌∷◌, ◌++◌, Option, Some, None, nat_eq, append_assoc}
 use Rattle.std.specs.List.{list_all}
 use Rattle.std.specs.Map.{lookup}
 use Rattle.std.specs.Option.{option_map}
 use Rattle.std.specs.Cmp.Lexicographic.{pointwise}
+use Rattle.std.proofs.lemmas.Bool.{and_parts}
 use Rattle.sv_terms.specs.declared.value.Value.{Value}
 use Rattle.sv_terms.specs.declared.value.Value.TheVariants.{Truth, Number, Text}
-use Rattle.sv_terms.specs.declared.op.Op.{Op}
 use Rattle.sv_terms.specs.declared.op.Op.TheVariants as op
 use Rattle.sv_terms.specs.declared.sort.Sort.{Sort}
 use Rattle.sv_terms.specs.declared.sort.Sort.TheVariants as sort
-use Rattle.sv_terms.specs.declared.term.Term.{Term}
 use Rattle.sv_terms.specs.declared.term.Term.TheVariants as term
 use Rattle.sv_terms.specs.declared.term.Term.TheOpen.{Term-F}
 use Rattle.sv_terms.specs.Language.{Word}
 use Rattle.sv_terms.specs.Replacement.{replace_first, replace_all}
 use Rattle.sv_terms.specs.Meaning.{Named, all_of, each_of, word_of, joined, applied_if, val, val_step}
-use Rattle.sv_terms.specs.SortingLaws.{fold-at}
+use Rattle.sv_terms.specs.SortingLaws.{fold-at, val-apply, valued-apply}
 use Rattle.sv_terms.specs.Sorting.{same_sort, is_of, valued_step, is_valued}
 use Rattle.literal_forms.specs.Shapes.{Shape, Shapes, truth, number, text, constant, apply, member, related, opaque, end, ◌⨾◌, raw, raws}
 use Rattle.literal_forms.specs.Linear.{is_string, are_strings, written, pieces, before, set_before as spliced}
-
-pub and_parts : (a b : Bool) → IsTrue (a && b) → IsTrue a × IsTrue b
-and_parts true b h = (refl, h)
-and_parts false b h = absurd (cc)
 
 module _ (values : Named) where
   abbrev pub text_or : Option Value → Word
@@ -113,12 +108,6 @@ module _ (values : Named) where
   pub valued_constant : (n : List ℕ) (s : Sort) → is_valued values (term.Constant n s) ≡ is_of s (lookup (pointwise nat_eq n) values)
   valued_constant n s = fold-at Bool (valued_step values) _ (Term-F.Constant n s) (term.rolls-Constant n s)
 
-  pub val_apply : (o : Op) (ts : List Term) → val values (term.Apply o ts) ≡ applied_if o (all_of (map (val values) ts))
-  val_apply o ts = fold-at (Option Value) (val_step values) _ (Term-F.Apply o ts) (term.rolls-Apply o ts)
-
-  pub valued_apply : (o : Op) (ts : List Term) → is_valued values (term.Apply o ts) ≡ list_all (λ b. b) (map (is_valued values) ts)
-  valued_apply o ts = fold-at Bool (valued_step values) _ (Term-F.Apply o ts) (term.rolls-Apply o ts)
-
   -- a constant of sort String that has a value of its sort has its word
   pub text_is : (o : Option Value) (s : Sort) → same_sort s sort.String ≡ true → IsTrue (is_of s o) → o ≡ Some (Text (text_or o))
   text_is None s e h = absurd (cc)
@@ -132,9 +121,6 @@ module _ (values : Named) where
   text_is (Some (Number n)) sort.Int e h = absurd (cc)
   text_is (Some (Number n)) sort.RegLan e h = absurd (cc)
 
-  texts : List Word → List Value
-  texts ws = map (λ w. Text w) ws
-
   each_text : (ws : List Word) → each_of word_of (map (λ w. Text w) ws) ≡ Some ws
   each_text [] = refl
   each_text (w ∷ ws) = ap (option_map (λ vs. w ∷ vs)) (each_text ws)
@@ -146,18 +132,18 @@ module _ (values : Named) where
     val_word (constant n s) e h = val_constant n s ∙ text_is (lookup (pointwise nat_eq n) values) s e (sym (valued_constant n s) ∙ h)
     val_word (apply op.Concat (s ⨾ ss)) e h =
         let a = and_parts (is_string s) (are_strings ss) e in
-        let k = sym (valued_apply op.Concat (raws (s ⨾ ss))) ∙ h in
+        let k = sym (valued-apply values op.Concat (raws (s ⨾ ss))) ∙ h in
         let b = and_parts (is_valued values (raw s)) (list_all (λ c. c) (map (is_valued values) (raws ss))) k in
         let vs = val_words (s ⨾ ss) e k in
-        val_apply op.Concat (raws (s ⨾ ss)) ∙ ap (applied_if op.Concat) vs ∙ ap (option_map (λ ws. Text (joined ws))) (each_text (words (s ⨾ ss)))
+        val-apply values op.Concat (raws (s ⨾ ss)) ∙ ap (applied_if op.Concat) vs ∙ ap (option_map (λ ws. Text (joined ws))) (each_text (words (s ⨾ ss)))
     val_word (apply op.Replace (s ⨾ text p ⨾ text u ⨾ end)) e h =
-        let k = sym (valued_apply op.Replace (raws (s ⨾ text p ⨾ text u ⨾ end))) ∙ h in
+        let k = sym (valued-apply values op.Replace (raws (s ⨾ text p ⨾ text u ⨾ end))) ∙ h in
         let b = and_parts (is_valued values (raw s)) (list_all (λ c. c) (map (is_valued values) (raws (text p ⨾ text u ⨾ end)))) k in
-        val_apply op.Replace (raws (s ⨾ text p ⨾ text u ⨾ end)) ∙ (λ i. applied_if op.Replace (all_of (val_word s e b.0 i ∷ val_text p i ∷ val_text u i ∷ [])))
+        val-apply values op.Replace (raws (s ⨾ text p ⨾ text u ⨾ end)) ∙ (λ i. applied_if op.Replace (all_of (val_word s e b.0 i ∷ val_text p i ∷ val_text u i ∷ [])))
     val_word (apply op.ReplaceAll (s ⨾ text p ⨾ text u ⨾ end)) e h =
-        let k = sym (valued_apply op.ReplaceAll (raws (s ⨾ text p ⨾ text u ⨾ end))) ∙ h in
+        let k = sym (valued-apply values op.ReplaceAll (raws (s ⨾ text p ⨾ text u ⨾ end))) ∙ h in
         let b = and_parts (is_valued values (raw s)) (list_all (λ c. c) (map (is_valued values) (raws (text p ⨾ text u ⨾ end)))) k in
-        val_apply op.ReplaceAll (raws (s ⨾ text p ⨾ text u ⨾ end)) ∙ (λ i. applied_if op.ReplaceAll (all_of (val_word s e b.0 i ∷ val_text p i ∷ val_text u i ∷ [])))
+        val-apply values op.ReplaceAll (raws (s ⨾ text p ⨾ text u ⨾ end)) ∙ (λ i. applied_if op.ReplaceAll (all_of (val_word s e b.0 i ∷ val_text p i ∷ val_text u i ∷ [])))
     val_word _ e h = absurd (cc)
 
     val_words : (ss : Shapes) → are_strings ss ≡ true → IsTrue (list_all (λ c. c) (map (is_valued values) (raws ss))) → all_of (map (val values) (raws ss)) ≡ Some (map (λ w. Text w) (words ss))

@@ -1,7 +1,7 @@
 -- The literals of a cube are true exactly where all that was met holds, at words that fit the terms.
-use Rattle.std.proofs.Common.{◌≡◌, refl, sym, ap, ◌∙◌, subst, Bool, true, false, IsTrue, ◌↔◌, ℕ, suc, List, [], ◌∷◌, ◌++◌, length, get_or, length-append, add-one, Option, Some, None}
-use Rattle.std.specs.Prelude.{if◌then◌else◌}
+use Rattle.std.proofs.Common.{◌≡◌, refl, sym, ap, ◌∙◌, subst, true, false, IsTrue, ◌↔◌, ℕ, suc, List, [], ◌∷◌, ◌++◌, length, get_or, length-append, add-one, None}
 use Rattle.std.specs.List.{AllByRecursion}
+use Rattle.cube_draft.proofs.Proper.{inside_first, IsFormedSaid}
 use Rattle.sv_terms.specs.declared.regex.Regex.{Regex}
 use Rattle.sv_terms.specs.declared.transducer.Transducer.{Transducer}
 use Rattle.sv_terms.specs.Language.{Word, In}
@@ -18,16 +18,11 @@ use Rattle.flat_cubes.specs.Met.{DraftView, add, add_all, nothing_met, met}
 use Rattle.flat_cubes.specs.Said.{said, is_outside, first_outside}
 use Rattle.straight_line.proofs.Meetings.{Fits, FitsFrom, Holds}
 use Rattle.straight_line.proofs.Texts.{word}
-use Rattle.straight_line.proofs.Adding.{Truth, Formed, is_added}
+use Rattle.straight_line.proofs.Adding.{Truth, is_added}
 use Rattle.straight_line.proofs.Saying.{atom_tells}
 
--- no literal is of no written kind: not the first, and none behind it
-pub inside : (b : Bool) (l : Literal) (o : Option Literal) → (if b then Some l else o) ≡ None → (b ≡ false) × (o ≡ None)
-inside true l o e = absurd (cc)
-inside false l o e = (refl, e)
-
 module _ (values : Named) (ws : ℕ → Word) (decided : (r : Regex) (w : Word) → IsTrue (matches r w) ↔ In r w) (pairs_decided : (t : Transducer) (v w : Word) → IsTrue (writes t t.start v w) ↔ Pairs t v w) where
-  literal_tells : (l : Literal) → IsTrue (is_valued values l.atom) → is_outside (said l) ≡ false → Formed values ws (said l) × (IsTrueLiteral values l ↔ Truth values ws (said l))
+  literal_tells : (l : Literal) → IsTrue (is_valued values l.atom) → is_outside (said l) ≡ false → IsFormedSaid (said l) × (IsTrueLiteral values l ↔ Truth values ws (said l))
   literal_tells l v o =
       let q : raw (seen l.atom) ≡ l.atom = raw-seen l.atom in
       let k = atom_tells values ws decided pairs_decided (seen l.atom) l.positive (subst (λ t. IsTrue (is_valued values t)) (sym q) v) o in
@@ -43,7 +38,7 @@ module _ (values : Named) (ws : ℕ → Word) (decided : (r : Regex) (w : Word) 
   pub all_told : (ls : List Literal) (d : DraftView) → AllByRecursion (IsGood values) ls → first_outside ls ≡ None → AreTold ls d (add_all ls d)
   all_told [] d g o = record { earlier = λ f. f; keeps = λ f t h. h; tells = λ f h. tt; back = λ h. h }
   all_told (l ∷ ls) d g o =
-      let i = inside (is_outside (said l)) l (first_outside ls) o in
+      let i = inside_first (is_outside (said l)) l (first_outside ls) o in
       let t = literal_tells l g.0.valued i.0 in
       let a = is_added values ws (said l) d t.0 in
       let r = all_told ls (add (said l) d) g.1 i.1 in

@@ -1,5 +1,5 @@
 -- What was met has one flat cube at most: a form is known by its coefficients.
-use Rattle.std.proofs.Common.{◌≡◌, refl, sym, ap, ◌∙◌, subst, ℕ, ◌+◌, ◌<◌, ◌≤◌, ◌⊎◌, inl, inr, ◌^◌, ℤ, pos, ◌+ℤ◌, List, [], ◌∷◌, unsigned_abs, arith}
+use Rattle.std.proofs.Common.{◌≡◌, refl, sym, ap, ◌∙◌, subst, ℕ, ◌+◌, ◌<◌, ◌≤◌, ◌⊎◌, inl, inr, ◌^◌, ℤ, pos, ◌+ℤ◌, List, [], ◌∷◌, arith}
 use Rattle.std.specs.Prelude.{nat_eq, if◌then◌else◌}
 use Rattle.std.specs.List.{AllZip}
 use Rattle.std.proofs.lemmas.Int.{ints}
@@ -13,13 +13,11 @@ use Rattle.straight_line.specs.Laws.{FlatIsOne}
 use Rattle.flat_cubes.specs.Met.{DraftView, met}
 use Rattle.flat_cubes.specs.declared.flat.Flat.{Flat}
 use Rattle.cube_draft.proofs.Inserted.{Terms, below, skipped, taken}
+use Rattle.cube_draft.proofs.Comparisons.{nonzero}
 
 -- that of the first unknown
 at_first : (low high : ℕ) (t : ℕ × ℤ) (ts : Terms) → AscendsWithin low high (t ∷ ts) → coefficient t.0 (t ∷ ts) ≡ t.1
 at_first low high t ts a = taken t (coefficient t.0 ts) (below (t.0 + 1) high t.0 ts a.1.1 (omega arith))
-
-not_zero : (z : ℤ) → 0 < unsigned_abs z → z ≡ pos 0 → ⊥
-not_zero z h e = let k : 0 < unsigned_abs (pos 0) = subst (λ y. 0 < unsigned_abs y) e h in omega arith
 
 cancelled : (a b c : ℤ) → a +ℤ b ≡ a +ℤ c → b ≡ c
 cancelled a b c e = omega (arith, ints)
@@ -28,8 +26,8 @@ abbrev Same : Terms → Terms → Type 0
 Same ts us = (u : ℕ) → coefficient u ts ≡ coefficient u us
 
 heads_one : (low high : ℕ) (t s : ℕ × ℤ) (ts us : Terms) → AscendsWithin low high (t ∷ ts) → AscendsWithin low high (s ∷ us) → Same (t ∷ ts) (s ∷ us) → (t.0 < s.0) ⊎ (s.0 ≤ t.0) → (s.0 < t.0) ⊎ (t.0 ≤ s.0) → (AscendsWithin (t.0 + 1) high ts → AscendsWithin (t.0 + 1) high us → Same ts us → ts ≡ us) → t ∷ ts ≡ s ∷ us
-heads_one low high t s ts us a b e (inl l) r k = absurd (not_zero t.1 a.1.0 (sym (at_first low high t ts a) ∙ e t.0 ∙ skipped s t.0 (coefficient t.0 us) (λ q. omega arith) ∙ below (s.0 + 1) high t.0 us b.1.1 (omega arith)))
-heads_one low high t s ts us a b e (inr l) (inl r) k = absurd (not_zero s.1 b.1.0 (sym (at_first low high s us b) ∙ sym (e s.0) ∙ skipped t s.0 (coefficient s.0 ts) (λ q. omega arith) ∙ below (t.0 + 1) high s.0 ts a.1.1 (omega arith)))
+heads_one low high t s ts us a b e (inl l) r k = absurd (nonzero t.1 a.1.0 (sym (at_first low high t ts a) ∙ e t.0 ∙ skipped s t.0 (coefficient t.0 us) (λ q. omega arith) ∙ below (s.0 + 1) high t.0 us b.1.1 (omega arith)))
+heads_one low high t s ts us a b e (inr l) (inl r) k = absurd (nonzero s.1 b.1.0 (sym (at_first low high s us b) ∙ sym (e s.0) ∙ skipped t s.0 (coefficient s.0 ts) (λ q. omega arith) ∙ below (t.0 + 1) high s.0 ts a.1.1 (omega arith)))
 heads_one low high t s ts us a b e (inr l) (inr r) k =
     let p : t.0 ≡ s.0 = omega arith in
     let q : t.1 ≡ s.1 = sym (at_first low high t ts a) ∙ e t.0 ∙ ap (λ u. coefficient u (s ∷ us)) p ∙ at_first low high s us b in
@@ -40,8 +38,8 @@ heads_one low high t s ts us a b e (inr l) (inr r) k =
 
 terms_one : (low high : ℕ) (ts us : Terms) → AscendsWithin low high ts → AscendsWithin low high us → Same ts us → ts ≡ us
 terms_one low high [] [] a b e = refl
-terms_one low high [] (s ∷ us) a b e = absurd (not_zero s.1 b.1.0 (sym (at_first low high s us b) ∙ sym (e s.0)))
-terms_one low high (t ∷ ts) [] a b e = absurd (not_zero t.1 a.1.0 (sym (at_first low high t ts a) ∙ e t.0))
+terms_one low high [] (s ∷ us) a b e = absurd (nonzero s.1 b.1.0 (sym (at_first low high s us b) ∙ sym (e s.0)))
+terms_one low high (t ∷ ts) [] a b e = absurd (nonzero t.1 a.1.0 (sym (at_first low high t ts a) ∙ e t.0))
 terms_one low high (t ∷ ts) (s ∷ us) a b e = heads_one low high t s ts us a b e (cases_lt t.0 s.0) (cases_lt s.0 t.0) (λ c d f. terms_one (t.0 + 1) high ts us c d f)
 
 abbrev form : (cs : Terms) (c : ℤ) → AscendsWithin 0 (2 ^ 32) cs → Form

@@ -1,16 +1,9 @@
 -- Ascending lists are told apart by their elements, and each finite set of numbers has one.
 use Rattle.std.proofs.Common.{◌≡◌, ℕ, zero, suc, ◌+◌, ◌<◌, ◌≤◌, ◌⊎◌, inl, inr, ◌↔◌, List, [], ◌∷◌, Contains, refl, sym, ◌∙◌, arith}
 use Rattle.std.specs.List.Sorted.{IsStrictlyIncreasing}
-use Rattle.machine_core.specs.Lists.{Contains-here, Contains-there}
+use Rattle.sv_list.specs.Lists.{Contains-here, Contains-there, Contains-none, Contains-cases}
 use Rattle.subset_machine.specs.Subsets.{ListsAll}
 use Rattle.subset_machine.specs.StateSets.{tail-increasing, head-below}
-
-pub nothing : {X : Type 0} (x : X) → Contains [] x → ⊥
-nothing x (k, lt, e) = absurd (omega arith)
-
-pub contains-cases : {X : Type 0} (x : X) (xs : List X) (y : X) → Contains (x ∷ xs) y → (x ≡ y) ⊎ Contains xs y
-contains-cases x xs y (zero, lt, e) = inl e
-contains-cases x xs y (suc k, lt, e) = inr (k, omega arith, e)
 
 pub contains-join : {X : Type 0} (x : X) (xs : List X) (y : X) → (x ≡ y) ⊎ Contains xs y → Contains (x ∷ xs) y
 contains-join x xs y (inl e) = (0, omega arith, e)
@@ -24,17 +17,17 @@ heads-same x xs y ys p q (inr i) (inr j) = let a = head-below y ys x q i in let 
 
 tails-within : (x : ℕ) (xs : List ℕ) (y : ℕ) (ys : List ℕ) → x ≡ y → IsStrictlyIncreasing (x ∷ xs)
     → (t : ℕ) → (Contains (x ∷ xs) t → Contains (y ∷ ys) t) → Contains xs t → Contains ys t
-tails-within x xs y ys e p t h i = elim (contains-cases y ys t (h (Contains-there x xs t i))) [
+tails-within x xs y ys e p t h i = elim (Contains-cases y ys t (h (Contains-there x xs t i))) [
   | inl s ↦ let below = head-below x xs t p i in absurd (omega arith)
   | inr j ↦ j
 ]
 
 ascending-same : (xs ys : List ℕ) → IsStrictlyIncreasing xs → IsStrictlyIncreasing ys → ((t : ℕ) → Contains xs t ↔ Contains ys t) → xs ≡ ys
 ascending-same [] [] p q h = refl
-ascending-same [] (y ∷ ys) p q h = absurd (nothing y ((h y).1 (Contains-here y ys)))
-ascending-same (x ∷ xs) [] p q h = absurd (nothing x ((h x).0 (Contains-here x xs)))
+ascending-same [] (y ∷ ys) p q h = absurd (Contains-none y ((h y).1 (Contains-here y ys)))
+ascending-same (x ∷ xs) [] p q h = absurd (Contains-none x ((h x).0 (Contains-here x xs)))
 ascending-same (x ∷ xs) (y ∷ ys) p q h =
-    let head = heads-same x xs y ys p q (contains-cases y ys x ((h x).0 (Contains-here x xs))) (contains-cases x xs y ((h y).1 (Contains-here y ys))) in
+    let head = heads-same x xs y ys p q (Contains-cases y ys x ((h x).0 (Contains-here x xs))) (Contains-cases x xs y ((h y).1 (Contains-here y ys))) in
     let tail = ascending-same xs ys (tail-increasing x xs p) (tail-increasing y ys q)
     (λ t. (tails-within x xs y ys head p t (h t).0, tails-within y ys x xs (sym head) q t (h t).1)) in
     cc
@@ -71,9 +64,9 @@ abbrev Inserted : ℕ → ℕ → List ℕ → Type 0
 Inserted low x ys = (zs : List ℕ) × Rises low zs × ((t : ℕ) → Contains zs t ↔ ((x ≡ t) ⊎ Contains ys t))
 
 pub inserted : (low x : ℕ) (ys : List ℕ) → low ≤ x → Rises low ys → Inserted low x ys
-inserted low x [] le h = (x ∷ [], (le, tt), λ t. (contains-cases x [] t, contains-join x [] t))
+inserted low x [] le h = (x ∷ [], (le, tt), λ t. (Contains-cases x [] t, contains-join x [] t))
 inserted low x (y ∷ ys) le h = elim (order x y) [
-  | inl lt ↦ (x ∷ y ∷ ys, (le, (omega arith, h.1)), λ t. (contains-cases x (y ∷ ys) t, contains-join x (y ∷ ys) t))
+  | inl lt ↦ (x ∷ y ∷ ys, (le, (omega arith, h.1)), λ t. (Contains-cases x (y ∷ ys) t, contains-join x (y ∷ ys) t))
   | inr r ↦ elim r [
     | inl e ↦ (y ∷ ys, h, λ t. (λ i. inr i, λ s. elim s [ inl d ↦ (0, omega arith, sym e ∙ d) | inr i ↦ i ]))
     | inr gt ↦
@@ -81,13 +74,13 @@ inserted low x (y ∷ ys) le h = elim (order x y) [
           y ∷ r.0,
           (h.0, r.1),
           λ t. (
-            λ i. elim (contains-cases y r.0 t i) [
+            λ i. elim (Contains-cases y r.0 t i) [
               | inl e ↦ inr (contains-join y ys t (inl e))
               | inr j ↦ elim ((r.2 t).0 j) [ inl e ↦ inl e | inr k ↦ inr (Contains-there y ys t k) ]
             ],
             λ s. elim s [
               | inl e ↦ Contains-there y r.0 t ((r.2 t).1 (inl e))
-              | inr i ↦ elim (contains-cases y ys t i) [ inl e ↦ contains-join y r.0 t (inl e) | inr k ↦ Contains-there y r.0 t ((r.2 t).1 (inr k)) ]
+              | inr i ↦ elim (Contains-cases y ys t i) [ inl e ↦ contains-join y r.0 t (inl e) | inr k ↦ Contains-there y r.0 t ((r.2 t).1 (inr k)) ]
             ],
           ),
         )

@@ -13,13 +13,13 @@ use Rattle.std.proofs.lemmas.List.Elements.{All-nil, All-cons, Contains-append_l
 use Rattle.std.proofs.lemmas.Map.Keys.{IsDistinct-from_sorted, Less-from_sorted}
 use Rattle.std.proofs.lemmas.Map.Views.{Contains-from_lookup, lookup-from_Contains}
 use Rattle.sv_word.specs.Ranges.{in_ranges, IsInhabited, IsApartFrom}
-use Rattle.machine_core.specs.Lists.{Contains-here, Contains-there, Any-contains, contained}
+use Rattle.sv_list.specs.Lists.{Contains-here, Contains-there, Any-contains, contained, Contains-none, Contains-cases, some-once, AllZip-push, AllZip-length}
 use Rattle.machine_core.specs.Orders.{nat_cmp-same, slice_cmp-same}
 use Rattle.machine_core.specs.declared.machine.Move.{Move}
 use Rattle.machine_core.specs.Moves.{Moves}
 use Rattle.subset_machine.specs.Subsets.{ListsAll}
 use Rattle.subset_machine.specs.Groups.{lists_cmp, FollowsOn, AreGroups, AddsMark, AreIntervals, MovesUnder}
-use Rattle.subset_machine.proofs.AscendingLemmas.{nothing, contains-cases, lists-same}
+use Rattle.subset_machine.proofs.AscendingLemmas.{lists-same}
 use Rattle.subset_machine.proofs.LeavingLemmas.{ranges-out}
 use Rattle.subset_machine.proofs.HitLemmas.{one-more}
 use Rattle.sv_word.specs.Words.{greatest_character}
@@ -45,14 +45,11 @@ added old new next m u q = by_test (is_at (lists_cmp next) q) refl
         inl (same, subst (λ x. get lists_cmp new x ≡ Some (unwrap_or (get lists_cmp old x) [] ++ m ∷ [])) same u.1)
     by_test false e = inr (u.2 q e)
 
-some-same : {X : Type 0} (o : Option X) (x y : X) → o ≡ Some x → o ≡ Some y → x ≡ y
-some-same o x y p q = cc
-
 module _ (marks hits : List (ℕ × ℕ)) (dead : Bool) where
   pub groups-none : (groups : BTreeMap (List ℕ) (List (ℕ × ℕ))) → groups.entries ≡ [] → AreGroups [] hits dead groups
   groups-none groups e = record {
     sound = λ next ms g. absurd (empty next ms g);
-    complete = λ m i. absurd (nothing m i);
+    complete = λ m i. absurd (Contains-none m i);
     inhabited = λ next ms g. absurd (empty next ms g);
   }
     where
@@ -80,7 +77,7 @@ module _ (marks hits : List (ℕ × ℕ)) (dead : Bool) where
         → AreGroups (take i marks) hits dead old → AreGroups (take (i + 1) marks) hits dead new
     groups-more old new next f u g = record {
       sound = λ q ms e p j. elim (added old new next m u q) [
-        | inl h ↦ elim (Contains-push_cases (unwrap_or (get lists_cmp old q) []) m p (subst (λ l. Contains l p) (some-same (get lists_cmp new q) ms (unwrap_or (get lists_cmp old q) [] ++ m ∷ []) e h.1) j)) [
+        | inl h ↦ elim (Contains-push_cases (unwrap_or (get lists_cmp old q) []) m p (subst (λ l. Contains l p) (some-once (get lists_cmp new q) ms (unwrap_or (get lists_cmp old q) [] ++ m ∷ []) e h.1) j)) [
           | inl k ↦ let r = before q p (get lists_cmp old q) refl k in (later p r.0, r.1)
           | inr same ↦ (subst (Contains (take (i + 1) marks)) same last, subst (λ x. FollowsOn hits dead x q) same (subst (FollowsOn hits dead m) h.0 f))
         ]
@@ -105,13 +102,13 @@ module _ (marks hits : List (ℕ × ℕ)) (dead : Bool) where
             )
       ];
       inhabited = λ q ms e. elim (added old new next m u q) [
-        | inl h ↦ (m, subst (λ l. Contains l m) (some-same (get lists_cmp new q) (unwrap_or (get lists_cmp old q) [] ++ m ∷ []) ms h.1 e) (Contains-push (unwrap_or (get lists_cmp old q) []) m))
+        | inl h ↦ (m, subst (λ l. Contains l m) (some-once (get lists_cmp new q) (unwrap_or (get lists_cmp old q) [] ++ m ∷ []) ms h.1 e) (Contains-push (unwrap_or (get lists_cmp old q) []) m))
         | inr h ↦ g.inhabited q ms (sym h ∙ e)
       ];
     }
       where
         before : (q : List ℕ) (p : ℕ × ℕ) (o : Option (List (ℕ × ℕ))) → get lists_cmp old q ≡ o → Contains (unwrap_or o []) p → Contains (take i marks) p × FollowsOn hits dead p q
-        before q p None e k = absurd (nothing p k)
+        before q p None e k = absurd (Contains-none p k)
         before q p (Some ms) e k = g.sound q ms e p k
 
     pub groups-skip : (old : BTreeMap (List ℕ) (List (ℕ × ℕ))) (next : List ℕ) → ListsAll (λ t. Contains hits (m.0, t)) next → ((next ≡ [] → IsTrue dead) → ⊥)
@@ -149,12 +146,6 @@ pub record IsMoveOf (e : Entry) (m : Move (List ℕ)) : Type 0 where
   pub to : m.to ≡ e.0
   pub inhabited : IsInhabited m.on
 
-zip-push : {X Y : Type 0} (R : X → Y → Type 0) (xs : List X) (ys : List Y) (x : X) (y : Y) → AllZip R xs ys → R x y → AllZip R (xs ++ x ∷ []) (ys ++ y ∷ [])
-zip-push R [] [] x y z r = (r, tt)
-zip-push R [] (b ∷ ys) x y z r = absurd z
-zip-push R (a ∷ xs) [] x y z r = absurd z
-zip-push R (a ∷ xs) (b ∷ ys) x y z r = (z.0, zip-push R xs ys x y z.1 r)
-
 -- the first entries have their moves, and the others are left
 pub record Popped (all left : List Entry) (moves : List (Move (List ℕ))) : Type 0 where
   pub done : List Entry
@@ -182,7 +173,7 @@ popped-more all left rest moves new e on m front same apart made pushed p =
     record {
       done = p.done ++ e ∷ [];
       split = p.split ∙ ap (λ l. p.done ++ l) front ∙ sym (append_assoc p.done (e ∷ []) rest);
-      zip = subst (AllZip IsMoveOf (p.done ++ e ∷ [])) (sym pushed) (zip-push IsMoveOf p.done moves e m p.zip (subst (IsMoveOf e) (sym made) one));
+      zip = subst (AllZip IsMoveOf (p.done ++ e ∷ [])) (sym pushed) (AllZip-push IsMoveOf p.done moves e m p.zip (subst (IsMoveOf e) (sym made) one));
       intervals = λ x i. p.intervals x (subst (λ l. Contains l x) (sym front) (Contains-there e rest x i));
     }
 
@@ -207,19 +198,19 @@ none-left (x ∷ xs) h = let e = h (omega arith) in cc
 -- two lists that are tied element by element
 module _ {X Y : Type 0} (R : X → Y → Type 0) where
   zip-right : (xs : List X) (ys : List Y) (x : X) → AllZip R xs ys → Contains xs x → (y : Y) × Contains ys y × R x y
-  zip-right [] [] x z i = absurd (nothing x i)
+  zip-right [] [] x z i = absurd (Contains-none x i)
   zip-right [] (b ∷ ys) x z i = absurd z
   zip-right (a ∷ xs) [] x z i = absurd z
-  zip-right (a ∷ xs) (b ∷ ys) x z i = elim (contains-cases a xs x i) [
+  zip-right (a ∷ xs) (b ∷ ys) x z i = elim (Contains-cases a xs x i) [
     | inl e ↦ (b, Contains-here b ys, subst (λ w. R w b) e z.0)
     | inr j ↦ let r = zip-right xs ys x z.1 j in (r.0, Contains-there b ys r.0 r.1, r.2)
   ]
 
   zip-left : (xs : List X) (ys : List Y) (y : Y) → AllZip R xs ys → Contains ys y → (x : X) × Contains xs x × R x y
-  zip-left [] [] y z i = absurd (nothing y i)
+  zip-left [] [] y z i = absurd (Contains-none y i)
   zip-left [] (b ∷ ys) y z i = absurd z
   zip-left (a ∷ xs) [] y z i = absurd z
-  zip-left (a ∷ xs) (b ∷ ys) y z i = elim (contains-cases b ys y i) [
+  zip-left (a ∷ xs) (b ∷ ys) y z i = elim (Contains-cases b ys y i) [
     | inl e ↦ (a, Contains-here a xs, subst (R a) e z.0)
     | inr j ↦ let r = zip-left xs ys y z.1 j in (r.0, Contains-there a xs r.0 r.1, r.2)
   ]
@@ -236,12 +227,6 @@ module _ {X Y : Type 0} (R : X → Y → Type 0) where
   zip-at (a ∷ xs) [] i d e z lt = absurd z
   zip-at (a ∷ xs) (b ∷ ys) zero d e z lt = z.0
   zip-at (a ∷ xs) (b ∷ ys) (suc i) d e z lt = zip-at xs ys i d e z.1 (omega arith)
-
-  zip-length : (xs : List X) (ys : List Y) → AllZip R xs ys → length xs ≡ length ys
-  zip-length [] [] z = refl
-  zip-length [] (b ∷ ys) z = absurd z
-  zip-length (a ∷ xs) [] z = absurd z
-  zip-length (a ∷ xs) (b ∷ ys) z = ap suc (zip-length xs ys z.1)
 
 module _ (groups : BTreeMap (List ℕ) (List (ℕ × ℕ))) (ordered : IsOrdered lists_cmp groups) (moves : List (Move (List ℕ))) (zip : AllZip IsMoveOf groups.entries moves) where
   pub moves-exact : (c : ℕ) (cost to : List ℕ) → MovesUnder groups c cost to ↔ Any (Moves c cost to) moves
@@ -262,7 +247,7 @@ module _ (groups : BTreeMap (List ℕ) (List (ℕ × ℕ))) (ordered : IsOrdered
   pub moves-joined : AllPairs (λ m n. m.to ≢ n.to) moves
   moves-joined i j d lt inside same =
       let none : Entry = (d.to, []) in
-      let long = zip-length IsMoveOf groups.entries moves zip in
+      let long = AllZip-length IsMoveOf groups.entries moves zip in
       let a = zip-at IsMoveOf groups.entries moves i none d zip (omega arith) in
       let b = zip-at IsMoveOf groups.entries moves j none d zip inside in
       let keys : (get_or groups.entries i none).0 ≡ (get_or groups.entries j none).0 = sym a.to ∙ same ∙ b.to in

@@ -10,12 +10,10 @@ use Rattle.std.proofs.lemmas.List.Filters.{dedup_is}
 use Rattle.std.proofs.lemmas.List.Kept.{Contains-dedup_nat, Contains-from_dedup}
 use Rattle.std.proofs.lemmas.List.Sorted.{Contains-permutation, IsPermutation-sym, IsNonDecreasingBy-from_sort}
 use Rattle.std.proofs.lemmas.Map.Keys.{IsStrictlyIncreasing-dedup}
-use Rattle.machine_core.specs.Lists.{Any-append_left, Any-append_right, Any-push_cases, Any-here, Any-none, Any-contains, contained}
+use Rattle.sv_list.specs.Lists.{Any-append_left, Any-append_right, Any-push_cases, Any-here, Any-contains, contained, Contains-from_map, Contains-map}
 use Rattle.subset_machine.specs.declared.leaving.EdgeRange.{EdgeRange}
 use Rattle.subset_machine.specs.Legs.{RangeLeads, AreHits}
 use Rattle.subset_machine.specs.Subsets.{ListsAll}
-use Rattle.subset_machine.proofs.PlaceLemmas.{map-in, map-out}
-use Rattle.subset_machine.proofs.AscendingLemmas.{nothing}
 use Rattle.subset_machine.proofs.MarkLemmas.{pairs_cmp, sorted-first}
 
 -- the first characters of the intervals, with the states that these ranges lead to on them
@@ -25,9 +23,6 @@ HitsOf legs marks hits = (c t : ℕ) → Contains hits (c, t) ↔ (Any (λ m. m.
 -- what a range leads to on the first character of an interval
 abbrev pub hit : ℕ → ℕ × ℕ → ℕ × ℕ
 hit to m = (m.0, to)
-
-pub hits-none : (marks : List (ℕ × ℕ)) → HitsOf [] marks []
-hits-none marks c t = (λ i. absurd (nothing (c, t) i), λ a. absurd (Any-none (RangeLeads c t) a.1))
 
 pub one-more : {X : Type 0} (xs : List X) (i : ℕ) (x d : X) → i < length xs → x ≡ get_or xs i d → take (i + 1) xs ≡ take i xs ++ x ∷ []
 one-more xs i x d lt is = take_more xs i d lt ∙ ap (λ y. take i xs ++ y ∷ []) (sym is)
@@ -56,7 +51,7 @@ hits-more legs marks part hits new i s d lt is within made before c t =
       λ h. elim (Contains-append_cases hits (map (hit s.to) part) (c, t) (subst (λ l. Contains l (c, t)) made h)) [
         | inl j ↦ let b = (before c t).0 j in (b.0, subst (Any (RangeLeads c t)) (sym grown) (Any-append_left (RangeLeads c t) (take i legs) (s ∷ []) b.1))
         | inr j ↦
-            let m = map-in (hit s.to) part (c, t) j in
+            let m = Contains-from_map (hit s.to) part (c, t) j in
             let w = (within m.0).0 m.1 in
             let at : m.0.0 ≡ c = ap (λ (p : ℕ × ℕ). p.0) m.2 in
             let to : s.to ≡ t = ap (λ (p : ℕ × ℕ). p.1) m.2 in
@@ -69,7 +64,7 @@ hits-more legs marks part hits new i s d lt is within made before c t =
             let m = contained (λ (m : ℕ × ℕ). m.0 ≡ c) marks a.0 in
             let j = (within m.0).1 (m.1, subst (λ n. s.low ≤ n) (sym m.2) l.0, subst (λ n. n ≤ s.high) (sym m.2) l.1) in
             let same : hit s.to m.0 ≡ (c, t) = ap (λ n. (n, s.to)) m.2 ∙ ap (λ n. (c, n)) l.2 in
-            Contains-append_right hits (map (hit s.to) part) (c, t) (subst (Contains (map (hit s.to) part)) same (map-out (hit s.to) part m.0 j))
+            Contains-append_right hits (map (hit s.to) part) (c, t) (subst (Contains (map (hit s.to) part)) same (Contains-map (hit s.to) part m.0 j))
       ]),
     )
 
@@ -98,13 +93,13 @@ target-made hits part first states sorted out within made perm order filtered =
         λ i.
             let a = Contains-from_dedup nat_eq sorted t (subst (λ l. Contains l t) is i) in
             let b = subst (λ l. Contains l t) made (Contains-permutation sorted states t (IsPermutation-sym states sorted perm) a) in
-            let h = map-in (λ (h : ℕ × ℕ). h.1) part t b in
+            let h = Contains-from_map (λ (h : ℕ × ℕ). h.1) part t b in
             let w = (within h.0).0 h.1 in
             let at : h.0.0 ≡ first = (let l = w.1 in let u = w.2 in omega arith) in
             subst (Contains hits) (ap (λ n. (n, h.0.1)) at ∙ ap (λ n. (first, n)) h.2) w.0,
         λ i.
             let j = (within (first, t)).1 (i, omega arith, omega arith) in
-            let a = subst (λ l. Contains l t) (sym made) (map-out (λ (h : ℕ × ℕ). h.1) part (first, t) j) in
+            let a = subst (λ l. Contains l t) (sym made) (Contains-map (λ (h : ℕ × ℕ). h.1) part (first, t) j) in
             subst (λ l. Contains l t) (sym is) (Contains-dedup_nat sorted t (Contains-permutation states sorted t perm a)),
       );
     }

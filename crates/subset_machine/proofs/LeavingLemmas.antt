@@ -1,11 +1,11 @@
 -- The edges that leave some states, taken apart range by range.
 use Rattle.std.proofs.Common.{◌≡◌, ℕ, zero, suc, ◌+◌, ◌≤◌, ◌<◌, inl, inr, ◌&&◌, true, nat_le, IsTrue, List, [], ◌∷◌, length, slice_get, Some, Contains, refl, sym, ap, ◌∙◌, subst, arith}
 use Rattle.std.specs.List.{flat_map}
-use Rattle.std.proofs.lemmas.Bool.Decides.{nat_tests}
 use Rattle.std.proofs.lemmas.List.{nil_from_length}
 use Rattle.std.proofs.lemmas.List.Folds.{Any-from_list_any, list_any-from_Any}
 use Rattle.sv_word.specs.Ranges.{in_ranges, IsApartFrom}
-use Rattle.machine_core.specs.Lists.{Any-contains, contained, slice_get-contains}
+use Rattle.sv_list.specs.Lists.{Any-contains, contained, slice_get-contains, Contains-slice_get, Contains-from_map, Contains-map, Contains-none, Contains-cases}
+use Rattle.sv_list.specs.Bools.{within-from_tests, within-tests}
 use Rattle.machine_core.specs.declared.edge.Edge.{Edge}
 use Rattle.machine_core.specs.declared.end.End.{End}
 use Rattle.machine_core.specs.Places.{places, pick}
@@ -14,29 +14,22 @@ use Rattle.machine_core.specs.Moves.{Moves}
 use Rattle.subset_machine.specs.declared.leaving.EdgeRange.{EdgeRange}
 use Rattle.sv_word.specs.Words.{greatest_character}
 use Rattle.subset_machine.specs.Legs.{places_from_some, leg, legs_of, IsRange, RangeLeads, AreLeaving}
-use Rattle.subset_machine.proofs.AscendingLemmas.{nothing, contains-cases}
-use Rattle.subset_machine.proofs.PlaceLemmas.{places-exact, contains-get, pick-in, pick-out, flat_map-in, flat_map-out, map-in, map-out}
+use Rattle.subset_machine.proofs.PlaceLemmas.{places-exact, pick-in, pick-out, flat_map-in, flat_map-out}
 
 -- a character lies between the first and the last one of some pair
 abbrev pub LiesIn : ℕ → ℕ × ℕ → Type 0
 LiesIn c p = (p.0 ≤ c) × (c ≤ p.1)
 
-in-tests : (a b c : ℕ) → (nat_le a c && nat_le c b) ≡ true → (a ≤ c) × (c ≤ b)
-in-tests a b c e = ((grind (arith, nat_tests)), grind (arith, nat_tests))
-
-from-tests : (a b c : ℕ) → a ≤ c → c ≤ b → (nat_le a c && nat_le c b) ≡ true
-from-tests a b c l h = grind (arith, nat_tests)
-
 pub ranges-in : (rs : List (ℕ × ℕ)) (c : ℕ) → IsTrue (in_ranges rs c) → (p : ℕ × ℕ) × Contains rs p × LiesIn c p
 ranges-in rs c h =
     let P : ℕ × ℕ → Type 0 = λ p. (nat_le p.0 c && nat_le c p.1) ≡ true in
     let a = contained P rs (Any-from_list_any (λ p. nat_le p.0 c && nat_le c p.1) rs h) in
-    (a.0, a.1, in-tests a.0.0 a.0.1 c a.2)
+    (a.0, a.1, within-from_tests a.0.0 a.0.1 c a.2)
 
 pub ranges-out : (rs : List (ℕ × ℕ)) (c : ℕ) (p : ℕ × ℕ) → Contains rs p → LiesIn c p → IsTrue (in_ranges rs c)
 ranges-out rs c p i l =
     let P : ℕ × ℕ → Type 0 = λ p. (nat_le p.0 c && nat_le c p.1) ≡ true in
-    list_any-from_Any (λ p. nat_le p.0 c && nat_le c p.1) rs (Any-contains P rs p i (from-tests p.0 p.1 c l.0 l.1))
+    list_any-from_Any (λ p. nat_le p.0 c && nat_le c p.1) rs (Any-contains P rs p i (within-tests p.0 p.1 c l.0 l.1))
 
 module _ (edges : List Edge) (list : List ℕ) where
   -- the edges that leave one of the states
@@ -53,7 +46,7 @@ module _ (edges : List Edge) (list : List ℕ) where
 
   pub from-some-out : (e : Edge) → Contains edges e → Contains list e.from → Contains edges_from_some e
   from-some-out e i s =
-      let g = contains-get edges e i in
+      let g = Contains-slice_get edges e i in
       pick-out edges (places_from_some edges list) g.0 e
       (flat_map-out (λ s. places from_of s edges) list e.from g.0 s ((places-exact from_of e.from edges g.0).1 (e, g.1, refl))) g.1
 
@@ -63,7 +56,7 @@ module _ (edges : List Edge) (list : List ℕ) where
       λ a.
           let s = contained (RangeLeads c t) (flat_map legs_of edges_from_some) a in
           let e = flat_map-in legs_of edges_from_some s.0 s.1 in
-          let p = map-in (leg e.0.to) e.0.on s.0 e.2 in
+          let p = Contains-from_map (leg e.0.to) e.0.on s.0 e.2 in
           let l = subst (RangeLeads c t) (sym p.2) s.2 in
           let f = from-some-in e.0 e.1 in
           Any-contains (λ s. StepsBy edges s c [] t) list e.0.from f.1
@@ -74,20 +67,20 @@ module _ (edges : List Edge) (list : List ℕ) where
           let p = ranges-in e.0.on c e.2.1.0 in
           let i = from-some-out e.0 e.1 (subst (Contains list) (sym e.2.0) s.1) in
           Any-contains (RangeLeads c t) (flat_map legs_of edges_from_some) (leg e.0.to p.0)
-          (flat_map-out legs_of edges_from_some e.0 (leg e.0.to p.0) i (map-out (leg e.0.to) e.0.on p.0 p.1)) (p.2.0, p.2.1, e.2.1.2),
+          (flat_map-out legs_of edges_from_some e.0 (leg e.0.to p.0) i (Contains-map (leg e.0.to) e.0.on p.0 p.1)) (p.2.0, p.2.1, e.2.1.2),
     );
   }
 
 pub apart-inside : (low : ℕ) (ps : List (ℕ × ℕ)) (p : ℕ × ℕ) → IsApartFrom low ps → Contains ps p → (p.0 ≤ p.1) × (p.1 ≤ greatest_character)
-apart-inside low [] p h i = absurd (nothing p i)
-apart-inside low (q ∷ qs) p h i = elim (contains-cases q qs p i) [
+apart-inside low [] p h i = absurd (Contains-none p i)
+apart-inside low (q ∷ qs) p h i = elim (Contains-cases q qs p i) [
   | inl e ↦ subst (λ (r : ℕ × ℕ). (r.0 ≤ r.1) × (r.1 ≤ greatest_character)) e (h.1, h.2)
   | inr j ↦ apart-inside (q.1 + 2) qs p h.3 j
 ]
 
 -- the ranges of an edge have characters
 pub legs-ranges : (e : Edge) → IsApartFrom 0 e.on → (s : EdgeRange) → Contains (legs_of e) s → IsRange s
-legs-ranges e apart s i = let p = map-in (leg e.to) e.on s i in subst IsRange p.2 (apart-inside 0 e.on p.0 apart p.1)
+legs-ranges e apart s i = let p = Contains-from_map (leg e.to) e.on s i in subst IsRange p.2 (apart-inside 0 e.on p.0 apart p.1)
 
 -- without registers nothing costs anything
 pub edges-free : (states : ℕ) (edges : List Edge) (ends : List End) → AreEdgesAndEnds states 0 edges ends → (e : Edge) → Contains edges e → e.cost ≡ []
@@ -118,5 +111,5 @@ ends-found ends free s p h =
 pub ends-none : (ends : List End) (s : ℕ) → places at_of s ends ≡ [] → EndsAt ends s [] → ⊥
 ends-none ends s e a =
     let k = contained (λ e. (e.at ≡ s) × (e.cost ≡ [])) ends a in
-    let g = contains-get ends k.0 k.1 in
-    nothing g.0 (subst (λ l. Contains l g.0) e ((places-exact at_of s ends g.0).1 (k.0, g.1, k.2.0)))
+    let g = Contains-slice_get ends k.0 k.1 in
+    Contains-none g.0 (subst (λ l. Contains l g.0) e ((places-exact at_of s ends g.0).1 (k.0, g.1, k.2.0)))

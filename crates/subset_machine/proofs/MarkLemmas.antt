@@ -8,11 +8,11 @@ use Rattle.std.specs.List.Sorted.{IsPermutation, IsNonDecreasingBy, IsSorted, Is
 use Rattle.std.specs.Ordering.{nat_cmp, ordering_then, is_lt}
 use Rattle.std.specs.declared.cmp.Ordering.{Ordering}
 use Rattle.std.specs.declared.cmp.Ordering.TheVariants.{Less, Equal, Greater}
+use Rattle.sv_list.specs.Lists.{Contains-none}
 use Rattle.sv_word.specs.Ranges.{in_ranges}
 use Rattle.sv_word.specs.Words.{greatest_character}
 use Rattle.subset_machine.specs.declared.leaving.EdgeRange.{EdgeRange}
 use Rattle.subset_machine.specs.Legs.{IsRange, AreBorders, AreUniformIntervals}
-use Rattle.subset_machine.proofs.AscendingLemmas.{nothing}
 use Rattle.subset_machine.proofs.LeavingLemmas.{ranges-in, ranges-out}
 
 -- the order of pairs
@@ -35,7 +35,7 @@ pub record AreListed (legs : List EdgeRange) (borders : List ℕ) : Type 0 where
   pub top : (b : ℕ) → Contains borders b → b ≤ greatest_character + 1
 
 pub listed-none : AreListed [] []
-listed-none = record { begins = λ s i. absurd (nothing s i); stops = λ s i. absurd (nothing s i); top = λ b i. absurd (nothing b i) }
+listed-none = record { begins = λ s i. absurd (Contains-none s i); stops = λ s i. absurd (Contains-none s i); top = λ b i. absurd (Contains-none b i) }
 
 pub listed-more : (before grown : List EdgeRange) (s : EdgeRange) (old mid new : List ℕ) → grown ≡ before ++ s ∷ [] → IsRange s → mid ≡ old ++ s.low ∷ [] → new ≡ mid ++ (s.high + 1) ∷ []
     → AreListed before old → AreListed grown new
@@ -91,9 +91,9 @@ pub record IsCutting (borders : List ℕ) (at from : ℕ) (marks : List (ℕ × 
 pub cutting-start : (borders : List ℕ) (order : IsNonDecreasingBy (λ (m : ℕ × ℕ). m.0) []) → IsCutting borders 0 0 []
 cutting-start borders order = record {
   order = order;
-  inside = λ m i. absurd (nothing m i);
+  inside = λ m i. absurd (Contains-none m i);
   covering = λ c lt. absurd (omega arith);
-  uncut = λ m i. absurd (nothing m i);
+  uncut = λ m i. absurd (Contains-none m i);
   passed = λ k d lt l. absurd (omega arith);
   top = omega arith;
 }

@@ -2,10 +2,9 @@
 use Rattle.std.proofs.Common.{◌≡◌, ℕ, zero, suc, ◌+◌, inl, inr, ◌↔◌, nat_eq, cond, Bool, true, false, Option, Some, None, List, [], ◌∷◌, slice_get, Contains, refl, sym, ap, ◌∙◌, subst, arith}
 use Rattle.std.specs.List.{flat_map, cons_option}
 use Rattle.std.proofs.lemmas.Bool.Decides.{nat_tests}
-use Rattle.std.proofs.Common.{map}
 use Rattle.machine_core.specs.Places.{places_from, places, pick}
-use Rattle.subset_machine.proofs.AscendingLemmas.{nothing, contains-cases, contains-join}
-use Rattle.machine_core.specs.Lists.{Contains-here, Contains-there}
+use Rattle.subset_machine.proofs.AscendingLemmas.{contains-join}
+use Rattle.sv_list.specs.Lists.{Contains-here, Contains-there, Contains-none, Contains-cases}
 use Rattle.std.proofs.lemmas.List.Elements.{Contains-append_left, Contains-append_right, Contains-append_cases}
 
 -- an element stands at a place, with a key
@@ -14,7 +13,7 @@ IsKeyed {X} key s xs p = (x : X) × (slice_get xs p ≡ Some x) × (key x ≡ s)
 
 module _ {X : Type 0} (key : X → ℕ) (s : ℕ) where
   places-in : (k : ℕ) (xs : List X) (p : ℕ) → Contains (places_from key s k xs) p → (i : ℕ) × (p ≡ k + i) × IsKeyed key s xs i
-  places-in k [] p h = absurd (nothing p h)
+  places-in k [] p h = absurd (Contains-none p h)
   places-in k (x ∷ xs) p h = by_test (places-in (suc k) xs p) (nat_eq (key x) s) refl h
     where
       shifted : (i : ℕ) × (p ≡ suc k + i) × IsKeyed key s xs i → (i : ℕ) × (p ≡ k + i) × IsKeyed key s (x ∷ xs) i
@@ -22,7 +21,7 @@ module _ {X : Type 0} (key : X → ℕ) (s : ℕ) where
 
       by_test : (Contains (places_from key s (suc k) xs) p → (i : ℕ) × (p ≡ suc k + i) × IsKeyed key s xs i) → (b : Bool) → nat_eq (key x) s ≡ b → Contains (cond b (k ∷ places_from key s (suc k) xs) (places_from key s (suc k) xs)) p
           → (i : ℕ) × (p ≡ k + i) × IsKeyed key s (x ∷ xs) i
-      by_test later true e h = elim (contains-cases k (places_from key s (suc k) xs) p h) [
+      by_test later true e h = elim (Contains-cases k (places_from key s (suc k) xs) p h) [
         | inl same ↦ (0, omega arith, (x, refl, grind (arith, nat_tests)))
         | inr i ↦ shifted (later i)
       ]
@@ -52,30 +51,23 @@ module _ {X : Type 0} (key : X → ℕ) (s : ℕ) where
     λ h. let at : 0 + p ≡ p = omega arith in subst (Contains (places key s xs)) at (places-out 0 xs p h),
   )
 
-pub contains-get : {X : Type 0} (xs : List X) (x : X) → Contains xs x → (i : ℕ) × (slice_get xs i ≡ Some x)
-contains-get [] x h = absurd (nothing x h)
-contains-get (y ∷ ys) x h = elim (contains-cases y ys x h) [
-  | inl e ↦ (0, ap Some e)
-  | inr i ↦ let r = contains-get ys x i in (suc r.0, r.1)
-]
-
 -- what stands at the places
 module _ {X : Type 0} (xs : List X) where
   pub pick-in : (ps : List ℕ) (x : X) → Contains (pick xs ps) x → (p : ℕ) × Contains ps p × (slice_get xs p ≡ Some x)
-  pick-in [] x h = absurd (nothing x h)
+  pick-in [] x h = absurd (Contains-none x h)
   pick-in (p ∷ ps) x h = by_get (λ i. let r = pick-in ps x i in (r.0, Contains-there p ps r.0 r.1, r.2)) (slice_get xs p) refl h
     where
       by_get : (Contains (pick xs ps) x → (q : ℕ) × Contains (p ∷ ps) q × (slice_get xs q ≡ Some x)) → (o : Option X) → slice_get xs p ≡ o
           → Contains (cons_option o (pick xs ps)) x → (q : ℕ) × Contains (p ∷ ps) q × (slice_get xs q ≡ Some x)
       by_get later None e h = later h
-      by_get later (Some y) e h = elim (contains-cases y (pick xs ps) x h) [
+      by_get later (Some y) e h = elim (Contains-cases y (pick xs ps) x h) [
         | inl same ↦ (p, Contains-here p ps, e ∙ ap Some same)
         | inr i ↦ later i
       ]
 
   pub pick-out : (ps : List ℕ) (p : ℕ) (x : X) → Contains ps p → slice_get xs p ≡ Some x → Contains (pick xs ps) x
-  pick-out [] p x h e = absurd (nothing p h)
-  pick-out (q ∷ ps) p x h e = elim (contains-cases q ps p h) [
+  pick-out [] p x h e = absurd (Contains-none p h)
+  pick-out (q ∷ ps) p x h e = elim (Contains-cases q ps p h) [
     | inl same ↦ by_here (slice_get xs q) (ap (slice_get xs) same ∙ e)
     | inr i ↦ by_later (slice_get xs q) (pick-out ps p x i e)
   ]
@@ -91,30 +83,15 @@ module _ {X : Type 0} (xs : List X) where
 -- an element of lists joined is one of some of them
 module _ {X Y : Type 0} (f : X → List Y) where
   pub flat_map-in : (xs : List X) (y : Y) → Contains (flat_map f xs) y → (x : X) × Contains xs x × Contains (f x) y
-  flat_map-in [] y h = absurd (nothing y h)
+  flat_map-in [] y h = absurd (Contains-none y h)
   flat_map-in (x ∷ xs) y h = elim (Contains-append_cases (f x) (flat_map f xs) y h) [
     | inl i ↦ (x, Contains-here x xs, i)
     | inr i ↦ let r = flat_map-in xs y i in (r.0, Contains-there x xs r.0 r.1, r.2)
   ]
 
   pub flat_map-out : (xs : List X) (x : X) (y : Y) → Contains xs x → Contains (f x) y → Contains (flat_map f xs) y
-  flat_map-out [] x y h i = absurd (nothing x h)
-  flat_map-out (z ∷ zs) x y h i = elim (contains-cases z zs x h) [
+  flat_map-out [] x y h i = absurd (Contains-none x h)
+  flat_map-out (z ∷ zs) x y h i = elim (Contains-cases z zs x h) [
     | inl e ↦ Contains-append_left (f z) (flat_map f zs) y (subst (λ w. Contains (f w) y) (sym e) i)
     | inr j ↦ Contains-append_right (f z) (flat_map f zs) y (flat_map-out zs x y j i)
-  ]
-
-module _ {X Y : Type 0} (f : X → Y) where
-  pub map-in : (xs : List X) (y : Y) → Contains (map f xs) y → (x : X) × Contains xs x × (f x ≡ y)
-  map-in [] y h = absurd (nothing y h)
-  map-in (x ∷ xs) y h = elim (contains-cases (f x) (map f xs) y h) [
-    | inl e ↦ (x, Contains-here x xs, e)
-    | inr i ↦ let r = map-in xs y i in (r.0, Contains-there x xs r.0 r.1, r.2)
-  ]
-
-  pub map-out : (xs : List X) (x : X) → Contains xs x → Contains (map f xs) (f x)
-  map-out [] x h = absurd (nothing x h)
-  map-out (z ∷ zs) x h = elim (contains-cases z zs x h) [
-    | inl e ↦ contains-join (f z) (map f zs) (f x) (inl (ap f e))
-    | inr i ↦ Contains-there (f z) (map f zs) (f x) (map-out zs x i)
   ]

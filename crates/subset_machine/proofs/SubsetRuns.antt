@@ -4,7 +4,7 @@ use Rattle.std.specs.List.{flat_map}
 use Rattle.std.proofs.lemmas.Bool.Decides.{nat_tests}
 use Rattle.sv_word.specs.Words.{IsWord, greatest_character}
 use Rattle.machine_core.specs.Costs.{add_costs}
-use Rattle.machine_core.specs.Lists.{Any-here, Any-there, Any-cases, Any-none, Any-contains, Contains-here, contained}
+use Rattle.sv_list.specs.Lists.{Any-here, Any-there, Any-cases, Any-none, Any-contains, Contains-here, contained, Contains-none}
 use Rattle.machine_core.specs.Language.{RunsFrom}
 use Rattle.machine_core.specs.declared.edge.Edge.{Edge}
 use Rattle.machine_core.specs.declared.end.End.{End}
@@ -21,12 +21,12 @@ use Rattle.subset_machine.specs.declared.leaving.EdgeRange.{EdgeRange}
 use Rattle.subset_machine.specs.Legs.{RangeLeads, AreLeaving, AreUniformIntervals, AreHits, places_from_some, legs_of}
 use Rattle.subset_machine.specs.Subsets.{ListsAll, StepsFromSome, EndsInSome, MayEnd, SubsetEnds, SubsetSteps, SubsetAccepts, HasSignedWord}
 use Rattle.subset_machine.specs.Groups.{lists_cmp, AreGroups, AreIntervals, MovesUnder}
-use Rattle.subset_machine.proofs.AscendingLemmas.{nothing, lists-same, lists-weaker, Rises, rises-increasing, inserted}
+use Rattle.subset_machine.proofs.AscendingLemmas.{lists-same, lists-weaker, Rises, rises-increasing, inserted}
 use Rattle.subset_machine.proofs.LeavingLemmas.{ranges-in, ranges-out, edges_from_some, leaving-made, edges-free, ends-free}
 
 -- ranges lead to a list of states on each character
 reached : (c : ℕ) (legs : List EdgeRange) → (next : List ℕ) × Rises 0 next × ((t : ℕ) → Contains next t ↔ Any (RangeLeads c t) legs)
-reached c [] = ([], tt, λ t. (λ i. absurd (nothing t i), λ a. absurd (Any-none (RangeLeads c t) a)))
+reached c [] = ([], tt, λ t. (λ i. absurd (Contains-none t i), λ a. absurd (Any-none (RangeLeads c t) a)))
 reached c (s ∷ ss) = by_test (reached c ss) (nat_le s.low c && nat_le c s.high) refl
   where
     inside : (a b c : ℕ) → (nat_le a c && nat_le c b) ≡ true → (a ≤ c) × (c ≤ b)
@@ -270,7 +270,3 @@ ends-none-of negated told ends list costs says same e cost = (
 pub some-in : {X : Type 0} (xs : List X) → nat_eq (length xs) 0 ≡ false → (x : X) × Contains xs x
 some-in [] e = cc
 some-in (x ∷ xs) e = (x, Contains-here x xs)
-
-pub none-in : {X : Type 0} (xs : List X) → nat_eq (length xs) 0 ≡ true → xs ≡ []
-none-in [] e = refl
-none-in (x ∷ xs) e = absurd (grind (arith, nat_tests))

@@ -6,7 +6,7 @@ use Rattle.std.proofs.Common.{arith, refl, ap, subst, inl, inr}
 use Rattle.std.proofs.lemmas.Map.Keys.{sorted_from_strictly_increasing, sorted_tail, IsStrictlyIncreasing-from_sorted}
 use Rattle.std.proofs.lemmas.List.Kept.{AllPairs-from_increasing}
 use Rattle.machine_core.specs.Counts.{AreAtMost, at_most-weaker, at_most-one, at_most-made, at_most-either}
-use Rattle.machine_core.specs.Lists.{Contains-here, Contains-there}
+use Rattle.sv_list.specs.Lists.{Contains-here, Contains-there}
 use Rattle.subset_machine.specs.Subsets.{IsStateSet}
 
 pub tail-increasing : (x : ℕ) (xs : List ℕ) → IsStrictlyIncreasing (x ∷ xs) → IsStrictlyIncreasing xs

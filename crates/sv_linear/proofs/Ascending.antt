@@ -7,6 +7,7 @@ use Rattle.std.proofs.lemmas.Int.{ints}
 use Rattle.std.proofs.lemmas.Bool.Decides.{nat_tests}
 use Rattle.std.proofs.lemmas.Bool.{cases_lt}
 use Rattle.sv_linear.specs.Terms.{terms_value, coefficient, AscendsWithin}
+use Rattle.sv_linear.specs.TermLaws.{below_low, met}
 
 pub terms_value-append : (x : ℕ → ℤ) (xs ys : List (ℕ × ℤ)) → terms_value x (xs ++ ys) ≡ terms_value x xs +ℤ terms_value x ys
 terms_value-append x [] ys = omega (arith, ints)
@@ -25,16 +26,9 @@ pub ends_above : (low high : ℕ) (xs : List (ℕ × ℤ)) → AscendsWithin low
 ends_above low high [] p = p
 ends_above low high (t ∷ ts) p = let rest = ends_above (t.0 + 1) high ts p.1.1 in let first = p.0 in omega arith
 
-absent_step : (u : ℕ) (t : ℕ × ℤ) (ts : List (ℕ × ℤ)) (b : Bool) → b ≡ false → coefficient u ts ≡ pos 0 → cond b t.1 (pos 0) +ℤ coefficient u ts ≡ pos 0
+pub absent_step : (u : ℕ) (t : ℕ × ℤ) (ts : List (ℕ × ℤ)) (b : Bool) → b ≡ false → coefficient u ts ≡ pos 0 → cond b t.1 (pos 0) +ℤ coefficient u ts ≡ pos 0
 absent_step u t ts true e h = absurd (cc)
 absent_step u t ts false e h = omega (arith, ints)
-
-pub coefficient-below : (low high u : ℕ) (ts : List (ℕ × ℤ)) → AscendsWithin low high ts → u < low → coefficient u ts ≡ pos 0
-coefficient-below low high u [] b h = refl
-coefficient-below low high u (t ∷ ts) b h =
-    let first = b.0 in
-    let other : eqb t.0 u ≡ false = grind (arith, nat_tests) in
-    absent_step u t ts (eqb t.0 u) other (coefficient-below (t.0 + 1) high u ts b.1.1 (omega arith))
 
 pub coefficient-absent : (u : ℕ) (ts : List (ℕ × ℤ)) → ((k : ℕ) → k < length ts → (get_or ts k (0, pos 0)).0 ≢ u) → coefficient u ts ≡ pos 0
 coefficient-absent u [] h = refl
@@ -43,17 +37,13 @@ coefficient-absent u (t ∷ ts) h =
     let other : eqb t.0 u ≡ false = grind (arith, nat_tests) in
     absent_step u t ts (eqb t.0 u) other (coefficient-absent u ts (λ k p. h (suc k) (omega arith)))
 
-here_step : (u : ℕ) (t : ℕ × ℤ) (ts : List (ℕ × ℤ)) (b : Bool) → b ≡ true → coefficient u ts ≡ pos 0 → cond b t.1 (pos 0) +ℤ coefficient u ts ≡ t.1
-here_step u t ts true e h = omega (arith, ints)
-here_step u t ts false e h = absurd (cc)
-
 -- the coefficient at the unknown of a place is the one that stands there
 pub coefficient-at : (low high : ℕ) (xs : List (ℕ × ℤ)) (i : ℕ) → AscendsWithin low high xs → i < length xs →
     (low ≤ (get_or xs i (0, pos 0)).0) × (coefficient (get_or xs i (0, pos 0)).0 xs ≡ (get_or xs i (0, pos 0)).1)
 coefficient-at low high [] i b p = absurd (omega arith)
 coefficient-at low high (t ∷ ts) zero b p =
     let same : eqb t.0 t.0 ≡ true = grind (arith, nat_tests) in
-    (b.0, here_step t.0 t ts (eqb t.0 t.0) same (coefficient-below (t.0 + 1) high t.0 ts b.1.1 (omega arith)))
+    (b.0, met t.0 t ts (eqb t.0 t.0) same (below_low (t.0 + 1) high t.0 ts b.1.1 (omega arith)))
 coefficient-at low high (t ∷ ts) (suc i) b p =
     let rest = coefficient-at (t.0 + 1) high ts i b.1.1 (omega arith) in
     let first = b.0 in

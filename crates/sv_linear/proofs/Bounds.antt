@@ -1,5 +1,5 @@
 -- Which sums and products are numbers of 128 bits.
-use Rattle.std.proofs.Common.{◌≡◌, ◌-◌, ◌^◌, ◌<◌, ℤ, pos, negsuc, ◌+ℤ◌, ◌*ℤ◌, ◌≤ℤ◌, FitsSigned, unsigned_abs, ap, ◌∙◌, arith}
+use Rattle.std.proofs.Common.{◌≡◌, ◌-◌, ◌^◌, ◌<◌, ℤ, pos, negsuc, ◌*ℤ◌, ◌≤ℤ◌, FitsSigned, unsigned_abs, ap, ◌∙◌, arith}
 use Rattle.std.specs.Int.{w128}
 use Rattle.std.proofs.lemmas.Int.{ints, fits_signed_from_abs}
 use Rattle.sv_linear.specs.Combining.{IsSymmetric, FitsSymmetric, IsFrom, FitsFrom}
@@ -15,20 +15,6 @@ zeros_fit least p a q b h ea eb =
     let m : p *ℤ a ≡ pos 0 = ap (λ w. p *ℤ w) ea ∙ omega (arith, ints) in
     let n : q *ℤ b ≡ pos 0 = ap (λ w. q *ℤ w) eb ∙ omega (arith, ints) in
     (zero_from least p a h ea, (zero_from least q b h eb, (omega (arith, ints), omega (arith, ints))))
-
-pub sum_from_fits : (least a b : ℤ) → FitsFrom least (pos 1) a (pos 1) b → FitsSigned w128 (a +ℤ b)
-sum_from_fits least a b f = let g = f.1.1.1 in omega (arith, ints)
-
-pub fits_from_sum : (least a b : ℤ) → least ≡ negsuc (2 ^ 127 - 1) → FitsSigned w128 a → FitsSigned w128 b → FitsSigned w128 (a +ℤ b) → FitsFrom least (pos 1) a (pos 1) b
-fits_from_sum least a b e fa fb f = ((omega (arith, ints), omega (arith, ints)), ((omega (arith, ints), omega (arith, ints)), (omega (arith, ints), omega (arith, ints))))
-
-pub product_from_fits : (least by a : ℤ) → FitsFrom least by a (pos 0) (pos 0) → FitsSigned w128 (a *ℤ by)
-product_from_fits least by a f = let g = f.0.1 in let e : a *ℤ by ≡ by *ℤ a = omega (arith, ints) in omega (arith, ints)
-
-pub fits_from_product : (least by a : ℤ) → least ≡ negsuc (2 ^ 127 - 1) → FitsSigned w128 (a *ℤ by) → FitsFrom least by a (pos 0) (pos 0)
-fits_from_product least by a e f =
-    let g : a *ℤ by ≡ by *ℤ a = omega (arith, ints) in
-    ((omega (arith, ints), omega (arith, ints)), ((omega (arith, ints), omega (arith, ints)), (omega (arith, ints), omega (arith, ints))))
 
 symmetric_of : (least z : ℤ) → least ≡ negsuc (2 ^ 127 - 2) → IsFrom least z → IsSymmetric z
 symmetric_of least z e f = let g = f.0 in let h = f.1 in omega (arith, ints)

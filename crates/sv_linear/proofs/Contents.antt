@@ -9,6 +9,7 @@ use Rattle.std.proofs.Math.Nat.{mul-le-mul_left, mul-dvd-mul_left, eq-zero_of_ze
 use Rattle.std.proofs.lemmas.Grind.{common_steps}
 use Rattle.std.proofs.lemmas.List.{take_more}
 use Rattle.std.proofs.lemmas.List.Elements.{All-nil, All-cons, All-head, All-tail, All-push, All-weaker}
+use Rattle.sv_list.specs.Lists.{All-last}
 use Rattle.sv_linear.specs.Divisors.{IsContent}
 use Rattle.sv_linear.specs.Integers.{mul-add, mul-neg, mul_assoc}
 use Rattle.sv_linear.specs.Quotients.{quotient, divided_term}
@@ -18,10 +19,6 @@ front_of : (P : ℕ × ℤ → Type 0) (xs : List (ℕ × ℤ)) (y : ℕ × ℤ)
 front_of P [] y h = All-nil P
 front_of P (x ∷ xs) y h = All-cons P x xs (All-head P x (xs ++ y ∷ []) h) (front_of P xs y (All-tail P x (xs ++ y ∷ []) h))
 
-last_of : (P : ℕ × ℤ → Type 0) (xs : List (ℕ × ℤ)) (y : ℕ × ℤ) → All P (xs ++ y ∷ []) → P y
-last_of P [] y h = All-head P y [] h
-last_of P (x ∷ xs) y h = last_of P xs y (All-tail P x (xs ++ y ∷ []) h)
-
 content-push : (z : ℤ) (terms : List (ℕ × ℤ)) (t : ℕ × ℤ) (g h : ℕ) → IsContent z terms g → IsGcd g (unsigned_abs t.1) h → IsContent z (terms ++ t ∷ []) h
 content-push z terms t g h c e = record {
   divides = record {
@@ -30,7 +27,7 @@ content-push z terms t g h c e = record {
   };
   greatest = λ d a. e.2 d
       (c.greatest d (record { of_constant = a.of_constant; of_terms = front_of (λ s. d ∣ unsigned_abs s.1) terms t a.of_terms }))
-      (last_of (λ s. d ∣ unsigned_abs s.1) terms t a.of_terms);
+      (All-last (λ s. d ∣ unsigned_abs s.1) terms t a.of_terms);
 }
 
 pub content-more : (z : ℤ) (terms : List (ℕ × ℤ)) (i : ℕ) (d : ℕ × ℤ) (g h : ℕ) → i < length terms → IsContent z (take i terms) g → IsGcd g (unsigned_abs (get_or terms i d).1) h → IsContent z (take (i + 1) terms) h

@@ -6,9 +6,10 @@ use Rattle.std.proofs.lemmas.Bool.Decides.{nat_tests}
 use Rattle.sv_linear.specs.Terms.{terms_value, coefficient, AscendsWithin}
 use Rattle.sv_linear.specs.Meeting.{least_unknown, front_coefficient, behind}
 use Rattle.sv_linear.specs.Combining.{FitsFrom}
-use Rattle.sv_linear.proofs.Ascending.{terms_value-append, AscendsWithin-append, AscendsWithin-widen, ends_above, coefficient-below}
+use Rattle.sv_linear.proofs.Ascending.{terms_value-append, AscendsWithin-append, AscendsWithin-widen, ends_above}
 use Rattle.sv_linear.proofs.Bounds.{zeros_fit}
 use Rattle.sv_linear.proofs.Homogeneous.{merge_value}
+use Rattle.sv_linear.specs.TermLaws.{below_low}
 
 -- a list from the unknown u on: what stands at u, and what stands behind
 pub record IsSplit (u : ℕ) (ts : List (ℕ × ℤ)) : Type 0 where
@@ -26,7 +27,7 @@ split_step : (u : ℕ) (t : ℕ × ℤ) (ts : List (ℕ × ℤ)) (b : Bool) → 
 split_step u t ts true e a =
     let same : t.0 ≡ u = grind (arith, nat_tests) in
     let from : AscendsWithin (u + 1) (2 ^ 32) ts = subst (λ n. AscendsWithin (n + 1) (2 ^ 32) ts) same a.1.1 in
-    let none : coefficient u ts ≡ pos 0 = coefficient-below (u + 1) (2 ^ 32) u ts from (omega arith) in
+    let none : coefficient u ts ≡ pos 0 = below_low (u + 1) (2 ^ 32) u ts from (omega arith) in
     record {
       rest = from;
       here = omega (arith, ints);
@@ -42,7 +43,7 @@ split_step u t ts false e a =
     let apart : u < t.0 = grind (arith, nat_tests) in
     record {
       rest = (omega arith, a.1);
-      here = let none : coefficient u ts ≡ pos 0 = coefficient-below (t.0 + 1) (2 ^ 32) u ts a.1.1 (omega arith) in omega (arith, ints);
+      here = let none : coefficient u ts ≡ pos 0 = below_low (t.0 + 1) (2 ^ 32) u ts a.1.1 (omega arith) in omega (arith, ints);
       later = λ v h. refl;
       value = λ x. omega (arith, ints);
     }
@@ -115,18 +116,6 @@ pub record IsMerging (least p : ℤ) (a : List (ℕ × ℤ)) (q : ℤ) (b out le
   pub fits : (u : ℕ) → u < low → FitsFrom least p (coefficient u a) q (coefficient u b)
   pub value : (x : ℕ → ℤ) → terms_value x out +ℤ (p *ℤ terms_value x left +ℤ q *ℤ terms_value x right) ≡ p *ℤ terms_value x a +ℤ q *ℤ terms_value x b
 
-pub merging-none : (least p : ℤ) (a : List (ℕ × ℤ)) (q : ℤ) (b : List (ℕ × ℤ)) → AscendsWithin 0 (2 ^ 32) a → AscendsWithin 0 (2 ^ 32) b → IsMerging least p a q b [] a b
-merging-none least p a q b h k = record {
-  low = 0;
-  done = omega arith;
-  rest_a = h;
-  rest_b = k;
-  same_a = λ u l. refl;
-  same_b = λ u l. refl;
-  fits = λ u l. absurd (omega arith);
-  value = λ x. omega (arith, ints);
-}
-
 module _ (least p : ℤ) (a : List (ℕ × ℤ)) (q : ℤ) (b out left right : List (ℕ × ℤ)) (u : ℕ) (neg : least ≤ℤ pos 0) (m : IsMerging least p a q b out left right) (is : least_unknown left right ≡ Some u) where
   next : IsLeast m.low u left right
   next = least_of m.low u left right is m.rest_a m.rest_b
@@ -142,8 +131,8 @@ module _ (least p : ℤ) (a : List (ℕ × ℤ)) (q : ℤ) (b out left right : L
   fits_below v h =
       ⊎_elim (m.fits v)
       (λ l. zeros_fit least p (coefficient v a) q (coefficient v b) neg
-      (m.same_a v l ∙ coefficient-below u (2 ^ 32) v left next.from_left h)
-      (m.same_b v l ∙ coefficient-below u (2 ^ 32) v right next.from_right h))
+      (m.same_a v l ∙ below_low u (2 ^ 32) v left next.from_left h)
+      (m.same_b v l ∙ below_low u (2 ^ 32) v right next.from_right h))
       (cases_lt v m.low)
 
   -- the refusal of the sum there is the first

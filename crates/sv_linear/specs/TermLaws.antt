@@ -1,8 +1,9 @@
 -- Terms one by one: the coefficient that a term gives, and sums of their values.
-use Rattle.std.proofs.Common.{◌≡◌, ◌≢◌, ℕ, zero, suc, ◌+◌, ◌<◌, ◌≤◌, ℤ, pos, ◌+ℤ◌, ◌*ℤ◌, ◌≤ℤ◌, List, [], ◌∷◌, slice_get, Some, unsigned_abs, Bool, true, false, cond, eqb, ◌⊎◌, inl, inr, refl, ap, ◌∙◌, subst, arith}
+use Rattle.std.proofs.Common.{◌≡◌, ◌≢◌, ℕ, zero, suc, ◌+◌, ◌*◌, ◌<◌, ◌≤◌, ℤ, pos, ◌+ℤ◌, ◌*ℤ◌, ◌≤ℤ◌, List, [], ◌∷◌, ◌++◌, slice_get, Some, unsigned_abs, Bool, true, false, cond, eqb, ◌⊎◌, inl, inr, refl, ap, ◌∙◌, subst, arith, mul-le-mul_left}
 use Rattle.std.proofs.lemmas.Int.{ints}
 use Rattle.std.proofs.lemmas.Bool.Decides.{nat_tests, eqb_tells}
 use Rattle.sv_linear.specs.Integers.{mul-add, add-mul, times_zero}
+use Rattle.sv_linear.specs.Rows.{terms_weight}
 use Rattle.sv_linear.specs.Terms.{coefficient, terms_value, AscendsWithin}
 
 pub passed : (u : ℕ) (t : ℕ × ℤ) (ts : List (ℕ × ℤ)) (b : Bool) → b ≡ false → cond b t.1 (pos 0) +ℤ coefficient u ts ≡ coefficient u ts
@@ -78,3 +79,20 @@ pub signs : (x : ℕ → ℤ) (c : ℤ) (ts : List (ℕ × ℤ)) → EachTerm (�
 signs x c [] h = omega (arith, ints)
 signs x c (t ∷ ts) h =
     omega (arith, ints, h zero t refl, signs x c ts (rest_of (λ s. pos 0 ≤ℤ (c *ℤ (s.1 *ℤ x s.0))) t ts h), mul-add c (t.1 *ℤ x t.0) (terms_value x ts))
+
+-- what stands behind
+pub coefficient-append : (u : ℕ) (xs ys : List (ℕ × ℤ)) → coefficient u (xs ++ ys) ≡ coefficient u xs +ℤ coefficient u ys
+coefficient-append u [] ys = omega (arith, ints)
+coefficient-append u (t ∷ ts) ys = omega (arith, ints, coefficient-append u ts ys)
+
+pub coefficient-push : (u : ℕ) (ts : List (ℕ × ℤ)) (t : ℕ × ℤ) → coefficient u (ts ++ t ∷ []) ≡ coefficient u ts +ℤ cond (eqb t.0 u) t.1 (pos 0)
+coefficient-push u [] t = omega (arith, ints)
+coefficient-push u (s ∷ ts) t = omega (arith, ints, coefficient-push u ts t)
+
+-- larger sides weigh more
+pub weight-less : (a b : ℕ → ℕ) → ((u : ℕ) → a u ≤ b u) → (ts : List (ℕ × ℤ)) → terms_weight a ts ≤ terms_weight b ts
+weight-less a b h [] = omega arith
+weight-less a b h (p ∷ ts) =
+    let m : unsigned_abs p.1 * a p.0 ≤ unsigned_abs p.1 * b p.0 = mul-le-mul_left (unsigned_abs p.1) (h p.0) in
+    let r = weight-less a b h ts in
+    omega arith

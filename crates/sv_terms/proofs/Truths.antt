@@ -4,6 +4,7 @@ use Rattle.std.specs.List.{list_all, list_any}
 use Rattle.std.specs.Map.{lookup}
 use Rattle.std.specs.Option.{option_map}
 use Rattle.std.specs.Cmp.Lexicographic.{pointwise}
+use Rattle.std.proofs.lemmas.Bool.{and_parts, or_cases}
 use mathlib.Core.Bool.{cond}
 use Rattle.sv_word.specs.Words.{IsWord}
 use Rattle.sv_terms.specs.declared.value.Value.{Value}
@@ -26,7 +27,7 @@ use Rattle.sv_terms.specs.Opened.{In-All}
 use Rattle.sv_terms.specs.Parts.{opaque_step, is_opaque}
 use Rattle.sv_terms.specs.Sorting.{is_of, valued_step, is_valued}
 use Rattle.sv_terms.specs.Truth.{clear_of, IsWorded, AreWorded, AreTrueAt, HasValues, HasNoValues}
-use Rattle.sv_terms.proofs.Matching.{and_both, or_one, matches-In}
+use Rattle.sv_terms.proofs.Matching.{matches-In}
 
 -- a term with an opaque part has no meaning
 all_later : (o : Option Value) (os : List (Option Value)) → all_of os ≡ None → all_of (o ∷ os) ≡ None
@@ -54,7 +55,7 @@ module _ (values : Named) where
   each_lost (y ∷ ys) h =
       ⊎_elim (λ k. ap (λ o. all_of (o ∷ map (val values) (parts ys))) (y.1 k))
       (λ k. all_later (val values y.0) (map (val values) (parts ys)) (each_lost ys k))
-      (or_one (is_opaque y.0) (list_any (λ b. b) (map is_opaque (parts ys))) h)
+      (or_cases (is_opaque y.0) (list_any (λ b. b) (map is_opaque (parts ys))) h)
 
   layer_lost : (y : Term-F Lost) → IsTrue (opaque_step (map-Term Term Bool is_opaque (map-Term Lost Term (λ e. e.0) y)))
       → val_step values (map-Term Term (Option Value) (val values) (map-Term Lost Term (λ e. e.0) y)) ≡ None
@@ -67,7 +68,7 @@ module _ (values : Named) where
   layer_lost (Term-F.Related t y z) h =
       ⊎_elim (λ k. ap (λ o. related t o (val values z.0)) (y.1 k))
       (λ k. ap (related t (val values y.0)) (z.1 k) ∙ related_none t (val values y.0))
-      (or_one (is_opaque y.0) (is_opaque z.0) h)
+      (or_cases (is_opaque y.0) (is_opaque z.0) h)
   layer_lost (Term-F.Opaque s) h = refl
 
   pub opaque-none : (t : Term) → IsTrue (is_opaque t) → val values t ≡ None
@@ -144,9 +145,9 @@ pub three-truths : (p q r : List ℕ) → HasNoValues (v.Apply op.Distinct (trut
 three-truths p q r values are =
     let t = v.Apply op.Distinct (truth_named p ∷ truth_named q ∷ truth_named r ∷ []) in
     let valued = sym (valued-Apply values op.Distinct (truth_named p ∷ truth_named q ∷ truth_named r ∷ [])) ∙ are.valued zero t (omega arith) in
-    let first = and_both (is_valued values (truth_named p)) _ valued in
-    let second = and_both (is_valued values (truth_named q)) _ first.1 in
-    let third = and_both (is_valued values (truth_named r)) _ second.1 in
+    let first = and_parts (is_valued values (truth_named p)) _ valued in
+    let second = and_parts (is_valued values (truth_named q)) _ first.1 in
+    let third = and_parts (is_valued values (truth_named r)) _ second.1 in
     let a = truth_of_sort (lookup (pointwise nat_eq p) values) (sym (valued-Constant values p sort.Bool) ∙ first.0) in
     let b = truth_of_sort (lookup (pointwise nat_eq q) values) (sym (valued-Constant values q sort.Bool) ∙ second.0) in
     let c = truth_of_sort (lookup (pointwise nat_eq r) values) (sym (valued-Constant values r sort.Bool) ∙ third.0) in
@@ -163,7 +164,7 @@ no-other-text x values are =
     let member = v.InRe (v.Constant x sort.String) regex.All in
     let t = v.Apply op.Not (member ∷ []) in
     let valued = sym (valued-Apply values op.Not (member ∷ [])) ∙ are.valued zero t (omega arith) in
-    let first = and_both (is_valued values member) _ valued in
+    let first = and_parts (is_valued values member) _ valued in
     let o = word_of_sort (lookup (pointwise nat_eq x) values) (sym (valued-Constant values x sort.String) ∙ sym (valued-InRe values (v.Constant x sort.String) regex.All) ∙ first.0) in
     let word : IsWord o.0 = worded-value x values (Text o.0) are.worded o.1 in
     let in_all : IsTrue (matches regex.All o.0) = (matches-In regex.All o.0).1 (subst (λ (T : Type 0). T) (sym (In-All o.0)) word) in

@@ -88,7 +88,7 @@ some-from_left f ok (y ∷ ys) = some-fold (size y.0) ys y.1
     some-fold n [] h = h
     some-fold n (y ∷ ys) h = some-fold (f n (size y.0)) ys (ok n (size y.0) h y.1)
 
-some-product : (n m : ℕ) → 1 ≤ n → 1 ≤ m → 1 ≤ n * m
+pub some-product : (n m : ℕ) → 1 ≤ n → 1 ≤ m → 1 ≤ n * m
 some-product n m p q = let both : 1 * 1 ≤ n * m = mul-le-mul p q in omega arith
 
 some-power : (n : ℕ) → 1 ≤ 2 ^ n

@@ -81,3 +81,9 @@ cut-power m n = elim (split-at m n) [
       let b = power-more m n (omega arith) in
       ap (λ k. min (2 ^ k) m) same ∙ cut-above m (2 ^ m) (omega arith) ∙ sym (cut-above m (2 ^ n) (omega arith))
 ]
+
+pub cut-sum : (a b : ℕ) → cut_off (cut_off a + cut_off b) ≡ cut_off (a + b)
+cut-sum a b = cut-add 18446744073709551615 a b
+
+pub cut-product : (a b : ℕ) → cut_off (cut_off a * cut_off b) ≡ cut_off (a * b)
+cut-product a b = cut-mul 18446744073709551615 a b (omega arith)

@@ -19,3 +19,4 @@ pub mod Transduction
 pub mod TransductionLaws
 pub mod Truth
 pub mod Written
+pub mod NamedLaws

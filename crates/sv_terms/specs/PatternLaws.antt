@@ -2,8 +2,9 @@
 use Rattle.std.proofs.Common.{◌≡◌, refl, ap, sym, ◌∙◌, subst, ℕ, zero, suc, ◌+◌, ◌-◌, ◌<◌, ◌≤◌, Bool, true, false, [], ◌∷◌, ◌++◌, length, take, drop, reverse, if◌then◌else◌, arith}
 use Rattle.std.proofs.lemmas.List.{append-nil, reverse-append, reverse-reverse, length-append, length-reverse, take-append-drop, drop-drop, length-drop}
 use Rattle.std.proofs.Math.Seq.{take-append_seam, drop-append_seam, drop-nil, take-nil}
+use Rattle.std.proofs.lemmas.Bool.{false_from_ne_true}
 use Rattle.sv_terms.specs.Language.{Word}
-use Rattle.sv_terms.specs.ReplacementLaws.{begins-of, begins-split, refuted, passed}
+use Rattle.sv_terms.specs.ReplacementLaws.{begins-of, begins-split, passed}
 use Rattle.sv_terms.specs.Replacement.{IsFirst, begins, occurs, replace_first, replace_from}
 
 pub starts-so : (p w : Word) → take (length p) w ≡ p → begins p w ≡ true
@@ -13,10 +14,10 @@ taken : (p w : Word) → begins p w ≡ true → take (length p) w ≡ p
 taken p w e = ap (take (length p)) (begins-split p w e) ∙ take-append_seam p (drop (length p) w)
 
 pub starts-not : (p w : Word) → (take (length p) w ≡ p → ⊥) → begins p w ≡ false
-starts-not p w n = refuted (begins p w) (λ e. n (taken p w e))
+starts-not p w n = false_from_ne_true (begins p w) (λ e. n (taken p w e))
 
 pub too-long : (p w : Word) → length w < length p → begins p w ≡ false
-too-long p w h = refuted (begins p w) (λ e. let k = ap length (begins-split p w e) ∙ length-append p (drop (length p) w) in omega (arith, h, k))
+too-long p w h = false_from_ne_true (begins p w) (λ e. let k = ap length (begins-split p w e) ∙ length-append p (drop (length p) w) in omega (arith, h, k))
 
 pub fits : (p w : Word) → begins p w ≡ true → length p ≤ length w
 fits p w e = let k = ap length (begins-split p w e) ∙ length-append p (drop (length p) w) in omega (arith, k)
@@ -40,7 +41,7 @@ at_end p w e =
     cut-end w (reverse s) p whole
 
 pub ends-not : (p w : Word) → (drop (length w - length p) w ≡ p → ⊥) → begins (reverse p) (reverse w) ≡ false
-ends-not p w n = refuted (begins (reverse p) (reverse w)) (λ e. n (at_end p w e))
+ends-not p w n = false_from_ne_true (begins (reverse p) (reverse w)) (λ e. n (at_end p w e))
 
 pub too-long-end : (p w : Word) → length w < length p → begins (reverse p) (reverse w) ≡ false
 too-long-end p w h = too-long (reverse p) (reverse w) (omega (arith, h, length-reverse p, length-reverse w))

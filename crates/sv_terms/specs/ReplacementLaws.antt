@@ -2,14 +2,10 @@
 use Rattle.std.specs.Prelude.{◌≡◌, ℕ, zero, suc, ◌-◌, ◌≤◌, ◌↔◌, Bool, true, false, ◌&&◌, if◌then◌else◌, [], ◌∷◌, ◌++◌, length, drop, nat_eq}
 use Rattle.std.proofs.Common.{refl, sym, ap, ◌∙◌, subst, arith, ◌⊎◌, inl, inr, ⊎_elim}
 use Rattle.std.proofs.lemmas.List.{append-nil, length-append}
-use Rattle.std.proofs.lemmas.Bool.{eqb-true, eq-eqb}
+use Rattle.std.proofs.lemmas.Bool.{eqb-true, eq-eqb, and_parts, false_from_ne_true}
 use Rattle.std.proofs.Math.Seq.{drop-append_seam}
 use Rattle.sv_terms.specs.Language.{Word}
 use Rattle.sv_terms.specs.Replacement.{Stands, StandsFirst, StandsNowhere, ReplacedFirst, at_first, at_none, ReplacedAll, every_none, every_first, every_last, begins, replace_first, replace_from, replace_all}
-
-pub both : (a b : Bool) → (a && b) ≡ true → (a ≡ true) × (b ≡ true)
-both true b e = (refl, e)
-both false b e = absurd (cc)
 
 pub begins-of : (p s : Word) → begins p (p ++ s) ≡ true
 begins-of [] s = refl
@@ -23,16 +19,11 @@ begins-split [] w e = sym (drop-none w)
     drop-none (c ∷ w) = refl
 begins-split (c ∷ p) [] e = absurd (cc)
 begins-split (c ∷ p) (d ∷ w) e =
-    let h = both (nat_eq c d) (begins p w) e in
+    let h = and_parts (nat_eq c d) (begins p w) e in
     ap (λ x. x ∷ w) (sym (eqb-true c d h.0)) ∙ ap (λ (v : Word). c ∷ v) (begins-split p w h.1)
 
--- a test that isn't true is false
-pub refuted : (b : Bool) → (b ≡ true → ⊥) → b ≡ false
-refuted true n = absurd (n refl)
-refuted false n = refl
-
 pub begins-not : (p w : Word) → ((b : Word) → w ≡ p ++ b → ⊥) → begins p w ≡ false
-begins-not p w n = refuted (begins p w) (λ e. n (drop (length p) w) (begins-split p w e))
+begins-not p w n = false_from_ne_true (begins p w) (λ e. n (drop (length p) w) (begins-split p w e))
 
 -- where the word begins with p, and where it doesn't
 pub first-here : (p u w : Word) → replace_first p u (p ++ w) ≡ u ++ w

@@ -1,5 +1,6 @@
--- The sorts of terms by their heads.
-use Rattle.std.proofs.Common.{◌≡◌, sym, ap, ◌∙◌, ℕ, ℤ, Bool, List}
+-- The sorts of terms by their heads, and what an application comes to.
+use Rattle.std.proofs.Common.{◌≡◌, sym, ap, ◌∙◌, ℕ, ℤ, Bool, List, map, Option}
+use Rattle.std.specs.List.{list_all}
 use Rattle.sv_terms.specs.declared.op.Op.{Op}
 use Rattle.sv_terms.specs.declared.regex.Regex.{Regex}
 use Rattle.sv_terms.specs.declared.sort.Sort.{Sort}
@@ -9,7 +10,9 @@ use Rattle.sv_terms.specs.declared.term.Term.TheVariants as term
 use Rattle.sv_terms.specs.declared.term.Term.TheOpen.{Term-F}
 use Rattle.sv_terms.specs.declared.term.Term.TheFolds.{fold-Term, fold-roll-Term, map-Term}
 use Rattle.sv_terms.specs.declared.transducer.Transducer.{Transducer}
-use Rattle.sv_terms.specs.Sorting.{op_sort, layer_sort, head_sort}
+use Rattle.sv_terms.specs.declared.value.Value.{Value}
+use Rattle.sv_terms.specs.Meaning.{Named, all_of, applied_if, val, val_step}
+use Rattle.sv_terms.specs.Sorting.{op_sort, layer_sort, head_sort, valued_step, is_valued}
 
 -- a fold at a layer
 pub fold-at : (X : Type 0) (step : Term-F X → X) (t : Term) (x : Term-F Term) → roll-Term x ≡ t → fold-Term X step t ≡ step (map-Term Term X (fold-Term X step) x)
@@ -40,3 +43,10 @@ pub sort-Opaque : (s : Sort) → head_sort (term.Opaque s) ≡ s
 sort-Opaque s = fold-at Sort layer_sort _ (Term-F.Opaque s) (term.rolls-Opaque s)
 
 pub ruleset sorts = (sort-Truth, sort-Number, sort-Text, sort-Constant, sort-Apply, sort-InRe, sort-Related, sort-Opaque)
+
+module _ (values : Named) where
+  pub val-apply : (o : Op) (ts : List Term) → val values (term.Apply o ts) ≡ applied_if o (all_of (map (val values) ts))
+  val-apply o ts = fold-at (Option Value) (val_step values) _ (Term-F.Apply o ts) (term.rolls-Apply o ts)
+
+  pub valued-apply : (o : Op) (ts : List Term) → is_valued values (term.Apply o ts) ≡ list_all (λ b. b) (map (is_valued values) ts)
+  valued-apply o ts = fold-at Bool (valued_step values) _ (Term-F.Apply o ts) (term.rolls-Apply o ts)

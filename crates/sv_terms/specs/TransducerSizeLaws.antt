@@ -2,6 +2,7 @@
 use Rattle.std.specs.Prelude.{◌≡◌, ℕ, zero, suc, ℤ, pos, ◌+ℤ◌, ◌+◌, ◌*◌, ◌≤◌, List, [], ◌∷◌, length, Contains, Option, Some, None}
 use Rattle.std.proofs.Common.{refl, sym, ap, ◌∙◌, arith}
 use Rattle.std.proofs.lemmas.List.{length-append}
+use Rattle.std.proofs.lemmas.Option.{same_Some}
 use Rattle.sv_terms.specs.Language.{Word}
 use Rattle.sv_terms.specs.Transduction.{character, item_at, written_at, WritesWithin}
 use Rattle.sv_terms.specs.TransductionLaws.{then_some, owes_within}
@@ -10,9 +11,6 @@ use Rattle.sv_terms.specs.declared.transducer.Item.{Item}
 use Rattle.sv_terms.specs.declared.transducer.Item.TheVariants as item
 use Rattle.sv_terms.specs.declared.transducer.TransEdge.{TransEdge}
 use Rattle.sv_terms.specs.declared.transducer.Transducer.{Transducer}
-
-some_same : {X : Type 0} (a b : X) → Some a ≡ Some b → a ≡ b
-some_same a b e = cc
 
 one_character : (c : ℕ) (k : ℤ) (a : Word) → item_at c (item.Shift k) ≡ Some a → length a ≡ 1
 one_character c k a e = by (character (pos c +ℤ k)) refl
@@ -23,11 +21,11 @@ one_character c k a e = by (character (pos c +ℤ k)) refl
 
 -- what is written has the size of the items
 pub written_size : (c : ℕ) (is : List Item) (v : Word) → written_at c is ≡ Some v → length v ≡ items_size is
-written_size c [] v e = sym (ap length (some_same [] v e))
+written_size c [] v e = sym (ap length (same_Some [] v e))
 written_size c (item.Text w ∷ is) v e =
     let k = then_some (Some w) (written_at c is) v e in
     let n = ap length k.4 ∙ length-append k.0 k.1 in
-    let m = ap length (some_same w k.0 k.2) in
+    let m = ap length (same_Some w k.0 k.2) in
     let r = written_size c is k.1 k.3 in
     omega (arith, n, m, r)
 written_size c (item.Shift z ∷ is) v e =

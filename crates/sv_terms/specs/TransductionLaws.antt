@@ -2,7 +2,7 @@
 use Rattle.std.specs.Prelude.{◌≡◌, ℕ, ℤ, pos, negsuc, suc, ◌+◌, ◌+ℤ◌, ◌*◌, ◌≤◌, ◌<◌, ◌↔◌, Bool, true, false, if◌then◌else◌, nat_le, List, [], ◌∷◌, ◌++◌, length, Contains, Option, Some, None}
 use Rattle.std.proofs.Common.{refl, sym, ap, ◌∙◌, subst, arith, rules}
 use Rattle.std.proofs.lemmas.List.{append-nil, append_assoc, length-append}
-use Rattle.std.proofs.lemmas.Option.{slice_get_within, get_or_from_slice_get, slice_get_read}
+use Rattle.std.proofs.lemmas.Option.{slice_get_within, get_or_from_slice_get, slice_get_read, same_Some}
 use Rattle.sv_word.specs.Words.{IsWord, greatest_character}
 use Rattle.sv_terms.specs.Language.{Word}
 use Rattle.sv_terms.specs.Transduction.{character, item_at, then_word, written_at, Transduces, Leads, Writes, Pairs, Follows, IsTransduction, WritesWithin, AreItems, IsFormed}
@@ -10,26 +10,20 @@ use Rattle.sv_terms.specs.declared.transducer.Item.{Item}
 use Rattle.sv_terms.specs.declared.transducer.Item.TheVariants as item
 use Rattle.sv_terms.specs.declared.transducer.TransEdge.{TransEdge}
 use Rattle.sv_terms.specs.declared.transducer.Transducer.{Transducer}
-
-some_same : {X : Type 0} (a b : X) → Some a ≡ Some b → a ≡ b
-some_same a b e = cc
+use Rattle.sv_terms.specs.OnlyWords.{word_join}
 
 pub then_some : (x y : Option Word) (v : Word) → then_word x y ≡ Some v → (a b : Word) × (x ≡ Some a) × (y ≡ Some b) × (v ≡ a ++ b)
 then_some None y v e = absurd (cc)
 then_some (Some a) None v e = absurd (cc)
-then_some (Some a) (Some b) v e = (a, b, refl, refl, sym (some_same (a ++ b) v e))
+then_some (Some a) (Some b) v e = (a, b, refl, refl, sym (same_Some (a ++ b) v e))
 
 character_top : (z : ℤ) (d : ℕ) → character z ≡ Some d → d ≤ greatest_character
 character_top (pos c) d e = by (nat_le c greatest_character) refl e
   where
     by : (b : Bool) → nat_le c greatest_character ≡ b → (if b then Some c else None) ≡ Some d → d ≤ greatest_character
-    by true h e = let below : c ≤ greatest_character = search (rules, h) in subst (λ n. n ≤ greatest_character) (some_same c d e) below
+    by true h e = let below : c ≤ greatest_character = search (rules, h) in subst (λ n. n ≤ greatest_character) (same_Some c d e) below
     by false h e = absurd (cc)
 character_top (negsuc n) d e = absurd (cc)
-
-pub words_join : (a b : Word) → IsWord a → IsWord b → IsWord (a ++ b)
-words_join [] b p q = q
-words_join (c ∷ a) b p q = (p.0, words_join a b p.1 q)
 
 shift_word : (c : ℕ) (k : ℤ) (a : Word) → item_at c (item.Shift k) ≡ Some a → IsWord a
 shift_word c k a e = by (character (pos c +ℤ k)) refl
@@ -39,13 +33,13 @@ shift_word c k a e = by (character (pos c +ℤ k)) refl
     by (Some d) h = let same : d ∷ [] ≡ a = cc in subst IsWord same (character_top (pos c +ℤ k) d h, tt)
 
 pub written_word : (c : ℕ) (is : List Item) (v : Word) → AreItems is → written_at c is ≡ Some v → IsWord v
-written_word c [] v h e = subst IsWord (some_same [] v e) tt
+written_word c [] v h e = subst IsWord (same_Some [] v e) tt
 written_word c (item.Text w ∷ is) v h e =
     let k = then_some (Some w) (written_at c is) v e in
-    subst IsWord (sym k.4) (words_join k.0 k.1 (subst IsWord (some_same w k.0 k.2) h.0) (written_word c is k.1 h.1 k.3))
+    subst IsWord (sym k.4) (word_join k.0 k.1 (subst IsWord (same_Some w k.0 k.2) h.0) (written_word c is k.1 h.1 k.3))
 written_word c (item.Shift n ∷ is) v h e =
     let k = then_some (item_at c (item.Shift n)) (written_at c is) v e in
-    subst IsWord (sym k.4) (words_join k.0 k.1 (shift_word c n k.0 k.2) (written_word c is k.1 h k.3))
+    subst IsWord (sym k.4) (word_join k.0 k.1 (shift_word c n k.0 k.2) (written_word c is k.1 h k.3))
 
 -- a formed transducer relates words with words alone
 module _ (t : Transducer) (formed : IsFormed t) where
@@ -55,12 +49,12 @@ module _ (t : Transducer) (formed : IsFormed t) where
       let edge = formed.edge p.0 p.3 in
       let more = leads_words p.0.to to read p.2 p.6 in
       let top : c ≤ greatest_character = let high = edge.high in let m = p.4.2 in omega arith in
-      ((top, more.0), subst IsWord (sym p.5) (words_join p.1 p.2 (written_word c p.0.items p.1 edge.items p.4.3) more.1))
+      ((top, more.0), subst IsWord (sym p.5) (word_join p.1 p.2 (written_word c p.0.items p.1 edge.items p.4.3) more.1))
 
   pub writes_words : (s : ℕ) (read written : Word) → Writes t s read written → IsWord read × IsWord written
   writes_words s read written p =
       let both = leads_words s p.0 read p.1 p.3 in
-      (both.0, subst IsWord (sym p.5) (words_join p.1 p.2 both.1 (formed.ending (p.0, p.2) p.4).word))
+      (both.0, subst IsWord (sym p.5) (word_join p.1 p.2 both.1 (formed.ending (p.0, p.2) p.4).word))
 
 -- a path is one along the edges at some places
 module _ (t : Transducer) where
@@ -103,7 +97,7 @@ module _ (t : Transducer) (answer : ℕ → Word → Word) (formed : IsFormed t)
   computed-path s to (c ∷ read) path more p =
       let e = p.0 in
       let m = computes.move e p.3 c p.4.1 p.4.2 in
-      let same : m.0 ≡ p.1 = some_same m.0 p.1 (sym m.1 ∙ p.4.3) in
+      let same : m.0 ≡ p.1 = same_Some m.0 p.1 (sym m.1 ∙ p.4.3) in
       ap (λ n. answer n (c ∷ (read ++ more))) (sym p.4.0)
       ∙ m.2 (read ++ more)
       ∙ ap (λ (w : Word). w ++ answer e.to (read ++ more)) same
@@ -139,7 +133,7 @@ pub record Owes (t : Transducer) (rate : ℕ) (owed : ℕ → ℕ) : Type 0 wher
   pub move : (e : TransEdge) (s c : ℕ) (v : Word) → Contains t.edges e → Transduces s c v e → length v + owed e.to ≤ rate + owed s
   pub ended : (e : ℕ × Word) → Contains t.ends e → length e.1 ≤ owed e.0
 
-one_more : (n rate : ℕ) → suc n * rate ≡ rate + n * rate
+pub one_more : (n rate : ℕ) → suc n * rate ≡ rate + n * rate
 one_more n rate = grind arith
 
 module _ (t : Transducer) (rate : ℕ) (owed : ℕ → ℕ) (owes : Owes t rate owed) where

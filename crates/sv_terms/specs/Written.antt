@@ -3,7 +3,8 @@ use Rattle.std.proofs.Common.{refl, sym, ap, ◌∙◌, subst}
 use Rattle.std.specs.Prelude.{◌≡◌, ◌↔◌, ℕ, Bool, true, false, ◌&&◌, List, [], ◌∷◌, map, Option, Some, None, nat_eq, if◌then◌else◌, IsTrue}
 use Rattle.std.specs.Cmp.{IsEquivalence, IsPartialEquivalence, partial_equiv_from_equiv}
 use Rattle.std.specs.Cmp.Lexicographic.{pointwise, nat_list_eq_equiv}
-use Rattle.std.proofs.lemmas.Bool.{eqb-true, eq-eqb}
+use Rattle.std.proofs.lemmas.Bool.{eqb-true, eq-eqb, and_parts, and_from}
+use Rattle.sv_list.specs.Bools.{tests-agree}
 use Rattle.sv_terms.specs.declared.regex.Regex.{Regex, roll-Regex}
 use Rattle.sv_terms.specs.declared.regex.Regex.TheFolds.{fold-Regex, fold-roll-Regex, ind-Regex, map-Regex}
 use Rattle.sv_terms.specs.declared.regex.Regex.TheOpen.{Regex-F}
@@ -134,20 +135,12 @@ module _ {X Y : Type 0} (f : X → Y) where
   mapped (Regex-F.Comp r) = (refl, refl, refl)
   mapped (Regex-F.Loop r i j) = (refl, refl, refl)
 
-both : (a b : Bool) → IsTrue (a && b) → IsTrue a × IsTrue b
-both true b h = (refl, h)
-both false b h = absurd (cc)
-
-both_make : (a b : Bool) → IsTrue a → IsTrue b → IsTrue (a && b)
-both_make true b h g = g
-both_make false b h g = absurd (cc)
-
-words_one : (v w : Word) → IsTrue (pointwise nat_eq v w) → v ≡ w
+pub words_one : (v w : Word) → IsTrue (pointwise nat_eq v w) → v ≡ w
 words_one [] [] h = refl
 words_one [] (d ∷ w) h = absurd (cc)
 words_one (c ∷ v) [] h = absurd (cc)
 words_one (c ∷ v) (d ∷ w) h =
-    let k = both (nat_eq c d) (pointwise nat_eq v w) h in
+    let k = and_parts (nat_eq c d) (pointwise nat_eq v w) h in
     ap (λ x. x ∷ v) (eqb-true c d k.0) ∙ ap (λ (w : Word). d ∷ w) (words_one v w k.1)
 
 abbrev IsTold : Regex → Type 0
@@ -164,12 +157,12 @@ each_one [] [] h = refl
 each_one [] (s ∷ ss) h = absurd (cc)
 each_one (y ∷ ys) [] h = absurd (cc)
 each_one (y ∷ ys) (s ∷ ss) h =
-    let k = both (same_regex y.0 s) (same_each (map same_regex (regexes ys)) ss) h in
+    let k = and_parts (same_regex y.0 s) (same_each (map same_regex (regexes ys)) ss) h in
     ap (λ r. r ∷ regexes ys) ((y.1 s).0 k.0) ∙ ap (λ (l : List Regex). s ∷ l) (each_one ys ss k.1)
 
 each_same : (ys : List Told) → IsTrue (same_each (map same_regex (regexes ys)) (regexes ys))
 each_same [] = refl
-each_same (y ∷ ys) = both_make (same_regex y.0 y.0) (same_each (map same_regex (regexes ys)) (regexes ys)) ((y.1 y.0).1 refl) (each_same ys)
+each_same (y ∷ ys) = and_from (same_regex y.0 y.0) (same_each (map same_regex (regexes ys)) (regexes ys)) ((y.1 y.0).1 refl) (each_same ys)
 
 module _ (y : Regex-F Told) where
   regex : Regex-F Regex
@@ -181,8 +174,8 @@ module _ (y : Regex-F Told) where
       let z = out-Regex s in
       let m = mapped same_regex x in
       let n = mapped (λ (e : Told). e.0) y in
-      let a = both _ _ h in
-      let b = both _ _ a.1 in
+      let a = and_parts _ _ h in
+      let b = and_parts _ _ a.1 in
       determined x z
       (sym m.0 ∙ eqb-true (form (map-Regex Regex (Regex → Bool) same_regex x)) (form z) a.0)
       (sym m.1 ∙ words_one (numbers (map-Regex Regex (Regex → Bool) same_regex x)) (numbers z) b.0)
@@ -194,8 +187,8 @@ module _ (y : Regex-F Told) where
       let m = mapped same_regex x in
       let n = mapped (λ (e : Told). e.0) y in
       subst (λ (z : Regex-F Regex). IsTrue (nat_eq (form (map-Regex Regex (Regex → Bool) same_regex x)) (form z) && (pointwise nat_eq (numbers (map-Regex Regex (Regex → Bool) same_regex x)) (numbers z) && same_each (parts (map-Regex Regex (Regex → Bool) same_regex x)) (parts z)))) e
-      (both_make _ _ (eq-eqb (form (map-Regex Regex (Regex → Bool) same_regex x)) (form x) m.0)
-      (both_make _ _ (subst (λ (w : Word). IsTrue (pointwise nat_eq (numbers (map-Regex Regex (Regex → Bool) same_regex x)) w)) m.1 (nat_list_eq_equiv.refl (numbers (map-Regex Regex (Regex → Bool) same_regex x))))
+      (and_from _ _ (eq-eqb (form (map-Regex Regex (Regex → Bool) same_regex x)) (form x) m.0)
+      (and_from _ _ (subst (λ (w : Word). IsTrue (pointwise nat_eq (numbers (map-Regex Regex (Regex → Bool) same_regex x)) w)) m.1 (nat_list_eq_equiv.refl (numbers (map-Regex Regex (Regex → Bool) same_regex x))))
       (subst (λ (l : List (Regex → Bool)). IsTrue (same_each l (parts x))) (sym m.2) (subst (λ (l : List Regex). IsTrue (same_each (map same_regex l) l)) (sym n.2) (each_same (parts y))))))
 
 -- the test is true exactly where the two are one
@@ -209,15 +202,8 @@ same_regex-exact = ind-Regex IsTold (λ x y is s.
       λ e. step ∙ same (sym (out-roll-Regex x) ∙ ap out-Regex e),
     ))
 
--- two tests of one fact agree
-agree : (a b : Bool) (P : Type 0) → IsTrue a ↔ P → IsTrue b ↔ P → a ≡ b
-agree true true P p q = refl
-agree true false P p q = absurd (let t = q.1 (p.0 refl) in cc)
-agree false true P p q = absurd (let t = p.1 (q.0 refl) in cc)
-agree false false P p q = refl
-
 pub same_regex-tells : (b : Bool) (r s : Regex) → IsTrue b ↔ (r ≡ s) → b ≡ same_regex r s
-same_regex-tells b r s h = agree b (same_regex r s) (r ≡ s) h (same_regex-exact r s)
+same_regex-tells b r s h = tests-agree b (same_regex r s) (r ≡ s) h (same_regex-exact r s)
 
 turned : (r s : Regex) → IsTrue (same_regex s r) ↔ (r ≡ s)
 turned r s = let k = same_regex-exact s r in (λ h. sym (k.0 h), λ e. k.1 (sym e))
@@ -225,7 +211,7 @@ turned r s = let k = same_regex-exact s r in (λ h. sym (k.0 h), λ e. k.1 (sym 
 pub same_regex_equiv : IsEquivalence same_regex
 same_regex_equiv = record {
   refl = λ r. (same_regex-exact r r).1 refl;
-  symm = λ r s. agree (same_regex r s) (same_regex s r) (r ≡ s) (same_regex-exact r s) (turned r s);
+  symm = λ r s. tests-agree (same_regex r s) (same_regex s r) (r ≡ s) (same_regex-exact r s) (turned r s);
   congr = λ r s t e. ap (λ q. same_regex q t) ((same_regex-exact r s).0 e);
 }
 

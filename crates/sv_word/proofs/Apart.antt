@@ -4,6 +4,7 @@ use Rattle.std.proofs.lemmas.Bool.Decides.{nat_tests}
 use Rattle.std.proofs.lemmas.Bool.{false≢true, cases_lt}
 use Rattle.std.proofs.lemmas.List.Folds.{list_any-append}
 use Rattle.std.specs.Prelude.{Some, slice_get}
+use Rattle.sv_list.specs.Bools.{or-false}
 use Rattle.sv_word.specs.Ranges.{in_ranges, in_pair, IsLeast, IsApartFrom, RangesEndBy}
 use Rattle.sv_word.specs.Words.{greatest_character}
 
@@ -26,10 +27,6 @@ apart-less low less (p ∷ ps) le h = (let a = h.0 in omega arith, h.1, h.2, h.3
 pub apart-ends : (low : ℕ) (ps : List (ℕ × ℕ)) → IsApartFrom low ps → RangesEndBy greatest_character ps
 apart-ends low [] h = tt
 apart-ends low (p ∷ ps) h = (h.2, apart-ends (p.1 + 2) ps h.3)
-
-pub or-false : (b : Bool) → (b || false) ≡ b
-or-false true = refl
-or-false false = refl
 
 pub ranges-push : (ps : List (ℕ × ℕ)) (p : ℕ × ℕ) (c : ℕ) → in_ranges (ps ++ p ∷ []) c ≡ (in_ranges ps c || in_pair p c)
 ranges-push ps p c = list_any-append _ ps _ ∙ ap (λ b. in_ranges ps c || b) (or-false (in_pair p c))

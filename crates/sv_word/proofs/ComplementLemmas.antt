@@ -53,30 +53,14 @@ complementing-step all out p rest from m =
       top = let k = a.2 in omega arith;
     }
 
-from-zero : (c : ℕ) (b : Bool) → (nat_le 0 c && b) ≡ b
-from-zero c b = grind (arith, nat_tests)
-
-pub complementing-start : (all : List (ℕ × ℕ)) → IsApartFrom 0 all → IsComplementing all [] all 0
-complementing-start all a = record { exact = λ c. from-zero c (nat_le c greatest_character && not (in_ranges all c)); rest_apart = a; out_apart = omega arith; top = omega arith }
-
 pub complementing-at : (all out : List (ℕ × ℕ)) (i from : ℕ) → IsComplementing all out (drop i all) from → i < length all
     → IsComplementing all (with_gap from (get_or all i (0, 0)).0 out) (drop (i + 1) all) ((get_or all i (0, 0)).1 + 1)
 complementing-at all out i from m lt =
     rw add-one (complementing-step all out _ _ from (subst (λ l. IsComplementing all out l from) (drop-cons all i (0, 0) lt) m))
 
--- the end of the pair at `i`
-pub complementing-high : (all out : List (ℕ × ℕ)) (i from : ℕ) → IsComplementing all out (drop i all) from → i < length all → (get_or all i (0, 0)).1 ≤ greatest_character
-complementing-high all out i from m lt = (subst (λ l. IsComplementing all out l from) (drop-cons all i (0, 0) lt) m).rest_apart.2
-
 module _ (all out : List (ℕ × ℕ)) (i from : ℕ) (m : IsComplementing all out (drop i all) from) (past : length all ≤ i) where
   done : IsComplementing all out [] from
   done = subst (λ l. IsComplementing all out l from) (drop_of_length-le all past) m
-
-  pub complement-exact : (c : ℕ) → in_ranges (with_gap from 0x30000 out) c ≡ (nat_le c greatest_character && not (in_ranges all c))
-  complement-exact c = gap-exact from 0x30000 out c ∙ ap (λ b. in_ranges out c || b) (last from c) ∙ done.exact c
-    where
-      last : (from c : ℕ) → (nat_le from c && nat_lt c 0x30000) ≡ (nat_le from c && (nat_le c greatest_character && true))
-      last from c = grind (arith, nat_tests)
 
   pub complement-apart : IsApartBetween 0 (with_gap from 0x30000 out) 0x30001
   complement-apart = gap-apart from 0x30000 out done.top (omega arith) done.out_apart

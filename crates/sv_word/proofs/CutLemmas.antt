@@ -8,20 +8,11 @@ use Rattle.std.proofs.lemmas.List.Sorted.{Contains-permutation, IsPermutation-sy
 use Rattle.std.specs.List.{All, AllPairs, Any, Contains, flat_map}
 use Rattle.std.specs.List.Sorted.{IsNonDecreasingBy, IsPermutation}
 use Rattle.std.specs.Prelude.{IsTrue}
+use Rattle.sv_list.specs.Lists.{Contains-cases, Any-here, Any-there}
 use Rattle.sv_word.proofs.Apart.{below_apart, first-in, first-past}
 use Rattle.sv_word.specs.Cuts.{IsHeld, AreDisjoint, IsUniformOn, IsParted, IsPaired, borders_of}
 use Rattle.sv_word.specs.Ranges.{in_ranges, IsApartFrom, IsInhabited}
 use Rattle.sv_word.specs.Words.{greatest_character}
-
-contains-cases : {X : Type 0} (x y : X) (xs : List X) → Contains (x ∷ xs) y → (x ≡ y) ⊎ Contains xs y
-contains-cases x y xs (zero, lt, e) = inl e
-contains-cases x y xs (suc k, lt, e) = inr (k, omega arith, e)
-
-any-first : {X : Type 0} (P : X → Type 0) (x : X) (xs : List X) → P x → Any P (x ∷ xs)
-any-first P x xs h = (0, x, omega arith, refl, h)
-
-any-later : {X : Type 0} (P : X → Type 0) (x : X) (xs : List X) → Any P xs → Any P (x ∷ xs)
-any-later P x xs (k, y, lt, e, h) = (suc k, y, omega arith, e, h)
 
 any-weaker : {X : Type 0} (P Q : X → Type 0) (xs : List X) → Any P xs → ((x : X) → Contains xs x → P x → Q x) → Any Q xs
 any-weaker P Q xs (k, y, lt, e, h) f = (k, y, lt, e, f y (k, lt, e) h)
@@ -55,10 +46,6 @@ tiles-push : (borders : List ℕ) (low : ℕ) (ps : List (List (ℕ × ℕ))) (m
 tiles-push borders low [] mid high p t h = (high, subst (λ x. IsPiece borders x high p) (sym t) h, refl)
 tiles-push borders low (q ∷ ps) mid high p (next, k, t) h = (next, k, tiles-push borders next ps mid high p t h)
 
-tiles-le : (borders : List ℕ) (low : ℕ) (ps : List (List (ℕ × ℕ))) (high : ℕ) → Tiles borders low ps high → low ≤ high
-tiles-le borders low [] high t = omega arith
-tiles-le borders low (p ∷ ps) high (next, h, t) = let rest = tiles-le borders next ps high t in let a = h.some in omega arith
-
 -- the piece at a place
 record IsPieceFrom (borders : List ℕ) (low : ℕ) (piece : List (ℕ × ℕ)) : Type 0 where
   begins : ℕ
@@ -80,8 +67,8 @@ pub tiles-held : (borders : List ℕ) (low : ℕ) (ps : List (List (ℕ × ℕ))
 tiles-held borders low [] high t c l h = absurd (omega arith)
 tiles-held borders low (p ∷ ps) high (next, k, t) c l h =
     elim (cases_lt c next) [
-      | inl lt ↦ any-first (λ s. IsTrue (in_ranges s c)) p ps (piece-in borders low next p c k l lt)
-      | inr le ↦ any-later (λ s. IsTrue (in_ranges s c)) p ps (tiles-held borders next ps high t c le h)
+      | inl lt ↦ Any-here (λ s. IsTrue (in_ranges s c)) p ps (piece-in borders low next p c k l lt)
+      | inr le ↦ Any-there (λ s. IsTrue (in_ranges s c)) p ps (tiles-held borders next ps high t c le h)
     ]
 
 pub tiles-disjoint : (borders : List ℕ) (low : ℕ) (ps : List (List (ℕ × ℕ))) (high : ℕ) → Tiles borders low ps high → AllPairs AreDisjoint ps
@@ -120,8 +107,8 @@ contains-flat : (sets : List (List (ℕ × ℕ))) (b : ℕ) → Contains (flat_m
 contains-flat [] b (k, lt, e) = absurd (omega arith)
 contains-flat (s ∷ sets) b h =
     elim (Contains-append_cases (borders_of s) (flat_map borders_of sets) b h) [
-      | inl here ↦ any-first (λ s. Contains (borders_of s) b) s sets here
-      | inr later ↦ any-later (λ s. Contains (borders_of s) b) s sets (contains-flat sets b later)
+      | inl here ↦ Any-here (λ s. Contains (borders_of s) b) s sets here
+      | inr later ↦ Any-there (λ s. Contains (borders_of s) b) s sets (contains-flat sets b later)
     ]
 
 -- the borders, in order, of sets that are apart
@@ -164,12 +151,12 @@ tiles-paired borders low [] high t c l h = absurd (omega arith)
 tiles-paired borders low (p ∷ ps) high (next, k, t) c l h =
     elim (cases_lt c next) [
       | inl lt ↦ elim (cases_lt (c + 1) next) [
-        | inl more ↦ inl (any-first (λ s. IsTrue (in_ranges s c && in_ranges s (c + 1))) p ps
+        | inl more ↦ inl (Any-here (λ s. IsTrue (in_ranges s c && in_ranges s (c + 1))) p ps
             (rw (piece-in borders low next p c k l lt, piece-in borders low next p (c + 1) k (omega arith) more) refl))
         | inr le ↦ (let same : next ≡ c + 1 = omega arith in inr (subst (Contains borders) same k.border))
       ]
       | inr le ↦ elim (tiles-paired borders next ps high t c le h) [
-        | inl found ↦ inl (any-later (λ s. IsTrue (in_ranges s c && in_ranges s (c + 1))) p ps found)
+        | inl found ↦ inl (Any-there (λ s. IsTrue (in_ranges s c && in_ranges s (c + 1))) p ps found)
         | inr border ↦ inr border
       ]
     ]
@@ -182,7 +169,7 @@ tiles-coarse sets borders ps a t c lt =
       | inr border ↦ elim (Contains-append_cases (flat_map borders_of sets) (0x30000 ∷ []) (c + 1) (Contains-permutation borders _ (c + 1) (IsPermutation-sym _ borders a.same) border)) [
         | inl within ↦ inr (any-weaker (λ s. Contains (borders_of s) (c + 1)) (λ s. in_ranges s c ≢ in_ranges s (c + 1)) sets (contains-flat sets (c + 1) within)
             (λ s (k, lk, e) h. parted-set 0 s c (subst (IsApartFrom 0) e (a.apart k s lk)) h))
-        | inr end ↦ elim (contains-cases 0x30000 (c + 1) [] end) [ inl e ↦ absurd (omega arith) | inr (k, lk, e) ↦ absurd (omega arith) ]
+        | inr end ↦ elim (Contains-cases 0x30000 [] (c + 1) end) [ inl e ↦ absurd (omega arith) | inr (k, lk, e) ↦ absurd (omega arith) ]
       ]
     ]
 
@@ -191,9 +178,6 @@ pub record IsCutting (borders : List ℕ) (at from : ℕ) (ps : List (List (ℕ 
   pub tiles : Tiles borders 0 ps from
   pub passed : (k d : ℕ) → k < at → k < length borders → get_or borders k d ≤ from
   pub top : from ≤ 0x30000
-
-pub cutting-start : (borders : List ℕ) → IsCutting borders 0 0 []
-cutting-start borders = record { tiles = refl; passed = λ k d lt m. absurd (omega arith); top = omega arith }
 
 module _ (sets : List (List (ℕ × ℕ))) (borders : List ℕ) (a : AreBorders sets borders) (at from : ℕ) (ps : List (List (ℕ × ℕ))) (m : IsCutting borders at from ps) (room : at < length borders) where
   -- the border at hand
@@ -258,5 +242,5 @@ borders-top sets borders apart same k d lt =
     let member : Contains borders b = (k, lt, get_or_default borders k b d lt) in
     elim (Contains-append_cases (flat_map borders_of sets) (0x30000 ∷ []) b (Contains-permutation borders _ b (IsPermutation-sym _ borders same) member)) [
       | inl within ↦ (let found = contains-flat sets b within in ends-in 0 found.1 (subst (IsApartFrom 0) found.3 (apart found.0 found.1 found.2)) b found.4)
-      | inr end ↦ elim (contains-cases 0x30000 b [] end) [ inl e ↦ omega arith | inr (j, lj, e) ↦ absurd (omega arith) ]
+      | inr end ↦ elim (Contains-cases 0x30000 [] b end) [ inl e ↦ omega arith | inr (j, lj, e) ↦ absurd (omega arith) ]
     ]

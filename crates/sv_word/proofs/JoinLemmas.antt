@@ -4,7 +4,8 @@ use Rattle.std.proofs.Math.ListN.{drop_of_length-le}
 use Rattle.std.proofs.Math.Seq.{drop-cons}
 use Rattle.std.proofs.lemmas.Bool.Decides.{nat_tests}
 use Rattle.std.specs.Prelude.{fold}
-use Rattle.sv_word.proofs.Apart.{apart-less, or-false}
+use Rattle.sv_list.specs.Bools.{or-false}
+use Rattle.sv_word.proofs.Apart.{apart-less}
 use Rattle.sv_word.specs.Ranges.{in_ranges, in_pair, with_joined, IsApartFrom, RangesEndBy}
 use Rattle.sv_word.specs.Words.{greatest_character}
 
@@ -137,9 +138,6 @@ joining-rest : (all more out xs : List (ℕ × ℕ)) → IsJoining all more out 
 joining-rest all more out [] m = m
 joining-rest all more out (p ∷ xs) m = joining-rest all more (with_joined out p) xs (joining-left all more out p xs [] m tt)
 
-pub joining-start : (all more : List (ℕ × ℕ)) → IsApartFrom 0 all → IsApartFrom 0 more → IsJoining all more [] all more
-joining-start all more a b = record { exact = λ c. refl; from = 0; out_apart = tt; out_starts = tt; x_apart = a; y_apart = b }
-
 module _ (xs ys out : List (ℕ × ℕ)) (i j : ℕ) (m : IsJoining xs ys out (drop i xs) (drop j ys)) where
   opened : i < length xs → j < length ys → IsJoining xs ys out (get_or xs i (0, 0) ∷ drop (suc i) xs) (get_or ys j (0, 0) ∷ drop (suc j) ys)
   opened h k = subst (λ l. IsJoining xs ys out (get_or xs i (0, 0) ∷ drop (suc i) xs) l) (drop-cons ys j (0, 0) k)
@@ -182,11 +180,3 @@ module _ (all ps : List (ℕ × ℕ)) (q p : ℕ × ℕ) (is : all ≡ ps ++ q �
 
   pub joined-behind : q.1 + 1 < p.0 → (ps ++ q ∷ []) ++ p ∷ [] ≡ with_joined all p
   joined-behind lt = let t : nat_le p.0 (q.1 + 1) ≡ false = grind (arith, nat_tests) in sym (joined-last ps q p false t) ∙ ap (λ l. with_joined l p) (sym is)
-
-pub joined-first : (ps : List (ℕ × ℕ)) (p : ℕ × ℕ) → ps ≡ [] → p ∷ [] ≡ with_joined ps p
-joined-first ps p e = ap (λ l. with_joined l p) (sym e)
-
-pub ends-drop : (top i : ℕ) (ps : List (ℕ × ℕ)) → RangesEndBy top ps → RangesEndBy top (drop i ps)
-ends-drop top zero ps e = e
-ends-drop top (suc i) [] e = e
-ends-drop top (suc i) (p ∷ ps) e = ends-drop top i ps e.1

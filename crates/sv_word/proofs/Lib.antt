@@ -8,5 +8,4 @@ pub mod MeetLemmas
 pub mod PrintLemmas
 pub mod ReadLemmas
 pub mod SearchLemmas
-pub mod Slices
 pub mod Utf8Lemmas

@@ -1,7 +1,7 @@
 -- The code points read from bytes are those whose UTF-8 the bytes begin with.
 use lib.Utf8.{encode, scalar_cases}
 use Rattle.std.proofs.Common.{◌≡◌, ℕ, ◌+◌, ◌-◌, ◌*◌, ◌/◌, ◌%◌, ◌<◌, ◌≤◌, ◌&&◌, Bool, true, false, cond, nat_lt, List, [], ◌∷◌, ◌++◌, length, ◌⊎◌, inl, inr, Some, None, refl, ap, sym, ◌∙◌, subst, arith}
-use Rattle.std.proofs.lemmas.Bool.{cases_lt}
+use Rattle.std.proofs.lemmas.Bool.{cases_lt, and_parts}
 use Rattle.std.proofs.lemmas.Bool.Decides.{nat_tests}
 use Rattle.std.specs.Char.{IsScalar}
 use Rattle.std.specs.Prelude.{◌==◌, ◌↔◌, Option, unwrap_or}
@@ -176,11 +176,6 @@ parts x y c n e = (ap (λ (o : Option (ℕ × ℕ)). (unwrap_or o (0, 0)).0) e, 
 ranges : (low high b : ℕ) → is_within low high b ≡ true → (low ≤ b) × (b ≤ high)
 ranges low high b t = (grind (arith, nat_tests), grind (arith, nat_tests))
 
-both : (s t : Bool) → (s && t) ≡ true → (s ≡ true) × (t ≡ true)
-both true true e = (refl, refl)
-both true false e = absurd (cc)
-both false t e = absurd (cc)
-
 two-front : (a : ℕ) (bs : List ℕ) (c n : ℕ) → 0xC2 ≤ a → a ≤ 0xDF → two_bytes a bs ≡ Some (c, n) → BeginsWith a bs c n
 two-front a [] c n l h e = absurd (cc)
 two-front a (b ∷ bs) c n l h e = by (is_within 0x80 0xBF b) refl e
@@ -214,7 +209,7 @@ three-front low high a (b ∷ d ∷ bs) c n l h low' high' least apart e = by (i
     by false t e = absurd (cc)
     by true t e =
         let p = parts ((a - 0xE0) * 0x1000 + (b - 0x80) * 0x40 + (d - 0x80)) 3 c n e in
-        let ts = both (is_within low high b) (is_within 0x80 0xBF d) t in
+        let ts = and_parts (is_within low high b) (is_within 0x80 0xBF d) t in
         let r = ranges low high b ts.0 in
         let s = ranges 0x80 0xBF d ts.1 in
         let at-least = least b r.0 r.1 in
@@ -245,8 +240,8 @@ four-front low high a (b ∷ d ∷ f ∷ bs) c n l h low' high' least most e = b
     by false t e = absurd (cc)
     by true t e =
         let p = parts ((a - 0xF0) * 0x40000 + (b - 0x80) * 0x1000 + (d - 0x80) * 0x40 + (f - 0x80)) 4 c n e in
-        let ts = both (is_within low high b) (is_within 0x80 0xBF d && is_within 0x80 0xBF f) t in
-        let us = both (is_within 0x80 0xBF d) (is_within 0x80 0xBF f) ts.1 in
+        let ts = and_parts (is_within low high b) (is_within 0x80 0xBF d && is_within 0x80 0xBF f) t in
+        let us = and_parts (is_within 0x80 0xBF d) (is_within 0x80 0xBF f) ts.1 in
         let r = ranges low high b ts.0 in
         let s = ranges 0x80 0xBF d us.0 in
         let u = ranges 0x80 0xBF f us.1 in

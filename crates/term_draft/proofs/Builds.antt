@@ -14,11 +14,10 @@ use Rattle.term_draft.specs.declared.draft.DraftNode.{DraftNode}
 use Rattle.term_draft.specs.declared.draft.DraftNode.TheVariants as node
 use Rattle.term_draft.specs.declared.draft.DraftPart.{DraftPart}
 use Rattle.term_weight.specs.Bodies.{or_constant, put_in, put_in_layer}
-use Rattle.std.proofs.lemmas.List.{take_more}
+use Rattle.std.proofs.lemmas.List.{take_more, map_push}
 use Rattle.smt_names.specs.Signature.{Name}
 use Rattle.term_weight.specs.Sizes.{total}
 use Rattle.term_draft.proofs.Drafting.{sense-at, sense-past}
-use Rattle.term_weight.specs.LayerLaws.{map-snoc}
 
 -- terms at hand count more than what stands in them
 abbrev size_layer : Term-F ℕ → ℕ
@@ -32,21 +31,6 @@ size = fold-Term ℕ size_layer
 
 abbrev pub sizes : List Term → ℕ
 sizes ts = 3 + total (map size ts)
-
-size-at : (t : Term) (x : Term-F Term) → roll-Term x ≡ t → size t ≡ size_layer (map-Term Term ℕ size x)
-size-at t x e = ap size (sym e) ∙ fold-roll-Term ℕ size_layer x
-
-pub size-Apply : (o : Op) (ts : List Term) → size (term.Apply o ts) ≡ 4 + total (map size ts)
-size-Apply o ts = size-at _ (Term-F.Apply o ts) (term.rolls-Apply o ts)
-
-pub size-InRe : (t : Term) (r : Regex) → size (term.InRe t r) ≡ 2 + size t
-size-InRe t r = size-at _ (Term-F.InRe t r) (term.rolls-InRe t r)
-
-pub size-Related : (m : Transducer) (t u : Term) → size (term.Related m t u) ≡ 2 + (size t + size u)
-size-Related m t u = size-at _ (Term-F.Related m t u) (term.rolls-Related m t u)
-
-pub size-Constant : (n : Name) (s : Sort) → size (term.Constant n s) ≡ 2
-size-Constant n s = size-at _ (Term-F.Constant n s) (term.rolls-Constant n s)
 
 pub size-of-one : (ts : List Term) (i : ℕ) (d : Term) → i < length ts → size (get_or ts i d) ≤ total (map size ts)
 size-of-one [] i d h = absurd (omega arith)
@@ -101,6 +85,6 @@ module _ (found : Name → Option Term) where
 
 pub one-more : {A B : Type 0} (f : A → B) (as_ : List A) (i : ℕ) (d : A) (all next : List B) (r : B) → i < length as_ → d ≡ get_or as_ i d → all ≡ map f (take i as_) → r ≡ f d → next ≡ all ++ r ∷ [] → next ≡ map f (take (i + 1) as_)
 one-more f as_ i d all next r h e g k l =
-    l ∙ (λ j. g j ++ (k ∙ ap f e) j ∷ []) ∙ sym (map-snoc f (take i as_) (get_or as_ i d)) ∙ ap (map f) (sym (take_more as_ i d h))
+    l ∙ (λ j. g j ++ (k ∙ ap f e) j ∷ []) ∙ sym (map_push f (take i as_) (get_or as_ i d)) ∙ ap (map f) (sym (take_more as_ i d h))
 
-pub ruleset building = (map-snoc, sense-at, sense-past, put-Truth, put-Number, put-Text, put-Constant, put-Apply, put-InRe, put-Related, put-Opaque)
+pub ruleset building = (map_push, sense-at, sense-past, put-Truth, put-Number, put-Text, put-Constant, put-Apply, put-InRe, put-Related, put-Opaque)

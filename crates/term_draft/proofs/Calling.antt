@@ -1,8 +1,10 @@
 -- Macros at arguments: what they weigh, and what they are.
-use Rattle.std.proofs.Common.{◌≡◌, refl, sym, ap, ◌∙◌, subst, ℕ, zero, suc, ◌≤◌, Bool, true, false, cond, List, [], ◌∷◌, length, map, Option, Some, None, Result, Ok, arith}
+use Rattle.std.proofs.Common.{◌≡◌, refl, sym, ap, ◌∙◌, subst, ℕ, zero, suc, ◌≤◌, Bool, true, false, cond, List, [], ◌∷◌, length, map, Option, Some, None, Result, Ok}
 use Rattle.std.specs.Prelude.{slice_get, if◌then◌else◌}
 use Rattle.std.specs.Option.{option_map}
 use Rattle.std.specs.Map.{lookup}
+use Rattle.std.proofs.lemmas.Option.{slice_get-map, slice_get_past}
+use Rattle.sv_list.specs.Lists.{slice_get-none}
 use std.Path.{fun_ext}
 use Rattle.sv_terms.specs.declared.entry.Body.{Body}
 use Rattle.sv_terms.specs.declared.entry.Body.TheVariants as body
@@ -17,7 +19,7 @@ use Rattle.term_draft.specs.Drafts.{Adds, Calls, argument_place, at_place, at_pl
 use Rattle.term_weight.specs.Places.{layer_name, name_alone, named_by, parameter_alone, shown}
 use Rattle.smt_names.specs.Signature.{Name, same_name}
 use Rattle.term_weight.specs.Weights.{weight_of, as_term, op_weight, in_weight, related_weight, regex_weight, weigh_layer, weighed, or_leaf, place_of, nth_if, argument_weight, call_weight}
-use Rattle.term_draft.proofs.Drafting.{get-none, length-senses}
+use Rattle.term_draft.proofs.Drafting.{length-senses}
 use Rattle.term_weight.specs.LayerLaws.{weight-Truth, weight-Number, weight-Text, weight-Constant, weight-Opaque, weight-Apply, weight-InRe, weight-Related, weight-term_of}
 
 abbrev term_weight : Term → Weight
@@ -50,14 +52,9 @@ module _ (found : Name → Option Term) (known : Name → Option Weight) (so : (
       ∙ subst (λ z. term_weight (put_in_layer found (map-Term Term Term (put_in found) z)) ≡ weigh_layer known (map-Term Term Weight (weighed known) z)) is (layer-weighs y)
       ∙ sym (fold-roll-Term Weight (weigh_layer known) x))
 
-get-map : {A B : Type 0} (f : A → B) (as_ : List A) (i : ℕ) → slice_get (map f as_) i ≡ option_map f (slice_get as_ i)
-get-map f [] i = refl
-get-map f (a ∷ as_) zero = refl
-get-map f (a ∷ as_) (suc i) = get-map f as_ i
-
 nth-map : {A B : Type 0} (f : A → B) (as_ : List A) (o : Option ℕ) → nth_if (map f as_) o ≡ option_map f (nth_if as_ o)
 nth-map f as_ None = refl
-nth-map f as_ (Some i) = get-map f as_ i
+nth-map f as_ (Some i) = slice_get-map f as_ i
 
 argument-at : (n : Name) (ps : List (Name × Sort)) (bs : List Body) → lookup (same_name n) (arguments_for ps bs) ≡ option_map term_of (nth_if bs (place_of n ps))
 argument-at n [] bs = refl
@@ -124,7 +121,7 @@ module _ (ps : List (Name × Sort)) (bs : List Body) (i : ℕ) (d : Body) (there
       fold-roll-Term Term (put_in_layer given) x
       ∙ layer-alone x (ap (named_by place) (sym (fold-roll-Term (Option Name) layer_name x)) ∙ e))
 
-get-at : (done : List Body) (q : ℕ) (b : Body) → slice_get done q ≡ Some b → at_place done q ≡ b
+pub get-at : (done : List Body) (q : ℕ) (b : Body) → slice_get done q ≡ Some b → at_place done q ≡ b
 get-at [] q b e = absurd (cc)
 get-at (c ∷ done) zero b e = cc
 get-at (c ∷ done) (suc q) b e = get-at done q b e
@@ -138,7 +135,7 @@ module _ (done : List Body) (ps : List (Name × Sort)) (t : Term) (arguments : L
   there-body i q (Some (body.Language r)) h a s e = absurd (cc)
   there-body i q (Some (body.Term u)) h a s e =
       let g : p ≡ q = cc in
-      let there : slice_get (at_places done arguments) i ≡ Some (body.Term u) = get-map (at_place done) arguments i ∙ ap (option_map (at_place done)) a ∙ ap Some (get-at done q (body.Term u) s) in
+      let there : slice_get (at_places done arguments) i ≡ Some (body.Term u) = slice_get-map (at_place done) arguments i ∙ ap (option_map (at_place done)) a ∙ ap Some (get-at done q (body.Term u) s) in
       ap (slice_get done) g ∙ s ∙ ap (λ (z : Term). Some (body.Term z)) (sym (put-alone ps (at_places done arguments) i (body.Term u) there t h))
 
   there-argument : (i : ℕ) (o : Option ℕ) → named_by (λ n. place_of n ps) (name_alone t) ≡ Some i → slice_get arguments i ≡ o → term_place done o ≡ Some p → There
@@ -184,18 +181,13 @@ get-term (q ∷ ps) (b ∷ bs) zero k p e f =
     term-if k b ∙ ap (λ (w : Weight). if w.is_language then None else Some k) (sym h ∙ ap (λ (z : DraftPart). z.weight) g)
 get-term (q ∷ ps) (b ∷ bs) (suc i) k p e f = get-term ps bs i k p (cc) f
 
-get-past : {A : Type 0} (as_ : List A) (i : ℕ) → length as_ ≤ i → slice_get as_ i ≡ None
-get-past [] i h = refl
-get-past (a ∷ as_) zero h = absurd (omega arith)
-get-past (a ∷ as_) (suc i) h = get-past as_ i (omega arith)
-
 pub term-stands : (ps : List DraftPart) (bs : List Body) (i : ℕ) (p : DraftPart) (l : Bool) → map (λ p. p.weight) ps ≡ map weight_of (senses ps) → senses ps ≡ bs → Some p ≡ slice_get ps i → p.weight.is_language ≡ l → (if l then None else Some i) ≡ if_term i (slice_get bs i)
 term-stands ps bs i p l e f g h = ap (λ (b : Bool). if b then None else Some i) (sym h) ∙ sym (get-term ps (senses ps) i i p e (sym g)) ∙ ap (λ z. if_term i (slice_get z i)) f
 
 pub none-stands : (ps : List DraftPart) (bs : List Body) (i : ℕ) → senses ps ≡ bs → None ≡ slice_get ps i → None ≡ if_term i (slice_get bs i)
 none-stands ps bs i f g =
-    let h : length bs ≤ i = subst (λ n. n ≤ i) (sym (length-senses ps) ∙ ap length f) (get-none ps i (sym g)) in
-    ap (if_term i) (sym (get-past bs i h))
+    let h : length bs ≤ i = subst (λ n. n ≤ i) (sym (length-senses ps) ∙ ap length f) (slice_get-none ps i (sym g)) in
+    ap (if_term i) (sym (slice_get_past bs i h))
 
 pub ruleset calling = (calls-there, calls-added)
 

@@ -4,17 +4,18 @@ use Rattle.std.specs.Prelude.{slice_get}
 use Rattle.std.proofs.Math.ListN.{length-append, get_or-append}
 use Rattle.std.proofs.Math.Seq.{get_or-append_seam}
 use Rattle.std.proofs.lemmas.Bool.Decides.{nat_tests}
+use Rattle.std.proofs.lemmas.List.{map_push}
+use Rattle.sv_list.specs.Lists.{slice_get-none}
 use Rattle.sv_terms.specs.declared.entry.Body.{Body}
 use Rattle.sv_terms.specs.declared.sort.Sort.TheVariants as sort
-use Rattle.sv_terms.specs.declared.transducer.Transducer.{Transducer}
 use Rattle.term_draft.specs.declared.draft.DraftNode.{DraftNode}
 use Rattle.term_draft.specs.declared.draft.DraftPart.{DraftPart}
 use Rattle.term_weight.specs.declared.weight.Weight.{Weight}
-use Rattle.term_weight.specs.Bodies.{opaque, related, term_of}
+use Rattle.term_weight.specs.Bodies.{opaque}
 use Rattle.term_draft.specs.Drafts.{at_place, sense, senses, senses_from}
-use Rattle.term_weight.specs.Weights.{weight_of, weight_fits, capped, opaque_weight, pair_weight, related_weight}
+use Rattle.term_weight.specs.Weights.{weight_of, weight_fits, capped, opaque_weight}
 use Rattle.term_weight.specs.Sizes.{fits, nodes, nesting}
-use Rattle.term_weight.specs.LayerLaws.{map-snoc, weight-Opaque, weight-Related, weight-term_of}
+use Rattle.term_weight.specs.LayerLaws.{weight-Opaque}
 
 senses-after : (done : List Body) (ps : List DraftPart) (p : DraftPart) → senses_from done (ps ++ p ∷ []) ≡ senses_from done ps ++ sense (senses_from done ps) p.node ∷ []
 senses-after done [] p = refl
@@ -32,9 +33,9 @@ put-senses ps n w qs e = ap senses e ∙ senses-after [] ps (record { node = n; 
 
 pub put-weights : (ps : List DraftPart) (n : DraftNode) (w : Weight) (qs : List DraftPart) → qs ≡ ps ++ record { node = n; weight = w } ∷ [] → w ≡ weight_of (sense (senses ps) n) → map (λ p. p.weight) ps ≡ map weight_of (senses ps) → map (λ p. p.weight) qs ≡ map weight_of (senses qs)
 put-weights ps n w qs e f g =
-    ap (map (λ p. p.weight)) e ∙ map-snoc (λ (p : DraftPart). p.weight) ps (record { node = n; weight = w })
+    ap (map (λ p. p.weight)) e ∙ map_push (λ (p : DraftPart). p.weight) ps (record { node = n; weight = w })
     ∙ (λ i. g i ++ f i ∷ [])
-    ∙ sym (map-snoc weight_of (senses ps) (sense (senses ps) n))
+    ∙ sym (map_push weight_of (senses ps) (sense (senses ps) n))
     ∙ ap (map weight_of) (sym (put-senses ps n w qs e))
 
 get-weight : (ps : List DraftPart) (bs : List Body) (i : ℕ) (p : DraftPart) → map (λ p. p.weight) ps ≡ map weight_of bs → slice_get ps i ≡ Some p → p.weight ≡ weight_of (at_place bs i)
@@ -51,14 +52,9 @@ past-end [] i h = refl
 past-end (b ∷ bs) zero h = absurd (omega arith)
 past-end (b ∷ bs) (suc i) h = past-end bs i (omega arith)
 
-pub get-none : {A : Type 0} (as_ : List A) (i : ℕ) → slice_get as_ i ≡ None → length as_ ≤ i
-get-none [] i e = omega arith
-get-none (a ∷ as_) zero e = absurd (cc)
-get-none (a ∷ as_) (suc i) e = let h = get-none as_ i e in omega arith
-
 pub no-part-weight : (ps : List DraftPart) (bs : List Body) (i : ℕ) (w : Weight) → senses ps ≡ bs → None ≡ slice_get ps i → w ≡ opaque_weight sort.Bool → w ≡ weight_of (at_place bs i)
 no-part-weight ps bs i w f g e =
-    let h : length bs ≤ i = subst (λ n. n ≤ i) (sym (length-senses ps) ∙ ap length f) (get-none ps i (sym g)) in
+    let h : length bs ≤ i = subst (λ n. n ≤ i) (sym (length-senses ps) ∙ ap length f) (slice_get-none ps i (sym g)) in
     e ∙ sym (weight-Opaque sort.Bool) ∙ ap weight_of (sym (past-end bs i h))
 
 -- a weight ends past the limits of a term's size
@@ -70,17 +66,7 @@ fits-so b = λ i. cap-le (nodes b) 1048576 (omega arith) i && cap-le (nesting b)
 
 pub ruleset fitting = (fits-so)
 
--- what a transducer relates
-related-weighs : (t : Transducer) (bs : List Body) → weight_of (related t bs) ≡ pair_weight (map weight_of bs)
-related-weighs t [] = weight-Opaque sort.Bool
-related-weighs t (a ∷ []) = weight-Opaque sort.Bool
-related-weighs t (a ∷ b ∷ []) = weight-Related t (term_of a) (term_of b) ∙ (λ i. related_weight (weight-term_of a i) (weight-term_of b i))
-related-weighs t (a ∷ b ∷ c ∷ bs) = weight-Opaque sort.Bool
-
-pub pair-weighs : (t : Transducer) (bs : List Body) (ws : List Weight) (w : Weight) → ws ≡ map weight_of bs → w ≡ pair_weight ws → w ≡ weight_of (related t bs)
-pair-weighs t bs ws w e f = f ∙ ap pair_weight e ∙ sym (related-weighs t bs)
-
-pub ruleset drafting = (map-snoc, length-senses, put-senses, put-weights, part-weight, no-part-weight)
+pub ruleset drafting = (map_push, length-senses, put-senses, put-weights, part-weight, no-part-weight)
 
 -- the part at a place, built of those before it
 kept-before : (done : List Body) (ps : List DraftPart) (i : ℕ) (d : Body) → i < length done → get_or (senses_from done ps) i d ≡ get_or done i d

@@ -1,5 +1,5 @@
 mod Builds
-mod Calling
+pub mod Calling
 mod Drafting
 mod Shapes
 mod Words

@@ -1,6 +1,6 @@
 mod Keeping
 mod Layers
-mod Placing
+pub mod Placing
 mod Sharing
 mod Sorts
 mod Sums

@@ -3,6 +3,7 @@ use Rattle.std.proofs.Common.{◌≡◌, refl, sym, ap, ◌∙◌, ℕ, zero, su
 use Rattle.std.specs.Option.{option_map}
 use Rattle.std.proofs.lemmas.Cmp.{nat_list_eq_equiv}
 use Rattle.std.proofs.lemmas.Grind.{common_steps}
+use Rattle.std.proofs.lemmas.List.{drop_all}
 use Rattle.sv_terms.specs.declared.sort.Sort.{Sort}
 use Rattle.term_weight.specs.Places.{flat}
 use Rattle.smt_names.specs.Signature.{Name, same_name}
@@ -19,7 +20,7 @@ abbrev pub shifted : ℕ → Option ℕ → Option ℕ
 shifted i None = None
 shifted i (Some j) = Some (i + j)
 
-same-swap : (a b : Name) → same_name a b ≡ same_name b a
+pub same-swap : (a b : Name) → same_name a b ≡ same_name b a
 same-swap a b = nat_list_eq_equiv.symm a b
 
 shift-cond : (b : Bool) (k : ℕ) (o : Option ℕ) → shifted k (cond b (Some 0) (option_map suc o)) ≡ cond b (Some k) (shifted (k + 1) o)
@@ -40,13 +41,8 @@ place-more n ps k i d o h e g =
     ∙ ap (λ z. shifted k (cond (same_name n (get_or ps k d).0) (Some 0) (option_map suc (place_of n (drop z ps))))) (add-one k)
     ∙ ap (shifted k) (sym (place-next n ps k d h))
 
-drop-none : {A : Type 0} (as_ : List A) (i : ℕ) → length as_ ≤ i → drop i as_ ≡ []
-drop-none [] i h = grind (arith, common_steps)
-drop-none (a ∷ as_) zero h = absurd (omega arith)
-drop-none (a ∷ as_) (suc i) h = drop-none as_ i (omega arith)
-
 pub place-none : (n : Name) (ps : List (Name × Sort)) → None ≡ shifted (length ps) (place_of n (drop (length ps) ps))
-place-none n ps = ap (λ z. shifted (length ps) (place_of n z)) (sym (drop-none ps (length ps) (omega arith)))
+place-none n ps = ap (λ z. shifted (length ps) (place_of n z)) (sym (drop_all (length ps) ps (omega arith)))
 
 drop-zero : {A : Type 0} (as_ : List A) → drop 0 as_ ≡ as_
 drop-zero [] = grind (arith, common_steps)

@@ -5,6 +5,7 @@ use Rattle.std.proofs.lemmas.Bool.{cases_lt}
 use Rattle.std.proofs.Math.Nat.{suc-mul, mul-zero, le-mul_of_pos_right}
 use Rattle.std.proofs.lemmas.Option.{get_or_from_slice_get}
 use Rattle.std.proofs.Common.{◌⊎◌, inl, inr}
+use Rattle.sv_list.specs.Bools.{or-assoc}
 use Rattle.sv_terms.specs.declared.sort.Sort.TheVariants as sort
 use Rattle.term_weight.specs.declared.share.Share.{Share}
 use Rattle.term_weight.specs.declared.share.Uses.{Uses}
@@ -20,10 +21,6 @@ or_swap false true false = refl
 or_swap false false true = refl
 or_swap false false false = refl
 
-or_assoc : (a b c : Bool) → ((a || b) || c) ≡ (a || (b || c))
-or_assoc true b c = refl
-or_assoc false b c = refl
-
 -- three numbers that make a share
 pub shares-same : (a b : Share) → a.nodes ≡ b.nodes → a.nesting ≡ b.nesting → a.is_unknown ≡ b.is_unknown → a ≡ b
 shares-same a b p q r = λ i. record { nodes = p i; nesting = q i; is_unknown = r i }
@@ -32,7 +29,7 @@ pub plus-swap : (a b c : Share) → plus (plus a b) c ≡ plus (plus a c) b
 plus-swap a b c = shares-same _ _ (omega arith) (omega arith) (or_swap a.is_unknown b.is_unknown c.is_unknown)
 
 pub plus-assoc : (a b c : Share) → plus (plus a b) c ≡ plus a (plus b c)
-plus-assoc a b c = shares-same _ _ (omega arith) (omega arith) (or_assoc a.is_unknown b.is_unknown c.is_unknown)
+plus-assoc a b c = shares-same _ _ (omega arith) (omega arith) (or-assoc a.is_unknown b.is_unknown c.is_unknown)
 
 module _ (d : ℕ) where
   -- where the count has reached its end, so has each product that isn't 0

@@ -1,9 +1,8 @@
 -- Terms with parameters, summed up part by part.
-use Rattle.std.proofs.Common.{◌≡◌, refl, sym, ap, subst, ◌∙◌, ℤ, ℕ, zero, suc, ◌+◌, ◌<◌, ◌≤◌, max, Bool, true, false, not, ◌||◌, List, [], ◌∷◌, length, map, take, get_or, Option, Some, None, arith, add-one}
+use Rattle.std.proofs.Common.{◌≡◌, refl, sym, ap, subst, ◌∙◌, ℤ, ℕ, zero, suc, ◌+◌, ◌<◌, max, Bool, true, false, not, ◌||◌, List, [], ◌∷◌, length, map, take, get_or, Option, Some, None, arith, add-one}
 use Rattle.std.specs.List.{list_any}
 use Rattle.std.specs.Prelude.{IfSome, if◌then◌else◌}
 use Rattle.std.specs.Option.{option_map}
-use Rattle.std.proofs.lemmas.List.{take_all}
 use Rattle.sv_terms.specs.declared.op.Op.{Op}
 use Rattle.sv_terms.specs.declared.regex.Regex.{Regex}
 use Rattle.sv_terms.specs.declared.sort.Sort.{Sort}
@@ -183,6 +182,3 @@ module _ (places : List (Name × Option ℕ)) where
 
   pub gains-next : (a b c : MacroSummary) (d : ℕ) (ts : List Term) (i : ℕ) (x : Term) → i < length ts → x ≡ get_or ts i x → Gains places a b (λ ws. shares d (map (part places ws) (take i ts))) → Gains places b c (λ ws. share d (part places ws x)) → Gains places a c (λ ws. shares d (map (part places ws) (take (i + 1) ts)))
   gains-next a b c d ts i x h e p q = rw (add-one i) (gains-alike a c _ _ (gains-then a b c _ _ p q) (λ ws. shares-next d ws ts i x h e))
-
-  pub gains-end : (a b : MacroSummary) (d : ℕ) (ts : List Term) (i : ℕ) → length ts ≤ i → Gains places a b (λ ws. shares d (map (part places ws) (take i ts))) → Gains places a b (λ ws. shares d (map (part places ws) ts))
-  gains-end a b d ts i h p = gains-alike a b _ _ p (λ ws. ap (λ z. shares d (map (part places ws) z)) (take_all i ts h))

@@ -1,5 +1,6 @@
 -- Terms layer by layer: their words and weights.
-use Rattle.std.proofs.Common.{◌≡◌, refl, sym, ap, ◌∙◌, ℕ, ◌+◌, ℤ, Bool, false, ◌||◌, List, [], ◌∷◌, ◌++◌, map, Option, Some, None, arith}
+use Rattle.std.proofs.Common.{◌≡◌, refl, sym, ap, ◌∙◌, ℕ, ◌+◌, ℤ, Bool, false, ◌||◌, List, [], ◌∷◌, map, Option, Some, None, arith}
+use Rattle.std.proofs.lemmas.List.{map_push}
 use Rattle.sv_terms.specs.declared.regex.Regex.{Regex, roll-Regex}
 use Rattle.sv_terms.specs.declared.regex.Regex.TheVariants as re
 use Rattle.sv_terms.specs.declared.regex.Regex.TheOpen.{Regex-F}
@@ -51,11 +52,6 @@ pub word-Opaque : (s : Sort) → literal (body.Term (term.Opaque s)) ≡ None
 word-Opaque s = word-at _ (Term-F.Opaque s) (term.rolls-Opaque s)
 
 pub ruleset words = (word-Truth, word-Number, word-Text, word-Constant, word-Apply, word-InRe, word-Related, word-Opaque)
-
--- one more element of a list
-pub map-snoc : {A B : Type 0} (f : A → B) (as_ : List A) (a : A) → map f (as_ ++ a ∷ []) ≡ map f as_ ++ f a ∷ []
-map-snoc f [] a = refl
-map-snoc f (b ∷ as_) a = ap (λ z. f b ∷ z) (map-snoc f as_ a)
 
 -- sums of what ends at 2^32 - 1
 cap-total : (n : ℕ) (ns : List ℕ) → capped (n + total (map capped ns)) ≡ capped (n + total ns)
@@ -208,4 +204,4 @@ weight-Comp r = regex-layer _ (Regex-F.Comp r) (re.rolls-Comp r) _ _ (many-nodes
 pub weight-Loop : (r : Regex) (i j : ℕ) → regex_weight (re.Loop r i j) ≡ combined_weight (regex_weight r ∷ [])
 weight-Loop r i j = regex-layer _ (Regex-F.Loop r i j) (re.rolls-Loop r i j) _ _ (many-nodes (r ∷ [])) (many-nesting (r ∷ []))
 
-pub ruleset regexes = (map-snoc, weight-Empty, weight-All, weight-AnyChar, weight-Word, weight-Range, weight-Concat, weight-Union, weight-Inter, weight-Diff, weight-Star, weight-Plus, weight-Opt, weight-Comp, weight-Loop)
+pub ruleset regexes = (map_push, weight-Empty, weight-All, weight-AnyChar, weight-Word, weight-Range, weight-Concat, weight-Union, weight-Inter, weight-Diff, weight-Star, weight-Plus, weight-Opt, weight-Comp, weight-Loop)

@@ -2,6 +2,7 @@
 use Rattle.std.proofs.Common.{◌≡◌, refl, sym, ap, ◌∙◌, ℕ, suc, Bool, true, false, cond, ◌&&◌, List, [], ◌∷◌, length, map, filter, Option, Some, None}
 use Rattle.std.specs.Prelude.{if◌then◌else◌, not, nat_le, is_some}
 use Rattle.std.specs.List.{list_all}
+use Rattle.sv_list.specs.Bools.{and-first, and-second}
 use Rattle.sv_terms.specs.declared.regex.Regex.{Regex}
 use Rattle.sv_terms.specs.declared.regex.Regex.TheVariants as re
 use Rattle.sv_terms.specs.declared.entry.Body.{Body}
@@ -54,21 +55,13 @@ regex-weighs : (b : Body) → is_language b ≡ true → regex_weight (regex_of 
 regex-weighs (body.Term t) h = absurd (cc)
 regex-weighs (body.Language r) h = refl
 
-and-left : (a b : Bool) → (a && b) ≡ true → a ≡ true
-and-left true b h = refl
-and-left false b h = absurd (cc)
-
-and-right : (a b : Bool) → (a && b) ≡ true → b ≡ true
-and-right true b h = h
-and-right false b h = absurd (cc)
-
 all-languages : (bs : List Body) → list_all (λ w. w.is_language) (map weight_of bs) ≡ list_all is_language bs
 all-languages [] = refl
 all-languages (b ∷ bs) = ap (λ c. is_language b && c) (all-languages bs)
 
 regexes-weigh : (bs : List Body) → list_all is_language bs ≡ true → map regex_weight (map regex_of bs) ≡ map weight_of bs
 regexes-weigh [] h = refl
-regexes-weigh (b ∷ bs) h = λ i. regex-weighs b (and-left (is_language b) (list_all is_language bs) h) i ∷ regexes-weigh bs (and-right (is_language b) (list_all is_language bs) h) i
+regexes-weigh (b ∷ bs) h = λ i. regex-weighs b (and-first (is_language b) (list_all is_language bs) h) i ∷ regexes-weigh bs (and-second (is_language b) (list_all is_language bs) h) i
 
 count-unknowns : (bs : List Body) → length (filter (λ w. is_unknown w.factor) (map weight_of bs)) ≡ unknowns bs
 count-unknowns [] = refl
@@ -277,7 +270,7 @@ module _ (gives : Sort) where
   plain-weighs is.Range (a ∷ []) e = absurd (cc)
   plain-weighs is.Range (a ∷ b ∷ []) e =
       let h = unless-true (is_literal (factor a) && is_literal (factor b)) sort.RegLan e in
-      range-weighs (literal a) (literal b) (is-literal a ∙ and-left (is_literal (factor a)) (is_literal (factor b)) h) (is-literal b ∙ and-right (is_literal (factor a)) (is_literal (factor b)) h)
+      range-weighs (literal a) (literal b) (is-literal a ∙ and-first (is_literal (factor a)) (is_literal (factor b)) h) (is-literal b ∙ and-second (is_literal (factor a)) (is_literal (factor b)) h)
   plain-weighs is.Range (a ∷ b ∷ c ∷ bs) e = absurd (cc)
   plain-weighs (is.Loop i j) bs e = one-weighs (λ r. re.Loop r i j) (λ r. weight-Loop r i j) bs e
   plain-weighs (is.Character c) bs e = weight-Text (word_of c)

@@ -47,10 +47,6 @@ HoldsAt words at bits = (bit : ℕ) → bit < 64 → bit_at bits bit ≡ 1 → 6
 pub held : (words : List ℕ) (at bits word : ℕ) → word < 2 ^ 64 → get_or words at 0 ≡ word → bit_and bits (bit_not w64 word) ≡ 0 → HoldsAt words at bits
 held words at bits word fits get none = λ bit low one inside. bit-there words at bit word low get (no-other bits word bit fits low none one)
 
--- nothing is asked where there is no word
-pub held-past : (words : List ℕ) (at bits : ℕ) → length words ≤ at → HoldsAt words at bits
-held-past words at bits past = λ bit low one inside. absurd (omega arith)
-
 -- all bits of a word, moved up
 abbrev pub HoldsMoved : List ℕ → ℕ → ℕ → ℕ → Type 0
 HoldsMoved words at word by = (bit : ℕ) → bit < 64 → bit_at word bit ≡ 1 → 64 * at + (bit + by) < 64 * length words → HasBit words (64 * at + (bit + by))
@@ -62,9 +58,6 @@ held-moved words at word by small here after = λ bit low one inside. elim (case
       let e : 64 * (at + 1) + (bit + by - 64) ≡ 64 * at + (bit + by) = omega arith in
       subst (HasBit words) e (after (bit + by - 64) (omega arith) (moved-high word by bit low (omega arith) small one) (omega arith))
 ]
-
-pub held-unmoved : (words : List ℕ) (at word by : ℕ) → by ≡ 0 → HoldsAt words at (word * 2 ^ by % 2 ^ 64) → HoldsMoved words at word by
-held-unmoved words at word by none here = λ bit low one inside. here (bit + by) (omega arith) (moved-low word by bit (omega arith) one) inside
 
 module _ (from to : List ℕ) (skip by : ℕ) where
   -- the bits of the first words are held, moved up
@@ -88,10 +81,6 @@ module _ (from to : List ℕ) (skip by : ℕ) where
             let none : bit_at (get_or from j 0) bit ≡ 0 = ap (λ w. bit_at w bit) (get_or_past from j 0 (omega arith)) ∙ bit_at-zero bit in
             absurd (let o = one in omega arith)
       ]
-
--- words behind all others
-pub covers-far : (from to : List ℕ) (cost : ℕ) → length to ≤ cost / 64 → Covers from to cost
-covers-far from to cost far total one inside = absurd (omega arith)
 
 -- one element more of which a fact holds
 pub take-more : {X : Type 0} (P : X → Type 0) (xs : List X) (i : ℕ) (x : X) → i < length xs → x ≡ get_or xs i x → All P (take i xs) → P x → All P (take (i + 1) xs)

@@ -1,15 +1,14 @@
 -- Nodes as the states of a machine.
 use Rattle.std.proofs.Common.{◌≡◌, refl, sym, ap, ◌∙◌, subst, Bool, true, false, IsTrue, ℕ, zero, suc, ◌+◌, ◌<◌, ◌⊎◌, inl, inr, ⊎_elim, ◌↔◌, List, [], ◌∷◌, ◌++◌, length, get_or, take, Contains, Some, arith}
 use Rattle.std.specs.Prelude.{slice_get, nat_le, ◌&&◌}
-use Rattle.std.proofs.lemmas.List.{get_or_default, take_more}
-use Rattle.std.proofs.lemmas.Option.{get_or_from_slice_get, slice_get-get_or}
+use Rattle.std.proofs.lemmas.List.{take_more}
+use Rattle.std.proofs.lemmas.Option.{get_or_from_slice_get, slice_get-get_or, same_Some}
 use Rattle.std.proofs.lemmas.List.Elements.{Contains-append_left, Contains-append_right, Contains-append_cases}
 use Rattle.std.proofs.lemmas.List.Quantifiers.{Any-push}
-use Rattle.machine_core.specs.Costs.{add_costs}
 use Rattle.machine_core.specs.Edges.{EndsAt, StepsBy, edge, ending, move_of}
 use Rattle.machine_core.specs.Graphs.{Accepts}
 use Rattle.machine_core.specs.Language.{RunsFrom}
-use Rattle.machine_core.specs.Lists.{Any-append_left, Any-push_cases, slice_get-append, slice_get-end}
+use Rattle.sv_list.specs.Lists.{Any-append_left, Any-push_cases, slice_get-append, slice_get-end}
 use Rattle.machine_core.specs.Moves.{Moves}
 use Rattle.machine_core.specs.declared.edge.Edge.{Edge}
 use Rattle.machine_core.specs.declared.end.End.{End}
@@ -19,9 +18,6 @@ use Rattle.transducer_core.specs.Built.{IsAnyStep, IsBuilt, IsStep}
 use Rattle.transducer_core.specs.Nodes.{NodeSpells, Spells}
 use Rattle.transducer_core.specs.declared.node.OutputNode.{OutputNode}
 use Rattle.transducer_core.proofs.NodeLemmas.{not_both, only_one}
-
-some_same : {X : Type 0} (a b : X) → Some a ≡ Some b → a ≡ b
-some_same a b e = cc
 
 -- one character is in the pair of it alone
 between : (c d : ℕ) → (nat_le c d && nat_le d c) ≡ true → c ≡ d
@@ -71,7 +67,7 @@ stop_some old new cost0 state b t z e s cost = subst (λ x. EndsAt new s cost �
 
 -- the node that is at a place of one more
 which : (ns : List OutputNode) (n m : OutputNode) (s : ℕ) → slice_get (ns ++ n ∷ []) s ≡ Some m → (slice_get ns s ≡ Some m) ⊎ ((length ns ≡ s) × (n ≡ m))
-which [] n m zero e = inr (refl, some_same n m e)
+which [] n m zero e = inr (refl, same_Some n m e)
 which [] n m (suc s) e = absurd (cc)
 which (x ∷ ns) n m zero e = inl e
 which (x ∷ ns) n m (suc s) e = ⊎_elim inl (λ r. inr (ap suc r.0, r.1)) (which ns n m s e)
@@ -108,10 +104,6 @@ built_none g e f = record {
 
 -- the words of the machine
 module _ (g : Graph) (first : OutputNode) (ns : List OutputNode) (b : IsBuilt g (first ∷ ns)) where
-  free : (w : List ℕ) (s : ℕ) (cost : List ℕ) → RunsFrom (EndsAt g.ends) (StepsBy g.edges) s w cost → cost ≡ []
-  free [] s cost r = ((b.ends s cost).0 r).3
-  free (c ∷ w) s cost r = (let k = (b.steps s c r.0 r.1).0 r.3 in r.5 ∙ ap (λ x. add_costs x r.2) k.2.2.2)
-
   to_node : (w : List ℕ) (s : ℕ) (cost : List ℕ) → RunsFrom (EndsAt g.ends) (StepsBy g.edges) s w cost → (n : OutputNode) × (slice_get (first ∷ ns) s ≡ Some n) × NodeSpells ns w n
   to_node [] s cost r = (let k = (b.ends s cost).0 r in (k.0, k.1, k.2))
   to_node (c ∷ w) s cost r =
@@ -128,10 +120,7 @@ module _ (g : Graph) (first : OutputNode) (ns : List OutputNode) (b : IsBuilt g 
       ([], suc h.0, [], (b.steps s c [] (suc h.0)).1 (n, at, ((c, h.0), h.2, (refl, refl, refl, sym up))), from_node w (suc h.0) h.1 h.3 h.4, refl)
 
   pub accepts : (w : List ℕ) → Accepts g w [] ↔ NodeSpells ns w first
-  accepts w = (λ r. let k = to_node w 0 [] r in subst (NodeSpells ns w) (sym (some_same first k.0 k.1)) k.2, λ h. from_node w 0 first refl h)
-
-pub at_there : {X : Type 0} (xs : List X) (i : ℕ) (d : X) → i < length xs → Contains xs (get_or xs i d)
-at_there xs i d h = (i, h, get_or_default xs i (get_or xs i d) d h)
+  accepts w = (λ r. let k = to_node w 0 [] r in subst (NodeSpells ns w) (sym (same_Some first k.0 k.1)) k.2, λ h. from_node w 0 first refl h)
 
 pub item_there : {X : Type 0} (xs : List X) (i : ℕ) (x : X) → i < length xs → x ≡ get_or xs i x → Contains xs x
 item_there xs i x h e = (i, h, sym e)
@@ -147,4 +136,4 @@ machine_words g ns k h b w =
     let n = get_or ns k none in
     let at = slice_get-get_or ns k none h in
     let a = accepts g (get_or ns k none) ns (b (get_or ns k none) at) w in
-    (λ r. (get_or ns k none, at, a.0 r), λ s. a.1 (subst (NodeSpells ns w) (some_same s.0 (get_or ns k none) (sym s.1 ∙ at)) s.2))
+    (λ r. (get_or ns k none, at, a.0 r), λ s. a.1 (subst (NodeSpells ns w) (same_Some s.0 (get_or ns k none) (sym s.1 ∙ at)) s.2))

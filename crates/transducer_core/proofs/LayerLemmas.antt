@@ -1,52 +1,21 @@
 -- Layers of the search of a run.
-use Rattle.std.proofs.Common.{◌≡◌, refl, sym, ap, ◌∙◌, subst, ℕ, zero, suc, ◌+◌, ◌-◌, ◌≤◌, ◌<◌, ◌⊎◌, inl, inr, ⊎_elim, arith, List, [], ◌∷◌, ◌++◌, length, drop, take, reverse, slice_get, Some, Contains, Bool, true, false, IsTrue, ◌↔◌}
-use Rattle.std.proofs.lemmas.List.{append_assoc, take-append-drop, drop-drop, length-append, length-drop, length-take-le, reverse-append, take_all, take_more}
-use Rattle.std.proofs.lemmas.List.Elements.{Contains-append_left, Contains-append_right, Contains-append_cases}
-use Rattle.std.proofs.lemmas.Option.{slice_get_within, get_or_from_slice_get, slice_get_read}
-use Rattle.std.proofs.Math.Seq.{drop-append_seam, take-append_seam, drop-length}
-use Rattle.sv_terms.specs.Transduction.{Transduces, Leads, Follows, Pairs, IsTransduction}
+use Rattle.std.proofs.Common.{◌≡◌, refl, sym, ap, ◌∙◌, subst, ℕ, zero, suc, ◌+◌, ◌-◌, ◌≤◌, ◌<◌, ◌⊎◌, ⊎_elim, arith, List, [], ◌∷◌, ◌++◌, length, drop, take, reverse, slice_get, Some, Contains, Bool, true, false, IsTrue, ◌↔◌}
+use Rattle.std.proofs.lemmas.List.{append_assoc, drop-drop, length-drop, length-take-le, reverse-append, take_all, take_more}
+use Rattle.std.proofs.lemmas.List.Elements.{Contains-append_left, Contains-push_cases, Contains-push}
+use Rattle.std.proofs.lemmas.Option.{slice_get_within, get_or_from_slice_get, slice_get_read, same_Some}
+use Rattle.std.proofs.Math.Seq.{drop-append_seam, drop-length}
+use Rattle.sv_list.specs.Lists.{slice_get-contains, below-cases, slice_get-some}
+use Rattle.sv_terms.specs.Transduction.{Leads, Follows, Pairs, IsTransduction}
 use Rattle.sv_terms.specs.declared.transducer.TransEdge.{TransEdge}
 use Rattle.sv_terms.specs.declared.transducer.Transducer.{Transducer}
 use Rattle.transducer_core.specs.declared.reached.Reached.{Reached}
 use Rattle.transducer_core.specs.Layers.{ComesFrom, IsTaken, IsPartLayer, IsLayer, AreLayers, last_layer, LedTo, first_of, AreSearchLayers, IsBackWalk, IsWalking, HasEntry, IsEntry}
 
-pub some_same : {X : Type 0} (a b : X) → Some a ≡ Some b → a ≡ b
-some_same a b e = cc
-
-pub contains_of : {X : Type 0} (xs : List X) (k : ℕ) (x : X) → slice_get xs k ≡ Some x → Contains xs x
-contains_of xs k x e = (k, slice_get_within xs k x e, get_or_from_slice_get xs k x x e)
-
 pub place_of : {X : Type 0} (xs : List X) (x : X) → (c : Contains xs x) → slice_get xs c.0 ≡ Some x
 place_of xs x c = slice_get_read xs (length xs) c.0 x refl c.1 (sym c.2)
 
-contains_last : {X : Type 0} (x y : X) (xs : List X) → Contains (xs ++ y ∷ []) x → Contains xs x ⊎ (y ≡ x)
-contains_last x y xs c = ⊎_elim inl (λ d. inr (single d)) (Contains-append_cases xs (y ∷ []) x c)
-  where
-    single : Contains (y ∷ []) x → y ≡ x
-    single (zero, lt, e) = e
-    single (suc k, lt, e) = absurd (omega (arith, lt))
-
-is_last : {X : Type 0} (y : X) (xs : List X) → Contains (xs ++ y ∷ []) y
-is_last y xs = Contains-append_right xs (y ∷ []) y (zero, omega arith, refl)
-
--- a word at a place
-pub stands_so : (w v : List ℕ) (at : ℕ) → at ≤ length w → take (length v) (drop at w) ≡ v → drop at w ≡ v ++ drop (at + length v) w
-stands_so w v at h e = sym (take-append-drop (length v) (drop at w)) ∙ ap (λ (x : List ℕ). x ++ drop (length v) (drop at w)) e ∙ ap (λ (x : List ℕ). v ++ x) (drop-drop (length v) at w)
-
-pub stands_then : (w v rest : List ℕ) (at : ℕ) → drop at w ≡ v ++ rest → take (length v) (drop at w) ≡ v
-stands_then w v rest at e = ap (take (length v)) e ∙ take-append_seam v rest
-
 pub stands_rest : (w v rest : List ℕ) (at : ℕ) → drop at w ≡ v ++ rest → drop (at + length v) w ≡ rest
 stands_rest w v rest at e = sym (drop-drop (length v) at w) ∙ ap (drop (length v)) e ∙ drop-append_seam v rest
-
-pub stands_fits : (w v rest : List ℕ) (at : ℕ) → at ≤ length w → drop at w ≡ v ++ rest → at + length v ≤ length w
-stands_fits w v rest at h e =
-    let n = ap length e ∙ length-append v rest in
-    let m = length-drop at w in
-    omega (arith, n, m, h)
-
-pub not_shorter : (w v : List ℕ) (at : ℕ) → length (drop at w) < length v → drop at w ≡ v ++ drop (at + length v) w → ⊥
-not_shorter w v at h e = let n = ap length e ∙ length-append v (drop (at + length v) w) in omega (arith, n, h)
 
 pub part_none : (t : Transducer) (w : List ℕ) (c : ℕ) (layer : List Reached) → IsPartLayer t w c layer 0 0 []
 part_none t w c layer = record {
@@ -58,12 +27,6 @@ part_none t w c layer = record {
 taken_grows : (w : List ℕ) (c : ℕ) (next more : List Reached) (p : Reached) (e : TransEdge) → IsTaken w c next p e → IsTaken w c (next ++ more) p e
 taken_grows w c next more p e h text rest m d = let k = h text rest m d in (k.0, Contains-append_left next more k.0 k.1, k.2, k.3)
 
-below_or_last : (q n : ℕ) → q < suc n → (q < n) ⊎ (q ≡ n)
-below_or_last zero zero h = inr refl
-below_or_last zero (suc n) h = inl (omega arith)
-below_or_last (suc q) zero h = absurd (omega (arith, h))
-below_or_last (suc q) (suc n) h = ⊎_elim (λ l. inl (omega (arith, l))) (λ e. inr (ap suc e)) (below_or_last q n (omega (arith, h)))
-
 module _ (t : Transducer) (w : List ℕ) (c : ℕ) (layer : List Reached) (i k : ℕ) (p : Reached) (e : TransEdge) (next : List Reached)
     (at : slice_get layer i ≡ Some p) (by : slice_get t.edges k ≡ Some e) (part : IsPartLayer t w c layer i k next) where
   -- one edge more
@@ -74,18 +37,15 @@ module _ (t : Transducer) (w : List ℕ) (c : ℕ) (layer : List Reached) (i k :
     here = λ k' p' e' l a b. ⊎_elim
         (λ m. part.here k' p' e' m a b)
         (λ m.
-        let same_p : p ≡ p' = some_same p p' (sym at ∙ a) in
-        let same_e : e ≡ e' = some_same e e' (sym by ∙ ap (slice_get t.edges) (sym m) ∙ b) in
+        let same_p : p ≡ p' = same_Some p p' (sym at ∙ a) in
+        let same_e : e ≡ e' = same_Some e e' (sym by ∙ ap (slice_get t.edges) (sym m) ∙ b) in
         subst (λ x. IsTaken w c next x e') same_p (subst (IsTaken w c next p) same_e h))
-        (below_or_last k' k l);
+        (below-cases k' k l);
   }
-
-  pub part_apart : ((text rest : List ℕ) → Transduces p.state c text e → drop p.done w ≡ text ++ rest → ⊥) → IsPartLayer t w c layer i (suc k) next
-  part_apart n = part_taken (λ text rest m d. absurd (n text rest m d))
 
   taken_by : (done : ℕ) (led : LedTo w c p e done) (r : Reached) (ns : List Reached) → Contains ns r → r.state ≡ e.to → r.done ≡ done → IsTaken w c ns p e
   taken_by done led r ns has s d text rest m f =
-      let same : led.text ≡ text = some_same led.text text (sym led.moves.3 ∙ m.3) in
+      let same : led.text ≡ text = same_Some led.text text (sym led.moves.3 ∙ m.3) in
       let left : drop (length led.text) (drop p.done w) ≡ drop done w = ap (drop (length led.text)) led.rest ∙ drop-append_seam led.text (drop done w) in
       let right : drop (length text) (drop p.done w) ≡ rest = ap (drop (length text)) f ∙ drop-append_seam text rest in
       (r, has, s, ap (λ n. drop n w) d ∙ sym left ∙ ap (λ (v : List ℕ). drop (length v) (drop p.done w)) same ∙ right)
@@ -95,15 +55,15 @@ module _ (t : Transducer) (w : List ℕ) (c : ℕ) (layer : List Reached) (i k :
 
   pub part_pushed : (done : ℕ) (r : Reached) (new : List Reached) → LedTo w c p e done → r.state ≡ e.to → r.done ≡ done → r.edge ≡ k → r.before ≡ i → new ≡ next ++ r ∷ [] → IsPartLayer t w c layer i (suc k) new
   part_pushed done r new led s d b f g = subst (IsPartLayer t w c layer i (suc k)) (sym g) (record {
-    sound = λ x h. ⊎_elim (part.sound x) (λ q. subst (ComesFrom t w c layer) q comes) (contains_last x r next h);
+    sound = λ x h. ⊎_elim (part.sound x) (λ q. subst (ComesFrom t w c layer) q comes) (Contains-push_cases next r x h);
     past = λ j p' e' l a h. taken_grows w c next (r ∷ []) p' e' (part.past j p' e' l a h);
     here = λ k' p' e' l a h. ⊎_elim
         (λ m. taken_grows w c next (r ∷ []) p' e' (part.here k' p' e' m a h))
         (λ m.
-        let same_p : p ≡ p' = some_same p p' (sym at ∙ a) in
-        let same_e : e ≡ e' = some_same e e' (sym by ∙ ap (slice_get t.edges) (sym m) ∙ h) in
-        subst (λ x. IsTaken w c (next ++ r ∷ []) x e') same_p (subst (IsTaken w c (next ++ r ∷ []) p) same_e (taken_by done led r (next ++ r ∷ []) (is_last r next) s d)))
-        (below_or_last k' k l);
+        let same_p : p ≡ p' = same_Some p p' (sym at ∙ a) in
+        let same_e : e ≡ e' = same_Some e e' (sym by ∙ ap (slice_get t.edges) (sym m) ∙ h) in
+        subst (λ x. IsTaken w c (next ++ r ∷ []) x e') same_p (subst (IsTaken w c (next ++ r ∷ []) p) same_e (taken_by done led r (next ++ r ∷ []) (Contains-push next r) s d)))
+        (below-cases k' k l);
   })
     where
       comes : ComesFrom t w c layer r
@@ -126,7 +86,7 @@ part_entry t w c layer i next h part = record {
   past = λ j p e l a has. ⊎_elim
       (λ m. part.past j p e m a has)
       (λ m. part.here has.0 p e has.1 (ap (slice_get layer) (sym m) ∙ a) (place_of t.edges e has))
-      (below_or_last j i l);
+      (below-cases j i l);
   here = λ k p e l. absurd (omega (arith, l));
 }
 
@@ -200,7 +160,7 @@ pub layer_step : (t : Transducer) (w : List ℕ) (layer : List Reached) (read : 
 layer_step t w layer [] layers i c a b are p q r = absurd (cc)
 layer_step t w layer (d ∷ read) [] i c a b are p q r = absurd are
 layer_step t w layer (d ∷ read) (x ∷ layers) zero c a b are p q r =
-    subst (λ y. IsLayer t w c y b) (some_same layer a p) (subst (λ y. IsLayer t w c layer y) (some_same x b q) (subst (λ n. IsLayer t w n layer x) (some_same d c r) are.0))
+    subst (λ y. IsLayer t w c y b) (same_Some layer a p) (subst (λ y. IsLayer t w c layer y) (same_Some x b q) (subst (λ n. IsLayer t w n layer x) (same_Some d c r) are.0))
 layer_step t w layer (d ∷ read) (x ∷ layers) (suc i) c a b are p q r = layer_step t w x read layers i c a b are.1 p q r
 
 pub stands_whole : (w v rest : List ℕ) (at : ℕ) → drop at w ≡ v ++ rest → drop at w ≡ v ++ drop (at + length v) w
@@ -218,16 +178,12 @@ first_done : (t : Transducer) (w : List ℕ) (r : Reached) → Contains (first_o
 first_done t w r (zero, lt, e) = subst (λ (x : Reached). x.done ≤ length w) e (omega arith)
 first_done t w r (suc k, lt, e) = absurd (omega (arith, lt))
 
--- the search, one character further
-pub searched_none : (t : Transducer) (w : List ℕ) (layers : List (List Reached)) → layers ≡ (first_of t ∷ []) ∷ [] → AreSearchLayers t [] w layers
-searched_none t w layers e = record { later = []; is = e; are = refl }
-
 pub searched_last : (t : Transducer) (read w : List ℕ) (layers : List (List Reached)) (n : ℕ) (layer : List Reached) (s : AreSearchLayers t read w layers) → n ≡ length read → slice_get layers n ≡ Some layer
     → layer ≡ last_layer (first_of t ∷ []) s.later
 searched_last t read w layers n layer s e g =
     let k = layers_length t w (first_of t ∷ []) read s.later s.are in
     let same : n ≡ length s.later = omega (arith, e, k) in
-    some_same layer (last_layer (first_of t ∷ []) s.later) (sym g ∙ ap (λ m. slice_get layers m) same ∙ ap (λ (ls : List (List Reached)). slice_get ls (length s.later)) s.is ∙ last_at (first_of t ∷ []) s.later)
+    same_Some layer (last_layer (first_of t ∷ []) s.later) (sym g ∙ ap (λ m. slice_get layers m) same ∙ ap (λ (ls : List (List Reached)). slice_get ls (length s.later)) s.is ∙ last_at (first_of t ∷ []) s.later)
 
 pub searched_done : (t : Transducer) (read w : List ℕ) (layers : List (List Reached)) (n : ℕ) (layer : List Reached) → AreSearchLayers t read w layers → n ≡ length read → slice_get layers n ≡ Some layer
     → (r : Reached) → Contains layer r → r.done ≤ length w
@@ -277,16 +233,11 @@ walking_entry t w read layers i at back k = record { layer = k.walk.layer; is_la
 
 same_entry : (t : Transducer) (w read : List ℕ) (layers : List (List Reached)) (final : Reached) (i at : ℕ) (places : List ℕ) (r : Reached) (k : IsBackWalk t w read layers final i at places) → IsEntry layers i at r → k.entry ≡ r
 same_entry t w read layers final i at places r k e =
-    some_same k.entry r (sym k.is_entry ∙ ap (λ (l : List Reached). slice_get l at) (some_same k.layer e.layer (sym k.is_layer ∙ e.is_layer)) ∙ e.is_entry)
-
-here_in : {X : Type 0} (xs : List X) (i : ℕ) → i < length xs → (x : X) × (slice_get xs i ≡ Some x)
-here_in [] i h = absurd (omega (arith, h))
-here_in (x ∷ xs) zero h = (x, refl)
-here_in (x ∷ xs) (suc i) h = here_in xs i (omega (arith, h))
+    same_Some k.entry r (sym k.is_entry ∙ ap (λ (l : List Reached). slice_get l at) (same_Some k.layer e.layer (sym k.is_layer ∙ e.is_layer)) ∙ e.is_entry)
 
 drop_at : (xs : List ℕ) (i c : ℕ) → slice_get xs i ≡ Some c → drop i xs ≡ c ∷ drop (suc i) xs
 drop_at [] i c e = absurd (let k = slice_get_within [] i c e in omega (arith, k))
-drop_at (x ∷ xs) zero c e = ap (λ d. d ∷ xs) (some_same x c e) ∙ ap (λ (v : List ℕ). c ∷ v) (sym (drop_zero xs))
+drop_at (x ∷ xs) zero c e = ap (λ d. d ∷ xs) (same_Some x c e) ∙ ap (λ (v : List ℕ). c ∷ v) (sym (drop_zero xs))
   where
     drop_zero : (v : List ℕ) → drop 0 v ≡ v
     drop_zero [] = refl
@@ -304,8 +255,8 @@ pub record IsStepBack (t : Transducer) (w read : List ℕ) (layers : List (List 
 step_back : (t : Transducer) (w read : List ℕ) (layers : List (List Reached)) (i at : ℕ) (r : Reached) → AreSearchLayers t read w layers → i < length read → IsEntry layers (suc i) at r → IsStepBack t w read layers i r
 step_back t w read layers i at r s h e =
     let n = layers_length t w (first_of t ∷ []) read s.later s.are in
-    let c = here_in read i h in
-    let a = here_in ((first_of t ∷ []) ∷ s.later) i (omega (arith, n, h)) in
+    let c = slice_get-some read i h in
+    let a = slice_get-some ((first_of t ∷ []) ∷ s.later) i (omega (arith, n, h)) in
     let b = ap (λ (ls : List (List Reached)). slice_get ls (suc i)) (sym s.is) ∙ e.is_layer in
     let layer = layer_step t w (first_of t ∷ []) read s.later i c.0 a.0 e.layer s.are a.1 b c.1 in
     record {
@@ -313,7 +264,7 @@ step_back t w read layers i at r s h e =
       layer = a.0;
       character = c.1;
       is_layer = ap (λ (ls : List (List Reached)). slice_get ls i) s.is ∙ a.1;
-      comes = layer.sound r (contains_of e.layer at r e.is_entry);
+      comes = layer.sound r (slice_get-contains e.layer at r e.is_entry);
     }
 
 walk_back : (t : Transducer) (w read : List ℕ) (layers : List (List Reached)) (final : Reached) (i at : ℕ) (places : List ℕ) (r : Reached) → IsStepBack t w read layers i r
@@ -351,13 +302,13 @@ walking_back t w read layers (suc i) at back new r s h l e k f =
     })
 
 only_entry : (x r : Reached) (at : ℕ) → slice_get (x ∷ []) at ≡ Some r → x ≡ r
-only_entry x r zero e = some_same x r e
+only_entry x r zero e = same_Some x r e
 only_entry x r (suc at) e = absurd (let k = slice_get_within (x ∷ []) (suc at) r e in omega (arith, k))
 
 pub walking_last : (t : Transducer) (w read : List ℕ) (layers : List (List Reached)) (i at : ℕ) (back : List ℕ) → AreSearchLayers t read w layers → i ≡ 0 → IsWalking t w read layers i at back → IsTransduction t (reverse back) read w
 walking_last t w read layers i at back s z k =
     let m = k.walk in
-    let first : m.layer ≡ first_of t ∷ [] = some_same m.layer (first_of t ∷ []) (sym m.is_layer ∙ ap (slice_get layers) z ∙ ap (λ (ls : List (List Reached)). slice_get ls 0) s.is) in
+    let first : m.layer ≡ first_of t ∷ [] = same_Some m.layer (first_of t ∷ []) (sym m.is_layer ∙ ap (slice_get layers) z ∙ ap (λ (ls : List (List Reached)). slice_get ls 0) s.is) in
     let entry : first_of t ≡ m.entry = only_entry (first_of t) m.entry at (ap (λ (l : List Reached). slice_get l at) (sym first) ∙ m.is_entry) in
     let whole : drop i read ≡ read = ap (λ n. drop n read) z ∙ drop_all read in
     let done : w ≡ m.path ++ drop k.final.done w = sym (drop_all w) ∙ ap (λ (x : Reached). drop x.done w) entry ∙ m.rest in
@@ -367,16 +318,12 @@ walking_last t w read layers i at back s z k =
     drop_all [] = refl
     drop_all (c ∷ v) = refl
 
--- no end before this place
-pub contains_before : {X : Type 0} (xs : List X) (x : X) → ((i : ℕ) (y : X) → i < length xs → slice_get xs i ≡ Some y → y ≡ x → ⊥) → Contains xs x → ⊥
-contains_before xs x n c = n c.0 x c.1 (place_of xs x c) refl
-
 pub none_more : (Q : Reached → Type 0) (layer : List Reached) (at : ℕ) (x : Reached) → slice_get layer at ≡ Some x → (Q x → ⊥) → ((i : ℕ) (r : Reached) → i < at → slice_get layer i ≡ Some r → Q r → ⊥)
     → (i : ℕ) (r : Reached) → i < at + 1 → slice_get layer i ≡ Some r → Q r → ⊥
 none_more Q layer at x e n before i r l g h = ⊎_elim
     (λ m. before i r m g h)
-    (λ m. n (subst Q (some_same r x (sym g ∙ ap (slice_get layer) m ∙ e)) h))
-    (below_or_last i at (omega (arith, l)))
+    (λ m. n (subst Q (same_Some r x (sym g ∙ ap (slice_get layer) m ∙ e)) h))
+    (below-cases i at (omega (arith, l)))
 
 pub take_next : (xs : List ℕ) (i c : ℕ) → slice_get xs i ≡ Some c → take (i + 1) xs ≡ take i xs ++ c ∷ []
 take_next xs i c e = take_more xs i c (slice_get_within xs i c e) ∙ ap (λ d. take i xs ++ d ∷ []) (get_or_from_slice_get xs i c c e)
@@ -413,11 +360,11 @@ pub item_more : {X : Type 0} (xs : List X) (y : X) (at : ℕ) (x : X) → slice_
     → (i : ℕ) (x : X) → i < at + 1 → slice_get xs i ≡ Some x → x ≡ y → ⊥
 item_more xs y at x e n before i r l g h = ⊎_elim
     (λ m. before i r m g h)
-    (λ m. n (some_same x r (sym e ∙ ap (slice_get xs) (sym m) ∙ g) ∙ h))
-    (below_or_last i at (omega (arith, l)))
+    (λ m. n (same_Some x r (sym e ∙ ap (slice_get xs) (sym m) ∙ g) ∙ h))
+    (below-cases i at (omega (arith, l)))
 
 pub item_found : {X : Type 0} (xs : List X) (y : X) (at : ℕ) (x : X) → slice_get xs at ≡ Some x → x ≡ y → IsTrue true ↔ Contains xs y
-item_found xs y at x e f = (λ h. subst (Contains xs) f (contains_of xs at x e), λ h. refl)
+item_found xs y at x e f = (λ h. subst (Contains xs) f (slice_get-contains xs at x e), λ h. refl)
 
 pub item_missing : {X : Type 0} (xs : List X) (y : X) (at : ℕ) → length xs ≤ at → ((i : ℕ) (x : X) → i < at → slice_get xs i ≡ Some x → x ≡ y → ⊥) → IsTrue false ↔ Contains xs y
 item_missing xs y at l none = (λ h. absurd cc, λ c. absurd (item_before xs y at l none c))

@@ -1,17 +1,14 @@
 -- What nodes write, when more are added.
-use Rattle.std.proofs.Common.{◌≡◌, refl, sym, ap, ◌∙◌, subst, Bool, true, false, IsTrue, ℕ, zero, suc, ◌+◌, ◌-◌, ◌<◌, ◌≤◌, ◌⊎◌, inl, inr, ⊎_elim, ◌↔◌, List, [], ◌∷◌, ◌++◌, length, get_or, take, drop, Contains, Some, ◌||◌, arith}
+use Rattle.std.proofs.Common.{◌≡◌, refl, sym, ap, ◌∙◌, subst, Bool, true, false, ℕ, zero, suc, ◌+◌, ◌-◌, ◌<◌, ◌≤◌, ◌⊎◌, inl, inr, ⊎_elim, ◌↔◌, List, [], ◌∷◌, ◌++◌, length, get_or, take, drop, Contains, Some, ◌||◌, arith}
 use Rattle.std.specs.Prelude.{◌==◌, slice_get}
-use Rattle.std.proofs.lemmas.Bool.{eqb-true}
+use Rattle.std.proofs.lemmas.Bool.{eqb-true, or_cases, or_left, or_right}
 use Rattle.std.proofs.lemmas.List.{append-nil, append_assoc, length-append, take_all, take_more}
 use Rattle.std.proofs.lemmas.List.Elements.{Contains-append_left, Contains-append_right, Contains-append_cases}
-use Rattle.std.proofs.lemmas.Option.{get_or_from_slice_get}
-use Rattle.machine_core.specs.Lists.{slice_get-append, slice_get-end, slice_get-contains}
+use Rattle.std.proofs.lemmas.Option.{get_or_from_slice_get, same_Some}
+use Rattle.sv_list.specs.Lists.{slice_get-append, slice_get-end, slice_get-contains}
 use Rattle.transducer_core.specs.Nodes.{AddsText, LeadToNodes, AreGrown, IsChain, LeadsWithin, NodeSpells, Spells}
 use Rattle.sv_word.specs.Words.{IsWord, greatest_character}
 use Rattle.transducer_core.specs.declared.node.OutputNode.{OutputNode}
-
-some_same : {X : Type 0} (a b : X) → Some a ≡ Some b → a ≡ b
-some_same a b e = cc
 
 pub only_one : {X : Type 0} (x y : X) → Contains (x ∷ []) y → x ≡ y
 only_one x y (zero, h, e) = e
@@ -78,14 +75,6 @@ grown_push ns ms n new g l e = record {
   closed = subst LeadToNodes (sym e) (closed_push ms n g.closed l);
 }
 
--- a chain of no character, and of one more
-pub chain_none : (ns : List OutputNode) (text : List ℕ) (target : ℕ) → text ≡ [] → LeadToNodes ns → target < length ns → IsChain ns ns text target target
-chain_none ns text target e closed h = record {
-  grown = grown_none ns closed;
-  within = h;
-  spells = λ w. (λ s. (w, ap (λ t. t ++ w) (sym e), s), λ k. subst (Spells ns target) (sym (k.1 ∙ ap (λ t. t ++ k.0) e)) k.2);
-}
-
 module _ (ns ms new : List OutputNode) (text : List ℕ) (c target place : ℕ) (n : OutputNode) (chain : IsChain ns ms text target place) (firsts : n.firsts ≡ (c, place) ∷ []) (ends : n.ends ≡ false) (e : new ≡ ms ++ n ∷ []) (low : c ≤ greatest_character) where
   first_there : Contains {X = ℕ × ℕ} n.firsts (c, place)
   first_there = subst (λ fs. Contains {X = ℕ × ℕ} fs (c, place)) (sym firsts) (one_there (c, place))
@@ -116,7 +105,7 @@ module _ (ns ms new : List OutputNode) (text : List ℕ) (c target place : ℕ) 
   from_there : (w : List ℕ) → Spells new (length ms) w → (r : List ℕ) × (w ≡ (c ∷ text) ++ r) × Spells ns target r
   from_there w s =
       let t = subst (λ xs. Spells xs (length ms) w) e s in
-      back w t.0 (some_same n t.0 (sym (slice_get-end ms n) ∙ t.1)) t.2
+      back w t.0 (same_Some n t.0 (sym (slice_get-end ms n) ∙ t.1)) t.2
 
   pub chain_more : (k : ℕ) → k ≡ length ms → IsChain ns new (c ∷ text) target k
   chain_more k q = record {
@@ -142,17 +131,6 @@ added_more ns ms old firsts i x h at g k f =
           c,
     )
 
-or_cases : (a b : Bool) → IsTrue (a || b) → IsTrue a ⊎ IsTrue b
-or_cases true b h = inl refl
-or_cases false b h = inr h
-
-or_left : (a b : Bool) → IsTrue a → IsTrue (a || b)
-or_left a b h = ap (λ x. x || b) h
-
-or_right : (a b : Bool) → IsTrue b → IsTrue (a || b)
-or_right true b h = refl
-or_right false b h = h
-
 -- a node that writes what another one did too
 module _ (ns : List OutputNode) (closed : LeadToNodes ns) (old new other : OutputNode) (target : ℕ) (l : LeadsWithin (length ns) old) (at : slice_get ns target ≡ Some other)
     (firsts : (f : ℕ × ℕ) → Contains new.firsts f ↔ (Contains old.firsts f ⊎ Contains other.firsts f)) (ends : new.ends ≡ old.ends || other.ends) where
@@ -175,7 +153,7 @@ module _ (ns : List OutputNode) (closed : LeadToNodes ns) (old new other : Outpu
   text_joined text e = subst (λ t. AddsText ns ns old new t target) (sym e) (record {
     grown = grown_none ns closed;
     within = joined_within;
-    spells = λ w. (joined_to w, λ k. ⊎_elim (from_old w) (λ b. subst (λ v. NodeSpells ns v new) (sym b.1) (from_other b.0 b.2.0 (some_same other b.2.0 (sym at ∙ b.2.1)) b.2.2)) k);
+    spells = λ w. (joined_to w, λ k. ⊎_elim (from_old w) (λ b. subst (λ v. NodeSpells ns v new) (sym b.1) (from_other b.0 b.2.0 (same_Some other b.2.0 (sym at ∙ b.2.1)) b.2.2)) k);
   })
 
 -- and one that writes a text too, by its first character and a chain for the others

@@ -3,8 +3,9 @@ use Rattle.std.proofs.Common.{◌≡◌, refl, sym, ap, ◌∙◌, subst, true, 
 use Rattle.std.specs.Prelude.{slice_get}
 use Rattle.std.proofs.lemmas.List.{append-nil, append_assoc, length-append, take_more}
 use Rattle.std.proofs.lemmas.List.Elements.{Contains-append_left, Contains-append_right, Contains-append_cases}
-use Rattle.std.proofs.lemmas.Option.{slice_get-get_or}
-use Rattle.machine_core.specs.Lists.{slice_get-end}
+use Rattle.std.proofs.lemmas.Option.{slice_get-get_or, same_Some}
+use Rattle.std.proofs.lemmas.Bool.{false≢true}
+use Rattle.sv_list.specs.Lists.{slice_get-end, Contains-none}
 use Rattle.sv_terms.specs.Transduction.{Transduces, Writes}
 use Rattle.sv_terms.specs.declared.transducer.TransEdge.{TransEdge}
 use Rattle.sv_terms.specs.declared.transducer.Transducer.{Transducer}
@@ -12,12 +13,6 @@ use Rattle.transducer_core.specs.Nodes.{AddsText, LeadToNodes, AreGrown, LeadsWi
 use Rattle.transducer_core.specs.Outputs.{AddsWords, ArePlaces, EndsBy, IsBase, IsOutput, MakesNode, MakesPlaces, OverEdge, OverEdges}
 use Rattle.transducer_core.specs.declared.node.OutputNode.{OutputNode}
 use Rattle.transducer_core.proofs.NodeLemmas.{grown_again, grown_at, grown_long, grown_node, grown_none, grown_push, only_one}
-
-never : false ≡ true → ⊥
-never e = cc
-
-some_same : {X : Type 0} (a b : X) → Some a ≡ Some b → a ≡ b
-some_same a b e = cc
 
 pub none_some : {X : Type 0} (o : Option X) (x : X) → o ≡ None → o ≡ Some x → ⊥
 none_some o x e f = cc (e, f)
@@ -46,15 +41,12 @@ end_told ns e s base h w = (
       (λ i. (h i, same i)),
 )
 
-pub end_apart : (e : ℕ × List ℕ) (s : ℕ) → (e.0 ≡ s → ⊥) → (w : List ℕ) → e ≡ (s, w) → ⊥
-end_apart e s n w q = n (ap (λ (p : ℕ × List ℕ). p.0) q)
-
 pub edge_told : (ns : List OutputNode) (places : List ℕ) (s c : ℕ) (e : TransEdge) (text : List ℕ) (target : ℕ) → Transduces s c text e → slice_get places e.to ≡ Some target
     → (w : List ℕ) → OverEdge ns places s c e w ↔ ((r : List ℕ) × (w ≡ text ++ r) × Spells ns target r)
 edge_told ns places s c e text target m at w = (
   λ k.
-      let same : k.0 ≡ text = some_same k.0 text (sym k.3.3 ∙ m.3) in
-      let place : k.2 ≡ target = some_same k.2 target (sym k.4 ∙ at) in
+      let same : k.0 ≡ text = same_Some k.0 text (sym k.3.3 ∙ m.3) in
+      let place : k.2 ≡ target = same_Some k.2 target (sym k.4 ∙ at) in
       (k.1, k.5 ∙ ap (λ t. t ++ k.1) same, subst (λ p. Spells ns p k.1) place k.6),
   λ k. (text, k.0, target, m, at, k.1, k.2),
 )
@@ -100,9 +92,6 @@ base_grown ns ms b g = record {
   nothing = λ w. (λ s. (b.nothing w).0 ((grown_at ns ms b.closed g 0 w b.some).0 s), λ e. (grown_at ns ms b.closed g 0 w b.some).1 ((b.nothing w).1 e));
 }
 
-pub none_there : {X : Type 0} (x : X) → Contains [] x → ⊥
-none_there x (k, h, e) = omega (arith, h)
-
 -- a node of no word, and one with more words
 pub made_none : (ns : List OutputNode) (n : OutputNode) (P : List ℕ → Type 0) → LeadToNodes ns → n.firsts ≡ [] → n.ends ≡ false → ((w : List ℕ) → P w → ⊥) → MakesNode ns ns n P
 made_none ns n P closed firsts ends none = record {
@@ -112,10 +101,10 @@ made_none ns n P closed firsts ends none = record {
 }
   where
     nothing_there : (c to : ℕ) → Contains {X = ℕ × ℕ} n.firsts (c, to) → ⊥
-    nothing_there c to has = none_there {X = ℕ × ℕ} (c, to) (subst (λ fs. Contains {X = ℕ × ℕ} fs (c, to)) firsts has)
+    nothing_there c to has = Contains-none {X = ℕ × ℕ} (c, to) (subst (λ fs. Contains {X = ℕ × ℕ} fs (c, to)) firsts has)
 
     no_word : (w : List ℕ) → NodeSpells ns w n → ⊥
-    no_word [] s = never (sym ends ∙ s)
+    no_word [] s = false≢true (sym ends ∙ s)
     no_word (c ∷ w) s = nothing_there c s.0 s.2
 
 pub made_more : (ns ms ls : List OutputNode) (old new : OutputNode) (P Q R : List ℕ → Type 0) → MakesNode ns ms old P → AddsWords ms ls old new Q → ((w : List ℕ) → R w ↔ (P w ⊎ Q w)) → MakesNode ns ls new R
@@ -126,15 +115,6 @@ made_more ns ms ls old new P Q R m a r = record {
     λ s. (r w).1 (⊎_elim (λ x. inl ((m.spells w).0 x)) inr ((a.spells w).0 s)),
     λ x. (a.spells w).1 (⊎_elim (λ p. inl ((m.spells w).1 p)) inr ((r w).0 x)),
   );
-}
-
--- no place, and one place more
-pub places_none : (ns : List OutputNode) (P : ℕ → List ℕ → Type 0) → LeadToNodes ns → MakesPlaces ns ns 0 [] P
-places_none ns P closed = record {
-  grown = grown_none ns closed;
-  many = refl;
-  within = λ s k e. absurd (cc);
-  spells = λ s k e w. absurd (cc);
 }
 
 pub places_more : (ns ms ls new : List OutputNode) (places more : List ℕ) (i k : ℕ) (n : OutputNode) (P : ℕ → List ℕ → Type 0) (Q : List ℕ → Type 0)
@@ -158,7 +138,7 @@ places_more ns ms ls new places more i k n P Q p m q e h f = record {
     grown = grown_again ns ms new p.grown later
 
     split : (xs : List ℕ) (y s j : ℕ) → slice_get (xs ++ y ∷ []) s ≡ Some j → (slice_get xs s ≡ Some j) ⊎ ((s ≡ length xs) × (j ≡ y))
-    split [] y zero j at = inr (refl, sym (some_same y j at))
+    split [] y zero j at = inr (refl, sym (same_Some y j at))
     split [] y (suc s) j at = absurd (cc)
     split (x ∷ xs) y zero j at = inl at
     split (x ∷ xs) y (suc s) j at = ⊎_elim inl (λ r. inr (ap suc r.0, r.1)) (split xs y s j at)
@@ -172,7 +152,7 @@ places_more ns ms ls new places more i k n P Q p m q e h f = record {
     own : (w : List ℕ) → Spells new (length ls) w → NodeSpells ls w n
     own w s =
         let t = subst (λ xs. Spells xs (length ls) w) e s in
-        let same : t.0 ≡ n = some_same t.0 n (sym t.1 ∙ slice_get-end ls n) in
+        let same : t.0 ≡ n = same_Some t.0 n (sym t.1 ∙ slice_get-end ls n) in
         (grown_node ls (ls ++ n ∷ []) m.grown.closed push n w m.within).0 (subst (NodeSpells (ls ++ n ∷ []) w) same t.2)
 
     own_back : (w : List ℕ) → NodeSpells ls w n → Spells new (length ls) w
@@ -187,14 +167,14 @@ base_one ns n e firsts ends = subst IsBase (sym e) (record {
 })
   where
     none_here : (m : OutputNode) → Contains (n ∷ []) m → (c to : ℕ) → Contains {X = ℕ × ℕ} m.firsts (c, to) → ⊥
-    none_here m has c to there = none_there {X = ℕ × ℕ} (c, to) (subst (λ fs. Contains {X = ℕ × ℕ} fs (c, to)) (ap (λ (x : OutputNode). x.firsts) (sym (only_one n m has)) ∙ firsts) there)
+    none_here m has c to there = Contains-none {X = ℕ × ℕ} (c, to) (subst (λ fs. Contains {X = ℕ × ℕ} fs (c, to)) (ap (λ (x : OutputNode). x.firsts) (sym (only_one n m has)) ∙ firsts) there)
 
     none_from : (m : OutputNode) (c to : ℕ) → n ≡ m → Contains {X = ℕ × ℕ} m.firsts (c, to) → ⊥
-    none_from m c to q there = none_there {X = ℕ × ℕ} (c, to) (subst (λ fs. Contains {X = ℕ × ℕ} fs (c, to)) (ap (λ (x : OutputNode). x.firsts) (sym q) ∙ firsts) there)
+    none_from m c to q there = Contains-none {X = ℕ × ℕ} (c, to) (subst (λ fs. Contains {X = ℕ × ℕ} fs (c, to)) (ap (λ (x : OutputNode). x.firsts) (sym q) ∙ firsts) there)
 
     only : (w : List ℕ) → Spells (n ∷ []) 0 w → w ≡ []
     only [] s = refl
-    only (c ∷ w) s = absurd (none_from s.0 c s.2.0 (some_same n s.0 s.1) s.2.2)
+    only (c ∷ w) s = absurd (none_from s.0 c s.2.0 (same_Some n s.0 s.1) s.2.2)
 
 -- where nothing is left to read, an end is written
 pub end_writes : (t : Transducer) (s : ℕ) (w : List ℕ) → EndsBy t.ends s w ↔ Writes t s [] w

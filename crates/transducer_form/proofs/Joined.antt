@@ -47,9 +47,6 @@ module _ {A : Type 0} (one : Form → Result (List A) CheckFault) where
 
 -- the same where each form gives one
 module _ {A : Type 0} (one : Form → Result A CheckFault) where
-  listed-one : Form → Result (List A) CheckFault
-  listed-one = λ f. made_of (λ x. x ∷ []) (one f)
-
   made-passes : (r : Result A CheckFault) (f : CheckFault) → Answers r (Err f) → Answers (made_of (λ x. x ∷ []) r) (Err f)
   made-passes r f a = fault-passes r (made_of (λ x. x ∷ []) r) f (λ e. ap (made_of (λ x. x ∷ [])) e) a
 

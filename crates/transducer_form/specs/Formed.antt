@@ -2,6 +2,7 @@
 use Rattle.std.proofs.Common.{◌≡◌, refl, ap, ◌∙◌, subst, ℕ, suc, ◌+◌, Bool, true, false, ◌&&◌, IsTrue, nat_le, cond, List, [], ◌∷◌, ◌++◌, length, Option, Some, None, Result, Ok, Err, arith}
 use Rattle.std.specs.Prelude.{nat_lt, position}
 use Rattle.std.specs.List.{list_all, position_or_len}
+use Rattle.std.proofs.lemmas.Bool.{and_from, and_parts}
 use Rattle.sv_word.specs.Words.{greatest_character}
 use Rattle.sv_terms.specs.Matches.{is_word}
 use Rattle.sv_terms.specs.TransducerSizes.{are_items, is_formed_edge, is_formed_end, is_formed}
@@ -19,11 +20,7 @@ use Rattle.smt_names.specs.Signature.{Name, same_name, stands_in}
 use Rattle.smt_names.specs.Tokens.{symbol, digits, value, literal_text, literal_word, listed}
 use Rattle.transducer_form.specs.Written.{EdgeForm, edge_form, DescriptionForm}
 use Rattle.transducer_form.specs.Descriptions.{state_behind, states_behind, state_at, word_at, one_character, character_at, shifted, shifted_down, shift_by, item_by, item_of, list_behind, each_joined, each, items_of, edge_between, edge_by, edge_of, joined_if, end_by, end_of, at_most, described_over, described}
-use Rattle.transducer_form.specs.LiteralWords.{both-make, MayBeWord, literal-word}
-
-both : (a b : Bool) → IsTrue (a && b) → IsTrue a × IsTrue b
-both true b h = (refl, h)
-both false b h = cc
+use Rattle.transducer_form.specs.LiteralWords.{MayBeWord, literal-word}
 
 -- whether a test holds of each that is listed
 abbrev AllPass : {A : Type 0} → (A → Bool) → List A → Type 0
@@ -32,7 +29,7 @@ AllPass p xs = IsTrue (list_all p xs)
 module _ {A : Type 0} (p : A → Bool) where
   all-append : (xs ys : List A) → AllPass p xs → AllPass p ys → AllPass p (xs ++ ys)
   all-append [] ys h g = g
-  all-append (x ∷ xs) ys h g = let k = both (p x) (list_all p xs) h in both-make (p x) (list_all p (xs ++ ys)) k.0 (all-append xs ys k.1 g)
+  all-append (x ∷ xs) ys h g = let k = and_parts (p x) (list_all p xs) h in and_from (p x) (list_all p (xs ++ ys)) k.0 (all-append xs ys k.1 g)
 
   behind-pass : (xs : List A) (r : Result (List A) CheckFault) → AllPass p xs → Gives (AllPass p) r → Gives (AllPass p) (list_behind xs r)
   behind-pass xs (Ok ys) h g = all-append xs ys h g
@@ -43,7 +40,7 @@ module _ {A : Type 0} (p : A → Bool) where
   joined-pass one h (f ⨾ fs) = then-gives (AllPass p) (AllPass p) (λ xs. list_behind xs (each_joined one fs)) (one f) (h f) (λ xs a. behind-pass xs (each_joined one fs) a (joined-pass one h fs))
 
   one-pass : (r : Result A CheckFault) → Gives (λ x. IsTrue (p x)) r → Gives (AllPass p) (made_of (λ x. x ∷ []) r)
-  one-pass (Ok x) h = both-make (p x) true h refl
+  one-pass (Ok x) h = and_from (p x) true h refl
   one-pass (Err f) h = tt
 
   each-pass : (one : Form → Result A CheckFault) → ((f : Form) → Gives (λ x. IsTrue (p x)) (one f)) → (fs : Forms) → Gives (AllPass p) (each one fs)
@@ -113,7 +110,7 @@ module _ (states : List Name) (n : ℕ) (are : length states ≡ n) where
 
   one-gives : (w : List ℕ) → Worded w → Gives Character (one_character w)
   one-gives [] h = tt
-  one-gives (c ∷ []) h = (both (nat_le c greatest_character) true h).0
+  one-gives (c ∷ []) h = (and_parts (nat_le c greatest_character) true h).0
   one-gives (c ∷ d ∷ w) h = tt
 
   character-gives : (o : Option (List ℕ)) → Gives Character (character_at o)
@@ -151,7 +148,7 @@ module _ (states : List Name) (n : ℕ) (are : length states ≡ n) where
 
   items-worded : (is : List Item) → AllPass is_worded is → IsTrue (are_items is)
   items-worded [] h = refl
-  items-worded (item.Text w ∷ is) h = let k = both (is_word w) (list_all is_worded is) h in both-make (is_word w) (are_items is) k.0 (items-worded is k.1)
+  items-worded (item.Text w ∷ is) h = let k = and_parts (is_word w) (list_all is_worded is) h in and_from (is_word w) (are_items is) k.0 (items-worded is k.1)
   items-worded (item.Shift k ∷ is) h = items-worded is h
 
   abbrev Edge : TransEdge → Type 0
@@ -160,10 +157,10 @@ module _ (states : List Name) (n : ℕ) (are : length states ≡ n) where
   between-gives : (from low high to : ℕ) (r : Result (List Item) CheckFault) → Below from → Below to → Character high → Gives (AllPass is_worded) r → Gives Edge (edge_between from low high to r)
   between-gives from low high to r f t c g = need-gives Edge (nat_le low high) fault.Transducer _ (λ o.
       then-gives (AllPass is_worded) Edge _ r g (λ is h.
-      both-make (nat_lt from n) (nat_lt to n && (nat_le low high && (nat_le high greatest_character && are_items is))) f
-      (both-make (nat_lt to n) (nat_le low high && (nat_le high greatest_character && are_items is)) t
-      (both-make (nat_le low high) (nat_le high greatest_character && are_items is) o
-      (both-make (nat_le high greatest_character) (are_items is) c (items-worded is h))))))
+      and_from (nat_lt from n) (nat_lt to n && (nat_le low high && (nat_le high greatest_character && are_items is))) f
+      (and_from (nat_lt to n) (nat_le low high && (nat_le high greatest_character && are_items is)) t
+      (and_from (nat_le low high) (nat_le high greatest_character && are_items is) o
+      (and_from (nat_le high greatest_character) (are_items is) c (items-worded is h))))))
 
   edge-gives : (o : Option EdgeForm) → Gives Edge (edge_by states o)
   edge-gives None = tt
@@ -185,7 +182,7 @@ module _ (states : List Name) (n : ℕ) (are : length states ≡ n) where
   end-gives None = tt
   end-gives (Some p) =
       then-gives Below End _ (state_at states (symbol p.0)) (state-below (symbol p.0)) (λ at b.
-      then-gives Worded End _ (joined_if (listed p.1)) (joined-gives (listed p.1)) (λ w h. both-make (nat_lt at n) (is_word w) b h))
+      then-gives Worded End _ (joined_if (listed p.1)) (joined-gives (listed p.1)) (λ w h. and_from (nat_lt at n) (is_word w) b h))
 
 abbrev Formed : Transducer → Type 0
 Formed t = IsTrue (is_formed t)
@@ -195,8 +192,8 @@ over-gives d states are =
     then-gives (λ k. IsTrue (nat_lt k (count d.states))) Formed _ (state_at states (symbol d.start)) (state-below states (count d.states) are (symbol d.start)) (λ start s.
     then-gives (AllPass (is_formed_edge (count d.states))) Formed _ (each (edge_of states) d.edges) (each-pass (is_formed_edge (count d.states)) (edge_of states) (λ f. edge-gives states (count d.states) are (edge_form f)) d.edges) (λ edges e.
     then-gives (AllPass (is_formed_end (count d.states))) Formed _ (each (end_of states) d.ends) (each-pass (is_formed_end (count d.states)) (end_of states) (λ f. end-gives states (count d.states) are (two f)) d.ends) (λ ends n.
-    both-make (nat_lt start (count d.states)) (list_all (is_formed_edge (count d.states)) edges && list_all (is_formed_end (count d.states)) ends) s
-    (both-make (list_all (is_formed_edge (count d.states)) edges) (list_all (is_formed_end (count d.states)) ends) e n))))
+    and_from (nat_lt start (count d.states)) (list_all (is_formed_edge (count d.states)) edges && list_all (is_formed_end (count d.states)) ends) s
+    (and_from (list_all (is_formed_edge (count d.states)) edges) (list_all (is_formed_end (count d.states)) ends) e n))))
 
 pub described-gives : (d : DescriptionForm) → Gives Formed (described d)
 described-gives d =

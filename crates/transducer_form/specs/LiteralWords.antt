@@ -4,13 +4,14 @@ use Rattle.std.specs.Prelude.{◌==◌, nat_lt, slice_index, unwrap_or}
 use Rattle.std.proofs.Math.Nat.{pow-le-pow_right}
 use Rattle.std.proofs.lemmas.Bool.Decides.{nat_tests}
 use Rattle.std.proofs.lemmas.Int.Digits.{digits_value-lt}
-use Rattle.std.specs.Char.{digit_value, is_ascii_hexdigit}
-use Rattle.std.specs.Str.Parse.{digits_value, AllDigits}
+use Rattle.std.specs.Str.Parse.{digits_value}
+use Rattle.std.proofs.lemmas.Bool.{cond_both, and_from}
 use Rattle.sv_word.specs.declared.literal_fault.LiteralFault.{LiteralFault}
 use Rattle.sv_word.specs.declared.literal_fault.LiteralFault.TheVariants as v
 use Rattle.sv_word.specs.Literals.{lit, lit_from, front_of, followed_by, prepended, quote_of, escape_of, number_of, braced_digits, four_digits, character_of, hex_len, quote, backslash, letter_u, open_brace, close_brace}
 use Rattle.sv_word.specs.Utf8.{is_within, code_point}
 use Rattle.sv_word.specs.Words.{greatest_character}
+use Rattle.sv_word.proofs.HexLemmas.{hex-digits}
 use Rattle.sv_terms.specs.Matches.{is_word}
 use Rattle.smt_names.specs.Tokens.{literal_word, read_word}
 
@@ -25,23 +26,6 @@ GivesCharacter (Err e) = Unit {0}
 abbrev MayBeCharacter : Option (ℕ × ℕ) → Type 0
 MayBeCharacter (Some f) = IsCharacter f
 MayBeCharacter None = Unit {0}
-
-choose : {A : Type 0} (P : A → Type 0) (b : Bool) (x y : A) → (b ≡ true → P x) → (b ≡ false → P y) → P (cond b x y)
-choose P true x y h g = h refl
-choose P false x y h g = g refl
-
-hex-digit : (b : ℕ) → is_ascii_hexdigit b ≡ true → digit_value b < 16
-hex-digit b h = grind (arith, nat_tests)
-
--- the digits counted at the front are digits
-hex-digits : (n : ℕ) (bs : List ℕ) → n ≤ hex_len bs → AllDigits 16 (take n bs)
-hex-digits zero bs le = tt
-hex-digits (suc n) [] le = tt
-hex-digits (suc n) (b ∷ bs) le = by (is_ascii_hexdigit b) refl le (hex-digits n bs)
-  where
-    by : (t : Bool) → is_ascii_hexdigit b ≡ t → suc n ≤ cond t (1 + hex_len bs) 0 → (n ≤ hex_len bs → AllDigits 16 (take n bs)) → AllDigits 16 (take (suc n) (b ∷ bs))
-    by true e le' rest = (hex-digit b e, rest (omega arith))
-    by false e le' rest = absurd (omega arith)
 
 length-four : (n : ℕ) (bs : List ℕ) → length (take n bs) ≤ n
 length-four zero bs = omega arith
@@ -63,19 +47,19 @@ last-of true false c e = cc
 last-of false b c e = cc
 
 four : (bs : List ℕ) → MayBeCharacter (four_digits bs)
-four bs = choose MayBeCharacter (nat_le 4 (hex_len bs)) (Some (digits_value 16 (take 4 bs), 6)) None (four-below bs) (λ _. tt)
+four bs = cond_both (nat_le 4 (hex_len bs)) (Some (digits_value 16 (take 4 bs), 6)) None MayBeCharacter (four-below bs) (λ _. tt)
 
 braced : (bs : List ℕ) → MayBeCharacter (braced_digits bs)
-braced bs = choose MayBeCharacter (is_within 1 5 (hex_len bs) && (slice_index bs (hex_len bs) == close_brace && nat_le (digits_value 16 (take (hex_len bs) bs)) greatest_character)) (Some (digits_value 16 (take (hex_len bs) bs), hex_len bs + 4)) None
+braced bs = cond_both (is_within 1 5 (hex_len bs) && (slice_index bs (hex_len bs) == close_brace && nat_le (digits_value 16 (take (hex_len bs) bs)) greatest_character)) (Some (digits_value 16 (take (hex_len bs) bs), hex_len bs + 4)) None MayBeCharacter
     (λ e. last-of (is_within 1 5 (hex_len bs)) (slice_index bs (hex_len bs) == close_brace) (nat_le (digits_value 16 (take (hex_len bs) bs)) greatest_character) e) (λ _. tt)
 
 number : (bs : List ℕ) → MayBeCharacter (number_of bs)
 number [] = tt
-number (b ∷ bs) = choose MayBeCharacter (b == open_brace) (braced_digits bs) (four_digits (b ∷ bs)) (λ _. braced bs) (λ _. four (b ∷ bs))
+number (b ∷ bs) = cond_both (b == open_brace) (braced_digits bs) (four_digits (b ∷ bs)) MayBeCharacter (λ _. braced bs) (λ _. four (b ∷ bs))
 
 escape : (bs : List ℕ) → MayBeCharacter (escape_of bs)
 escape [] = tt
-escape (b ∷ bs) = choose MayBeCharacter (b == letter_u) (number_of bs) None (λ _. number bs) (λ _. tt)
+escape (b ∷ bs) = cond_both (b == letter_u) (number_of bs) None MayBeCharacter (λ _. number bs) (λ _. tt)
 
 or-backslash : (o : Option (ℕ × ℕ)) → MayBeCharacter o → IsCharacter (unwrap_or o (backslash, 1))
 or-backslash (Some f) h = h
@@ -83,31 +67,27 @@ or-backslash None h = refl
 
 a-quote : (place : ℕ) (bs : List ℕ) → GivesCharacter (quote_of place bs)
 a-quote place [] = tt
-a-quote place (b ∷ bs) = choose GivesCharacter (b == quote) (Ok (quote, 2)) (Err (v.Quote place)) (λ _. refl) (λ _. tt)
+a-quote place (b ∷ bs) = cond_both (b == quote) (Ok (quote, 2)) (Err (v.Quote place)) GivesCharacter (λ _. refl) (λ _. tt)
 
 small : (b : ℕ) → nat_lt b 0x80 ≡ true → IsTrue (nat_le b greatest_character)
 small b e = let lt : b < 0x80 = grind (arith, nat_tests) in let le : b ≤ greatest_character = omega arith in grind (arith, nat_tests)
 
 coded : (place : ℕ) (o : Option (ℕ × ℕ)) → GivesCharacter (character_of place o)
 coded place None = tt
-coded place (Some f) = choose GivesCharacter (nat_le f.0 greatest_character) (Ok f) (Err (v.Above place)) (λ e. e) (λ _. tt)
+coded place (Some f) = cond_both (nat_le f.0 greatest_character) (Ok f) (Err (v.Above place)) GivesCharacter (λ e. e) (λ _. tt)
 
 front : (place b : ℕ) (bs : List ℕ) → GivesCharacter (front_of place b bs)
 front place b bs =
-    choose GivesCharacter (b == quote) (quote_of place bs) (cond (b == backslash) (Ok (unwrap_or (escape_of bs) (backslash, 1))) (cond (nat_lt b 0x80) (Ok (b, 1)) (character_of place (code_point b bs)))) (λ _. a-quote place bs)
-    (λ _. choose GivesCharacter (b == backslash) (Ok (unwrap_or (escape_of bs) (backslash, 1))) (cond (nat_lt b 0x80) (Ok (b, 1)) (character_of place (code_point b bs))) (λ _. or-backslash (escape_of bs) (escape bs))
-    (λ _. choose GivesCharacter (nat_lt b 0x80) (Ok (b, 1)) (character_of place (code_point b bs)) (small b) (λ _. coded place (code_point b bs))))
+    cond_both (b == quote) (quote_of place bs) (cond (b == backslash) (Ok (unwrap_or (escape_of bs) (backslash, 1))) (cond (nat_lt b 0x80) (Ok (b, 1)) (character_of place (code_point b bs)))) GivesCharacter (λ _. a-quote place bs)
+    (λ _. cond_both (b == backslash) (Ok (unwrap_or (escape_of bs) (backslash, 1))) (cond (nat_lt b 0x80) (Ok (b, 1)) (character_of place (code_point b bs))) GivesCharacter (λ _. or-backslash (escape_of bs) (escape bs))
+    (λ _. cond_both (nat_lt b 0x80) (Ok (b, 1)) (character_of place (code_point b bs)) GivesCharacter (small b) (λ _. coded place (code_point b bs))))
 
 abbrev GivesWord : Result (List ℕ) LiteralFault → Type 0
 GivesWord (Ok w) = IsTrue (is_word w)
 GivesWord (Err e) = Unit {0}
 
-pub both-make : (a b : Bool) → IsTrue a → IsTrue b → IsTrue (a && b)
-both-make true b h g = g
-both-make false b h g = cc
-
 prepend : (c : ℕ) (r : Result (List ℕ) LiteralFault) → IsTrue (nat_le c greatest_character) → GivesWord r → GivesWord (prepended c r)
-prepend c (Ok w) h g = both-make (nat_le c greatest_character) (is_word w) h g
+prepend c (Ok w) h g = and_from (nat_le c greatest_character) (is_word w) h g
 prepend c (Err e) h g = tt
 
 follow : (f : Result (ℕ × ℕ) LiteralFault) (rest : ℕ → Result (List ℕ) LiteralFault) → GivesCharacter f → ((n : ℕ) → GivesWord (rest n)) → GivesWord (followed_by f rest)

@@ -4,7 +4,7 @@ use Rattle.sv_word.specs.Ranges.{least_of}
 use Rattle.machine_core.specs.Costs.{cost_top}
 use Rattle.machine_core.specs.CostLaws.{top_by-at, top_by-least}
 use Rattle.machine_core.specs.Joined.{AreJoinedMoves}
-use Rattle.machine_core.specs.Lists.{Any-contains, contained}
+use Rattle.sv_list.specs.Lists.{Any-contains, contained}
 use Rattle.machine_core.specs.Moves.{Moves}
 use Rattle.machine_core.specs.declared.machine.Move.{Move}
 use Rattle.trim_search.specs.declared.node.StateMoves.{StateMoves}

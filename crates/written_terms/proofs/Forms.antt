@@ -8,19 +8,16 @@ use Rattle.sv_terms.specs.declared.term.Term.TheVariants as term
 use Rattle.literal_forms.specs.Linear.{Linear, Unknown, added, are_linear, are_strings, difference_of, from_left, is_constant, is_empty, is_linear, is_product_from, is_string, less, length_form, linear, linears, minus_one, multiplied, scaled}
 use Rattle.literal_forms.specs.Mirrors.{raw-seen, seen-Apply}
 use Rattle.literal_forms.specs.Shapes.{Shape, Shapes, truth, number, text, constant, apply, member, related, opaque, end, ◌⨾◌, raw, seen, shapes}
+use Rattle.literal_forms.proofs.Spelled.{next}
 use Rattle.written_terms.specs.Strings.{build_of, is_replaced, is_text, replacer}
 use Rattle.written_terms.specs.Numbers.{joined_from, joined_of, joined_on, joining_of, kind_of, linearity_of, one_of, product_of, read_of, sum_of}
 use Rattle.written_terms.specs.declared.strings.Occurrences.{Occurrences}
 use Rattle.written_terms.specs.declared.strings.Occurrences.TheVariants as occurrences
-use Rattle.written_terms.specs.declared.strings.PlaceBuild.{PlaceBuild}
 use Rattle.written_terms.specs.declared.strings.PlaceBuild.TheVariants as build
 use Rattle.written_terms.specs.declared.numbers.Joining.{Joining}
 use Rattle.written_terms.specs.declared.numbers.Joining.TheVariants as joining
 use Rattle.written_terms.specs.declared.numbers.Linearity.{Linearity}
 use Rattle.written_terms.specs.declared.numbers.Linearity.TheVariants as linearity
-
-next : (k : ℕ) → suc k ≡ k + 1
-next k = omega arith
 
 abbrev pub seen_all : List Term → Shapes
 seen_all ts = shapes (map seen ts)

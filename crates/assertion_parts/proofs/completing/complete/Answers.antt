@@ -1,8 +1,7 @@
-use Rattle.std.proofs.Common.{[], sym, subst, arith}
+use Rattle.std.proofs.Common.{[], sym, subst, arith, take_all}
 use Rattle.sv_terms.specs.Truth.{clear_of}
 use Rattle.assertion_parts.specs.Filling.{FillsAll}
 use Rattle.assertion_parts.proofs.Fillings.{clear-more, filled}
-use Rattle.assertion_parts.proofs.Listed.{take-whole}
 use Rattle.assertion_parts.proofs.completing.complete.Goals as goal
 
 pub loop-term-preserved : goal.loop-term-preserved
@@ -12,4 +11,4 @@ loop-term-preserved c =
 pub returns : goal.returns
 returns c =
     filled c.args.given.now (clear_of c.args.terms.now) c.loop-term.full
-    (subst (λ l. FillsAll c.args.given.now (clear_of l) [] c.loop-term.full) (take-whole c.args.terms.now c.loop-term.term-index (omega (arith, c.loop-term-test.false))) c.loop-term.invariant)
+    (subst (λ l. FillsAll c.args.given.now (clear_of l) [] c.loop-term.full) (take_all c.loop-term.term-index c.args.terms.now (omega (arith, c.loop-term-test.false))) c.loop-term.invariant)

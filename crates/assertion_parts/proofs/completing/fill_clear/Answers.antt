@@ -1,6 +1,7 @@
 use Rattle.std.proofs.Common.{OnOk, sym, ◌∙◌, subst}
+use Rattle.sv_list.specs.Lists.{OnOk-weaker}
 use Rattle.assertion_parts.specs.Filling.{FillsAll}
-use Rattle.assertion_parts.proofs.Fillings.{clear-opaque, clear-plain, fills-no-terms, fills-single, when-ok}
+use Rattle.assertion_parts.proofs.Fillings.{clear-opaque, clear-plain, fills-no-terms, fills-single}
 use Rattle.assertion_parts.proofs.completing.fill_clear.Goals as goal
 
 pub returns-then-has_opaque : goal.returns-then-has_opaque
@@ -10,4 +11,4 @@ returns-then-has_opaque c =
 pub returns : goal.returns
 returns c =
     subst (λ l. OnOk c.fill.result (FillsAll c.args.given.now l c.args.full.now c.fill.new.full)) (sym (clear-plain c.args.term.now (sym c.has_opaque.ensures ∙ c.if-has_opaque.false)))
-    (when-ok c.fill.result c.fill.ensures (λ e. fills-single c.args.given.now c.args.full.now c.fill.new.full c.args.term.now e))
+    (OnOk-weaker c.fill.result c.fill.ensures (λ e. fills-single c.args.given.now c.args.full.now c.fill.new.full c.args.term.now e))

@@ -1,16 +1,17 @@
 use Rattle.std.proofs.Common.{◌≡◌, suc, ◌-◌, ◌<◌, ◌∷◌, length, drop, get_or, Some, slice_set, refl, sym, ap, ◌∙◌, subst, arith, Err}
+use Rattle.std.proofs.lemmas.Option.{slice_get_within}
 use Rattle.machine_core.specs.declared.graph.Graph.{Graph}
 use Rattle.backward.specs.Families.{Family, HasMachine, without}
 use Rattle.backward.specs.Carried.{IsCarried}
 use Rattle.backward.specs.Made.{AreMet}
-use Rattle.backward.proofs.LoopLemmas.{met-first, met-next, get-below, found-can, same-found, loop-first, loop-piece, loop-registers, loop-fits, loop-next, loop-state, loop-wide}
+use Rattle.backward.proofs.LoopLemmas.{met-first, met-next, found-can, same-found, loop-first, loop-piece, loop-registers, loop-fits, loop-next, loop-state, loop-wide}
 use Rattle.backward.proofs.carrying.carry_concat.Goals as goal
 
 pub machine_at-target-requires : goal.machine_at-target-requires
 machine_at-target-requires c = (c.requires.0, subst (λ l. HasMachine l c.args.x c.requires.0) (sym c.as_slice.ensures) c.requires.1.machine)
 
 pub copy_without-requires : goal.copy_without-requires
-copy_without-requires c = subst (λ (l : Family). c.args.x < length l) (sym c.as_slice-2.ensures) (get-below c.args.state.now.machines c.args.x (Some c.requires.0) c.requires.1.machine)
+copy_without-requires c = subst (λ (l : Family). c.args.x < length l) (sym c.as_slice-2.ensures) (slice_get_within c.args.state.now.machines c.args.x (Some c.requires.0) c.requires.1.machine)
 
 pub loop-left-init : goal.loop-left-init
 loop-left-init c =
@@ -74,7 +75,7 @@ meet_slice-requires-clause-fits c =
 
 pub set-requires : goal.set-requires
 set-requires c =
-    get-below c.loop-left.machines (get_or c.args.pieces.now (c.loop-left.left - 1) 0) (Some c.machine_at-machine.result.now)
+    slice_get_within c.loop-left.machines (get_or c.args.pieces.now (c.loop-left.left - 1) 0) (Some c.machine_at-machine.result.now)
     (subst (λ l. HasMachine l (get_or c.args.pieces.now (c.loop-left.left - 1) 0) c.machine_at-machine.result.now) c.as_slice-in-loop-left.ensures c.machine_at-machine.ensures)
 
 pub loop-left-preserved : goal.loop-left-preserved

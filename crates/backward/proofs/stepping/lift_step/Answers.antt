@@ -1,9 +1,10 @@
 use Rattle.std.proofs.Common.{subst}
+use Rattle.sv_list.specs.Lists.{IfOk-both}
 use Rattle.flat_cubes.specs.Satisfying.{ComesBy}
 use Rattle.flat_cubes.specs.declared.definition.Definition.{Definition}
 use Rattle.backward.specs.Back.{AreBack}
 use Rattle.backward.specs.Runs.{run_words}
-use Rattle.backward.proofs.StepLemmas.{IfOk-both, one-definition}
+use Rattle.backward.proofs.StepLemmas.{one-definition}
 use Rattle.backward.proofs.stepping.lift_step.Goals as goal
 
 pub lift_by-requires-clause-made : goal.lift_by-requires-clause-made

@@ -1,9 +1,10 @@
 use Rattle.std.proofs.Common.{◌≡◌, suc, ◌+◌, ap, sym, subst, ◌∙◌, arith}
 use Rattle.std.proofs.lemmas.Result.{IfOk-weaker}
+use Rattle.sv_list.specs.Lists.{IfOk-both}
 use Rattle.flat_cubes.specs.declared.definition.By.TheVariants as by
 use Rattle.backward.specs.Definitions.{definition}
 use Rattle.backward.specs.States.{IsState}
-use Rattle.backward.proofs.StepLemmas.{IfOk-both, place-below, can-cut-with, cut-at, cut-conf, cut-made}
+use Rattle.backward.proofs.StepLemmas.{place-below, can-cut-with, cut-at, cut-conf, cut-made}
 use Rattle.backward.proofs.StateLemmas.{concat-state}
 use Rattle.backward.proofs.stepping.step_concat.Goals as goal
 

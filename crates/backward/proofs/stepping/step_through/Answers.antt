@@ -1,9 +1,10 @@
 use Rattle.std.proofs.Common.{◌≡◌, suc, ◌+◌, subst, arith}
 use Rattle.std.proofs.lemmas.Result.{IfOk-weaker}
+use Rattle.sv_list.specs.Lists.{IfOk-both}
 use Rattle.cube_bounds.specs.NumberLaws.{slope_of, base_of}
 use Rattle.backward.specs.Definitions.{definition}
 use Rattle.backward.specs.States.{IsState}
-use Rattle.backward.proofs.StepLemmas.{IfOk-both, place-below, reads-there, can-pass-with, can-pass-through, passed-at, passed-conf, passed-made}
+use Rattle.backward.proofs.StepLemmas.{place-below, reads-there, can-pass-with, can-pass-through, passed-at, passed-conf, passed-made}
 use Rattle.backward.proofs.StateLemmas.{through-state}
 use Rattle.backward.proofs.stepping.step_through.Goals as goal
 

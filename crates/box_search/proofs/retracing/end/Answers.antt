@@ -1,5 +1,5 @@
 use Rattle.std.proofs.Common.{◌≡◌, ℕ, List, ◌∷◌, [], length, slice_get, Any, Some, refl, sym, ap, subst, arith}
-use Rattle.machine_core.specs.Lists.{Any-here, Any-append_right}
+use Rattle.sv_list.specs.Lists.{Any-here, Any-append_right}
 use Rattle.box_layers.specs.declared.layer.Layer.{Layer}
 use Rattle.box_search.proofs.TraceLemmas.{way-size, way-layer, way-ended}
 use Rattle.box_search.proofs.retracing.end.Goals as goal

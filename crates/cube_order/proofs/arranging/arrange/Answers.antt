@@ -1,7 +1,6 @@
-use Rattle.std.proofs.Common.{◌∙◌, ap, subst, sym, refl, get_or}
+use Rattle.std.proofs.Common.{◌∙◌, ap, subst, sym, refl, get_or, take_all}
 use Rattle.cube_order.proofs.Arranged.{IsArranged, arranged_next, arranged_none}
 use Rattle.cube_order.specs.Waiting.{picked}
-use Rattle.cube_order.proofs.Marks.{take_whole}
 use Rattle.cube_order.proofs.arranging.arrange.Goals as goal
 
 pub loop-place-init : goal.loop-place-init
@@ -11,4 +10,4 @@ pub loop-place-preserved : goal.loop-place-preserved
 loop-place-preserved c = arranged_next c.args.definitions c.args.places.now c.loop-place.place-index c.loop-place.slots.items c.loop-place.arranged c.requires (get_or c.args.places.now c.loop-place.place-index 0) c.loop-place-test.true refl c.loop-place.invariant c.transfer.new.slots.items c.transfer.new.arranged c.in_ok-transfer.ensures.slots c.in_ok-transfer.ensures.arranged
 
 pub returns : goal.returns
-returns c = c.loop-place.invariant.done ∙ ap (picked c.args.definitions) (take_whole c.loop-place.place-index c.args.places.now c.loop-place-test.false)
+returns c = c.loop-place.invariant.done ∙ ap (picked c.args.definitions) (take_all c.loop-place.place-index c.args.places.now c.loop-place-test.false)

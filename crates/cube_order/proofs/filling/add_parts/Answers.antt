@@ -1,8 +1,9 @@
 use Rattle.std.proofs.Common.{◌≡◌, ◌∙◌, ◌<◌, ℕ, Bool, ap, arith, length, refl, subst, sym, get_or}
 use Rattle.std.specs.Vec.Iter.{into_iter_items}
+use Rattle.sv_list.specs.Lists.{split-step, split-end}
 use Rattle.flat_cubes.specs.declared.variable.Own.{Own}
 use Rattle.cube_order.specs.Filling.{parted, parted_all}
-use Rattle.cube_order.proofs.Filled.{all_done, holds_next, left_less, parted_more}
+use Rattle.cube_order.proofs.Filled.{holds_next, parted_more}
 use Rattle.cube_order.proofs.filling.add_parts.Goals as goal
 
 pub loop-place-init : goal.loop-place-init
@@ -18,7 +19,7 @@ pub loop-place-preserved : goal.loop-place-preserved
 loop-place-preserved c = record {
   can = tt;
   finite = tt;
-  split = left_less c.args.parts c.loop-place.yielded (into_iter_items c.loop-place.place-iterator) (into_iter_items c.next.new.self) (c.in-Some.place, c.in-Some.part) c.loop-place.invariant.split c.in-Some.ensures.steps.0;
+  split = split-step c.args.parts c.loop-place.yielded (into_iter_items c.loop-place.place-iterator) (into_iter_items c.next.new.self) (c.in-Some.place, c.in-Some.part) c.loop-place.invariant.split c.in-Some.ensures.steps.0;
   count = c.add_part.ensures.count ∙ c.loop-place.invariant.count;
   parted = c.in_ok-add_part.ensures.parted ∙ ap (parted (get_or c.args.of.now c.in-Some.place 0) c.in-Some.part) c.loop-place.invariant.parted ∙ sym (parted_more c.args.of.now c.loop-place.yielded (c.in-Some.place, c.in-Some.part) c.args.variables.now.items);
 }
@@ -32,4 +33,4 @@ add_part-requires c = subst (λ n. get_or c.args.of.now c.in-Some.place 0 < n) (
 pub returns : goal.returns
 returns c =
     let none : length (into_iter_items c.loop-place.place-iterator) ≡ 0 = omega (arith, c.loop-place.place-iterator.rest.ok, c.in-None.ensures.steps.0) in
-    c.loop-place.invariant.parted ∙ ap (λ z. parted_all c.args.of.now z c.args.variables.now.items) (all_done c.args.parts c.loop-place.yielded (into_iter_items c.loop-place.place-iterator) c.loop-place.invariant.split none)
+    c.loop-place.invariant.parted ∙ ap (λ z. parted_all c.args.of.now z c.args.variables.now.items) (split-end c.args.parts c.loop-place.yielded (into_iter_items c.loop-place.place-iterator) c.loop-place.invariant.split none)

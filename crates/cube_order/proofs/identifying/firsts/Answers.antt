@@ -1,11 +1,11 @@
-use Rattle.std.proofs.Common.{◌≡◌, ◌∙◌, sym, subst, length}
+use Rattle.std.proofs.Common.{◌≡◌, ◌∙◌, sym, subst, length, take_at}
 use Rattle.std.specs.List.{range_with_len}
 use Rattle.cube_order.specs.Leading.{LeadsTo}
-use Rattle.cube_order.proofs.Leads.{starts_own, taken_all}
+use Rattle.cube_order.proofs.Leads.{starts_own}
 use Rattle.cube_order.proofs.identifying.firsts.Goals as goal
 
 pub returns : goal.returns
 returns c =
     let n : length c.identify.new.above ≡ c.in_ok-above.above.len = c.identify.auto.above ∙ c.deref_mut.ensures.len in
     let v = c.deref_mut.ensures.value ∙ c.in_ok-above.ensures in
-    taken_all c.in_ok-above.above.len c.identify.new.above _ n ∙ c.identify.ensures (range_with_len 0 c.args.places) (subst (LeadsTo (range_with_len 0 c.args.places)) (sym v) (starts_own c.args.places))
+    take_at c.identify.new.above _ c.in_ok-above.above.len n ∙ c.identify.ensures (range_with_len 0 c.args.places) (subst (LeadsTo (range_with_len 0 c.args.places)) (sym v) (starts_own c.args.places))

@@ -1,13 +1,14 @@
 use Rattle.std.proofs.Common.{◌≡◌, ◌<◌, arith, length, ◌∙◌, ◌++◌, ◌∷◌, [], ℕ, List, ap, map, get_or, sym}
 use Rattle.std.proofs.lemmas.List.{map_push}
 use Rattle.std.specs.Vec.Iter.{into_iter_items}
+use Rattle.sv_list.specs.Lists.{split-step, split-end}
 use Rattle.flat_cubes.specs.Flattening.{renamed}
 use Rattle.flat_cubes.specs.Straight.{AreBelow}
 use Rattle.flat_cubes.specs.Using.{used}
 use Rattle.flat_cubes.specs.declared.definition.By.{By}
 use Rattle.flat_cubes.specs.declared.definition.Definition.{Definition}
 use Rattle.cube_order.specs.Leading.{definition_by}
-use Rattle.cube_order.proofs.Filled.{all_done, holds_next, left_less}
+use Rattle.cube_order.proofs.Filled.{holds_next}
 use Rattle.cube_order.proofs.naming.definitions.Goals as goal
 
 added : (f : ℕ → ℕ) (ds new : List Definition) (es : List (ℕ × By)) (place : ℕ) (by named : By) → new ≡ ds ++ record { variable = f place; by = named } ∷ [] → ds ≡ map (definition_by f) es → named ≡ renamed f by → new ≡ map (definition_by f) (es ++ (place, by) ∷ [])
@@ -25,7 +26,7 @@ pub loop-place-preserved : goal.loop-place-preserved
 loop-place-preserved c = record {
   can = tt;
   finite = tt;
-  split = left_less c.args.met c.loop-place.yielded (into_iter_items c.loop-place.place-iterator) (into_iter_items c.next.new.self) (c.in-Some.place, c.in-Some.by) c.loop-place.invariant.split c.in-Some.ensures.steps.0;
+  split = split-step c.args.met c.loop-place.yielded (into_iter_items c.loop-place.place-iterator) (into_iter_items c.next.new.self) (c.in-Some.place, c.in-Some.by) c.loop-place.invariant.split c.in-Some.ensures.steps.0;
   all = added (λ i. get_or c.args.of.now i 0) c.loop-place.definitions c.push.new.self c.loop-place.yielded c.in-Some.place c.in-Some.by c.in_ok-by.by c.in_ok-push.ensures.ok c.loop-place.invariant.all c.in_ok-by.ensures;
 }
 
@@ -38,4 +39,4 @@ bounds-of-place c = (holds_next (λ (e : ℕ × By). (e.0 < length c.args.of.now
 pub returns : goal.returns
 returns c =
     let none : length (into_iter_items c.loop-place.place-iterator) ≡ 0 = omega (arith, c.loop-place.place-iterator.rest.ok, c.in-None.ensures.steps.0) in
-    c.loop-place.invariant.all ∙ ap (map (definition_by (λ i. get_or c.args.of.now i 0))) (all_done c.args.met c.loop-place.yielded (into_iter_items c.loop-place.place-iterator) c.loop-place.invariant.split none)
+    c.loop-place.invariant.all ∙ ap (map (definition_by (λ i. get_or c.args.of.now i 0))) (split-end c.args.met c.loop-place.yielded (into_iter_items c.loop-place.place-iterator) c.loop-place.invariant.split none)

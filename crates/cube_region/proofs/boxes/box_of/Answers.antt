@@ -1,11 +1,12 @@
 use Rattle.std.proofs.Common.{◌≡◌, ◌∙◌, ap, arith, false, map}
 use Rattle.cube_bounds.specs.Sides.{integer_sides, register_sides}
+use Rattle.cube_bounds.proofs.Few.{sides_long}
 use Rattle.cube_region.specs.Bounding.{integer_bounds, register_bounds}
-use Rattle.cube_region.proofs.BoxSides.{sides-long, sides-front, sides-back}
+use Rattle.cube_region.proofs.BoxSides.{sides-front, sides-back}
 use Rattle.cube_region.proofs.boxes.box_of.Goals as goal
 
 pub split_at-requires : goal.split_at-requires
-split_at-requires c = let l = sides-long c.args.flat.now c.args.box_sides.now c.requires in let e = c.len.ensures in omega arith
+split_at-requires c = let l = sides_long c.args.flat.now c.args.box_sides.now c.requires in let e = c.len.ensures in omega arith
 
 pub returns : goal.returns
 returns c =

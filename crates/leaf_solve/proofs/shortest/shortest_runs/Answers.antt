@@ -1,7 +1,7 @@
 use Rattle.std.proofs.Common.{◌≡◌, ℕ, ◌+◌, List, take, slice_get, Some, refl, sym, subst, arith}
 use Rattle.std.specs.List.{AllZip}
 use Rattle.machine_core.specs.declared.run.Run.{Run}
-use Rattle.machine_core.specs.Lists.{slice_get-read}
+use Rattle.sv_list.specs.Lists.{slice_get-read}
 use Rattle.trim_search.specs.Shortest.{IsShortestRun}
 use Rattle.leaf_solve.proofs.RunLemmas.{zip-more, no-run}
 use Rattle.leaf_solve.proofs.shortest.shortest_runs.Goals as goal

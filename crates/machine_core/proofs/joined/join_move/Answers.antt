@@ -1,6 +1,6 @@
 use Rattle.std.proofs.Common.{◌≡◌, ◌<◌, ℕ, List, length, Any, Contains, get_or, slice_set, ◌||◌, ◌⊎◌, ◌↔◌, sym, ap, ◌∙◌, subst}
 use Rattle.sv_word.specs.Ranges.{in_ranges}
-use Rattle.machine_core.specs.Lists.{read-at}
+use Rattle.sv_list.specs.Lists.{read-at}
 use Rattle.machine_core.specs.declared.machine.Move.{Move}
 use Rattle.machine_core.specs.Moves.{Moves}
 use Rattle.machine_core.proofs.LikeLemmas.{joined-moves, joined-some, stands-below}

@@ -1,5 +1,5 @@
 use Rattle.std.proofs.Common.{rules}
-use Rattle.machine_core.specs.Lists.{split-step, in-split}
+use Rattle.sv_list.specs.Lists.{split-step, in-split}
 use Rattle.machine_core.proofs.JoinedLemmas.{joined-none, joined-more}
 use Rattle.machine_core.proofs.joined.join_sorted.Goals as goal
 

@@ -1,5 +1,5 @@
 use Rattle.std.proofs.Common.{rules, ◌≡◌, ◌<◌, ◌-◌, length, sym, ◌∙◌, arith}
-use Rattle.machine_core.specs.Lists.{stands-at}
+use Rattle.sv_list.specs.Lists.{stands-at}
 use Rattle.machine_core.proofs.joined.place_of.Goals as goal
 
 pub returns-then-eq : goal.returns-then-eq

@@ -1,11 +1,11 @@
 use Rattle.std.proofs.Common.{◌≡◌, ◌∙◌, refl, sym, subst, arith}
 use Rattle.std.proofs.lemmas.List.{take_all}
+use Rattle.sv_list.specs.Lists.{read-contained}
 use Rattle.machine_core.specs.Costs.{IsCost}
 use Rattle.machine_core.specs.CostLaws.{CanAdd-within}
 use Rattle.machine_core.specs.EdgeLaws.{end_cost}
 use Rattle.machine_core.specs.Graphs.{graph_top}
 use Rattle.machine_meet.specs.Builds.{AddsPart}
-use Rattle.machine_meet.proofs.BuildEdges.{read-in}
 use Rattle.machine_meet.proofs.ConcatEdges.{goes-on-start, goes-on-next, concat-language, concat-top}
 use Rattle.machine_meet.proofs.concats.concat.Goals as goal
 
@@ -18,7 +18,7 @@ go_on-requires c =
     let b = c.args.b.now in
     let w = c.loop-end.whole in
     let e = c.end-item.result in
-    let i = read-in a.ends c.finals-end-items.result.now c.loop-end.end-index e c.finals-end-items.ensures c.loop-end-test.true c.end-item.is in
+    let i = read-contained a.ends c.finals-end-items.result.now c.loop-end.end-index e c.finals-end-items.ensures c.loop-end-test.true c.end-item.is in
     let f = a.formed.ending e i in
     let at = f.at in
     let first = c.states-first.ensures in

@@ -1,7 +1,7 @@
 use Rattle.std.proofs.Common.{◌∙◌}
+use Rattle.std.proofs.lemmas.Bool.{and_from}
+use Rattle.machine_core.proofs.LikeLemmas.{apart-inhabited}
 use Rattle.sv_word.specs.Ranges.{in_ranges}
-use Rattle.machine_meet.proofs.JoinLemmas.{together}
-use Rattle.machine_meet.proofs.OverlapLemmas.{some-inhabits}
 use Rattle.machine_meet.proofs.join.join.Goals as goal
 
 pub add-requires : goal.add-requires
@@ -14,6 +14,6 @@ returns g c =
       on = c.in_ok-on.ensures;
       cost = c.in_ok-add.ensures;
       to = c.in_ok-cons.ensures;
-      inhabited = some-inhabits 0 c.in_ok-on.on both.0 c.as_slice-characters.ensures.apart
-          (c.in_ok-on.ensures both.0 ∙ together (in_ranges c.args.head.now.on both.0) (in_ranges c.args.tail.now.on both.0) both.1 both.2);
+      inhabited = apart-inhabited 0 c.in_ok-on.on both.0 c.as_slice-characters.ensures.apart
+          (c.in_ok-on.ensures both.0 ∙ and_from (in_ranges c.args.head.now.on both.0) (in_ranges c.args.tail.now.on both.0) both.1 both.2);
     }

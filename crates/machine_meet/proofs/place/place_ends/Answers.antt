@@ -1,12 +1,12 @@
 use Rattle.std.proofs.Common.{◌∙◌, refl, ap, sym, length, arith}
+use Rattle.sv_list.specs.Lists.{read-contained}
 use Rattle.machine_meet.specs.Builds.{placed_end}
-use Rattle.machine_meet.proofs.BuildEdges.{read-in}
 use Rattle.machine_meet.proofs.PushLemmas.{pushed-none, pushed-more, pushed-all}
 use Rattle.machine_meet.proofs.place.place_ends.Goals as goal
 
 pub overflow_add-offset : goal.overflow_add-offset
 overflow_add-offset c =
-    let e = c.args.part.now.formed.ending c.end-item.result (read-in c.args.part.now.ends c.finals-end-items.result.now c.loop-end.end-index c.end-item.result c.finals-end-items.ensures c.loop-end-test.true c.end-item.is) in
+    let e = c.args.part.now.formed.ending c.end-item.result (read-contained c.args.part.now.ends c.finals-end-items.result.now c.loop-end.end-index c.end-item.result c.finals-end-items.ensures c.loop-end-test.true c.end-item.is) in
     let at = e.at in
     let room = c.requires.room in
     let fits = c.requires.fits in
@@ -14,7 +14,7 @@ overflow_add-offset c =
 
 pub add_end-requires : goal.add_end-requires
 add_end-requires c =
-    let e = c.args.part.now.formed.ending c.end-item.result (read-in c.args.part.now.ends c.finals-end-items.result.now c.loop-end.end-index c.end-item.result c.finals-end-items.ensures c.loop-end-test.true c.end-item.is) in
+    let e = c.args.part.now.formed.ending c.end-item.result (read-contained c.args.part.now.ends c.finals-end-items.result.now c.loop-end.end-index c.end-item.result c.finals-end-items.ensures c.loop-end-test.true c.end-item.is) in
     let at = e.at in
     let room = c.requires.room in
     let same = c.loop-end.invariant.states in

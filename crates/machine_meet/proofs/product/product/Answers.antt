@@ -1,17 +1,18 @@
 use Rattle.std.proofs.Common.{◌≡◌, [], ◌<◌, ◌-◌, suc, drop, length, subst, sym, ◌∙◌, arith}
+use Rattle.sv_list.specs.Lists.{some-tested, empty-tested}
 use Rattle.machine_meet.specs.Products.{AreProduct}
-use Rattle.machine_meet.proofs.ProductLemmas.{product-none, product-last, product-at, product-stuck, states-length, states-at, can-add-at, listed-inhabited, some-of, nil-of}
+use Rattle.machine_meet.proofs.ProductLemmas.{product-none, product-last, product-at, product-stuck, states-length, states-at, can-add-at, listed-inhabited}
 use Rattle.machine_meet.proofs.product.product.Goals as goal
 
 pub returns-then-is_empty-clause-exact : goal.returns-then-is_empty-clause-exact
 returns-then-is_empty-clause-exact g c =
-    let none = nil-of c.args.parts.now (sym c.is_empty.ensures ∙ c.if-is_empty.true) in
+    let none = empty-tested c.args.parts.now (sym c.is_empty.ensures ∙ c.if-is_empty.true) in
     product-none g.P.Machine.steps_to c.args.width c.args.parts.now c.args.at.now c.in_ok-none.none none (states-length g.P.Machine.is_state c.args.parts.now c.args.at.now c.requires.states) c.in_ok-none.ensures.exact
 
 pub bounds-at-last : goal.bounds-at-last
 bounds-at-last g c =
     let same = states-length g.P.Machine.is_state c.args.parts.now c.args.at.now c.requires.states in
-    let some = some-of c.args.parts.now (sym c.is_empty.ensures ∙ c.if-is_empty.false) in
+    let some = some-tested c.args.parts.now (sym c.is_empty.ensures ∙ c.if-is_empty.false) in
     omega arith
 
 pub loop-i-init : goal.loop-i-init
@@ -20,7 +21,7 @@ loop-i-init g c =
     let ss = c.args.at.now in
     let p = c.index-parts-last.result in
     let s = c.index-at-last.result in
-    let some = some-of ps (sym c.is_empty.ensures ∙ c.if-is_empty.false) in
+    let some = some-tested ps (sym c.is_empty.ensures ∙ c.if-is_empty.false) in
     let lt : length ps - 1 < length ps = omega arith in
     let last : suc (length ps - 1) ≡ length ps = omega arith in
     let st = states-at g.P.Machine.is_state ps ss (length ps - 1) p s c.requires.states lt c.index-parts-last.is c.index-at-last.is in
@@ -46,7 +47,7 @@ returns-clause-exact g c =
 pub offset_bounds-at-last : goal.offset_bounds-at-last
 offset_bounds-at-last g c =
     let same = states-length g.P.Machine.is_state c.args.parts.now c.args.at.now c.requires.states in
-    let some = some-of c.args.parts.now (sym c.is_empty.ensures ∙ c.if-is_empty.false) in
+    let some = some-tested c.args.parts.now (sym c.is_empty.ensures ∙ c.if-is_empty.false) in
     omega arith
 
 pub bounds-at-i : goal.bounds-at-i
@@ -65,7 +66,7 @@ offset_bounds-at-i g c =
 
 pub moves-requires : goal.moves-requires
 moves-requires g c =
-    let some = some-of c.args.parts.now (sym c.is_empty.ensures ∙ c.if-is_empty.false) in
+    let some = some-tested c.args.parts.now (sym c.is_empty.ensures ∙ c.if-is_empty.false) in
     states-at g.P.Machine.is_state c.args.parts.now c.args.at.now (length c.args.parts.now - 1) c.index-parts-last.result c.index-at-last.result c.requires.states (omega arith) c.index-parts-last.is c.index-at-last.is
 
 pub moves-requires-in-loop-i : goal.moves-requires-in-loop-i

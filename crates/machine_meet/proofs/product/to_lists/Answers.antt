@@ -1,8 +1,8 @@
 use Rattle.std.proofs.Common.{◌≡◌, length, map, ap, sym, ◌∙◌, arith}
 use Rattle.std.specs.Vec.Iter.{into_iter_items}
-use Rattle.machine_core.specs.Lists.{split-step}
+use Rattle.sv_list.specs.Lists.{split-step, split-end}
 use Rattle.machine_meet.specs.Joins.{listed}
-use Rattle.machine_meet.proofs.PushLemmas.{all-yielded, mapped-more}
+use Rattle.machine_meet.proofs.PushLemmas.{mapped-more}
 use Rattle.machine_meet.proofs.product.to_lists.Goals as goal
 
 pub loop-step-init : goal.loop-step-init
@@ -25,4 +25,4 @@ pub returns : goal.returns
 returns g c =
     let rest = into_iter_items c.loop-step.step-iterator in
     let none : length rest ≡ 0 = omega (arith, c.loop-step.step-iterator.rest.ok, c.in-None.ensures.steps.0) in
-    c.loop-step.invariant.all ∙ ap (map listed) (all-yielded c.args.moves c.loop-step.yielded rest c.loop-step.invariant.split none)
+    c.loop-step.invariant.all ∙ ap (map listed) (split-end c.args.moves c.loop-step.yielded rest c.loop-step.invariant.split none)

@@ -1,10 +1,11 @@
 use Rattle.std.proofs.Common.{◌≡◌, ◌<◌, length, sym, ap, ◌∙◌, subst, arith, refl, slice_get, Some}
 use Rattle.std.proofs.lemmas.List.{take_all}
+use Rattle.sv_list.specs.Lists.{some-once}
 use Rattle.machine_meet.specs.Products.{AreStates, MeetEnds, meet_width}
 use Rattle.machine_core.specs.Costs.{sum_costs}
 use Rattle.machine_meet.specs.Splits.{ArePartRuns, AreSteps, IsColumn, as_step}
 use Rattle.machine_meet.proofs.ProductLemmas.{states-length}
-use Rattle.machine_meet.proofs.PlaceLemmas.{all-got, all-each, beside, same_some}
+use Rattle.machine_meet.proofs.PlaceLemmas.{all-got, all-each, beside}
 use Rattle.machine_meet.proofs.SplitLemmas.{run-goes, run-lengths, run-end, read-end, part-runs, runs-next, totals, totals-at, totals-next, all-add-up}
 use Rattle.machine_meet.proofs.split.split_run.Goals as goal
 
@@ -50,7 +51,7 @@ loop-place-preserved g c =
     let column = subst (λ l. IsColumn c.loop-place.place l part.costs) c.as_slice-in-loop-place.ensures facts.costs in
     let p = beside c.in_ok-ends.ends c.args.meet.now.parts.now c.loop-place.place part.last (sym many) last in
     let is = part-runs g.P.Machine.ends_with g.P.Machine.steps_to g.P.Machine.first (meet_width g.P.Machine.width c.args.meet.now.parts.now) c.args.meet.now.parts.now c.args.run.now c.requires c.in_ok-rows.rows c.in_ok-ends.ends c.in_ok-rows.ensures.count c.in_ok-rows.ensures.rows
-    (λ x e. subst (λ y. AreSteps (as_step g.P.Machine.ends_with) c.args.meet.now.parts.now y 0 y c.in_ok-ends.ends) (same_some c.args.run.now.states _ c.as_slice-at.result.now x at e) c.in_ok-ends.ensures.steps)
+    (λ x e. subst (λ y. AreSteps (as_step g.P.Machine.ends_with) c.args.meet.now.parts.now y 0 y c.in_ok-ends.ends) (some-once (slice_get c.args.run.now.states _) c.as_slice-at.result.now x at e) c.in_ok-ends.ensures.steps)
     c.loop-place.place p.0 part p.1 facts.word facts.states column last in
     record {
       runs = runs-next g.P.Machine.ends_with g.P.Machine.steps_to g.P.Machine.first c.args.meet.now.parts.now c.args.run.now.word c.loop-place.runs c.push.new.self c.loop-place.place p.0 part p.1 c.loop-place.invariant.runs is facts.word c.in_ok-push.ensures.ok;

@@ -1,8 +1,8 @@
 use Rattle.std.proofs.Common.{◌≡◌, ◌++◌, ◌∷◌, [], ◌∙◌, ap, sym, subst, map, arith}
 use Rattle.std.proofs.lemmas.List.{take_all}
+use Rattle.sv_list.specs.Lists.{read-contained}
 use Rattle.machine_core.specs.Edges.{ending}
 use Rattle.machine_meet.specs.Builds.{placed_edge, Returns}
-use Rattle.machine_meet.proofs.BuildEdges.{read-in}
 use Rattle.machine_meet.proofs.StarEdges.{returns-start, returns-next, star-language, free-top}
 use Rattle.machine_meet.proofs.stars.star.Goals as goal
 
@@ -30,7 +30,7 @@ lead_back-requires c =
       room = omega arith;
       registers = c.loop-edge.invariant.registers ∙ c.in_ok-place_edges.ensures.registers ∙ c.in_ok-whole.ensures.registers;
       free = c.requires;
-      edge = read-in c.args.a.now.edges c.edges-edge-items.result.now c.loop-edge.edge-index c.edge-item.result c.edges-edge-items.ensures c.loop-edge-test.true c.edge-item.is;
+      edge = read-contained c.args.a.now.edges c.edges-edge-items.result.now c.loop-edge.edge-index c.edge-item.result c.edges-edge-items.ensures c.loop-edge-test.true c.edge-item.is;
     }
 
 pub loop-edge-preserved : goal.loop-edge-preserved

@@ -1,9 +1,10 @@
 use Rattle.std.proofs.Common.{◌++◌, ◌∙◌, refl, ap, sym, subst, map, length, Contains, arith}
 use Rattle.std.proofs.lemmas.List.{take_all}
+use Rattle.sv_list.specs.Lists.{read-contained}
 use Rattle.machine_core.specs.Edges.{ending}
 use Rattle.machine_core.specs.EdgeLaws.{end_cost}
 use Rattle.machine_meet.specs.Builds.{placed_edge, placed_end, leaving_edge}
-use Rattle.machine_meet.proofs.BuildEdges.{moves-formed, branch-steps, branch-ends, read-in}
+use Rattle.machine_meet.proofs.BuildEdges.{moves-formed, branch-steps, branch-ends}
 use Rattle.machine_meet.proofs.PushLemmas.{pushed-none, pushed-more}
 use Rattle.machine_meet.proofs.unions.add_branch.Goals as goal
 
@@ -30,7 +31,7 @@ leave-requires c =
 pub add_end-requires : goal.add_end-requires
 add_end-requires c =
     let p = c.args.part.now in
-    let i = read-in c.in_ok-ends.ends c.as_slice-cost-items.result.now c.loop-cost.cost-index c.cost-item.result c.as_slice-cost-items.ensures c.loop-cost-test.true c.cost-item.is in
+    let i = read-contained c.in_ok-ends.ends c.as_slice-cost-items.result.now c.loop-cost.cost-index c.cost-item.result c.as_slice-cost-items.ensures c.loop-cost-test.true c.cost-item.is in
     let last = (c.in_ok-ends.ensures c.cost-item.result).1 (i.0, c.cost-item.result, i.1, i.2, refl) in
     let entries = (end_cost p.states p.registers p.edges p.ends p.formed 0 c.cost-item.result last).entries in
     record {

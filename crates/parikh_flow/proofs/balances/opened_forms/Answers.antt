@@ -1,7 +1,8 @@
-use Rattle.std.proofs.Common.{rules, ℤ, to_z, of_z, SFits, ◌≡◌, ◌∙◌, ◌++◌, ◌∷◌, ◌+◌, ◌⊎◌, inl, inr, [], ℕ, zero, suc, List, Some, ap, length, length-append, refl, subst, sym}
+use Rattle.std.proofs.Common.{rules, ℤ, to_z, of_z, SFits, ◌≡◌, ◌∙◌, ◌++◌, ◌∷◌, ◌+◌, inl, inr, [], ℕ, List, Some, ap, length, length-append, refl, subst, sym}
 use Rattle.std.proofs.lemmas.Int.{to_z-of_z}
 use Rattle.std.specs.Int.{w128}
 use Rattle.std.specs.Prelude.{slice_get}
+use Rattle.sv_list.specs.Lists.{slice_get-push_cases}
 use Rattle.sv_linear.specs.declared.form.Form.{Form}
 use Rattle.parikh_flow.specs.Building.{AreOpened}
 use Rattle.sv_linear.specs.Points.{unit}
@@ -13,19 +14,13 @@ kept z h = to_z-of_z w128 z h
 none-there : {X : Type 0} (s : ℕ) (x : X) → slice_get [] s ≡ Some x → ⊥
 none-there s x e = cc
 
-pushed-at : {X : Type 0} (xs : List X) (x y : X) (s : ℕ) → slice_get (xs ++ x ∷ []) s ≡ Some y → (slice_get xs s ≡ Some y) ⊎ ((s ≡ length xs) × (x ≡ y))
-pushed-at [] x y zero e = inr (refl, cc)
-pushed-at [] x y (suc s) e = absurd (none-there s y e)
-pushed-at (z ∷ xs) x y zero e = inl e
-pushed-at (z ∷ xs) x y (suc s) e = elim (pushed-at xs x y s e) [ inl h ↦ inl h | inr h ↦ inr (ap suc h.0, h.1) ]
-
 opened-none : AreOpened 0 []
 opened-none = record { size = refl; each = λ s f h. absurd (none-there s f h) }
 
 opened-more : (n : ℕ) (forms new : List Form) (g : Form) → AreOpened n forms → new ≡ forms ++ g ∷ [] → g.coefficients ≡ [] → g.constant ≡ unit n 0 → AreOpened (n + 1) new
 opened-more n forms new g o is co ct = record {
   size = ap length is ∙ length-append forms (g ∷ []) ∙ ap (λ k. k + 1) o.size;
-  each = λ s f h. elim (pushed-at forms g f s (sym (ap (λ z. slice_get z s) is) ∙ h)) [
+  each = λ s f h. elim (slice_get-push_cases forms g s f (sym (ap (λ z. slice_get z s) is) ∙ h)) [
     | inl k ↦ o.each s f k
     | inr k ↦ subst (λ z. (z.coefficients ≡ []) × (z.constant ≡ unit s 0)) k.1 (co, ct ∙ ap (λ z. unit z 0) (sym (k.0 ∙ o.size)))
   ];

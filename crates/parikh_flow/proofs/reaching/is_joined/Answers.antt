@@ -1,20 +1,17 @@
 use Rattle.std.proofs.Common.{◌≡◌, ◌∙◌, ◌+◌, ◌<◌, ◌<ℤ◌, inl, inr, pos, rules, false, ℕ, List, Some, true, ap, arith, subst, sym}
 use Rattle.std.specs.Prelude.{slice_get}
 use Rattle.std.proofs.lemmas.Bool.{cases_lt}
-use Rattle.std.proofs.lemmas.Option.{slice_get-get_or, slice_get_within}
+use Rattle.std.proofs.lemmas.Option.{slice_get-get_or, slice_get_within, same_Some}
 use Rattle.farkas_check.specs.Cuts.{values_of}
 use Rattle.farkas_check.specs.declared.net.NetEdge.{NetEdge}
 use Rattle.parikh_flow.proofs.reaching.is_joined.Goals as goal
 use Rattle.parikh_flow.proofs.reaching.is_joined.Goals.{else-point-edge-gt0-via-then-point-edge-gt0+else-not-seen-edge, else-point-edge-gt0-via-else-point-edge-gt0}
 
-some-once : {X : Type 0} (x y : X) → Some x ≡ Some y → x ≡ y
-some-once x y e = cc
-
 -- what holds of those before a place and of the one there holds of all before the next place
 one-more : {X : Type 0} (P : X → Type 0) (xs : List X) (i : ℕ) (x : X) → slice_get xs i ≡ Some x → P x → ((p : ℕ) (e : X) → p < i → slice_get xs p ≡ Some e → P e) → (p : ℕ) (e : X) → p < i + 1 → slice_get xs p ≡ Some e → P e
 one-more P xs i x at here before p e l h = elim (cases_lt p i) [
   | inl less ↦ before p e less h
-  | inr more ↦ let same : i ≡ p = omega arith in subst P (some-once x e (sym at ∙ ap (slice_get xs) same ∙ h)) here
+  | inr more ↦ let same : i ≡ p = omega arith in subst P (same_Some x e (sym at ∙ ap (slice_get xs) same ∙ h)) here
 ]
 
 pub loop-at-preserved : goal.loop-at-preserved

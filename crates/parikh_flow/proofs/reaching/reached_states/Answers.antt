@@ -1,6 +1,6 @@
 use Rattle.std.proofs.Common.{◌≡◌, ap, ◌∙◌, ◌++◌, ◌∷◌, [], slice_set, replicate, false, true, add-one, arith}
+use Rattle.std.proofs.lemmas.List.{replicate_more}
 use Rattle.farkas_check.specs.Cuts.{values_of}
-use Rattle.parikh_flow.proofs.FillLemmas.{replicate-more}
 use Rattle.parikh_flow.proofs.ReachLemmas.{reach-start, reach-done, listed-below, row-found}
 use Rattle.parikh_flow.proofs.reaching.reached_states.Goals as goal
 
@@ -40,4 +40,4 @@ pub bounds-as_slice-at : goal.bounds-as_slice-at
 bounds-as_slice-at c = rw c.as_slice-in-loop-at.ensures (rw c.len.ensures at c.loop-at-test.true)
 
 pub loop-state-preserved : goal.loop-state-preserved
-loop-state-preserved c = c.in_ok-push.ensures.ok ∙ ap (λ l. l ++ false ∷ []) c.loop-state.invariant ∙ replicate-more c.loop-state._state false
+loop-state-preserved c = c.in_ok-push.ensures.ok ∙ ap (λ l. l ++ false ∷ []) c.loop-state.invariant ∙ replicate_more c.loop-state._state false

@@ -1,8 +1,9 @@
 use Rattle.std.proofs.Common.{◌∙◌, ◌+◌, pos, length, take, ap, sym, subst, arith}
+use Rattle.sv_linear.proofs.Ascending.{AscendsWithin-widen}
 use Rattle.parikh_flow.specs.Counts.{size_of}
 use Rattle.parikh_flow.specs.Rows.{unknowns_after, machine_terms, family_terms}
 use Rattle.parikh_flow.specs.Building.{AreTermsAdded}
-use Rattle.parikh_flow.proofs.FormLemmas.{after-more, after-room, machines-more, added-join, ascends-more}
+use Rattle.parikh_flow.proofs.FormLemmas.{after-more, after-room, machines-more, added-join}
 use Rattle.parikh_flow.proofs.RowLemmas.{lengths-added, length-ones}
 use Rattle.parikh_flow.proofs.rows.reach_row.Goals as goal
 
@@ -38,5 +39,5 @@ loop-machine-preserved c =
           (machine_terms (λ _. pos 1) (λ _. pos 0) (unknowns_after c.args.base (take c.loop-machine.machine-index c.args.machines.now)) c.machine-item.result)
           c.of_constant-form.result c.loop-machine.form c.push_terms.new.form c.loop-machine.invariant.added
           (subst (λ b. AreTermsAdded (machine_terms (λ _. pos 1) (λ _. pos 0) b c.machine-item.result) c.loop-machine.form c.push_terms.new.form) c.loop-machine.invariant.next added));
-      ascends = ascends-more 0 (c.loop-machine.next + length c.as_slice.result.now) c.next_base-next.result c.push_terms.new.form.coefficients (omega arith) c.in_ok-push_terms.ensures.ascends;
+      ascends = AscendsWithin-widen 0 (c.loop-machine.next + length c.as_slice.result.now) c.next_base-next.result c.push_terms.new.form.coefficients (omega arith) c.in_ok-push_terms.ensures.ascends;
     }

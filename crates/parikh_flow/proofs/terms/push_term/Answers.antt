@@ -2,7 +2,8 @@ use Rattle.std.proofs.Common.{◌≡◌, ◌+◌, pos, to_z, of_z, ap, ◌∙◌
 use Rattle.std.specs.Int.{w128}
 use Rattle.std.proofs.lemmas.Int.{to_z-of_z}
 use Rattle.sv_linear.specs.Terms.{AscendsWithin}
-use Rattle.parikh_flow.proofs.FormLemmas.{added-term, added-zero, ascends-more, ascends-push}
+use Rattle.sv_linear.proofs.Ascending.{AscendsWithin-widen}
+use Rattle.parikh_flow.proofs.FormLemmas.{added-term, added-zero, ascends-push}
 use Rattle.parikh_flow.proofs.terms.push_term.Goals as goal
 
 pub returns-then-coefficient-eq0-clause-added : goal.returns-then-coefficient-eq0-clause-added
@@ -10,7 +11,7 @@ returns-then-coefficient-eq0-clause-added c =
     added-zero c.args.unknown c.args.coefficient c.args.form.now (sym (to_z-of_z w128 c.args.coefficient c.ranges.coefficient) ∙ ap (to_z w128) c.if-coefficient-eq0.true)
 
 pub returns-then-coefficient-eq0-clause-ascends : goal.returns-then-coefficient-eq0-clause-ascends
-returns-then-coefficient-eq0-clause-ascends c = ascends-more 0 c.args.unknown (c.args.unknown + 1) c.args.form.now.coefficients (omega arith) c.requires
+returns-then-coefficient-eq0-clause-ascends c = AscendsWithin-widen 0 c.args.unknown (c.args.unknown + 1) c.args.form.now.coefficients (omega arith) c.requires
 
 pub returns-clause-added : goal.returns-clause-added
 returns-clause-added c =

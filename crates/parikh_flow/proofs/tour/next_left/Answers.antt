@@ -1,10 +1,7 @@
 use Rattle.std.proofs.Common.{◌≡◌, ℕ, ◌+◌, ◌<◌, ◌≤◌, inl, inr, List, Some, length, slice_get, slice_index, get_or, ap, sym, ◌∙◌, subst, arith}
-use Rattle.std.proofs.lemmas.Option.{slice_get-get_or, slice_get_within}
+use Rattle.std.proofs.lemmas.Option.{slice_get-get_or, slice_get_within, same_Some}
 use Rattle.std.proofs.lemmas.Bool.{cases_lt}
 use Rattle.parikh_flow.proofs.tour.next_left.Goals as goal
-
-some-once : (p q : ℕ) → Some p ≡ Some q → p ≡ q
-some-once p q e = cc
 
 -- one place more whose edge isn't left
 none-more : (row left : List ℕ) (from i : ℕ) → i < length row → slice_index left (get_or row i 0) ≡ 0
@@ -12,7 +9,7 @@ none-more : (row left : List ℕ) (from i : ℕ) → i < length row → slice_in
     → (k q : ℕ) → from ≤ k → k < i + 1 → slice_get row k ≡ Some q → slice_index left q ≡ 0
 none-more row left from i lt none before k q le less e = elim (cases_lt k i) [
   | inl l ↦ before k q le l e
-  | inr m ↦ let same : i ≡ k = omega arith in subst (λ p. slice_index left p ≡ 0) (some-once (get_or row i 0) q (sym (slice_get-get_or row i 0 lt) ∙ ap (slice_get row) same ∙ e)) none
+  | inr m ↦ let same : i ≡ k = omega arith in subst (λ p. slice_index left p ≡ 0) (same_Some (get_or row i 0) q (sym (slice_get-get_or row i 0 lt) ∙ ap (slice_get row) same ∙ e)) none
 ]
 
 pub bounds-left-row : goal.bounds-left-row

@@ -1,7 +1,6 @@
-use Rattle.std.proofs.Common.{◌≡◌, Some, length, slice_get, get_or, ap, ◌∙◌, refl, arith}
+use Rattle.std.proofs.Common.{◌≡◌, Some, length, slice_get, get_or, ap, ◌∙◌, refl, arith, length-set}
 use Rattle.std.proofs.lemmas.Result.{IfOk-weaker}
-use Rattle.machine_core.specs.Lists.{slice_get-contains}
-use Rattle.parikh_flow.proofs.CountLemmas.{length-set}
+use Rattle.sv_list.specs.Lists.{slice_get-contains}
 use Rattle.parikh_flow.proofs.TourLemmas.{step-places, step-inside, step-used, step-from, step-below, step-some, step-none, step-drained, step-way}
 use Rattle.parikh_flow.proofs.tour.step.Goals as goal
 

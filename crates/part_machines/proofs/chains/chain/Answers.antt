@@ -1,6 +1,6 @@
 use Rattle.std.proofs.Common.{arith, ap, length, ℕ, Bool, if◌then◌else◌, slice_get, ◌+◌, sym, ◌∙◌}
+use Rattle.sv_list.specs.Lists.{IfOk-both}
 use Rattle.part_machines.proofs.ChainLemmas.{chain-decides, chain-formed, chain-length}
-use Rattle.part_machines.proofs.TableLemmas.{IfOk-both}
 use Rattle.part_machines.proofs.chains.chain.Goals as goal
 use Rattle.part_machines.proofs.chains.chain.Goals.{then-holds, else-holds}
 

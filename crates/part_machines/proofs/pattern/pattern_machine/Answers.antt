@@ -1,8 +1,8 @@
 use Rattle.std.proofs.Common.{ap, sym, subst, ◌+◌, ◌∙◌}
+use Rattle.sv_list.specs.Lists.{IfOk-both}
 use Rattle.part_machines.specs.Patterns.{ArePatternRows}
 use Rattle.part_machines.specs.Tables.{IsOfTable, next}
 use Rattle.part_machines.proofs.PatternLemmas.{pattern-decides}
-use Rattle.part_machines.proofs.TableLemmas.{IfOk-both}
 use Rattle.part_machines.proofs.pattern.pattern_machine.Goals as goal
 
 pub returns : goal.returns

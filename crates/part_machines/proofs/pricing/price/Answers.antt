@@ -1,20 +1,22 @@
 use Rattle.std.proofs.Common.{◌∙◌, ◌++◌, ◌∷◌, [], ap, sym, map, length}
+use Rattle.sv_list.specs.Lists.{read-contained}
 use Rattle.machine_core.specs.Edges.{wide_end}
+use Rattle.machine_core.proofs.WideLemmas.{took-all}
 use Rattle.part_machines.specs.Parts.{priced_edge}
-use Rattle.part_machines.proofs.PriceLemmas.{is-priced, made-more, read-in, took-all}
+use Rattle.part_machines.proofs.PriceLemmas.{is-priced, made-more}
 use Rattle.part_machines.proofs.pricing.price.Goals as goal
 
 pub add_priced-requires-clause-from : goal.add_priced-requires-clause-from
 add_priced-requires-clause-from c =
-    rw c.loop-edge.invariant.states (c.args.machine.now.formed.edge c.edge-item.result (read-in c.args.machine.now.edges c.edges-edge-items.result.now c.loop-edge.edge-index c.edge-item.result c.edges-edge-items.ensures c.loop-edge-test.true c.edge-item.is)).from
+    rw c.loop-edge.invariant.states (c.args.machine.now.formed.edge c.edge-item.result (read-contained c.args.machine.now.edges c.edges-edge-items.result.now c.loop-edge.edge-index c.edge-item.result c.edges-edge-items.ensures c.loop-edge-test.true c.edge-item.is)).from
 
 pub add_priced-requires-clause-to : goal.add_priced-requires-clause-to
 add_priced-requires-clause-to c =
-    rw c.loop-edge.invariant.states (c.args.machine.now.formed.edge c.edge-item.result (read-in c.args.machine.now.edges c.edges-edge-items.result.now c.loop-edge.edge-index c.edge-item.result c.edges-edge-items.ensures c.loop-edge-test.true c.edge-item.is)).to
+    rw c.loop-edge.invariant.states (c.args.machine.now.formed.edge c.edge-item.result (read-contained c.args.machine.now.edges c.edges-edge-items.result.now c.loop-edge.edge-index c.edge-item.result c.edges-edge-items.ensures c.loop-edge-test.true c.edge-item.is)).to
 
 pub add_free_end-requires : goal.add_free_end-requires
 add_free_end-requires c =
-    rw c.loop-end.invariant.states (c.args.machine.now.formed.ending c.end-item.result (read-in c.args.machine.now.ends c.finals-end-items.result.now c.loop-end.end-index c.end-item.result c.finals-end-items.ensures c.loop-end-test.true c.end-item.is)).at
+    rw c.loop-end.invariant.states (c.args.machine.now.formed.ending c.end-item.result (read-contained c.args.machine.now.ends c.finals-end-items.result.now c.loop-end.end-index c.end-item.result c.finals-end-items.ensures c.loop-end-test.true c.end-item.is)).at
 
 pub returns : goal.returns
 returns c =
@@ -24,7 +26,7 @@ returns c =
 
 pub add_priced-requires-clause-on : goal.add_priced-requires-clause-on
 add_priced-requires-clause-on c =
-    (c.args.machine.now.formed.edge c.edge-item.result (read-in c.args.machine.now.edges c.edges-edge-items.result.now c.loop-edge.edge-index c.edge-item.result c.edges-edge-items.ensures c.loop-edge-test.true c.edge-item.is)).on
+    (c.args.machine.now.formed.edge c.edge-item.result (read-contained c.args.machine.now.edges c.edges-edge-items.result.now c.loop-edge.edge-index c.edge-item.result c.edges-edge-items.ensures c.loop-edge-test.true c.edge-item.is)).on
 
 pub add_priced-requires-clause-each : goal.add_priced-requires-clause-each
 add_priced-requires-clause-each c = sym (c.loop-edge.invariant.registers ∙ ap length c.as_slice-registers.ensures)

@@ -1,8 +1,8 @@
 use Rattle.std.proofs.Common.{◌≡◌, ℕ, ◌-◌, ◌+◌, [], ◌∷◌, ◌++◌, List, length, take, drop, get_or, refl, sym, ap, ◌∙◌, subst}
-use Rattle.std.proofs.lemmas.List.{take_rest}
+use Rattle.std.proofs.lemmas.List.{take_rest, drop_more}
 use Rattle.pre_image.specs.Leading.{Goes}
 use Rattle.pre_image.specs.Lifts.{IsUnderway}
-use Rattle.pre_image.proofs.WayLemmas.{drop-at, way-first, way-next, way-last}
+use Rattle.pre_image.proofs.WayLemmas.{way-first, way-next, way-last}
 use Rattle.pre_image.proofs.ways.way_on.Goals as goal
 
 pub loop-i-init : goal.loop-i-init
@@ -31,5 +31,5 @@ pub next_step-requires-clause-goes : goal.next_step-requires-clause-goes
 next_step-requires-clause-goes c =
     let word = c.args.word.now in
     let i = c.loop-i.i in
-    let from : drop i word ≡ get_or word i 0 ∷ take (length word - (i + 1)) (drop (i + 1) word) = drop-at word i c.loop-i-test.true ∙ ap (λ (l : List ℕ). get_or word i 0 ∷ l) (sym (take_rest word (i + 1))) in
+    let from : drop i word ≡ get_or word i 0 ∷ take (length word - (i + 1)) (drop (i + 1) word) = drop_more word i 0 c.loop-i-test.true ∙ ap (λ (l : List ℕ). get_or word i 0 ∷ l) (sym (take_rest word (i + 1))) in
     subst (λ w. Goes c.args.target.now c.loop-i.at w c.loop-i.left c.args.to) from c.loop-i.invariant.goes

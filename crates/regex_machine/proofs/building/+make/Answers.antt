@@ -12,11 +12,12 @@ use Rattle.regex_machine.proofs.FormLemmas.{builds-list, builds-Diff, builds-Sta
 use Rattle.regex_machine.proofs.KindLemmas.{formed, power-above, first-size, part-size, inner-size, adds-none, adds-next, adds-all, adds-inner, adds-plain}
 use Rattle.regex_machine.proofs.LanguageLemmas.{range-all, made-plain, made-more, made-all, no-order, no-copy}
 use Rattle.sv_terms.specs.BoundLaws.{size-Empty, size-All, size-AnyChar, size-Text, size-Range}
-use Rattle.regex_machine.proofs.WeaveLemmas.{begun-end, finished, before-form, before-letter, before-inner, some-parts, IsWritten, IsChosen, each-last, each-step, each-all, one-none, one-step, one-all}
+use Rattle.regex_machine.proofs.WeaveLemmas.{begun-end, finished, before-form, before-letter, before-inner, IsWritten, IsChosen, each-last, each-step, each-all, one-none, one-step, one-all}
 use Rattle.regex_machine.proofs.OnwardLemmas.{unmade-most}
 use Rattle.regex_machine.proofs.LetterLemmas.{range-words}
 use Rattle.regex_machine.specs.Onwards.{PrecedesRest, unmade}
 use Rattle.std.proofs.lemmas.Result.{IfOk-weaker}
+use Rattle.sv_list.specs.Lists.{some-tested}
 use Rattle.machine_meet.specs.Products.{summed}
 use Rattle.regex_machine.proofs.building.+make.Goals as goal
 use Rattle.regex_machine.proofs.building.+make.Goals.{before_one-then-may_end, before_one-else-may_end}
@@ -257,7 +258,7 @@ pub before_each-returns-in_err-front-clause-beyond : goal.before_each-returns-in
 before_each-returns-in_err-front-clause-beyond t c = λ n e.
     let d = rw e at c.from_residual-in_err-front.ensures.1 in
     let b = c.in_err-front.ensures.beyond n (ap Err (sym d)) in
-    let some = some-parts c.args.rs.now (sym c.is_empty.ensures ∙ c.if-is_empty.false) in
+    let some = some-tested c.args.rs.now (sym c.is_empty.ensures ∙ c.if-is_empty.false) in
     let below : length c.args.rs.now - 1 < length c.args.rs.now = omega arith in
     let more = part-size kind.Turn c.args.rs.now c.index-rs-at.result (length c.args.rs.now - 1, below, sym c.index-rs-at.is) in
     let low = b.0 in
@@ -265,7 +266,7 @@ before_each-returns-in_err-front-clause-beyond t c = λ n e.
 
 pub before_each-loop-at-init : goal.before_each-loop-at-init
 before_each-loop-at-init t c =
-    let some = some-parts c.args.rs.now (sym c.is_empty.ensures ∙ c.if-is_empty.false) in
+    let some = some-tested c.args.rs.now (sym c.is_empty.ensures ∙ c.if-is_empty.false) in
     let last : suc (length c.args.rs.now - 1) ≡ length c.args.rs.now = omega arith in
     record {
       room = omega arith;

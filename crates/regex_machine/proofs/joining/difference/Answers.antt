@@ -1,17 +1,18 @@
 use Rattle.std.proofs.Common.{◌∙◌, drop, map, arith, sym, subst}
+use Rattle.sv_list.specs.Lists.{empty-tested, some-tested}
 use Rattle.sv_terms.specs.Language.{InFirstOnly}
 use Rattle.regex_machine.specs.Built.{Builds}
 use Rattle.regex_machine.specs.Joined.{WordsOf}
 use Rattle.sv_terms.specs.Bounds.{from_left, without_size}
 use Rattle.regex_machine.specs.Kinds.{states_of}
 use Rattle.regex_machine.proofs.BuiltLemmas.{builds-as, fits-builds}
-use Rattle.regex_machine.proofs.WordLemmas.{none-left, some-left, split-first}
+use Rattle.regex_machine.proofs.WordLemmas.{split-first}
 use Rattle.regex_machine.proofs.SideLemmas.{side-width, side-tops, sides-words, sides-size}
 use Rattle.regex_machine.proofs.joining.difference.Goals as goal
 
 pub within-first-requires : goal.within-first-requires
 within-first-requires c =
-    let some = some-left c.args.parts.now (sym c.is_empty.ensures ∙ c.if-is_empty.false) in
+    let some = some-tested c.args.parts.now (sym c.is_empty.ensures ∙ c.if-is_empty.false) in
     c.requires c.index-parts-0.result (0, some, sym c.index-parts-0.is)
 
 pub of-meet-requires-clause-agree : goal.of-meet-requires-clause-agree
@@ -25,7 +26,7 @@ list_states-requires c = side-width c.of-meet.result.parts.now
 
 pub returns-then-is_empty : goal.returns-then-is_empty
 returns-then-is_empty c =
-    let none = none-left c.args.parts.now (sym c.is_empty.ensures ∙ c.if-is_empty.true) in
+    let none = empty-tested c.args.parts.now (sym c.is_empty.ensures ∙ c.if-is_empty.true) in
     subst (λ l. Builds (InFirstOnly WordsOf l) (from_left without_size (map states_of l)) c.args.limit c.fit.result) (sym none)
     (fits-builds (λ w. ⊥) 1 c.args.limit c.nothing.result c.fit.result c.nothing.ensures.reads c.nothing.ensures.states c.fit.ensures)
 
@@ -33,7 +34,7 @@ pub returns : goal.returns
 returns c =
     let ms = c.args.parts.now in
     let f = c.index-parts-0.result in
-    let some = some-left ms (sym c.is_empty.ensures ∙ c.if-is_empty.false) in
+    let some = some-tested ms (sym c.is_empty.ensures ∙ c.if-is_empty.false) in
     let whole = split-first ms f some c.index-parts-0.is in
     let is = c.as_slice-list.ensures ∙ c.in_ok-push.ensures.ok in
     let words = sides-words (drop 1 ms) c.in_ok-sides.sides f c.within-first.result c.in_ok-sides.ensures c.within-first.ensures c.as_slice-list.result.now c.of-meet.result.parts.now

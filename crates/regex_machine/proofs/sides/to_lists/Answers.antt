@@ -1,5 +1,5 @@
 use Rattle.std.proofs.Common.{[], sym, ◌∙◌}
-use Rattle.machine_core.specs.Lists.{split-step}
+use Rattle.sv_list.specs.Lists.{split-step}
 use Rattle.regex_machine.specs.Sided.{listed}
 use Rattle.regex_machine.proofs.StepLemmas.{mapped-more}
 use Rattle.regex_machine.proofs.sides.to_lists.Goals as goal

@@ -1,5 +1,5 @@
 use Rattle.std.proofs.Common.{sym, ◌∙◌, append-nil}
-use Rattle.machine_core.specs.Lists.{split-step}
+use Rattle.sv_list.specs.Lists.{split-step}
 use Rattle.regex_machine.specs.Stepped.{led}
 use Rattle.regex_machine.proofs.StepLemmas.{mapped-more}
 use Rattle.regex_machine.proofs.stepping.lead.Goals as goal

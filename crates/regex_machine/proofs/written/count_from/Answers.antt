@@ -1,5 +1,5 @@
 use Rattle.std.proofs.Common.{◌+◌, ◌<◌, ◌^◌, [], sym, ◌∙◌, arith}
-use Rattle.machine_core.specs.Lists.{in-split, split-step}
+use Rattle.sv_list.specs.Lists.{in-split, split-step}
 use Rattle.regex_machine.specs.Woven.{counted}
 use Rattle.regex_machine.proofs.StepLemmas.{mapped-more}
 use Rattle.regex_machine.proofs.written.count_from.Goals as goal

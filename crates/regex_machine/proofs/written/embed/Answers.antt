@@ -1,5 +1,6 @@
 use Rattle.std.proofs.Common.{◌≡◌, ◌<◌, length, Some, slice_get, get_or, ap, sym, ◌∙◌, subst, arith}
-use Rattle.regex_machine.proofs.WovenLemmas.{embedded, placed-size, stands-at}
+use Rattle.sv_list.specs.Lists.{stands-at}
+use Rattle.regex_machine.proofs.WovenLemmas.{embedded, placed-size}
 use Rattle.regex_machine.proofs.written.embed.Goals as goal
 
 pub returns : goal.returns

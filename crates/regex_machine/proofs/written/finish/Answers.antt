@@ -1,13 +1,14 @@
 use Rattle.std.proofs.Common.{◌≡◌, ◌<◌, ◌+◌, ◌↔◌, length, Some, slice_get, ap, sym, ◌∙◌, subst, arith}
+use Rattle.std.proofs.lemmas.Option.{slice_get_within}
 use Rattle.regex_machine.specs.Onwards.{ReadsOn, unmade}
 use Rattle.regex_machine.proofs.BuiltLemmas.{builds-as}
-use Rattle.regex_machine.proofs.OnwardLemmas.{get-below, reads-grown}
+use Rattle.regex_machine.proofs.OnwardLemmas.{reads-grown}
 use Rattle.regex_machine.proofs.written.finish.Goals as goal
 
 pub of-woven-requires-clause-started : goal.of-woven-requires-clause-started
 of-woven-requires-clause-started c =
     let has = c.in_ok-start.ensures c.requires in
-    subst (λ l. c.in_ok-start.start < length l) (sym c.as_slice.ensures) (get-below c.state_of.new.states c.in_ok-start.start c.state_of.new.rest.onward (has.begun.formed.state c.in_ok-start.start has.made))
+    subst (λ l. c.in_ok-start.start < length l) (sym c.as_slice.ensures) (slice_get_within c.state_of.new.states c.in_ok-start.start c.state_of.new.rest.onward (has.begun.formed.state c.in_ok-start.start has.made))
 
 pub returns : goal.returns
 returns c =

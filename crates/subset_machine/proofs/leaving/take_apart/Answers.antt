@@ -1,22 +1,18 @@
-use Rattle.std.proofs.Common.{◌≡◌, ◌<◌, ℕ, zero, suc, List, [], ◌∷◌, ◌++◌, length, Some, slice_get, get_or, refl, arith, Contains, inl, inr, take, ap, sym, ◌∙◌, subst}
+use Rattle.std.proofs.Common.{[], ◌++◌, Contains, inl, inr, take, ap, sym, ◌∙◌, subst}
 use Rattle.std.specs.List.{flat_map}
 use Rattle.std.proofs.lemmas.List.{flat_map_more, take_all}
 use Rattle.std.proofs.lemmas.List.Elements.{Contains-append_cases}
+use Rattle.std.proofs.lemmas.Option.{slice_get-get_or}
+use Rattle.sv_list.specs.Lists.{Contains-none}
 use Rattle.machine_core.specs.Places.{pick}
 use Rattle.subset_machine.specs.Legs.{legs_of}
 use Rattle.machine_core.specs.PlaceLaws.{pick-more}
-use Rattle.subset_machine.proofs.AscendingLemmas.{nothing}
 use Rattle.subset_machine.proofs.leaving.take_apart.Goals as goal
-
-get-in : {X : Type 0} (xs : List X) (n : ℕ) (d : X) → n < length xs → slice_get xs n ≡ Some (get_or xs n d)
-get-in [] n d h = absurd (omega arith)
-get-in (x ∷ xs) zero d h = refl
-get-in (x ∷ xs) (suc n) d h = get-in xs n d (omega arith)
 
 pub loop-place-init : goal.loop-place-init
 loop-place-init c = record {
   legs = c.in_ok-legs.ensures.items;
-  ranges = λ s i. absurd (nothing s (subst (λ l. Contains l s) c.in_ok-legs.ensures.items i));
+  ranges = λ s i. absurd (Contains-none s (subst (λ l. Contains l s) c.in_ok-legs.ensures.items i));
 }
 
 pub loop-place-preserved : goal.loop-place-preserved
@@ -45,4 +41,4 @@ pub bounds-places-place-index : goal.bounds-places-place-index
 bounds-places-place-index c = c.loop-place-test.true
 
 pub bounds-edges-place : goal.bounds-edges-place
-bounds-edges-place c = c.requires c.loop-place.place-index _ (get-in c.args.places.now c.loop-place.place-index 0 c.loop-place-test.true)
+bounds-edges-place c = c.requires c.loop-place.place-index _ (slice_get-get_or c.args.places.now c.loop-place.place-index 0 c.loop-place-test.true)

@@ -2,18 +2,17 @@ use Rattle.std.proofs.Common.{[], inl, inr, take, get_or, Contains, refl, sym, �
 use Rattle.std.proofs.lemmas.List.{take_all}
 use Rattle.std.proofs.lemmas.List.Elements.{Contains-get_or, Contains-push_cases}
 use Rattle.machine_core.specs.Edges.{EndsAt, AreEdgesAndEnds}
-use Rattle.machine_core.specs.Lists.{Any-contains, contained}
-use Rattle.subset_machine.proofs.AscendingLemmas.{nothing}
+use Rattle.sv_list.specs.Lists.{Any-contains, contained, Contains-none, empty-tested}
 use Rattle.subset_machine.proofs.HitLemmas.{one-more}
 use Rattle.subset_machine.proofs.LeavingLemmas.{ends-found, ends-none, ends-free}
-use Rattle.subset_machine.proofs.SubsetRuns.{some-in, none-in}
+use Rattle.subset_machine.proofs.SubsetRuns.{some-in}
 use Rattle.subset_machine.proofs.subset.may_end.Goals as goal
 
 pub ends_at-requires : goal.ends_at-requires
 ends_at-requires c = c.requires.below _ (Contains-get_or c.args.list.now c.loop-s.s-index 0 c.loop-s-test.true)
 
 pub loop-s-init : goal.loop-s-init
-loop-s-init c s i e = nothing s i
+loop-s-init c s i e = Contains-none s i
 
 pub loop-s-preserved : goal.loop-s-preserved
 loop-s-preserved c s h e =
@@ -23,7 +22,7 @@ loop-s-preserved c s h e =
     let grown = one-more list c.loop-s.s-index at 0 c.loop-s-test.true refl in
     elim (Contains-push_cases (take c.loop-s.s-index list) at s (subst (λ l. Contains l s) grown h)) [
       | inl i ↦ c.loop-s.invariant s i e
-      | inr same ↦ ends-none ends at (sym c.ends_at.ensures ∙ none-in c.ends_at.result.now (sym c.is_empty.ensures ∙ c.if-not-is_empty.false)) (subst (λ n. EndsAt ends n []) (sym same) e)
+      | inr same ↦ ends-none ends at (sym c.ends_at.ensures ∙ empty-tested c.ends_at.result.now (sym c.is_empty.ensures ∙ c.if-not-is_empty.false)) (subst (λ n. EndsAt ends n []) (sym same) e)
     ]
 
 pub returns-then-not-is_empty : goal.returns-then-not-is_empty

@@ -1,10 +1,11 @@
 use Rattle.std.proofs.Common.{drop, Contains, arith}
+use Rattle.sv_list.specs.Lists.{slice_get-contains}
 use Rattle.transducer_core.specs.declared.reached.Reached.{Reached}
-use Rattle.transducer_core.proofs.LayerLemmas.{contains_of, place_of, none_more}
+use Rattle.transducer_core.proofs.LayerLemmas.{place_of, none_more}
 use Rattle.transducer_core.proofs.finding.place_of_end.Goals as goal
 
 pub ends_here-requires : goal.ends_here-requires
-ends_here-requires c = c.requires c.entry_at.result.now (contains_of c.args.layer.now c.loop-at.at c.entry_at.result.now c.entry_at.ensures)
+ends_here-requires c = c.requires c.entry_at.result.now (slice_get-contains c.args.layer.now c.loop-at.at c.entry_at.result.now c.entry_at.ensures)
 
 pub returns-then-ends_here : goal.returns-then-ends_here
 returns-then-ends_here c = (c.entry_at.result.now, c.entry_at.ensures, c.ends_here.ensures.0 c.if-ends_here.true)

@@ -1,9 +1,10 @@
 use Rattle.std.proofs.Common.{refl}
-use Rattle.transducer_core.proofs.LayerLemmas.{contains_of, part_listed, part_pushed}
+use Rattle.sv_list.specs.Lists.{slice_get-contains}
+use Rattle.transducer_core.proofs.LayerLemmas.{part_listed, part_pushed}
 use Rattle.transducer_core.proofs.layers.add_by.Goals as goal
 
 pub done_after-requires : goal.done_after-requires
-done_after-requires c = c.requires.done c.entry_at-from.result.now (contains_of c.args.layer.now c.args.before c.entry_at-from.result.now c.entry_at-from.ensures)
+done_after-requires c = c.requires.done c.entry_at-from.result.now (slice_get-contains c.args.layer.now c.args.before c.entry_at-from.result.now c.entry_at-from.ensures)
 
 pub returns-then-lists : goal.returns-then-lists
 returns-then-lists c =

@@ -1,8 +1,9 @@
 use Rattle.std.proofs.Common.{◌<◌, ◌≤◌, ◌⊎◌, ◌↔◌, ℕ, List, length, get_or, sym, ◌∙◌, subst, arith}
 use Rattle.std.proofs.lemmas.List.{get_or_default, take_all}
+use Rattle.std.proofs.lemmas.List.Elements.{Contains-get_or}
 use Rattle.machine_core.specs.Edges.{StepsBy}
 use Rattle.transducer_core.specs.Built.{IsAnyStep}
-use Rattle.transducer_core.proofs.BuiltLemmas.{at_there, steps_more}
+use Rattle.transducer_core.proofs.BuiltLemmas.{steps_more}
 use Rattle.transducer_core.proofs.output_words.add_steps.Goals as goal
 
 pub add_step-requires-clause-place : goal.add_step-requires-clause-place
@@ -10,7 +11,7 @@ add_step-requires-clause-place c =
     let fs = c.args.firsts.now in
     let i = c.loop-first.first-index in
     let low : c.loop-first.first-index < length c.args.firsts.now = omega arith in
-    let k = (c.requires.firsts (get_or fs i (0, 0)).0 (get_or fs i (0, 0)).1 (at_there fs i (0, 0) low)).0 in
+    let k = (c.requires.firsts (get_or fs i (0, 0)).0 (get_or fs i (0, 0)).1 (Contains-get_or fs i (0, 0) low)).0 in
     let e = c.loop-first.invariant.0 in
     omega (arith, k, e)
 
@@ -19,7 +20,7 @@ add_step-requires-clause-character c =
     let fs = c.args.firsts.now in
     let i = c.loop-first.first-index in
     let low : c.loop-first.first-index < length c.args.firsts.now = omega arith in
-    (c.requires.firsts (get_or fs i (0, 0)).0 (get_or fs i (0, 0)).1 (at_there fs i (0, 0) low)).1
+    (c.requires.firsts (get_or fs i (0, 0)).0 (get_or fs i (0, 0)).1 (Contains-get_or fs i (0, 0) low)).1
 
 pub loop-first-preserved : goal.loop-first-preserved
 loop-first-preserved c =

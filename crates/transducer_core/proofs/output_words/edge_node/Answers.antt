@@ -1,10 +1,11 @@
 use Rattle.std.proofs.Common.{◌<◌, ◌+◌, inl, inr, ⊎_elim, [], length, take, sym, arith}
+use Rattle.sv_list.specs.Lists.{Contains-none}
 use Rattle.transducer_core.specs.Outputs.{OverEdge, OverEdges}
-use Rattle.transducer_core.proofs.OutputLemmas.{edges_more, made_more, made_none, none_there, over_same, places_grown}
+use Rattle.transducer_core.proofs.OutputLemmas.{edges_more, made_more, made_none, over_same, places_grown}
 use Rattle.transducer_core.proofs.output_words.edge_node.Goals as goal
 
 pub loop-edge-init : goal.loop-edge-init
-loop-edge-init c = made_none c.args.nodes.now c.empty-node.result (OverEdges c.args.nodes.now c.args.places.now c.args.state c.args.c []) c.requires.closed c.empty-node.ensures.firsts c.empty-node.ensures.ends (λ w has. none_there has.0 has.1)
+loop-edge-init c = made_none c.args.nodes.now c.empty-node.result (OverEdges c.args.nodes.now c.args.places.now c.args.state c.args.c []) c.requires.closed c.empty-node.ensures.firsts c.empty-node.ensures.ends (λ w has. Contains-none has.0 has.1)
 
 pub add_edge-requires-clause-to : goal.add_edge-requires-clause-to
 add_edge-requires-clause-to c = c.requires.to c.edge-item.result (c.loop-edge.edge-index, omega arith, sym c.edge-item.is)

@@ -1,10 +1,11 @@
 use Rattle.std.proofs.Common.{◌≡◌, ◌<◌, ◌+◌, [], length, take, arith}
+use Rattle.sv_list.specs.Lists.{Contains-none}
 use Rattle.transducer_core.specs.Outputs.{EndsBy}
-use Rattle.transducer_core.proofs.OutputLemmas.{base_grown, ends_more, made_more, made_none, none_there}
+use Rattle.transducer_core.proofs.OutputLemmas.{base_grown, ends_more, made_more, made_none}
 use Rattle.transducer_core.proofs.output_words.end_node.Goals as goal
 
 pub loop-end-init : goal.loop-end-init
-loop-end-init c = made_none c.args.nodes.now c.empty-node.result (EndsBy [] c.args.state) c.requires.closed c.empty-node.ensures.firsts c.empty-node.ensures.ends (λ w has. none_there (c.args.state, w) has)
+loop-end-init c = made_none c.args.nodes.now c.empty-node.result (EndsBy [] c.args.state) c.requires.closed c.empty-node.ensures.firsts c.empty-node.ensures.ends (λ w has. Contains-none (c.args.state, w) has)
 
 pub add_end-requires-clause-base : goal.add_end-requires-clause-base
 add_end-requires-clause-base c = base_grown c.args.nodes.now c.loop-end.nodes c.requires c.loop-end.invariant.grown

@@ -1,6 +1,7 @@
 use Rattle.transducer_form.specs.Written as w
-use Rattle.transducer_form.proofs.Limits.{count-seen, over-is}
+use Rattle.transducer_form.proofs.Limits.{over-is}
 use Rattle.std.proofs.Common.{length}
+use Rattle.smt_names.specs.Shapes.{count-seen}
 use Rattle.transducer_form.proofs.reading.build_over.Goals as goal
 
 pub returns : goal.returns

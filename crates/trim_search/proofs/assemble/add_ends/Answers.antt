@@ -1,5 +1,5 @@
 use Rattle.std.proofs.Common.{◌∙◌}
-use Rattle.machine_core.specs.Lists.{split-step, in-split}
+use Rattle.sv_list.specs.Lists.{split-step, in-split}
 use Rattle.machine_core.specs.Edges.{ending}
 use Rattle.trim_search.proofs.FlatLemmas.{map-more}
 use Rattle.trim_search.proofs.assemble.add_ends.Goals as goal

@@ -1,13 +1,10 @@
-use Rattle.std.proofs.Common.{◌≡◌, length, sym, subst, inl, inr, ap, arith, Result, Ok, Err}
-use Rattle.machine_core.specs.Lists.{slice_get-read}
+use Rattle.std.proofs.Common.{◌≡◌, length, sym, subst, inl, inr, ap, arith, Err}
+use Rattle.sv_list.specs.Lists.{slice_get-read, ok-no_err}
 use Rattle.trim_search.specs.Grown.{IsNodeOf}
 use Rattle.trim_search.proofs.NodeLemmas.{target-follows, grown-valid, node-of, node-formed, node-top}
 use Rattle.trim_search.specs.Grown.{IsTarget}
 use Rattle.trim_search.proofs.FullLemmas.{full-weaker, memory-no-states}
 use Rattle.trim_search.proofs.explore.look_at.Goals as goal
-
-ok-no-err : {A B C : Type 0} (a : A) (b : B) → ◌≡◌ {A = Result A B} (Ok a) (Err b) → C
-ok-no-err a b e = absurd cc
 
 pub returns-in_err-edges-clause-valid : goal.returns-in_err-edges-clause-valid
 returns-in_err-edges-clause-valid g c =
@@ -143,7 +140,7 @@ pub returns-clause-kept : goal.returns-clause-kept
 returns-clause-kept g c = c.rename.ensures.grows.kept
 
 pub returns-clause-full : goal.returns-clause-full
-returns-clause-full g c = λ n e. ok-no-err _ _ e
+returns-clause-full g c = λ n e. ok-no_err _ _ e
 
 pub bounds-names-at : goal.bounds-names-at
 bounds-names-at g c =

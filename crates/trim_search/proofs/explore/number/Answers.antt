@@ -1,8 +1,6 @@
-use Rattle.std.proofs.Common.{◌≡◌, Result, Ok, Err, inl, refl}
+use Rattle.std.proofs.Common.{inl, refl}
+use Rattle.sv_list.specs.Lists.{ok-no_err}
 use Rattle.trim_search.proofs.explore.number.Goals as goal
-
-ok-no-err : {A B C : Type 0} (a : A) (b : B) → ◌≡◌ {A = Result A B} (Ok a) (Err b) → C
-ok-no-err a b e = absurd cc
 
 pub returns-in-Some-clause-grows : goal.returns-in-Some-clause-grows
 returns-in-Some-clause-grows g c = inl refl
@@ -32,7 +30,7 @@ pub returns-then-count-limit-clause-counted : goal.returns-then-count-limit-clau
 returns-then-count-limit-clause-counted g c = c.requires.counted
 
 pub returns-in-Some-clause-full : goal.returns-in-Some-clause-full
-returns-in-Some-clause-full g c = λ n e. ok-no-err _ _ e
+returns-in-Some-clause-full g c = λ n e. ok-no_err _ _ e
 
 pub returns-clause-full : goal.returns-clause-full
-returns-clause-full g c = λ n e. ok-no-err _ _ e
+returns-clause-full g c = λ n e. ok-no_err _ _ e

@@ -1,5 +1,5 @@
 use Rattle.std.proofs.Common.{◌≡◌, ◌<◌, length, get_or, replicate, subst, ap, ◌∙◌, arith}
-use Rattle.machine_core.specs.Lists.{slice_get-read}
+use Rattle.sv_list.specs.Lists.{slice_get-read}
 use Rattle.trim_search.specs.Incoming.{AreIncoming}
 use Rattle.trim_search.proofs.RestLemmas.{incoming-none, incoming-pushed, read-in, edge-inside}
 use Rattle.trim_search.proofs.rests.index_incoming.Goals as goal

@@ -1,6 +1,6 @@
 use Rattle.std.proofs.Common.{◌≡◌, ◌+◌, take, Any, refl, subst, sym}
 use Rattle.std.proofs.lemmas.List.{take_all}
-use Rattle.machine_core.specs.Lists.{Any-none, slice_get-read}
+use Rattle.sv_list.specs.Lists.{Any-none, slice_get-read}
 use Rattle.trim_search.specs.Incoming.{AreMarkedToo}
 use Rattle.trim_search.proofs.RestLemmas.{too-none, too-then, ends-more}
 use Rattle.trim_search.proofs.rests.mark_ends.Goals as goal

@@ -1,5 +1,5 @@
 use Rattle.std.proofs.Common.{◌<◌, sym, subst}
-use Rattle.machine_core.specs.Lists.{slice_get-some}
+use Rattle.sv_list.specs.Lists.{slice_get-some}
 use Rattle.machine_core.specs.Edges.{EndsAt, StepsBy}
 use Rattle.machine_core.specs.RunBounds.{PathsWithin}
 use Rattle.machine_core.specs.Counts.{at_most-below}

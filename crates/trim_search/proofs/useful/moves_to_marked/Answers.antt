@@ -1,7 +1,7 @@
 use Rattle.std.proofs.Common.{take, false, get_or, refl, subst}
 use Rattle.std.proofs.lemmas.Option.{slice_get-get_or}
 use Rattle.std.proofs.lemmas.List.{take_all, take_more}
-use Rattle.machine_core.specs.Lists.{slice_get-contains, slice_get-read}
+use Rattle.sv_list.specs.Lists.{slice_get-contains, slice_get-read}
 use Rattle.trim_search.specs.Useful.{AreKept}
 use Rattle.trim_search.proofs.TrimLemmas.{kept-push}
 use Rattle.trim_search.proofs.useful.moves_to_marked.Goals as goal

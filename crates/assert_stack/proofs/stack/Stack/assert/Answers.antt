@@ -1,8 +1,9 @@
 use Rattle.std.proofs.Common.{◌∷◌, [], length, reverse, List, ap, ◌∙◌}
+use Rattle.sv_list.specs.Lists.{OnOk-weaker}
 use Rattle.sv_terms.specs.declared.term.Term.{Term}
 use Rattle.assert_stack.specs.Levels.{asserted}
 use Rattle.assert_stack.specs.Marks.{levels_at, AreMarks}
-use Rattle.assert_stack.proofs.LevelLemmas.{asserts, marks-asserted, either_way, when_ok}
+use Rattle.assert_stack.proofs.LevelLemmas.{asserts, marks-asserted, either_way}
 use Rattle.assert_stack.proofs.stack.Stack.assert.Goals as goal
 
 pub invariant_of-self : goal.invariant_of-self
@@ -16,4 +17,4 @@ invariant_of-self c =
 pub returns-clause-ok : goal.returns-clause-ok
 returns-clause-ok c =
     let s = c.self.inside in
-    when_ok c.push.result c.push.ensures.ok (λ e. ap (λ (l : List Term). levels_at (reverse s.marks) s.symbols l) e ∙ asserts (reverse s.marks) c.args.term s.symbols s.live c.self.invariant.0 ∙ ap (asserted c.args.term) c.self.view_is)
+    OnOk-weaker c.push.result c.push.ensures.ok (λ e. ap (λ (l : List Term). levels_at (reverse s.marks) s.symbols l) e ∙ asserts (reverse s.marks) c.args.term s.symbols s.live c.self.invariant.0 ∙ ap (asserted c.args.term) c.self.view_is)

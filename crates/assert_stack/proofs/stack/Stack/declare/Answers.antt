@@ -1,9 +1,10 @@
 use Rattle.std.proofs.Common.{◌≡◌, ◌∷◌, [], None, nat_eq, length, reverse, List, ap, sym, ◌∙◌, subst}
 use Rattle.std.specs.Map.{lookup}
 use Rattle.std.specs.Cmp.Lexicographic.{pointwise}
+use Rattle.sv_list.specs.Lists.{OnOk-weaker}
 use Rattle.assert_stack.specs.Levels.{Symbol, symbols_of, declared}
 use Rattle.assert_stack.specs.Marks.{levels_at, AreMarks}
-use Rattle.assert_stack.proofs.LevelLemmas.{symbols-at, declares, marks-declared, either_way, when_ok}
+use Rattle.assert_stack.proofs.LevelLemmas.{symbols-at, declares, marks-declared, either_way}
 use Rattle.assert_stack.proofs.stack.Stack.declare.Goals as goal
 
 pub declare-requires : goal.declare-requires
@@ -22,4 +23,4 @@ invariant_of-self c =
 pub returns-clause-ok : goal.returns-clause-ok
 returns-clause-ok c =
     let s = c.self.inside in
-    when_ok c.declare.result c.declare.ensures.ok (λ e. ap (λ (l : List Symbol). levels_at (reverse s.marks) l s.live) e ∙ declares (reverse s.marks) c.args.name c.args.entry s.symbols s.live c.self.invariant.0 ∙ ap (declared c.args.name c.args.entry) c.self.view_is)
+    OnOk-weaker c.declare.result c.declare.ensures.ok (λ e. ap (λ (l : List Symbol). levels_at (reverse s.marks) l s.live) e ∙ declares (reverse s.marks) c.args.name c.args.entry s.symbols s.live c.self.invariant.0 ∙ ap (declared c.args.name c.args.entry) c.self.view_is)

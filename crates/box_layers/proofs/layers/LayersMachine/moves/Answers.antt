@@ -3,7 +3,7 @@ use Rattle.sv_word.specs.Ranges.{IsInhabited}
 use Rattle.std.proofs.lemmas.List.Elements.{All-contains}
 use Rattle.machine_core.specs.declared.graph.Graph.{Graph}
 use Rattle.machine_core.specs.declared.machine.Move.{Move}
-use Rattle.machine_core.specs.Lists.{slice_get-contains}
+use Rattle.sv_list.specs.Lists.{slice_get-contains}
 use Rattle.machine_core.specs.Moves.{Moves}
 use Rattle.box_layers.specs.declared.layer.Layer.{Layer}
 use Rattle.box_layers.specs.Layers.{uppers_of, AreGoodTotals, LayerStep}

@@ -1,5 +1,6 @@
 use Rattle.std.proofs.lemmas.Result.{IfOk-weaker}
-use Rattle.regex_machine.proofs.WovenLemmas.{woven-ends, stands-at}
+use Rattle.sv_list.specs.Lists.{stands-at}
+use Rattle.regex_machine.proofs.WovenLemmas.{woven-ends}
 use Rattle.regex_machine.proofs.woven.WovenMachine.ends.Goals as goal
 
 pub returns : goal.returns

@@ -1,5 +1,6 @@
 use Rattle.std.proofs.lemmas.Result.{IfOk-weaker}
-use Rattle.regex_machine.proofs.WovenLemmas.{woven-inhabited, woven-moves, stands-at}
+use Rattle.sv_list.specs.Lists.{stands-at}
+use Rattle.regex_machine.proofs.WovenLemmas.{woven-inhabited, woven-moves}
 use Rattle.regex_machine.proofs.woven.WovenMachine.moves.Goals as goal
 
 pub returns-clause-inhabited : goal.returns-clause-inhabited

@@ -1,7 +1,7 @@
 use Rattle.std.proofs.Common.{◌≤◌, ◌||◌, ◌⊎◌, [], length, inl, inr, ap, ◌∙◌, arith}
+use Rattle.std.proofs.lemmas.List.{take_rest}
 use Rattle.sv_word.proofs.Apart.{apart-ends}
 use Rattle.sv_word.proofs.JoinLemmas.{IsJoining, joining-left-at, joining-right-at, joining-done, joining-exact}
-use Rattle.sv_word.proofs.Slices.{rest-whole}
 use Rattle.sv_word.specs.Ranges.{in_ranges}
 use Rattle.sv_word.proofs.ranges.Ranges.join.Goals as goal
 use Rattle.sv_word.proofs.ranges.Ranges.join.Goals.{then-loop-i-test+else-j-right, else-loop-i-test}
@@ -35,17 +35,17 @@ push_each-requires-clause-old c = apart-ends 0 c.loop-i.pairs.items c.loop-i.inv
 
 pub push_each-requires-clause-more : goal.push_each-requires-clause-more
 push_each-requires-clause-more c =
-    rw (rest-whole c.as_slice-left.result.now c.loop-i.i) (apart-ends _ _ c.loop-i.invariant.joining.x_apart)
+    rw (take_rest c.as_slice-left.result.now c.loop-i.i) (apart-ends _ _ c.loop-i.invariant.joining.x_apart)
 
 pub push_each-requires-2-clause-more : goal.push_each-requires-2-clause-more
 push_each-requires-2-clause-more c =
-    rw (rest-whole c.as_slice-right.result.now c.loop-i.j) (apart-ends _ _ c.loop-i.invariant.joining.y_apart)
+    rw (take_rest c.as_slice-right.result.now c.loop-i.j) (apart-ends _ _ c.loop-i.invariant.joining.y_apart)
 
 joined : (c : goal.In_ok-push_each-2) → IsJoining c.as_slice-left.result.now c.as_slice-right.result.now c.push_each-2.new.pairs.items [] []
 joined c =
     let past : (length c.as_slice-left.result.now ≤ c.loop-i.i) ⊎ (length c.as_slice-right.result.now ≤ c.loop-i.j) =
     elim c.loop-i-test.branch [ then-loop-i-test+else-j-right w ↦ inr (w.if-j-right.false) | else-loop-i-test w ↦ inl (w.loop-i-test.false) ] in
-    rw (c.in_ok-push_each-2.ensures.joined, c.in_ok-push_each.ensures.joined, rest-whole c.as_slice-left.result.now c.loop-i.i, rest-whole c.as_slice-right.result.now c.loop-i.j)
+    rw (c.in_ok-push_each-2.ensures.joined, c.in_ok-push_each.ensures.joined, take_rest c.as_slice-left.result.now c.loop-i.i, take_rest c.as_slice-right.result.now c.loop-i.j)
     (joining-done c.as_slice-left.result.now c.as_slice-right.result.now c.loop-i.pairs.items c.loop-i.i c.loop-i.j c.loop-i.invariant.joining past)
 
 pub invariant_of-result : goal.invariant_of-result
