@@ -1,6 +1,7 @@
 -- Terms that are taken together are taken one by one.
 use Rattle.std.proofs.Common.{◌≡◌, refl, sym, ap, subst, ◌∙◌, Bool, true, false, ◌&&◌, IsTrue, List, [], ◌∷◌, map, Result, Ok, Err}
 use Rattle.std.specs.List.{list_all}
+use Rattle.std.proofs.lemmas.Bool.{and_parts}
 use Rattle.sv_terms.specs.declared.entry.Body.{Body}
 use Rattle.sv_terms.specs.declared.sort.Sort.{Sort}
 use Rattle.item_passes.specs.Passes.{looked, looked_all, passed}
@@ -11,7 +12,7 @@ use Rattle.smt_names.specs.Form.{Form, Forms, forms, seen, raw, raws, token, gro
 use Rattle.smt_names.specs.Shapes.{seen-Atom, seen-List}
 use Rattle.smt_names.specs.declared.check_fault.CheckFault.{CheckFault}
 use Rattle.smt_names.specs.declared.check_fault.CheckFault.TheVariants as fault
-use Rattle.sort_check.proofs.WellTerms.{both, Each}
+use Rattle.sort_check.proofs.WellTerms.{Each}
 use Rattle.sort_check.specs.Checking.{asked, asked_term, has_values, passed_term, IsAskable}
 use Rattle.term_walk.specs.Meant.{Names, any_size, meant, meant_all, settled, settled_sorts}
 use Rattle.term_weight.specs.Bodies.{body_sort, term_of}
@@ -110,8 +111,8 @@ module _ (symbols : Names) where
   each-asked (t ⨾ ts) bs cs p e g h k =
       let a = split (meant any_size symbols [] t) (meant_all any_size symbols [] ts) bs e in
       let d = split (meant fits symbols [] t) (meant_all fits symbols [] ts) cs g in
-      let m = both (fits a.first) (list_all fits a.others) (subst (λ (l : List Body). IsTrue (list_all fits l)) a.all h) in
-      let n = both (has_values (body_sort a.first)) (list_all has_values (map body_sort a.others)) (subst (λ (l : List Body). IsTrue (list_all has_values (map body_sort l))) a.all k) in (
+      let m = and_parts (fits a.first) (list_all fits a.others) (subst (λ (l : List Body). IsTrue (list_all fits l)) a.all h) in
+      let n = and_parts (has_values (body_sort a.first)) (list_all has_values (map body_sort a.others)) (subst (λ (l : List Body). IsTrue (list_all has_values (map body_sort l))) a.all k) in (
         (term_of a.first, ap (asked_term symbols) (seen-raw t) ∙ one-asked t a.first d.first (first-passed t ts p) a.means d.means m.0 n.0),
         each-asked ts a.others d.others (others-passed t ts p) a.rest d.rest m.1 n.1,
       )

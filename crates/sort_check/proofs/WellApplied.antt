@@ -3,6 +3,7 @@ use Rattle.std.proofs.Common.{◌≡◌, refl, sym, ap, ◌∙◌, subst, map, l
 use Rattle.std.proofs.lemmas.List.{length-map}
 use Rattle.std.specs.List.{list_all}
 use Rattle.std.specs.Map.{lookup}
+use Rattle.std.proofs.lemmas.Bool.{and_parts, and_from}
 use mathlib.Core.Bool.{cond}
 use Rattle.sv_terms.specs.declared.regex.Regex.{Regex}
 use Rattle.sv_terms.specs.declared.regex.Regex.TheVariants as re
@@ -16,6 +17,7 @@ use Rattle.sv_terms.specs.declared.term.Term.{Term}
 use Rattle.sv_terms.specs.declared.term.Term.TheVariants as v
 use Rattle.sv_terms.specs.Language.{Word}
 use Rattle.sv_terms.specs.Sorting.{same_sort, sort_if, some_of, more_of, alike, applied_sort, op_sort}
+use Rattle.sv_terms.proofs.ValueSorts.{same_is}
 use Rattle.smt_names.specs.declared.function.Function.{Function}
 use Rattle.smt_names.specs.declared.function.ArgumentSorts.{ArgumentSorts}
 use Rattle.smt_names.specs.declared.function.ArgumentSorts.TheVariants.{Nothing, One, Two, Three, Each as Each_of, Many, Alike, Choice}
@@ -24,14 +26,7 @@ use Rattle.smt_names.specs.declared.function.Interpretation.TheVariants as is
 use Rattle.term_weight.specs.Bodies.{body_sort, literal, term_of, is_language, regex_of, opaque}
 use Rattle.term_weight.specs.Ranks.{takes_count, takes_sorts, apply, equality, choice, unknowns, product, replacement, membership, text_of, characters, range_of, combined, of_one, applied_as, applied}
 use Rattle.smt_names.specs.Signature.{Name, Rows, signature}
-use Rattle.sort_check.proofs.WellTerms.{both, both-make, Each, Fit, Fits, fit-truth, fit-text, fit-opaque, fit-member, fit-apply}
-
-pub same-is : (s t : Sort) → IsTrue (same_sort s t) → t ≡ s
-same-is sort.Bool sort.Bool h = refl
-same-is sort.Int sort.Int h = refl
-same-is sort.String sort.String h = refl
-same-is sort.RegLan sort.RegLan h = refl
-same-is _ _ h = absurd (cc)
+use Rattle.sort_check.proofs.WellTerms.{Each, Fit, Fits, fit-truth, fit-text, fit-opaque, fit-member, fit-apply}
 
 pub same-self : (s : Sort) → IsTrue (same_sort s s)
 same-self sort.Bool = refl
@@ -45,13 +40,13 @@ Suits takes o = (ss : List Sort) → IsTrue (takes_count takes (length ss)) → 
 
 one-is : (s : Sort) (ss : List Sort) → IsTrue (takes_sorts (One s) ss) → ss ≡ s ∷ []
 one-is s [] h = absurd (cc)
-one-is s (a ∷ []) h = ap (λ z. z ∷ []) (same-is s a h)
+one-is s (a ∷ []) h = ap (λ z. z ∷ []) (same_is s a h)
 one-is s (a ∷ b ∷ ss) h = absurd (cc)
 
 two-is : (s t : Sort) (ss : List Sort) → IsTrue (takes_sorts (Two s t) ss) → ss ≡ s ∷ t ∷ []
 two-is s t [] h = absurd (cc)
 two-is s t (a ∷ []) h = absurd (cc)
-two-is s t (a ∷ b ∷ []) h = let k = both (same_sort s a) (same_sort t b) h in λ i. same-is s a k.0 i ∷ same-is t b k.1 i ∷ []
+two-is s t (a ∷ b ∷ []) h = let k = and_parts (same_sort s a) (same_sort t b) h in λ i. same_is s a k.0 i ∷ same_is t b k.1 i ∷ []
 two-is s t (a ∷ b ∷ c ∷ ss) h = absurd (cc)
 
 three-is : (s t u : Sort) (ss : List Sort) → IsTrue (takes_sorts (Three s t u) ss) → ss ≡ s ∷ t ∷ u ∷ []
@@ -59,9 +54,9 @@ three-is s t u [] h = absurd (cc)
 three-is s t u (a ∷ []) h = absurd (cc)
 three-is s t u (a ∷ b ∷ []) h = absurd (cc)
 three-is s t u (a ∷ b ∷ c ∷ []) h =
-    let k = both (same_sort s a && same_sort t b) (same_sort u c) h in
-    let l = both (same_sort s a) (same_sort t b) k.0 in
-    λ i. same-is s a l.0 i ∷ same-is t b l.1 i ∷ same-is u c k.1 i ∷ []
+    let k = and_parts (same_sort s a && same_sort t b) (same_sort u c) h in
+    let l = and_parts (same_sort s a) (same_sort t b) k.0 in
+    λ i. same_is s a l.0 i ∷ same_is t b l.1 i ∷ same_is u c k.1 i ∷ []
 three-is s t u (a ∷ b ∷ c ∷ d ∷ ss) h = absurd (cc)
 
 suits-one : (o : Op) (s : Sort) → applied_sort o (s ∷ []) ≡ Some (op_sort o) → Suits (One s) o
@@ -90,7 +85,7 @@ suits-many o s e ss c h = e ss ∙ more-gives s (op_sort o) ss c h
 
 alike-gives : (ss : List Sort) → IsTrue (nat_le 2 (length ss)) → IsTrue (takes_sorts Alike ss) → alike ss ≡ Some sort.Bool
 alike-gives [] c h = absurd (cc)
-alike-gives (s ∷ ss) c h = more-gives s sort.Bool (s ∷ ss) c (both-make (same_sort s s) (list_all (same_sort s) ss) (same-self s) h)
+alike-gives (s ∷ ss) c h = more-gives s sort.Bool (s ∷ ss) c (and_from (same_sort s s) (list_all (same_sort s) ss) (same-self s) h)
 
 -- the arguments that a function with a meaning takes
 abbrev rank : Op → ArgumentSorts
@@ -156,14 +151,14 @@ same_takes _ _ = false
 
 takes-is : (t u : ArgumentSorts) → IsTrue (same_takes t u) → u ≡ t
 takes-is Nothing Nothing h = refl
-takes-is (One s) (One a) h = ap One (same-is s a h)
-takes-is (Two s t) (Two a b) h = let k = both (same_sort s a) (same_sort t b) h in λ i. Two (same-is s a k.0 i) (same-is t b k.1 i)
+takes-is (One s) (One a) h = ap One (same_is s a h)
+takes-is (Two s t) (Two a b) h = let k = and_parts (same_sort s a) (same_sort t b) h in λ i. Two (same_is s a k.0 i) (same_is t b k.1 i)
 takes-is (Three s t u) (Three a b c) h =
-    let k = both (same_sort s a && same_sort t b) (same_sort u c) h in
-    let l = both (same_sort s a) (same_sort t b) k.0 in
-    λ i. Three (same-is s a l.0 i) (same-is t b l.1 i) (same-is u c k.1 i)
-takes-is (Each_of s) (Each_of a) h = ap Each_of (same-is s a h)
-takes-is (Many s) (Many a) h = ap Many (same-is s a h)
+    let k = and_parts (same_sort s a && same_sort t b) (same_sort u c) h in
+    let l = and_parts (same_sort s a) (same_sort t b) k.0 in
+    λ i. Three (same_is s a l.0 i) (same_is t b l.1 i) (same_is u c k.1 i)
+takes-is (Each_of s) (Each_of a) h = ap Each_of (same_is s a h)
+takes-is (Many s) (Many a) h = ap Many (same_is s a h)
 takes-is Alike Alike h = refl
 takes-is Choice Choice h = refl
 takes-is _ _ h = absurd (cc)
@@ -194,7 +189,7 @@ found p [] f s e = absurd (cc)
 found p (r ∷ rows) f s e = go (p r.0) (lookup p rows) (found p rows f k.1) e
   where
     k : Sound r.1 × IsTrue (list_all (λ r. is_sound r.1) rows)
-    k = both (is_sound r.1) (list_all (λ r. is_sound r.1) rows) s
+    k = and_parts (is_sound r.1) (list_all (λ r. is_sound r.1) rows) s
 
     go : (b : Bool) (o : Option Function) → (o ≡ Some f → Sound f) → cond b (Some r.1) o ≡ Some f → Sound f
     go true o i e = let g : r.1 ≡ f = cc in subst Sound g k.0
@@ -238,12 +233,12 @@ module _ (known : Name → Sort → Bool) where
   well-choice (a ∷ []) h g = well-opaque sort.Bool
   well-choice (a ∷ b ∷ []) h g = well-opaque sort.Bool
   well-choice (a ∷ b ∷ c ∷ []) h g =
-      let k = both (same_sort sort.Bool (body_sort a) && same_sort (body_sort b) (body_sort c)) (not (same_sort sort.RegLan (body_sort b))) g in
-      let l = both (same_sort sort.Bool (body_sort a)) (same_sort (body_sort b) (body_sort c)) k.0 in
-      let p = same-is sort.Bool (body_sort a) l.0 in
-      let q = same-is (body_sort b) (body_sort c) l.1 in
+      let k = and_parts (same_sort sort.Bool (body_sort a) && same_sort (body_sort b) (body_sort c)) (not (same_sort sort.RegLan (body_sort b))) g in
+      let l = and_parts (same_sort sort.Bool (body_sort a)) (same_sort (body_sort b) (body_sort c)) k.0 in
+      let p = same_is sort.Bool (body_sort a) l.0 in
+      let q = same_is (body_sort b) (body_sort c) l.1 in
       well-if (same_sort sort.Bool (body_sort b)) (apply op.IfThenElse (a ∷ b ∷ c ∷ [])) (opaque (body_sort b))
-      (λ t. let r = same-is sort.Bool (body_sort b) t in well-apply op.IfThenElse (a ∷ b ∷ c ∷ []) h (λ i. applied_sort op.IfThenElse (p i ∷ r i ∷ (q ∙ r) i ∷ [])))
+      (λ t. let r = same_is sort.Bool (body_sort b) t in well-apply op.IfThenElse (a ∷ b ∷ c ∷ []) h (λ i. applied_sort op.IfThenElse (p i ∷ r i ∷ (q ∙ r) i ∷ [])))
       (well-opaque (body_sort b))
   well-choice (a ∷ b ∷ c ∷ d ∷ bs) h g = well-opaque sort.Bool
 
@@ -261,9 +256,9 @@ module _ (known : Name → Sort → Bool) where
   well-membership [] h g = well-opaque sort.Bool
   well-membership (a ∷ []) h g = well-opaque sort.Bool
   well-membership (a ∷ b ∷ []) h g =
-      let k = both (same_sort sort.String (body_sort a)) (same_sort sort.RegLan (body_sort b)) g in
+      let k = and_parts (same_sort sort.String (body_sort a)) (same_sort sort.RegLan (body_sort b)) g in
       well-if (is_language b) (body.Term (v.InRe (term_of a) (regex_of b))) (opaque sort.Bool)
-      (λ _. well-term sort.Bool (v.InRe (term_of a) (regex_of b)) (fit-member known (term_of a) (regex_of b) (subst (λ z. Fit known z (term_of a)) (same-is sort.String (body_sort a) k.0) h.0)))
+      (λ _. well-term sort.Bool (v.InRe (term_of a) (regex_of b)) (fit-member known (term_of a) (regex_of b) (subst (λ z. Fit known z (term_of a)) (same_is sort.String (body_sort a) k.0) h.0)))
       (well-opaque sort.Bool)
   well-membership (a ∷ b ∷ c ∷ bs) h g = well-opaque sort.Bool
 

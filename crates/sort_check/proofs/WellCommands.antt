@@ -3,6 +3,7 @@ use Rattle.std.proofs.Common.{◌≡◌, refl, ap, ◌∙◌, map, Bool, true, f
 use Rattle.std.specs.List.{list_all, list_any}
 use Rattle.std.specs.Map.{lookup}
 use Rattle.std.specs.Option.{option_to_list}
+use Rattle.std.proofs.lemmas.Bool.{not-true, not_from_false, and_from}
 use mathlib.Core.Bool.{cond}
 use Rattle.sv_terms.specs.Sorting.{same_sort, sort_of}
 use Rattle.sv_terms.specs.declared.entry.Body.{Body}
@@ -31,17 +32,18 @@ use Rattle.term_weight.specs.Sizes.{fits}
 use Rattle.smt_names.specs.Tokens as t
 use Rattle.sort_check.specs.WellFormed.{is_constant_of, is_declared, IsTermOf, IsOfWrittenSort, hidden_by, is_bound, is_sort, constants_are, is_entry, is_well_formed, IsAdded}
 use Rattle.sort_check.proofs.Asked.{all-asked}
-use Rattle.sort_check.proofs.WellApplied.{same-is, same-self, IsWell}
+use Rattle.sort_check.proofs.WellApplied.{same-self, IsWell}
 use Rattle.sort_check.proofs.WellMeant.{Knows, AreWell, Scoped, Any, any-gives, constants-well, all-well}
-use Rattle.sort_check.proofs.WellNames.{same-name-self, sound-entry, one-more, not-true, not-false}
+use Rattle.sort_check.proofs.WellNames.{same-name-self, sound-entry, one-more}
 use Rattle.smt_names.specs.Verbs.{verb_of}
 use Rattle.sv_terms.specs.TransducerSizes.{is_formed, has_formed}
+use Rattle.sv_terms.proofs.ValueSorts.{same_is}
 use Rattle.transducer_form.specs.Descriptions.{described}
 use Rattle.transducer_form.specs.Formed.{described-gives}
 use Rattle.transducer_form.specs.Written.{DescriptionForm, description_form}
 use Rattle.smt_names.specs.Giving.{Gives, need-gives, refuse-gives, after-gives, then-gives}
 use Rattle.sort_check.proofs.WellSteps.{each-both}
-use Rattle.sort_check.proofs.WellTerms.{both-make, Each}
+use Rattle.sort_check.proofs.WellTerms.{Each}
 
 -- a name that isn't one of a parameter
 abbrev pub Open : Name → Type 0
@@ -165,7 +167,7 @@ module _ (symbols : Names) (wf : IsTrue (is_well_formed symbols)) where
 
   assertion_of-sound : (bs : List Body) → Each (IsWell (is_declared symbols)) bs → Gives Sound (c.assertion_of bs)
   assertion_of-sound [] w = tt
-  assertion_of-sound (b ∷ []) w = need-gives Sound (same_sort sort.Bool (body_sort b)) fault.Sort _ (λ h. written sort.Bool b w.0 (same-is sort.Bool (body_sort b) h))
+  assertion_of-sound (b ∷ []) w = need-gives Sound (same_sort sort.Bool (body_sort b)) fault.Sort _ (λ h. written sort.Bool b w.0 (same_is sort.Bool (body_sort b) h))
   assertion_of-sound (b ∷ d ∷ bs) w = tt
 
   assertion-sound : (fs : Forms) → Gives Sound (c.assertion symbols fs)
@@ -211,7 +213,7 @@ module _ (symbols : Names) (wf : IsTrue (is_well_formed symbols)) where
       free-gives x _ (λ ok new.
       then-gives Any Sound (c.declared_as x) (or_fault fault.Unknown (t.sort_of s)) (any-gives (or_fault fault.Unknown (t.sort_of s))) (λ u _.
       refuse-gives Sound (same_sort sort.RegLan u) fault.Sort _ (λ apart.
-      record { new = new; well_formed = one-more symbols x (entry.Constant u) wf ok new (not-false (same_sort sort.RegLan u) apart) })))))
+      record { new = new; well_formed = one-more symbols x (entry.Constant u) wf ok new (not_from_false (same_sort sort.RegLan u) apart) })))))
 
   const-sound : (fs : Forms) → Gives Sound (c.declare_const symbols fs)
   const-sound end = tt
@@ -230,8 +232,8 @@ module _ (symbols : Names) (wf : IsTrue (is_well_formed symbols)) where
   entry-well : (ps : Forms) (b : Body) → IsWell (is_bound (c.parameters ps) symbols) b → IsTrue (is_entry symbols (entry.Macro (c.parameters ps) b))
   entry-well ps (body.Language r) w = refl
   entry-well ps (body.Term u) w =
-      both-make (is_sort (body_sort (body.Term u)) (sort_of u) && has_formed u) (constants_are (is_bound (c.parameters ps) symbols) u)
-      (both-make (is_sort (body_sort (body.Term u)) (sort_of u)) (has_formed u) (ap (is_sort (body_sort (body.Term u))) w.sorted ∙ same-self (body_sort (body.Term u))) w.formed) w.constants
+      and_from (is_sort (body_sort (body.Term u)) (sort_of u) && has_formed u) (constants_are (is_bound (c.parameters ps) symbols) u)
+      (and_from (is_sort (body_sort (body.Term u)) (sort_of u)) (has_formed u) (ap (is_sort (body_sort (body.Term u))) w.sorted ∙ same-self (body_sort (body.Term u))) w.formed) w.constants
 
   defined-sound : (n : Name) (ps : Forms) (s : Sort) (bs : List Body) → Open n → lookup (same_name n) symbols ≡ None → Each (IsWell (is_bound (c.parameters ps) symbols)) bs → Gives Sound (c.defined n ps s bs)
   defined-sound n ps s [] o new w = tt

@@ -1,6 +1,7 @@
 -- What is read as a term has a sort, formed transducers and known constants.
 use Rattle.std.proofs.Common.{◌≡◌, refl, sym, ap, ◌∙◌, subst, map, length, Bool, true, false, ◌&&◌, IsTrue, nat_le, ℕ, suc, pos, List, [], ◌∷◌, ◌++◌, Option, Some, None, Result, Ok, Err, codes, if◌then◌else◌}
 use Rattle.std.specs.Map.{lookup}
+use Rattle.std.proofs.lemmas.Bool.{and_parts}
 use mathlib.Core.Bool.{cond}
 use Rattle.sexpr_reader.specs.declared.kind.TokenKind.{TokenKind}
 use Rattle.sexpr_reader.specs.declared.kind.TokenKind.TheVariants.{Numeral, Decimal, Hexadecimal, Binary, Symbol, Quoted, Keyword, Literal}
@@ -27,12 +28,13 @@ use Rattle.term_weight.specs.Ranks.{are_of}
 use Rattle.smt_names.specs.Signature.{Name, same_name, stands_in, signature, indexed_names, power, loop, character}
 use Rattle.smt_names.specs.Tokens.{symbol, digits, value, is_too_large, literal_word, character_token, opening, is_identifier}
 use Rattle.sv_terms.specs.TransducerSizes.{is_formed, has_formed}
+use Rattle.sv_terms.proofs.ValueSorts.{same_is}
 use Rattle.sort_check.specs.WellFormed.{is_constant_of, is_declared, hidden_by, is_bound, is_sort, constants_are, is_body, is_well_formed}
-use Rattle.sort_check.proofs.WellApplied.{same-is, same-self, Sound, function-sound, IsWell, well-term, well-opaque, well-language, well-applied}
+use Rattle.sort_check.proofs.WellApplied.{same-self, Sound, function-sound, IsWell, well-term, well-opaque, well-language, well-applied}
 use Rattle.sort_check.proofs.WellNames.{sound-entry}
 use Rattle.smt_names.specs.Giving.{Gives, Maybe, need-gives, refuse-gives, or-gives, some-maybe, if-maybe, then-gives}
 use Rattle.sort_check.proofs.WellSteps.{else-maybe, each-append, one-of, variable-gives, mapped-maybe}
-use Rattle.sort_check.proofs.WellTerms.{both, Each, Fit, fit-number, fit-text, fit-constant, fit-related, fit-weaker, fit-put}
+use Rattle.sort_check.proofs.WellTerms.{Each, Fit, fit-number, fit-text, fit-constant, fit-related, fit-weaker, fit-put}
 
 -- all constants that are declared are known
 abbrev pub Knows : Names → (Name → Sort → Bool) → Type 0
@@ -56,22 +58,22 @@ module _ (known : Name → Sort → Bool) (n : Name) (s : Sort) (declared : Bool
   put-argument (p ∷ ps) (b ∷ bs) h w k = go (same_name n p.0) (lookup (same_name n) ps) (lookup (same_name n) (arguments_for ps bs)) (put-argument ps bs e.1 w.1) k
     where
       e : IsTrue (same_sort p.1 (body_sort b)) × IsTrue (are_of (map (λ p. p.1) ps) (map body_sort bs))
-      e = both (same_sort p.1 (body_sort b)) (are_of (map (λ p. p.1) ps) (map body_sort bs)) h
+      e = and_parts (same_sort p.1 (body_sort b)) (are_of (map (λ p. p.1) ps) (map body_sort bs)) h
 
       go : (c : Bool) (o : Option Sort) (q : Option Term) → (IsTrue (hidden_by o declared s) → Fit known s (or_constant n s q)) → IsTrue (hidden_by (cond c (Some p.1) o) declared s) → Fit known s (or_constant n s (cond c (Some (term_of b)) q))
-      go true o q i k = subst (λ z. Fit known z (term_of b)) (same-is p.1 (body_sort b) e.0 ∙ same-is s p.1 k) w.0
+      go true o q i k = subst (λ z. Fit known z (term_of b)) (same_is p.1 (body_sort b) e.0 ∙ same_is s p.1 k) w.0
       go false o q i k = i k
 
 sort-is : (s : Sort) (o : Option Sort) → IsTrue (is_sort s o) → o ≡ Some s
 sort-is s None h = absurd (cc)
-sort-is s (Some t) h = ap Some (same-is s t h)
+sort-is s (Some t) h = ap Some (same_is s t h)
 
 module _ (symbols : Names) (wf : IsTrue (is_well_formed symbols)) (known : Name → Sort → Bool) (knows : Knows symbols known) where
   body-calls : (ps : List (Name × Sort)) (b : Body) → IsTrue (is_body ps symbols b) → Calls known ps b
   body-calls ps (body.Language r) h bs e w = well-language known r
   body-calls ps (body.Term t) h bs e w =
-      let k = both (is_sort (body_sort (body.Term t)) (sort_of t) && has_formed t) (constants_are (is_bound ps symbols) t) h in
-      let l = both (is_sort (body_sort (body.Term t)) (sort_of t)) (has_formed t) k.0 in
+      let k = and_parts (is_sort (body_sort (body.Term t)) (sort_of t) && has_formed t) (constants_are (is_bound ps symbols) t) h in
+      let l = and_parts (is_sort (body_sort (body.Term t)) (sort_of t)) (has_formed t) k.0 in
       well-term known (body_sort (body.Term t)) _ (fit-put (is_bound ps symbols) known (λ n. lookup (same_name n) (arguments_for ps bs)) (λ n s q. put-argument known n s (is_declared symbols n s) (knows n s) ps bs e w q)
       (body_sort (body.Term t)) t (record { sorted = sort-is (body_sort (body.Term t)) (sort_of t) l.0; shown = refl; constants = k.1; formed = l.1 }))
 
@@ -141,9 +143,9 @@ module _ (known : Name → Sort → Bool) where
   related-well m [] s w g = absurd (cc)
   related-well m (a ∷ []) s w g = absurd (cc)
   related-well m (a ∷ b ∷ []) s w g =
-      let k = both (same_sort sort.String (body_sort a)) (same_sort sort.String (body_sort b)) g in
+      let k = and_parts (same_sort sort.String (body_sort a)) (same_sort sort.String (body_sort b)) g in
       well-term known sort.Bool (term.Related m (term_of a) (term_of b)) (fit-related known m (term_of a) (term_of b) s
-      (subst (λ z. Fit known z (term_of a)) (same-is sort.String (body_sort a) k.0) w.0) (subst (λ z. Fit known z (term_of b)) (same-is sort.String (body_sort b) k.1) w.1.0))
+      (subst (λ z. Fit known z (term_of a)) (same_is sort.String (body_sort a) k.0) w.0) (subst (λ z. Fit known z (term_of b)) (same_is sort.String (body_sort b) k.1) w.1.0))
   related-well m (a ∷ b ∷ d ∷ bs) s w g = absurd (cc)
 
   head-well : (h : Head) (bs : List Body) → SoundHead known h → Each (IsWell known) bs → IsTrue (head_count h (length bs)) → IsTrue (head_sorts h (map body_sort bs)) → IsWell known (head_applied h bs)

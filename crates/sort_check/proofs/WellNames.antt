@@ -4,6 +4,7 @@ use Rattle.std.proofs.lemmas.List.{append-nil, take-append-drop}
 use Rattle.std.specs.Map.{lookup}
 use Rattle.std.specs.Cmp.Lexicographic.{same_text, lists_equiv}
 use Rattle.std.specs.Cmp.{nat_eq_equiv}
+use Rattle.std.proofs.lemmas.Bool.{not-true, not_from_false, and_parts, and_from}
 use mathlib.Core.Bool.{cond}
 use Rattle.sv_terms.specs.declared.entry.Body.{Body}
 use Rattle.sv_terms.specs.declared.entry.Body.TheVariants as body
@@ -17,10 +18,10 @@ use Rattle.term_weight.specs.Bodies.{body_sort, is_escaped}
 use Rattle.term_walk.specs.Meant.{Names}
 use Rattle.smt_names.specs.Signature.{Name, same_name}
 use Rattle.sv_terms.specs.TransducerSizes.{has_formed}
+use Rattle.sv_terms.proofs.ValueSorts.{same_is}
 use Rattle.sort_check.specs.WellFormed.{constants_are, is_constant_of, is_declared, constants_known, hidden_by, is_bound, is_sort, is_body, is_entry, is_new, follow, is_well_formed, is_given, AreGiven}
 use Rattle.smt_names.specs.Lookups.{lookup-there}
-use Rattle.sort_check.proofs.WellApplied.{same-is}
-use Rattle.sort_check.proofs.WellTerms.{both, both-make, Each, each-all, all-each, weaker, known-valued}
+use Rattle.sort_check.proofs.WellTerms.{Each, each-all, all-each, weaker, known-valued}
 
 pub same-name-is : (n m : Name) → IsTrue (same_name n m) → n ≡ m
 same-name-is n m h = same_text n m (sym h)
@@ -51,8 +52,8 @@ hidden-more None a b s k h = k h
 body-more : (parameters : List (Name × Sort)) (xs ys : Names) (b : Body) → IsTrue (is_body parameters xs b) → IsTrue (is_body parameters (xs ++ ys) b)
 body-more parameters xs ys (body.Language r) h = refl
 body-more parameters xs ys (body.Term t) h =
-    let k = both (is_sort (body_sort (body.Term t)) (sort_of t) && has_formed t) (constants_are (is_bound parameters xs) t) h in
-    both-make (is_sort (body_sort (body.Term t)) (sort_of t) && has_formed t) (constants_are (is_bound parameters (xs ++ ys)) t) k.0
+    let k = and_parts (is_sort (body_sort (body.Term t)) (sort_of t) && has_formed t) (constants_are (is_bound parameters xs) t) h in
+    and_from (is_sort (body_sort (body.Term t)) (sort_of t) && has_formed t) (constants_are (is_bound parameters (xs ++ ys)) t) k.0
     (weaker (is_bound parameters xs) (is_bound parameters (xs ++ ys)) (λ n s. hidden-more (lookup (same_name n) parameters) (is_declared xs n s) (is_declared (xs ++ ys) n s) s (declared-more xs ys n s)) t k.1)
 
 entry-more : (xs ys : Names) (e : Entry) → IsTrue (is_entry xs e) → IsTrue (is_entry (xs ++ ys) e)
@@ -64,18 +65,18 @@ entry-more xs ys (entry.Machine t) h = h
 pub follow-prefix : (before xs ys : Names) → IsTrue (follow before (xs ++ ys)) → IsTrue (follow before xs)
 follow-prefix before [] ys h = refl
 follow-prefix before (e ∷ xs) ys h =
-    let k = both (is_new before e.0 && is_entry before e.1) (follow (before ++ e ∷ []) (xs ++ ys)) h in
-    both-make (is_new before e.0 && is_entry before e.1) (follow (before ++ e ∷ []) xs) k.0 (follow-prefix (before ++ e ∷ []) xs ys k.1)
+    let k = and_parts (is_new before e.0 && is_entry before e.1) (follow (before ++ e ∷ []) (xs ++ ys)) h in
+    and_from (is_new before e.0 && is_entry before e.1) (follow (before ++ e ∷ []) xs) k.0 (follow-prefix (before ++ e ∷ []) xs ys k.1)
 
 -- one name more
 pub follow-one : (before xs : Names) (n : Name) (e : Entry) → IsTrue (follow before xs) → IsTrue (is_new (before ++ xs) n) → IsTrue (is_entry (before ++ xs) e) → IsTrue (follow before (xs ++ (n, e) ∷ []))
 follow-one before [] n e h g k =
     let same = append-nil before in
-    both-make (is_new before n && is_entry before e) true (both-make (is_new before n) (is_entry before e) (subst (λ l. IsTrue (is_new l n)) same g) (subst (λ l. IsTrue (is_entry l e)) same k)) refl
+    and_from (is_new before n && is_entry before e) true (and_from (is_new before n) (is_entry before e) (subst (λ l. IsTrue (is_new l n)) same g) (subst (λ l. IsTrue (is_entry l e)) same k)) refl
 follow-one before (x ∷ xs) n e h g k =
-    let w = both (is_new before x.0 && is_entry before x.1) (follow (before ++ x ∷ []) xs) h in
+    let w = and_parts (is_new before x.0 && is_entry before x.1) (follow (before ++ x ∷ []) xs) h in
     let same = sym (append_assoc before (x ∷ []) xs) in
-    both-make (is_new before x.0 && is_entry before x.1) (follow (before ++ x ∷ []) (xs ++ (n, e) ∷ [])) w.0
+    and_from (is_new before x.0 && is_entry before x.1) (follow (before ++ x ∷ []) (xs ++ (n, e) ∷ [])) w.0
     (follow-one (before ++ x ∷ []) xs n e w.1 (subst (λ l. IsTrue (is_new l n)) same g) (subst (λ l. IsTrue (is_entry l e)) same k))
 
 -- what a declared name stands for
@@ -83,25 +84,17 @@ pub record IsKept (whole : Names) (n : Name) (e : Entry) : Type 0 where
   pub open_name : is_escaped n ≡ false
   pub entry : IsTrue (is_entry whole e)
 
-pub not-true : (b : Bool) → IsTrue (not b) → b ≡ false
-not-true true h = absurd (cc)
-not-true false h = refl
-
-pub not-false : (b : Bool) → b ≡ false → IsTrue (not b)
-not-false true h = absurd (cc)
-not-false false h = refl
-
 pub entry-found : (before xs : Names) (n : Name) (e : Entry) → IsTrue (follow before xs) → lookup (same_name n) xs ≡ Some e → IsKept (before ++ xs) n e
 entry-found before [] n e h f = absurd (cc)
 entry-found before (x ∷ xs) n e h f = go (same_name n x.0) refl (lookup (same_name n) xs) (λ k. subst (λ l. IsKept l n e) (append_assoc before (x ∷ []) xs) (entry-found (before ++ x ∷ []) xs n e w.1 k)) f
   where
     w : IsTrue (is_new before x.0 && is_entry before x.1) × IsTrue (follow (before ++ x ∷ []) xs)
-    w = both (is_new before x.0 && is_entry before x.1) (follow (before ++ x ∷ []) xs) h
+    w = and_parts (is_new before x.0 && is_entry before x.1) (follow (before ++ x ∷ []) xs) h
 
     go : (b : Bool) → same_name n x.0 ≡ b → (o : Option Entry) → (o ≡ Some e → IsKept (before ++ x ∷ xs) n e) → cond b (Some x.1) o ≡ Some e → IsKept (before ++ x ∷ xs) n e
     go true s o k f =
-        let m = both (is_new before x.0) (is_entry before x.1) w.0 in
-        let q = both (not (is_escaped x.0)) (not (is_some (lookup (same_name x.0) before))) m.0 in
+        let m = and_parts (is_new before x.0) (is_entry before x.1) w.0 in
+        let q = and_parts (not (is_escaped x.0)) (not (is_some (lookup (same_name x.0) before))) m.0 in
         let g : x.1 ≡ e = cc in
         record { open_name = ap is_escaped (same-name-is n x.0 s) ∙ not-true (is_escaped x.0) q.0; entry = subst (λ z. IsTrue (is_entry (before ++ x ∷ xs) z)) g (entry-more before (x ∷ xs) x.1 m.1) }
     go false s o k f = k f
@@ -111,12 +104,12 @@ sound-entry symbols n e h f = entry-found [] symbols n e h f
 
 -- one declaration more
 pub one-more : (symbols : Names) (n : Name) (e : Entry) → IsTrue (is_well_formed symbols) → is_escaped n ≡ false → lookup (same_name n) symbols ≡ None → IsTrue (is_entry symbols e) → IsTrue (is_well_formed (symbols ++ (n, e) ∷ []))
-one-more symbols n e h f g k = follow-one [] symbols n e h (both-make (not (is_escaped n)) (not (is_some (lookup (same_name n) symbols))) (not-false (is_escaped n) f) (not-false (is_some (lookup (same_name n) symbols)) (ap is_some g))) k
+one-more symbols n e h f g k = follow-one [] symbols n e h (and_from (not (is_escaped n)) (not (is_some (lookup (same_name n) symbols))) (not_from_false (is_escaped n) f) (not_from_false (is_some (lookup (same_name n) symbols)) (ap is_some g))) k
 
 -- each declared constant has a value of its sort
 given-at : (values : Named) (n m : Name) (e : Entry) (s : Sort) → n ≡ m → IsTrue (is_given values (m, e)) → IsTrue (is_constant_of s (Some e)) → IsTrue (is_of s (lookup (same_name n) values))
 given-at values n m (entry.Constant t) s f h g =
-    subst (λ k. IsTrue (is_of s (lookup (same_name k) values))) (sym f) (subst (λ z. IsTrue (is_of z (lookup (same_name m) values))) (same-is s t g) h)
+    subst (λ k. IsTrue (is_of s (lookup (same_name k) values))) (sym f) (subst (λ z. IsTrue (is_of z (lookup (same_name m) values))) (same_is s t g) h)
 given-at values n m (entry.Macro ps b) s f h g = absurd (cc)
 given-at values n m (entry.Machine t) s f h g = absurd (cc)
 
@@ -135,8 +128,8 @@ valued-by values symbols t h = known-valued (is_declared symbols) values (λ n s
 each-entry : (before xs : Names) → IsTrue (follow before xs) → Each (λ e. IsTrue (is_entry (before ++ xs) e.1)) xs
 each-entry before [] h = tt
 each-entry before (x ∷ xs) h =
-    let k = both (is_new before x.0 && is_entry before x.1) (follow (before ++ x ∷ []) xs) h in
-    let m = both (is_new before x.0) (is_entry before x.1) k.0 in
+    let k = and_parts (is_new before x.0 && is_entry before x.1) (follow (before ++ x ∷ []) xs) h in
+    let m = and_parts (is_new before x.0) (is_entry before x.1) k.0 in
     (entry-more before (x ∷ xs) x.1 m.1, subst (λ l. Each (λ e. IsTrue (is_entry l e.1)) xs) (append_assoc before (x ∷ []) xs) (each-entry (before ++ x ∷ []) xs k.1))
 
 none-is : {A : Type 0} (o : Option A) → is_some o ≡ false → o ≡ None
@@ -146,9 +139,9 @@ none-is (Some x) e = absurd (cc)
 each-found : (before xs : Names) → IsTrue (follow before xs) → Each (λ e. lookup (same_name e.0) (before ++ xs) ≡ Some e.1) xs
 each-found before [] h = tt
 each-found before (x ∷ xs) h =
-    let k = both (is_new before x.0 && is_entry before x.1) (follow (before ++ x ∷ []) xs) h in
-    let m = both (is_new before x.0) (is_entry before x.1) k.0 in
-    let n = both (not (is_escaped x.0)) (not (is_some (lookup (same_name x.0) before))) m.0 in
+    let k = and_parts (is_new before x.0 && is_entry before x.1) (follow (before ++ x ∷ []) xs) h in
+    let m = and_parts (is_new before x.0) (is_entry before x.1) k.0 in
+    let n = and_parts (not (is_escaped x.0)) (not (is_some (lookup (same_name x.0) before))) m.0 in
     let e = none-is (lookup (same_name x.0) before) (not-true (is_some (lookup (same_name x.0) before)) n.1) in
     (lookup-there x.0 before (x ∷ xs) e ∙ ap (λ b. cond b (Some x.1) (lookup (same_name x.0) xs)) (same-name-self x.0), subst (λ l. Each (λ e. lookup (same_name e.0) l ≡ Some e.1) xs) (append_assoc before (x ∷ []) xs) (each-found (before ++ x ∷ []) xs k.1))
 

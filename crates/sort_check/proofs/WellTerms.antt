@@ -1,9 +1,10 @@
 -- Sorts, constants and transducers of a term by its parts, and of a term with arguments put in.
-use Rattle.std.proofs.Common.{◌≡◌, refl, sym, ap, ◌∙◌, subst, map, Bool, true, false, ◌&&◌, IsTrue, All, ℕ, zero, suc, ℤ, List, [], ◌∷◌, Option, Some, None, nat_eq, arith}
+use Rattle.std.proofs.Common.{◌≡◌, refl, sym, ap, ◌∙◌, subst, map, Bool, true, ◌&&◌, IsTrue, All, ℕ, zero, suc, ℤ, List, [], ◌∷◌, Option, Some, None, nat_eq, arith}
 use Rattle.std.specs.List.{list_all}
 use Rattle.std.specs.Map.{lookup}
 use Rattle.std.specs.Option.{option_map}
 use Rattle.std.specs.Cmp.Lexicographic.{pointwise}
+use Rattle.std.proofs.lemmas.Bool.{and_parts, and_from}
 use Rattle.sv_terms.specs.declared.op.Op.{Op}
 use Rattle.sv_terms.specs.declared.regex.Regex.{Regex}
 use Rattle.sv_terms.specs.declared.sort.Sort.{Sort}
@@ -21,14 +22,6 @@ use Rattle.term_weight.specs.Bodies.{or_constant, put_in_layer, put_in}
 use Rattle.smt_names.specs.Signature.{Name}
 use Rattle.sv_terms.specs.TransducerSizes.{is_formed, has_formed}
 use Rattle.sort_check.specs.WellFormed.{constants_step, constants_are}
-
-pub both : (a b : Bool) → IsTrue (a && b) → IsTrue a × IsTrue b
-both true b h = (refl, h)
-both false b h = cc
-
-pub both-make : (a b : Bool) → IsTrue a → IsTrue b → IsTrue (a && b)
-both-make true b h g = g
-both-make false b h g = cc
 
 -- P of each
 abbrev pub Each : {A : Type 0} → (A → Type 0) → List A → Type 0
@@ -116,7 +109,7 @@ module _ (known : Name → Sort → Bool) where
 
   pub fit-related : (m : Transducer) (t u : Term) → IsTrue (is_formed m) → Fit known sort.String t → Fit known sort.String u → Fit known sort.Bool (v.Related m t u)
   fit-related m t u h f g = let r = v.rolls-Related m t u in let x : Term-F Term = Term-F.Related m t u in
-      record { sorted = at sort_step _ x r ∙ (λ i. related_sort (f.sorted i) (g.sorted i)); shown = at layer_sort _ x r; constants = at (constants_step known) _ x r ∙ both-make (constants_are known t) (constants_are known u) f.constants g.constants; formed = at formed_step _ x r ∙ both-make (is_formed m) (has_formed t && has_formed u) h (both-make (has_formed t) (has_formed u) f.formed g.formed) }
+      record { sorted = at sort_step _ x r ∙ (λ i. related_sort (f.sorted i) (g.sorted i)); shown = at layer_sort _ x r; constants = at (constants_step known) _ x r ∙ and_from (constants_are known t) (constants_are known u) f.constants g.constants; formed = at formed_step _ x r ∙ and_from (is_formed m) (has_formed t && has_formed u) h (and_from (has_formed t) (has_formed u) f.formed g.formed) }
 
   -- terms of these sorts, one after another
   abbrev pub Fits : List Sort → List Term → Type 0
@@ -134,13 +127,13 @@ module _ (known : Name → Sort → Bool) where
   each-constants [] [] fs = refl
   each-constants [] (t ∷ ts) fs = absurd fs
   each-constants (s ∷ ss) [] fs = absurd fs
-  each-constants (s ∷ ss) (t ∷ ts) fs = both-make (constants_are known t) (list_all (λ b. b) (map (constants_are known) ts)) fs.0.constants (each-constants ss ts fs.1)
+  each-constants (s ∷ ss) (t ∷ ts) fs = and_from (constants_are known t) (list_all (λ b. b) (map (constants_are known) ts)) fs.0.constants (each-constants ss ts fs.1)
 
   each-formed : (ss : List Sort) (ts : List Term) → Fits ss ts → IsTrue (list_all (λ b. b) (map has_formed ts))
   each-formed [] [] fs = refl
   each-formed [] (t ∷ ts) fs = absurd fs
   each-formed (s ∷ ss) [] fs = absurd fs
-  each-formed (s ∷ ss) (t ∷ ts) fs = both-make (has_formed t) (list_all (λ b. b) (map has_formed ts)) fs.0.formed (each-formed ss ts fs.1)
+  each-formed (s ∷ ss) (t ∷ ts) fs = and_from (has_formed t) (list_all (λ b. b) (map has_formed ts)) fs.0.formed (each-formed ss ts fs.1)
 
   pub fit-apply : (o : Op) (ss : List Sort) (ts : List Term) → Fits ss ts → applied_sort o ss ≡ Some (op_sort o) → Fit known (op_sort o) (v.Apply o ts)
   fit-apply o ss ts fs e = let r = v.rolls-Apply o ts in let x : Term-F Term = Term-F.Apply o ts in
@@ -154,8 +147,8 @@ module _ (p q : Name → Sort → Bool) (le : (n : Name) (s : Sort) → IsTrue (
   weaker-each : (ts : List Term) → Each Weaker ts → IsTrue (list_all (λ b. b) (map (constants_are p) ts)) → IsTrue (list_all (λ b. b) (map (constants_are q) ts))
   weaker-each [] w h = refl
   weaker-each (t ∷ ts) w h =
-      let b = both (constants_are p t) (list_all (λ b. b) (map (constants_are p) ts)) h in
-      both-make (constants_are q t) (list_all (λ b. b) (map (constants_are q) ts)) (w.0 b.0) (weaker-each ts w.1 b.1)
+      let b = and_parts (constants_are p t) (list_all (λ b. b) (map (constants_are p) ts)) h in
+      and_from (constants_are q t) (list_all (λ b. b) (map (constants_are q) ts)) (w.0 b.0) (weaker-each ts w.1 b.1)
 
   from : (t : Term) (x : Term-F Term) → roll-Term x ≡ t → IsTrue (constants_are p t) → IsTrue (constants_step p (map-Term Term Bool (constants_are p) x))
   from t x r h = sym (at (constants_step p) t x r) ∙ h
@@ -169,8 +162,8 @@ module _ (p q : Name → Sort → Bool) (le : (n : Name) (s : Sort) → IsTrue (
       (λ o ts w h. at (constants_step q) _ (Term-F.Apply o ts) (v.rolls-Apply o ts) ∙ weaker-each ts w (from _ (Term-F.Apply o ts) (v.rolls-Apply o ts) h))
       (λ t r w h. at (constants_step q) _ (Term-F.InRe t r) (v.rolls-InRe t r) ∙ w (from _ (Term-F.InRe t r) (v.rolls-InRe t r) h))
       (λ m t u w z h.
-      let b = both (constants_are p t) (constants_are p u) (from _ (Term-F.Related m t u) (v.rolls-Related m t u) h) in
-      at (constants_step q) _ (Term-F.Related m t u) (v.rolls-Related m t u) ∙ both-make (constants_are q t) (constants_are q u) (w b.0) (z b.1))
+      let b = and_parts (constants_are p t) (constants_are p u) (from _ (Term-F.Related m t u) (v.rolls-Related m t u) h) in
+      at (constants_step q) _ (Term-F.Related m t u) (v.rolls-Related m t u) ∙ and_from (constants_are q t) (constants_are q u) (w b.0) (z b.1))
       (λ s h. at (constants_step q) _ (Term-F.Opaque s) (v.rolls-Opaque s))
 
   pub fit-weaker : (s : Sort) (t : Term) → Fit p s t → Fit q s t
@@ -214,14 +207,14 @@ module _ (p q : Name → Sort → Bool) (found : Name → Option Term) (put : (n
   put-each : (ts : List Term) → Each Puts ts → IsTrue (list_all (λ b. b) (map (constants_are p) ts)) → IsTrue (list_all (λ b. b) (map has_formed ts)) → ArePut ts
   put-each [] w h g = record { sorted = refl; constants = refl; formed = refl }
   put-each (t ∷ ts) w h g =
-      let b = both (constants_are p t) (list_all (λ b. b) (map (constants_are p) ts)) h in
-      let c = both (has_formed t) (list_all (λ b. b) (map has_formed ts)) g in
+      let b = and_parts (constants_are p t) (list_all (λ b. b) (map (constants_are p) ts)) h in
+      let c = and_parts (has_formed t) (list_all (λ b. b) (map has_formed ts)) g in
       let one = w.0 b.0 c.0 in
       let rest = put-each ts w.1 b.1 c.1 in
       record {
         sorted = all-sorted (sort_of (put_in found t)) (sort_of t) (map sort_of (map (put_in found) ts)) (map sort_of ts) one.sorted rest.sorted;
-        constants = both-make (constants_are q (put_in found t)) (list_all (λ b. b) (map (constants_are q) (map (put_in found) ts))) one.constants rest.constants;
-        formed = both-make (has_formed (put_in found t)) (list_all (λ b. b) (map has_formed (map (put_in found) ts))) one.formed rest.formed;
+        constants = and_from (constants_are q (put_in found t)) (list_all (λ b. b) (map (constants_are q) (map (put_in found) ts))) one.constants rest.constants;
+        formed = and_from (has_formed (put_in found t)) (list_all (λ b. b) (map has_formed (map (put_in found) ts))) one.formed rest.formed;
       }
 
   put-constant : (n : Name) (s : Sort) → Puts (v.Constant n s)
@@ -259,14 +252,14 @@ module _ (p q : Name → Sort → Bool) (found : Name → Option Term) (put : (n
       let x : Term-F Term = Term-F.Related m t u in
       let a = put_in found t in
       let b = put_in found u in
-      let c = both (constants_are p t) (constants_are p u) (sym (at (constants_step p) _ x r) ∙ h) in
-      let d = both (is_formed m) (has_formed t && has_formed u) (sym (at formed_step _ x r) ∙ g) in
-      let e = both (has_formed t) (has_formed u) d.1 in
+      let c = and_parts (constants_are p t) (constants_are p u) (sym (at (constants_step p) _ x r) ∙ h) in
+      let d = and_parts (is_formed m) (has_formed t && has_formed u) (sym (at formed_step _ x r) ∙ g) in
+      let e = and_parts (has_formed t) (has_formed u) d.1 in
       let k = w c.0 e.0 in
       let l = z c.1 e.1 in
       made _ (v.Related m a b) x (Term-F.Related m a b) r (v.rolls-Related m a b) (put-at _ x r) (λ i. related_sort (k.sorted i) (l.sorted i)) refl
-      (both-make (constants_are q a) (constants_are q b) k.constants l.constants)
-      (both-make (is_formed m) (has_formed a && has_formed b) d.0 (both-make (has_formed a) (has_formed b) k.formed l.formed))
+      (and_from (constants_are q a) (constants_are q b) k.constants l.constants)
+      (and_from (is_formed m) (has_formed a && has_formed b) d.0 (and_from (has_formed a) (has_formed b) k.formed l.formed))
 
   puts : (t : Term) → Puts t
   puts = induct Puts

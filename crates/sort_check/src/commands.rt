@@ -4,7 +4,7 @@ use sv_terms::{Entry, Name, Sort, Term};
 
 /// What a check is asked to make by an option.
 #[derive(Clone, Copy)]
-pub enum Product {
+pub enum ProduceOption {
     /// `:produce-models`
     Models,
     /// `:produce-unsat-cores`
@@ -21,7 +21,7 @@ pub enum Command {
     /// `(set-option :print-success B)`
     PrintSuccess(bool),
     /// `set-option` of what a check is asked to make.
-    Produce(Product, bool),
+    Produce(ProduceOption, bool),
     /// `declare-const`, or `declare-fun` without parameters.
     Declare(Name, Sort),
     /// `define-fun` or `define-transducer`: the name, and its macro or its transducer. Each parameter `p` of a macro

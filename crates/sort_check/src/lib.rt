@@ -16,12 +16,17 @@
 //! ```
 #![tactic(auto)]
 
+mod asking;
 mod checking;
 mod commands;
+mod declaring;
+mod defining;
 mod laws;
+mod options;
 
-pub use checking::{asked_term, command};
-pub use commands::{Command, Product};
+pub use asking::asked_term;
+pub use checking::command;
+pub use commands::{Command, ProduceOption};
 pub use laws::{
     additions_are_well_formed, constants_have_values, entries_are_well_formed,
     fronts_are_well_formed, terms_are_sorted, terms_are_taken_one_by_one,

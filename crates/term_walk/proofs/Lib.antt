@@ -2,5 +2,5 @@ mod Identified
 mod Reading
 mod Scoping
 mod Shapes
-mod Termwise
+pub mod Termwise
 mod Walking

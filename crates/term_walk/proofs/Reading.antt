@@ -1,6 +1,8 @@
 -- Steps of a walk: what is read one after another.
-use Rattle.std.proofs.Common.{◌≡◌, refl, sym, ap, ◌∙◌, subst, ℕ, zero, suc, Bool, true, false, ◌||◌, List, [], ◌∷◌, ◌++◌, map, Option, Some, None, Result, Ok, Err, append_assoc}
+use Rattle.std.proofs.Common.{◌≡◌, refl, sym, ap, ◌∙◌, subst, ℕ, Bool, true, false, ◌||◌, List, [], ◌∷◌, ◌++◌, map, Option, Some, None, Result, Ok, Err, append_assoc, append-nil}
 use Rattle.std.specs.Prelude.{slice_get, if◌then◌else◌}
+use Rattle.sv_list.specs.Bools.{or-assoc}
+use Rattle.sv_list.specs.Lists.{slice_get-append}
 use std.Path.{fun_ext}
 use Rattle.sv_terms.specs.declared.entry.Body.{Body}
 use Rattle.smt_names.specs.declared.check_fault.CheckFault.{CheckFault}
@@ -13,38 +15,12 @@ use Rattle.smt_names.specs.Signature.{Name, same_name}
 use Rattle.term_weight.specs.Sizes.{fits}
 use Rattle.term_walk.specs.Walks.{Each, Bound, sized, Meaning, Read, ReadsMeaning}
 
-append-none : {A : Type 0} (xs : List A) → xs ++ [] ≡ xs
-append-none [] = refl
-append-none (x ∷ xs) = ap (λ z. x ∷ z) (append-none xs)
-
-or-false : (b : Bool) → b ≡ (b || false)
-or-false true = refl
-or-false false = refl
-
-or-assoc : (a b c : Bool) → ((a || b) || c) ≡ (a || (b || c))
-or-assoc true b c = refl
-or-assoc false b c = refl
-
 -- the answer where values of `let` are looked at, by the answer where they aren't
 sized-then : {A B : Type 0} (k : A → Result B CheckFault) (x : A) (past more : Bool) (y : B) → k x ≡ sized more y → and_then k (sized past x) ≡ sized (past || more) y
 sized-then k x true more y e = refl
 sized-then k x false more y e = e
 
 module _ {X Y : Type 0} (stands : List Body → X → Y → Type 0) where
-  -- a fault is the first one
-  pub faulty : (m : Meaning Y) (old new : Walk) (f : CheckFault) → m any_size ≡ Err f → ReadsMeaning stands m old new (Err f)
-  faulty m old new fault.Unknown e = e
-  faulty m old new fault.Sort e = e
-  faulty m old new fault.Arity e = e
-  faulty m old new fault.Declared e = e
-  faulty m old new fault.Number e = e
-  faulty m old new fault.Reserved e = e
-  faulty m old new fault.Shape e = e
-  faulty m old new fault.Transducer e = e
-  faulty m old new fault.Index e = e
-  faulty m old new fault.Size e = e
-  faulty m old new (fault.Memory a) e = tt
-
   pub alike : (m k : Meaning Y) (old new : Walk) (r : Result X CheckFault) → ((t : Body → Bool) → m t ≡ k t) → ReadsMeaning stands m old new r → ReadsMeaning stands k old new r
   alike m k old new r h a = subst (λ (z : Meaning Y). ReadsMeaning stands z old new r) (fun_ext h) a
 
@@ -85,15 +61,6 @@ module _ {X Y V W : Type 0} (stands : List Body → X → Y → Type 0) (holds :
 pub tested : {X Y : Type 0} (stands : List Body → X → Y → Type 0) (m : Meaning Y) (b : Bool) (f : CheckFault) (old new : Walk) (r : Result X CheckFault) → b ≡ true → ReadsMeaning stands m old new r → ReadsMeaning stands (λ t. need b f >> m t) old new r
 tested stands m b f old new r e a = subst (λ (z : Bool). ReadsMeaning stands (λ t. need z f >> m t) old new r) (sym e) a
 
-pub untested : {X Y : Type 0} (stands : List Body → X → Y → Type 0) (m : Meaning Y) (b : Bool) (f : CheckFault) (old new : Walk) → b ≡ false → ReadsMeaning stands (λ t. need b f >> m t) old new (Err f)
-untested stands m b f old new e = faulty stands (λ t. need b f >> m t) old new f (ap (λ z. need z f >> m any_size) e)
-
--- places stay good where a draft grows
-pub get-grow : {A : Type 0} (as_ bs : List A) (i : ℕ) (a : A) → slice_get as_ i ≡ Some a → slice_get (as_ ++ bs) i ≡ Some a
-get-grow [] bs i a e = absurd (cc)
-get-grow (c ∷ as_) bs zero a e = e
-get-grow (c ∷ as_) bs (suc i) a e = get-grow as_ bs i a e
-
 pub bound-grow : (d e f : List Body) (ps : List (Name × ℕ)) (s : Scope) → f ≡ d ++ e → Bound d ps s → Bound f ps s
 bound-grow d e f ps s g b = subst (λ (z : List Body). Bound z ps s) (sym g) (go ps s b)
   where
@@ -101,7 +68,7 @@ bound-grow d e f ps s g b = subst (λ (z : List Body). Bound z ps s) (sym g) (go
     go [] [] b = tt
     go [] (q ∷ qs) b = b
     go (p ∷ ps) [] b = b
-    go (p ∷ ps) (q ∷ qs) b = (b.0, get-grow d e p.1 q.1 b.1, go ps qs b.2)
+    go (p ∷ ps) (q ∷ qs) b = (b.0, slice_get-append d e p.1 q.1 b.1, go ps qs b.2)
 
 pub each-grow : (d e f : List Body) (ps : List ℕ) (bs : List Body) → f ≡ d ++ e → Each d ps bs → Each f ps bs
 each-grow d e f ps bs g h = subst (λ (z : List Body). Each z ps bs) (sym g) (go ps bs h)
@@ -113,7 +80,7 @@ each-grow d e f ps bs g h = subst (λ (z : List Body). Each z ps bs) (sym g) (go
     go (p ∷ ps) (b ∷ bs) h =
         let a : slice_get d p ≡ Some b = cc in
         let r : map (slice_get d) ps ≡ map Some bs = cc in
-        λ i. get-grow d e p b a i ∷ go ps bs r i
+        λ i. slice_get-append d e p b a i ∷ go ps bs r i
 
 pub bound-append : (d : List Body) (ps qs : List (Name × ℕ)) (s t : Scope) → Bound d ps s → Bound d qs t → Bound d (ps ++ qs) (s ++ t)
 bound-append d [] qs [] t a b = b
@@ -171,7 +138,7 @@ joined-assoc (Ok xs) (Ok ys) (Ok zs) = ap Ok (append_assoc xs ys zs)
 
 joined-none : {A : Type 0} (a : Result (List A) CheckFault) → joined a (Ok []) ≡ a
 joined-none (Err e) = refl
-joined-none (Ok xs) = ap Ok (append-none xs)
+joined-none (Ok xs) = ap Ok (append-nil xs)
 
 none-joined : {A : Type 0} (a : Result (List A) CheckFault) → joined (Ok []) a ≡ a
 none-joined (Err e) = refl

@@ -1,5 +1,5 @@
 -- What is bound, and the index of it.
-use Rattle.std.proofs.Common.{◌≡◌, refl, sym, ap, ◌∙◌, subst, ℕ, zero, suc, ◌-◌, ◌<◌, ◌≤◌, Bool, true, false, cond, List, [], ◌∷◌, ◌++◌, length, take, Option, Some, None, arith, append_assoc}
+use Rattle.std.proofs.Common.{◌≡◌, refl, sym, ap, ◌∙◌, subst, ℕ, suc, ◌-◌, ◌<◌, ◌≤◌, Bool, true, false, cond, List, [], ◌∷◌, ◌++◌, length, take, Option, Some, None, arith, append_assoc, take-take, take_all, length-take-le}
 use Rattle.std.specs.Prelude.{if◌then◌else◌}
 use Rattle.std.proofs.lemmas.Grind.{common_steps}
 use Rattle.std.proofs.lemmas.List.{map-append}
@@ -8,15 +8,13 @@ use Rattle.std.proofs.Math.Seq.{take-append_seam}
 use Rattle.std.proofs.lemmas.Cmp.{nat_list_eq_equiv}
 use Rattle.term_walk.specs.declared.scope.Binding.{Binding}
 use Rattle.term_weight.specs.Places.{shown}
+use Rattle.term_weight.proofs.Placing.{same-swap}
 use Rattle.term_walk.specs.Meant.{latest, or_else}
 use Rattle.term_walk.specs.Scopes.{bound_pairs, HidesFrom, IsNameIndex}
 use Rattle.smt_names.specs.Signature.{Name, same_name}
 
 abbrev Places : Type 0
 Places = List (Name × Option ℕ)
-
-same-swap : (a b : Name) → same_name a b ≡ same_name b a
-same-swap a b = nat_list_eq_equiv.symm a b
 
 same-self : (a : Name) → same_name a a ≡ true
 same-self a = nat_list_eq_equiv.refl a
@@ -126,32 +124,14 @@ pairs-empty bs cs old e f g =
     take-none : [] ≡ take {A = Name × ℕ} (0 - 1) []
     take-none = grind (arith, common_steps)
 
--- bindings left one by one
-take-less : {A : Type 0} (m n : ℕ) (as_ : List A) → m ≤ n → take m (take n as_) ≡ take m as_
-take-less zero n as_ h = refl
-take-less (suc m) zero as_ h = absurd (omega arith)
-take-less (suc m) (suc n) [] h = refl
-take-less (suc m) (suc n) (a ∷ as_) h = ap (λ z. a ∷ z) (take-less m n as_ (omega arith))
-
-take-all : {A : Type 0} (n : ℕ) (as_ : List A) → length as_ ≤ n → take n as_ ≡ as_
-take-all zero [] h = refl
-take-all (suc n) [] h = refl
-take-all zero (a ∷ as_) h = absurd (omega arith)
-take-all (suc n) (a ∷ as_) h = ap (λ z. a ∷ z) (take-all n as_ (omega arith))
-
-length-take : {A : Type 0} (n : ℕ) (as_ : List A) → n ≤ length as_ → length (take n as_) ≡ n
-length-take zero as_ h = refl
-length-take (suc n) [] h = absurd (omega arith)
-length-take (suc n) (a ∷ as_) h = ap suc (length-take n as_ (omega arith))
-
 pub leave-more : {A : Type 0} (n : ℕ) (old now next : List A) → n < length now → take n now ≡ take n old → next ≡ take (length now - 1) now → take n next ≡ take n old
-leave-more n old now next h e f = ap (take n) f ∙ take-less n (length now - 1) now (omega arith) ∙ e
+leave-more n old now next h e f = ap (take n) f ∙ take-take n (length now - 1) now (omega arith) ∙ e
 
 pub leave-fewer : {A : Type 0} (n : ℕ) (now next : List A) → n < length now → next ≡ take (length now - 1) now → length next < length now
-leave-fewer n now next h f = let e : length next ≡ length now - 1 = ap length f ∙ length-take (length now - 1) now (omega arith) in omega arith
+leave-fewer n now next h f = let e : length next ≡ length now - 1 = ap length f ∙ length-take-le (length now - 1) now (omega arith) in omega arith
 
 pub leave-end : {A : Type 0} (n : ℕ) (old now : List A) → length now ≤ n → take n now ≡ take n old → now ≡ take n old
-leave-end n old now h e = sym (take-all n now h) ∙ e
+leave-end n old now h e = sym (take_all n now h) ∙ e
 
 pub ruleset scoping = (index-none, length-pairs, pairs-bound, index-bound, index-same, index-left, index-there, pairs-left, pairs-empty)
 

@@ -46,10 +46,6 @@ module _ (symbols : Names) (s : Scope) (old new : Walk) (r : Result ℕ CheckFau
   pub annotated-read : (fs gs : Forms) (x : Form) → fs ≡ x ⨾ gs → ReadsMeaning Here (λ t. meant t symbols s x) old new r → ReadsMeaning Here (λ t. meant_annotated t symbols s fs) old new r
   annotated-read fs gs x e a = alike Here (λ t. meant t symbols s x) (λ t. meant_annotated t symbols s fs) old new r (λ t. ap (meant_annotated t symbols s) (sym e)) a
 
-pub count-seen : (xs : List Sexpr) → count (forms (map seen xs)) ≡ length xs
-count-seen [] = refl
-count-seen (x ∷ xs) = ap suc (count-seen xs)
-
 -- arguments, and then the function
 module _ (symbols : Names) (s : Scope) (old mid new : Walk) (fs : Forms) (n : ℕ) (h : Head) where
   pub application-read : (places : List ℕ) (r : Result ℕ CheckFault) → nat_le 1 n ≡ true → head_count h n ≡ true → (first : Read Each (λ t. meant_all t symbols s fs) old mid places) → ReadsMeaning Here (λ t. applied_head h (at_places mid.draft places)) mid new r → ReadsMeaning Here (λ t. in_parentheses (Ok h) n (meant_all t symbols s fs)) old new r
@@ -195,9 +191,6 @@ pub let-fault : (symbols : Names) (s : Scope) (old new : Walk) (bs : List Sexpr)
 let-fault symbols s old new bs y fs f e g a = fault-first Bound Here (λ t. meant_values t symbols s (forms (map seen bs))) (λ t. meant_let t symbols s fs) old new new f (λ k j.
     ap (meant_let any_size symbols s) e ∙ ap (λ z. need z fault.Shape >> and_then (λ q. meant any_size symbols (s ++ q) y) (meant_values any_size symbols s (forms (map seen bs)))) g ∙ ap (and_then (λ q. meant any_size symbols (s ++ q) y)) j) a
 
-pub let-shape : (t : Body → Bool) (symbols : Names) (s : Scope) (bs : List Sexpr) (y : Form) (fs : Forms) → fs ≡ group (forms (map seen bs)) ⨾ y ⨾ end → are_some is_binding (forms (map seen bs)) ≡ false → meant_let t symbols s fs ≡ Err fault.Shape
-let-shape t symbols s bs y fs e f = ap (meant_let t symbols s) e ∙ ap (λ z. need z fault.Shape >> and_then (λ q. meant t symbols (s ++ q) y) (meant_values t symbols s (forms (map seen bs)))) f
-
 pub let-few : (t : Body → Bool) (symbols : Names) (s : Scope) (xs : List Sexpr) → length xs < 2 → meant_let t symbols s (forms (map seen xs)) ≡ Err fault.Shape
 let-few t symbols s [] h = refl
 let-few t symbols s (x ∷ []) h = go (seen x)
@@ -275,9 +268,6 @@ module _ (symbols : Names) (s : Scope) (vs : List Sexpr) (y : Form) (fs : Forms)
       ∙ ap (λ z. and_then quantified (within any_size (as_constants (renamed false) z))) (sym g)
       ∙ ap (λ z. and_then quantified (within any_size z)) (okay first.means) ∙ ap (and_then quantified) j) a
 
-  pub quantifier-shape : (t : Body → Bool) → are_some is_variable (forms (map seen vs)) ≡ false → meant_quantifier t symbols s fs ≡ Err fault.Shape
-  quantifier-shape t h = ap (meant_quantifier t symbols s) e ∙ ap (λ z. need z fault.Shape >> and_then quantified (within t (quantified_over (forms (map seen vs))))) h
-
 pub quantifier-few : (t : Body → Bool) (symbols : Names) (s : Scope) (xs : List Sexpr) → length xs < 2 → meant_quantifier t symbols s (forms (map seen xs)) ≡ Err fault.Shape
 quantifier-few t symbols s [] h = refl
 quantifier-few t symbols s (x ∷ []) h = go (seen x)
@@ -311,7 +301,7 @@ pub at-least : {A : Type 0} (xs : List A) → (length xs == 0) ≡ false → nat
 at-least [] h = absurd (cc)
 at-least (x ∷ xs) h = grind (arith, nat_tests)
 
-rest-of : {A : Type 0} (x : A) (xs : List A) → take (length (x ∷ xs) - 1) (drop 1 (x ∷ xs)) ≡ xs
+pub rest-of : {A : Type 0} (x : A) (xs : List A) → take (length (x ∷ xs) - 1) (drop 1 (x ∷ xs)) ≡ xs
 rest-of x xs = grind (arith, common_steps)
 
 pub rest-seen : (xs : List Sexpr) (x : Sexpr) → 1 ≤ length xs → x ≡ get_or xs 0 x → forms (map seen xs) ≡ seen x ⨾ forms (map seen (take (length xs - 1) (drop 1 xs)))
@@ -382,6 +372,3 @@ module _ (symbols : Names) (s : Scope) (f : Form) (w2 w3 : Walk) (place : ℕ) (
 
   pub one-past : w3.is_past ≡ true → settled symbols s (f ⨾ end) ≡ Err fault.Size
   one-past e = settled-past symbols s (f ⨾ end) one-read.what one-read.past one-read.means one-read.limits (read-past Each (λ t. meant_all t symbols s (f ⨾ end)) w2 w3 (place ∷ []) true one-read begun e)
-
-pub one-err : (symbols : Names) (s : Scope) (f : Form) (w2 w3 : Walk) (e : CheckFault) → ReadsMeaning Here (λ t. meant t symbols s f) w2 w3 (Err e) → Answers (settled symbols s (f ⨾ end)) (Err e)
-one-err symbols s f w2 w3 e a = settled-err symbols s (f ⨾ end) w2 w3 e (single-fault (λ t. meant t symbols s f) w2 w3 e a)

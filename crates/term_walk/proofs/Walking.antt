@@ -1,10 +1,11 @@
 -- What the functions of a walk read.
-use Rattle.std.proofs.Common.{add-one, append_assoc, ◌≡◌, refl, sym, ap, ◌∙◌, subst, ℕ, ℤ, pos, zero, suc, ◌+◌, ◌^◌, ◌<◌, ◌≤◌, nat_le, Bool, true, false, ◌||◌, ◌&&◌, List, [], ◌∷◌, ◌++◌, length, map, get_or, take, drop, Option, Some, None, Result, Ok, Err, arith}
+use Rattle.std.proofs.Common.{add-one, append_assoc, ◌≡◌, refl, sym, ap, ◌∙◌, subst, ℕ, ℤ, pos, zero, suc, ◌+◌, ◌^◌, ◌<◌, ◌≤◌, nat_le, Bool, true, false, ◌||◌, ◌&&◌, List, [], ◌∷◌, ◌++◌, length, map, get_or, take, drop, Option, Some, None, Result, Ok, Err, arith, append-nil}
 use Rattle.std.specs.List.{list_all}
 use Rattle.std.specs.Prelude.{slice_get, not}
 use Rattle.std.proofs.lemmas.Bool.Decides.{nat_tests}
-use Rattle.std.proofs.lemmas.Grind.{common_steps}
-use Rattle.std.proofs.lemmas.List.{map-append, take_more}
+use Rattle.std.proofs.lemmas.List.{map-append, take_more, drop_all}
+use Rattle.sv_list.specs.Lists.{slice_get-end}
+use Rattle.sv_list.specs.Bools.{or-assoc}
 use Rattle.sexpr_reader.specs.declared.kind.TokenKind.TheVariants.{Numeral, Literal}
 use Rattle.sv_terms.specs.declared.entry.Body.{Body}
 use Rattle.sv_terms.specs.declared.entry.Body.TheVariants as body
@@ -17,21 +18,15 @@ use Rattle.smt_names.specs.declared.check_fault.CheckFault.TheVariants as fault
 use Rattle.term_walk.specs.declared.walk.Walk.{Walk}
 use Rattle.term_weight.specs.Bodies.{body_sort}
 use Rattle.term_draft.specs.Drafts.{Calls, at_place, at_places}
+use Rattle.term_draft.proofs.Calling.{get-at}
 use Rattle.smt_names.specs.Faults.{Answers, ◌>>◌, need, refuse, or_fault}
 use Rattle.term_walk.specs.Meant.{Scope, Names, Head, any_size, latest, variable_or, alone, named, application, head_count, head_sorts, head_applied, meant_name, meant_token, mapped, bind, as_constants}
 use Rattle.smt_names.specs.Signature.{Name}
 use Rattle.term_weight.specs.Sizes.{fits}
+use Rattle.term_weight.specs.FactorLaws.{or-false}
 use Rattle.smt_names.specs.Tokens.{value, literal_word}
 use Rattle.term_walk.specs.Walks.{Here, Each, Bound, sized, Meaning, Read, ReadsMeaning, applied_head, bound_to, bound_place}
 use Rattle.term_walk.proofs.Reading.{alike, Stands, stands-latest, bound-grow, bound-append}
-
-get-last : {A : Type 0} (as_ : List A) (a : A) → slice_get (as_ ++ a ∷ []) (length as_) ≡ Some a
-get-last [] a = refl
-get-last (b ∷ as_) a = get-last as_ a
-
-or-false : (b : Bool) → b ≡ (b || false)
-or-false true = refl
-or-false false = refl
 
 -- a part that was added
 pub put-read : (old : Walk) (draft : List Body) (b : Body) (place : ℕ) → (place ≡ length old.draft) × (draft ≡ old.draft ++ b ∷ []) → Read Here (λ t. Ok b) old (record old { draft = draft }) place
@@ -41,7 +36,7 @@ put-read old draft b place (e, f) = record {
   added = b ∷ [];
   means = refl;
   limits = refl;
-  there = (λ i. slice_get (f i) (e i)) ∙ get-last old.draft b;
+  there = (λ i. slice_get (f i) (e i)) ∙ slice_get-end old.draft b;
   more = f;
   noted = or-false old.is_past;
   back = refl;
@@ -126,11 +121,6 @@ name-alone symbols s n m h old new r b e f g a = alike Here (λ t. application h
 pub name-fault : (symbols : Names) (s : Scope) (n m : Name) (f : CheckFault) (old new : Walk) → Bound old.draft old.scope s → m ≡ n → None ≡ latest m old.scope → Answers (named symbols n) (Err f) → ReadsMeaning Here (λ t. meant_name symbols s n) old new (Err f)
 name-fault symbols s n m f old new b e g a = answered Here (named symbols n) (λ t. meant_name symbols s n) old new f (λ k h. unbound symbols s n m old b e g ∙ ap alone h) a
 
-pub here-is : (d : List Body) (p : ℕ) (b : Body) → slice_get d p ≡ Some b → at_place d p ≡ b
-here-is [] p b e = absurd (cc)
-here-is (x ∷ d) zero b e = cc
-here-is (x ∷ d) (suc p) b e = here-is d p b e
-
 pub each-are : (d : List Body) (ps : List ℕ) (bs : List Body) → Each d ps bs → at_places d ps ≡ bs
 each-are d [] [] e = refl
 each-are d [] (b ∷ bs) e = absurd (cc)
@@ -138,7 +128,7 @@ each-are d (p ∷ ps) [] e = absurd (cc)
 each-are d (p ∷ ps) (b ∷ bs) e =
     let h : slice_get d p ≡ Some b = cc in
     let r : map (slice_get d) ps ≡ map Some bs = cc in
-    λ i. here-is d p b h i ∷ each-are d ps bs r i
+    λ i. get-at d p b h i ∷ each-are d ps bs r i
 
 pub applied-so : (h : Head) (bs : List Body) (ss : List Sort) (b : Body) (old new : Walk) (r : Result ℕ CheckFault) → head_sorts h ss ≡ true → ss ≡ map body_sort bs → head_applied h bs ≡ b → ReadsMeaning Here (λ t. Ok b) old new r → ReadsMeaning Here (λ t. applied_head h bs) old new r
 applied-so h bs ss b old new r e f g a = alike Here (λ t. Ok b) (λ t. applied_head h bs) old new r (λ t. sym (ap (λ z. need z fault.Sort >> Ok (head_applied h bs)) (ap (head_sorts h) (sym f) ∙ e) ∙ ap Ok g)) a
@@ -148,13 +138,6 @@ ill-sorted h bs ss e f = ap (λ z. need z fault.Sort >> Ok (head_applied h bs)) 
 
 pub alone-so : (h : Head) (old new : Walk) (r : Result ℕ CheckFault) → head_count h 0 ≡ true → ReadsMeaning Here (λ t. applied_head h []) old new r → ReadsMeaning Here (λ t. application h 0 (Ok [])) old new r
 alone-so h old new r e a = alike Here (λ t. applied_head h []) (λ t. application h 0 (Ok [])) old new r (λ t. sym (ap (λ z. need z fault.Arity >> applied_head h []) e)) a
-
-pub alone-few : (h : Head) → head_count h 0 ≡ false → application h 0 (Ok []) ≡ Err fault.Arity
-alone-few h e = ap (λ z. need z fault.Arity >> applied_head h []) e
-
-append-nothing : {A : Type 0} (xs : List A) → xs ++ [] ≡ xs
-append-nothing [] = refl
-append-nothing (x ∷ xs) = ap (λ z. x ∷ z) (append-nothing xs)
 
 not-not : (b : Bool) → b ≡ not (not b)
 not-not true = refl
@@ -169,8 +152,8 @@ noted-read old new o x place q h e f g k = record {
   means = refl;
   limits = ap (λ b. need b fault.Size >> Ok (bind o x)) (not-not (fits x));
   there = subst (λ (z : List (Name × ℕ)). Bound new.draft z (bind o x)) (sym e) (subst (λ (z : List Body). Bound z (bound_place o place) (bind o x)) (sym g) (bound o));
-  more = g ∙ sym (append-nothing old.draft);
-  noted = k ∙ ap (λ b. old.is_past || not b) (ap fits (here-is old.draft place x h));
+  more = g ∙ sym (append-nil old.draft);
+  noted = k ∙ ap (λ b. old.is_past || not b) (ap fits (get-at old.draft place x h));
   back = f;
 }
   where
@@ -179,7 +162,7 @@ noted-read old new o x place q h e f g k = record {
     bound (Some n) = (refl, h, tt)
 
 pub quantified-so : (d : List Body) (place : ℕ) (x : Body) (b : Bool) → slice_get d place ≡ Some x → same_sort sort.Bool (body_sort (at_place d place)) ≡ b → same_sort sort.Bool (body_sort x) ≡ b
-quantified-so d place x b h e = ap (λ z. same_sort sort.Bool (body_sort z)) (sym (here-is d place x h)) ∙ e
+quantified-so d place x b h e = ap (λ z. same_sort sort.Bool (body_sort z)) (sym (get-at d place x h)) ∙ e
 
 abbrev right : {A : Type 0} → A → Result A CheckFault
 right x = Ok x
@@ -193,14 +176,10 @@ constants-none r old = record {
   means = refl;
   limits = refl;
   there = tt;
-  more = sym (append-nothing old.draft);
+  more = sym (append-nil old.draft);
   noted = or-false old.is_past;
   back = refl;
 }
-
-or-assoc : (a b c : Bool) → ((a || b) || c) ≡ (a || (b || c))
-or-assoc true b c = refl
-or-assoc false b c = refl
 
 pub constants-more : (r : Name → Name) (vs : List (Name × Sort)) (i : ℕ) (v : Name × Sort) (old mid new : Walk) (ps : List (Name × ℕ)) (bound name : Name) (place : ℕ) → i < length vs → v ≡ get_or vs i v → bound ≡ v.0 → name ≡ r v.0 → Read Bound (λ t. Ok (as_constants r (take i vs))) old mid ps → Read Here (λ t. Ok (body.Term (term.Constant name v.1))) mid new place → Read Bound (λ t. Ok (as_constants r (take (i + 1) vs))) old new (ps ++ (bound, place) ∷ [])
 constants-more r vs i v old mid new ps bound name place h e f g a b =
@@ -250,13 +229,8 @@ fit-more d ps i p b h e f g = rw (add-one i) (sym (ap (λ z. z && list_all fits 
 pub fit-not : (d : List Body) (ps : List ℕ) (i p : ℕ) (b : Bool) → i < length ps → p ≡ get_or ps i p → fits (at_place d p) ≡ false → list_all fits (at_places d (drop i ps)) ≡ b → false ≡ b
 fit-not d ps i p b h e f g = sym (fit-next d ps i p h e ∙ ap (λ z. z && list_all fits (at_places d (drop (suc i) ps))) f) ∙ g
 
-drop-all : {A : Type 0} (as_ : List A) (i : ℕ) → length as_ ≤ i → drop i as_ ≡ []
-drop-all [] i h = grind (arith, common_steps)
-drop-all (a ∷ as_) zero h = absurd (omega arith)
-drop-all (a ∷ as_) (suc i) h = drop-all as_ i (omega arith)
-
 pub fit-end : (d : List Body) (ps : List ℕ) (i : ℕ) (b : Bool) → length ps ≤ i → list_all fits (at_places d (drop i ps)) ≡ b → true ≡ b
-fit-end d ps i b h g = sym (ap (λ z. list_all fits (at_places d z)) (drop-all ps i h)) ∙ g
+fit-end d ps i b h g = sym (ap (λ z. list_all fits (at_places d z)) (drop_all i ps h)) ∙ g
 
 pub at-default : (ps : List ℕ) (i : ℕ) → get_or ps i 0 ≡ get_or ps i (get_or ps i 0)
 at-default [] i = refl

@@ -16,9 +16,12 @@
 //! ```
 #![tactic(auto)]
 
+mod binding;
 mod head;
+mod parts;
 mod scope;
+mod settling;
 mod walk;
 
 pub use scope::parameter_name;
-pub use walk::{settle_one, settle_sorts};
+pub use settling::{settle_one, settle_sorts};

@@ -1,31 +1,23 @@
 // The one walk over a term: it sorts and weighs each part, and puts nothing in.
-ghost use Rattle.std.specs.Prelude.{◌≡◌, ◌∷◌, ◌++◌, ◌||◌, not, [], false, Ok, Some, length, map, OnOk, IfOk};
-ghost use Rattle.std.specs.List.{list_all};
+ghost use Rattle.std.specs.Prelude.{◌≡◌, ◌++◌, [], false, length, map};
 ghost use Rattle.sv_terms.specs.Names.{symbol_name};
-ghost use Rattle.sv_terms.specs.declared.entry.Body.{Body as Meant};
-ghost use Rattle.smt_names.specs.Faults.{Answers, made_of};
 ghost use Rattle.smt_names.specs.Form.{seen, forms};
-ghost use Rattle.smt_names.specs.Tokens as tokens;
-ghost use Rattle.term_weight.specs.Bodies as bodies;
-ghost use Rattle.term_draft.specs.Drafts as drafts;
-ghost use Rattle.term_weight.specs.Ranks as ranks;
-ghost use Rattle.term_weight.specs.Sizes as sizes;
-ghost use Rattle.term_walk.specs.Heads.{kept};
 ghost use Rattle.term_walk.specs.Meant as meaning;
-ghost use Rattle.term_walk.specs.Walks as walks;
 ghost use Rattle.term_walk.specs.Walks.{ReadsMeaning, Here, Each, Bound};
 
+use crate::binding::{bind, constants, note_value, quantify};
 use crate::head::{Head, find_function, find_head, head_of};
-use crate::scope::{Scope, parameter_name};
+use crate::parts::{apply, apply_alone, read_literal, read_number};
+use crate::scope::Scope;
 use item_passes::{are_bindings, are_variables, variables};
 use sexpr_reader::{Sexpr, TokenKind};
-use smt_names::token::{literal_word, number, opening, symbol};
-use smt_names::{CheckFault, Function, Opening};
-use std::alloc::{AllocError, Global};
+use smt_names::token::opening;
+use smt_names::{CheckFault, Opening};
+use std::alloc::Global;
 use sv_list::Items;
-use sv_terms::{Body, Name, Sort, Term, Transducer};
-use term_draft::{TermDraft, build_at};
-use term_weight::{Declarations, Macro, same_sort};
+use sv_terms::Name;
+use term_draft::TermDraft;
+use term_weight::Declarations;
 
 /// What is known in the middle of a walk over terms.
 pub struct Walk<'a> {
@@ -48,7 +40,7 @@ impl Drop for Walk<'_> {
 
 impl<'a> Walk<'a> {
     /// Nothing is bound and nothing was read.
-    fn new(alloc: Global) -> Walk<'a>
+    pub fn new(alloc: Global) -> Walk<'a>
         ensures scope { result.scope ≡ [] }
         ensures draft { result.draft ≡ [] }
         ensures past { result.is_past ≡ false }
@@ -59,102 +51,6 @@ impl<'a> Walk<'a> {
             is_past: false,
         }
     }
-}
-
-fn put_opaque(walk: &mut Walk<'_>, sort: Sort) -> Result<usize, CheckFault>
-    ensures { ReadsMeaning Here (λ t. Ok (bodies.opaque sort)) walk.old walk.new result }
-{
-    Ok(walk.draft.put_opaque(sort)?)
-}
-
-fn constant(walk: &mut Walk<'_>, name: Name, sort: Sort) -> Result<usize, CheckFault>
-    ensures { ReadsMeaning Here (λ t. Ok (Body.Term (Term.Constant name sort))) walk.old walk.new result }
-{
-    Ok(walk.draft.put_constant(name, sort)?)
-}
-
-fn read_number(walk: &mut Walk<'_>, text: &[u8]) -> Result<usize, CheckFault>
-    ensures { (s : meaning.Scope) → ReadsMeaning Here (λ t. meaning.meant_token [] s TokenKind.Numeral text.now) walk.old walk.new result }
-{
-    match number(text) {
-        Some(n) => Ok(walk.draft.put_number(n)?),
-        None => Err(CheckFault::Number),
-    }
-}
-
-fn read_literal(alloc: Global, walk: &mut Walk<'_>, text: &[u8]) -> Result<usize, CheckFault>
-    ensures { (s : meaning.Scope) → ReadsMeaning Here (λ t. meaning.meant_token [] s TokenKind.Literal text.now) walk.old walk.new result }
-{
-    let word = literal_word(alloc, text)?;
-    match word {
-        Some(word) => Ok(walk.draft.put_word(word)?),
-        None => Err(CheckFault::Shape),
-    }
-}
-
-/// A function of the theories at arguments at these places.
-fn apply_function(
-    alloc: Global,
-    walk: &mut Walk<'_>,
-    function: Function,
-    places: Items<usize>,
-) -> Result<usize, CheckFault>
-    ensures { ReadsMeaning Here (λ t. Ok (ranks.applied function (drafts.at_places walk.old.draft places))) walk.old walk.new result }
-{
-    Ok(walk.draft.put_applied(alloc, function, places)?)
-}
-
-fn call<'a>(
-    alloc: Global,
-    walk: &mut Walk<'a>,
-    defined: Macro<'a>,
-    places: Items<usize>,
-) -> Result<usize, CheckFault>
-    ensures { ReadsMeaning Here (λ t. Ok (bodies.called defined.entry.parameters.now defined.entry.body.now (drafts.at_places walk.old.draft places))) walk.old walk.new result }
-{
-    Ok(walk.draft.put_called(alloc, defined, places)?)
-}
-
-fn relate<'a>(
-    alloc: Global,
-    walk: &mut Walk<'a>,
-    transducer: &'a Transducer,
-    places: Items<usize>,
-) -> Result<usize, CheckFault>
-    ensures { ReadsMeaning Here (λ t. Ok (bodies.related transducer.now (drafts.at_places walk.old.draft places))) walk.old walk.new result }
-{
-    Ok(walk.draft.put_related(alloc, transducer, places)?)
-}
-
-/// What the head is at arguments at these places, whose number it takes.
-fn apply<'a>(
-    alloc: Global,
-    walk: &mut Walk<'a>,
-    head: Head<'a>,
-    places: Items<usize>,
-) -> Result<usize, CheckFault>
-    ensures { ReadsMeaning Here (λ t. walks.applied_head (kept head.entry) (drafts.at_places walk.old.draft places)) walk.old walk.new result }
-{
-    let sorts = walk.draft.sorts(alloc, places.as_slice())?;
-    if !head.takes_sorts(sorts.as_slice()) {
-        return Err(CheckFault::Sort);
-    }
-    match head {
-        Head::Theory(function) => apply_function(alloc, walk, function, places),
-        Head::Constant(name, sort) => constant(walk, name, sort),
-        Head::Macro(defined) => call(alloc, walk, defined, places),
-        Head::Machine(transducer) => relate(alloc, walk, transducer, places),
-    }
-}
-
-/// An identifier by itself.
-fn apply_alone<'a>(alloc: Global, walk: &mut Walk<'a>, head: Head<'a>) -> Result<usize, CheckFault>
-    ensures { ReadsMeaning Here (λ t. meaning.application (kept head.entry) 0 (Ok [])) walk.old walk.new result }
-{
-    if !head.takes_count(0) {
-        return Err(CheckFault::Arity);
-    }
-    apply(alloc, walk, head, Items::new(alloc))
 }
 
 fn read_name<'a>(
@@ -214,7 +110,7 @@ fn read_identifier<'a>(
 
 /// The place of a term, or its first fault.
 #[cycle(read)]
-fn read<'a>(
+pub fn read<'a>(
     alloc: Global,
     walk: &mut Walk<'a>,
     symbols: &'a Declarations,
@@ -240,7 +136,7 @@ fn read<'a>(
 
 /// The places of some terms, or the first fault from the left.
 #[cycle(read)]
-fn read_all<'a>(
+pub fn read_all<'a>(
     alloc: Global,
     walk: &mut Walk<'a>,
     symbols: &'a Declarations,
@@ -426,183 +322,4 @@ fn read_annotated<'a>(
         [] => Err(CheckFault::Shape),
         [term, ..] => read(alloc, walk, symbols, term),
     }
-}
-
-/// The name of a binding, if it has one, with the place of its value.
-fn bound_place(
-    alloc: Global,
-    name: &Sexpr,
-    place: usize,
-) -> Result<Items<(Name, usize)>, AllocError>
-    ensures { IfOk result (λ q. q ≡ walks.bound_place (tokens.symbol (seen name.now)) place) }
-{
-    let mut bound = Items::new(alloc);
-    match symbol(name) {
-        Some(text) => {
-            bound.push((Name::of(alloc, text)?, place))?;
-            Ok(bound)
-        }
-        None => Ok(bound),
-    }
-}
-
-fn is_either_true(a: bool, b: bool) -> bool
-    ensures { result ≡ (a || b) }
-{
-    a || b
-}
-
-/// Notes whether the value at a place is too large.
-fn note(walk: &mut Walk<'_>, place: usize)
-    ensures scope { walk.new.scope ≡ walk.old.scope }
-    ensures draft { walk.new.draft ≡ walk.old.draft }
-    ensures past { walk.new.is_past ≡ (walk.old.is_past || not (sizes.fits (drafts.at_place walk.old.draft place))) }
-{
-    let past = !walk.draft.fits(place);
-    walk.is_past = is_either_true(walk.is_past, past);
-}
-
-/// The name of a binding with the place of its value, which is noted if it is too large.
-fn note_value(
-    alloc: Global,
-    walk: &mut Walk<'_>,
-    name: &Sexpr,
-    place: usize,
-) -> Result<Items<(Name, usize)>, CheckFault>
-    ensures { (x : Meant) → Here walk.old.draft place x
-        → ReadsMeaning Bound (λ t. walks.bound_to t (tokens.symbol (seen name.now)) x) walk.old walk.new result }
-{
-    match bound_place(alloc, name, place) {
-        Ok(bound) => {
-            note(walk, place);
-            Ok(bound)
-        }
-        Err(error) => Err(CheckFault::Memory(error)),
-    }
-}
-
-/// Binds names to places.
-fn bind(alloc: Global, scope: &mut Scope, bound: &[(Name, usize)]) -> Result<(), AllocError>
-    ensures { OnOk result (scope.new ≡ scope.old ++ bound.now) }
-{
-    for binding in bound {
-        scope.bind(alloc, binding.0.copy(alloc)?, binding.1)?;
-    }
-    Ok(())
-}
-
-/// The name of the constant in the place of a variable, or of a parameter.
-fn constant_name(alloc: Global, name: &Name, is_parameter: bool) -> Result<Name, AllocError>
-    ensures { IfOk result (λ n. n ≡ meaning.renamed is_parameter name.now) }
-{
-    if is_parameter {
-        parameter_name(alloc, name)
-    } else {
-        name.copy(alloc)
-    }
-}
-
-/// Variables with places of constants, under their own names or under those of parameters.
-fn constants(
-    alloc: Global,
-    walk: &mut Walk<'_>,
-    variables: &[(Name, Sort)],
-    are_parameters: bool,
-) -> Result<Items<(Name, usize)>, CheckFault>
-    ensures { ReadsMeaning Bound (λ t. Ok (meaning.as_constants (meaning.renamed are_parameters) variables.now)) walk.old walk.new result }
-{
-    let mut all = Items::new(alloc);
-    for variable in variables {
-        let bound = variable.0.copy(alloc)?;
-        let name = constant_name(alloc, &variable.0, are_parameters)?;
-        match constant(walk, name, variable.1) {
-            Ok(place) => all.push((bound, place))?,
-            Err(fault) => return Err(fault),
-        }
-    }
-    Ok(all)
-}
-
-/// A quantified term is read and sorted alone.
-fn quantify(walk: &mut Walk<'_>, place: usize) -> Result<usize, CheckFault>
-    ensures { (x : Meant) → Here walk.old.draft place x
-        → ReadsMeaning Here (λ t. meaning.quantified x) walk.old walk.new result }
-{
-    if !same_sort(Sort::Bool, walk.draft.sort(place)) {
-        return Err(CheckFault::Sort);
-    }
-    put_opaque(walk, Sort::Bool)
-}
-
-/// The sorts of what terms mean, or their first fault, Size included. None is built.
-pub fn settle_sorts(
-    alloc: Global,
-    symbols: &Declarations,
-    terms: &[Sexpr],
-) -> Result<Items<Sort>, CheckFault>
-    ensures { Answers (meaning.settled_sorts symbols.now [] (forms (map seen terms.now))) result }
-{
-    let mut walk = Walk::new(alloc);
-    match read_all(alloc, &mut walk, symbols, terms) {
-        Ok(places) => {
-            if walk.is_past {
-                return Err(CheckFault::Size);
-            }
-            fitting_sorts(alloc, &walk.draft, places.as_slice())
-        }
-        Err(fault) => Err(fault),
-    }
-}
-
-/// What one term means, or its first fault, Size included; of parameters bound around it each stands
-/// as a constant.
-pub fn settle_one(
-    alloc: Global,
-    symbols: &Declarations,
-    parameters: &[(Name, Sort)],
-    term: &Sexpr,
-) -> Result<Body, CheckFault>
-    ensures { Answers (meaning.settled symbols.now (meaning.as_constants bodies.parameter_name parameters.now) (forms (seen term.now ∷ []))) (made_of (λ x. x ∷ []) result) }
-{
-    let mut walk = Walk::new(alloc);
-    let bound = constants(alloc, &mut walk, parameters, true)?;
-    bind(alloc, &mut walk.scope, bound.as_slice())?;
-    match read(alloc, &mut walk, symbols, term) {
-        Ok(place) => {
-            if walk.is_past {
-                return Err(CheckFault::Size);
-            }
-            if !walk.draft.fits(place) {
-                return Err(CheckFault::Size);
-            }
-            Ok(build_at(alloc, &walk.draft, place)?)
-        }
-        Err(fault) => Err(fault),
-    }
-}
-
-/// Whether none at these places is too large.
-fn all_fit(draft: &TermDraft<'_>, places: &[usize]) -> bool
-    ensures { result ≡ list_all sizes.fits (drafts.at_places draft.now places.now) }
-{
-    for place in places {
-        if !draft.fits(*place) {
-            return false;
-        }
-    }
-    true
-}
-
-/// The sorts of what stands at these places, or Size.
-fn fitting_sorts(
-    alloc: Global,
-    draft: &TermDraft<'_>,
-    places: &[usize],
-) -> Result<Items<Sort>, CheckFault>
-    ensures { Answers (made_of (map bodies.body_sort) (walks.fitting (drafts.at_places draft.now places.now))) result }
-{
-    if !all_fit(draft, places) {
-        return Err(CheckFault::Size);
-    }
-    Ok(draft.sorts(alloc, places)?)
 }

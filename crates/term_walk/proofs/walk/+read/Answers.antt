@@ -9,8 +9,8 @@ use Rattle.smt_names.specs.declared.check_fault.CheckFault.{CheckFault}
 use Rattle.smt_names.specs.Signature.{Name}
 use Rattle.term_walk.specs.Walks.{Each, Bound, Read, Here, ReadsMeaning}
 use Rattle.term_walk.proofs.Reading.{fault-first, gathered, single, each-grow, each-append, bound-grow, bound-append}
-use Rattle.smt_names.specs.Shapes.{none-seen, two-seen, seen-List, seen-Atom}
-use Rattle.term_walk.proofs.Termwise.{atom-read, list-read, arm-read, annotated-read, count-seen, application-read, application-fault, go-on, gather-none, gather-next, gather-fault, gather-end, single-read, single-fault, all-read, values-read, rest-seen, within-read, quantifier-read, quantifier-fault, let-few, let-many, quantifier-few, quantifier-many, empty-shape, binding-seen, value-read, value-fault, value-few, value-many, let-read, let-fault, at-least}
+use Rattle.smt_names.specs.Shapes.{none-seen, two-seen, seen-List, seen-Atom, count-seen}
+use Rattle.term_walk.proofs.Termwise.{atom-read, list-read, arm-read, annotated-read, application-read, application-fault, go-on, gather-none, gather-next, gather-fault, gather-end, single-read, single-fault, all-read, values-read, rest-seen, within-read, quantifier-read, quantifier-fault, let-few, let-many, quantifier-few, quantifier-many, empty-shape, binding-seen, value-read, value-fault, value-few, value-many, let-read, let-fault, at-least}
 use Rattle.term_walk.proofs.walk.+read.Goals as goal
 
 pub read-returns-in-Atom : goal.read-returns-in-Atom

@@ -1,5 +1,0 @@
-use Rattle.std.proofs.Common.{◌≡◌, ◌++◌, take}
-use Rattle.term_walk.proofs.walk.bind.Given as goal
-
-abbrev pub invariant-loop-binding : goal.invariant-loop-binding
-invariant-loop-binding l = l.scope ≡ l.fn.scope ++ take l.binding-index l.bound
