@@ -72,10 +72,7 @@ pub fn measure(rt: HostRuntime) {
         twenty_before_the_last(alloc),
         SHORT,
     );
-    let others = match twenty_before_the_last(alloc) {
-        Ok(regex) => complement(alloc, regex),
-        Err(e) => Err(e),
-    };
+    let others = twenty_before_the_last(alloc).and_then(|regex| complement(alloc, regex));
     time(rt, "its complement", others, SHORT);
     time(rt, "a star of 100 words", star_of_words(alloc, 100), 10_000);
 }
