@@ -55,10 +55,6 @@ module _ (symbols : Names) (s : Scope) (old mid new : Walk) (fs : Forms) (n : �
       (then-reads Each Here (λ t. meant_all t symbols s fs) (λ t. applied_head h) old mid new places r first
       (alike Here (λ t. applied_head h (at_places mid.draft places)) (λ t. applied_head h first.what) mid new r (λ t. ap (applied_head h) (each-are mid.draft places first.what first.there)) a))
 
-  pub application-fault : (f : CheckFault) → nat_le 1 n ≡ true → head_count h n ≡ true → ReadsMeaning Each (λ t. meant_all t symbols s fs) old new (Err f) → ReadsMeaning Here (λ t. in_parentheses (Ok h) n (meant_all t symbols s fs)) old new (Err f)
-  application-fault f e g a = fault-first Each Here (λ t. meant_all t symbols s fs) (λ t. in_parentheses (Ok h) n (meant_all t symbols s fs)) old new new f
-      (λ k j. ap (λ z. need z fault.Arity >> application h n (meant_all any_size symbols s fs)) e ∙ ap (λ z. need z fault.Arity >> and_then (applied_head h) (meant_all any_size symbols s fs)) g ∙ ap (and_then (applied_head h)) j) a
-
 -- the part of a walk that follows, in the scope and draft that it begins with
 pub go-on : {X Y : Type 0} {stands : List Body → X → Y → Type 0} {m : Meaning Y} (s : Scope) (old mid : Walk) (x : X) → Read stands m old mid x → Bound old.draft old.scope s → Bound mid.draft mid.scope s
 go-on s old mid x a b = subst (λ (z : List (Name × ℕ)). Bound mid.draft z s) (sym a.back) (bound-grow old.draft a.added mid.draft old.scope s a.more b)

@@ -64,13 +64,9 @@ pub fn note_value(
     ensures { (x : Meant) → Here walk.old.draft place x
         → ReadsMeaning Bound (λ t. walks.bound_to t (tokens.symbol (seen name.now)) x) walk.old walk.new result }
 {
-    match bound_place(alloc, name, place) {
-        Ok(bound) => {
-            note(walk, place);
-            Ok(bound)
-        }
-        Err(error) => Err(CheckFault::Memory(error)),
-    }
+    let bound = bound_place(alloc, name, place)?;
+    note(walk, place);
+    Ok(bound)
 }
 
 /// Binds names to places.
@@ -107,10 +103,7 @@ pub fn constants(
     for variable in variables {
         let bound = variable.0.copy(alloc)?;
         let name = constant_name(alloc, &variable.0, are_parameters)?;
-        match constant(walk, name, variable.1) {
-            Ok(place) => all.push((bound, place))?,
-            Err(fault) => return Err(fault),
-        }
+        all.push((bound, constant(walk, name, variable.1)?))?;
     }
     Ok(all)
 }

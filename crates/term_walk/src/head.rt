@@ -149,10 +149,8 @@ fn indexed_function(
     if name == b"char".as_slice() {
         return character_function(indices);
     }
-    match find_head(alloc, symbols, text) {
-        Ok(_) => Err(CheckFault::Index),
-        Err(fault) => Err(fault),
-    }
+    find_head(alloc, symbols, text)?;
+    Err(CheckFault::Index)
 }
 
 /// What an application begins with.

@@ -28,15 +28,11 @@ pub fn settle_sorts(
     ensures { Answers (meaning.settled_sorts symbols.now [] (forms (map seen terms.now))) result }
 {
     let mut walk = Walk::new(alloc);
-    match read_all(alloc, &mut walk, symbols, terms) {
-        Ok(places) => {
-            if walk.is_past {
-                return Err(CheckFault::Size);
-            }
-            fitting_sorts(alloc, &walk.draft, places.as_slice())
-        }
-        Err(fault) => Err(fault),
+    let places = read_all(alloc, &mut walk, symbols, terms)?;
+    if walk.is_past {
+        return Err(CheckFault::Size);
     }
+    fitting_sorts(alloc, &walk.draft, places.as_slice())
 }
 
 /// What one term means, or its first fault, Size included; of parameters bound around it each stands
@@ -52,18 +48,14 @@ pub fn settle_one(
     let mut walk = Walk::new(alloc);
     let bound = constants(alloc, &mut walk, parameters, true)?;
     bind(alloc, &mut walk.scope, bound.as_slice())?;
-    match read(alloc, &mut walk, symbols, term) {
-        Ok(place) => {
-            if walk.is_past {
-                return Err(CheckFault::Size);
-            }
-            if !walk.draft.fits(place) {
-                return Err(CheckFault::Size);
-            }
-            Ok(build_at(alloc, &walk.draft, place)?)
-        }
-        Err(fault) => Err(fault),
+    let place = read(alloc, &mut walk, symbols, term)?;
+    if walk.is_past {
+        return Err(CheckFault::Size);
     }
+    if !walk.draft.fits(place) {
+        return Err(CheckFault::Size);
+    }
+    Ok(build_at(alloc, &walk.draft, place)?)
 }
 
 /// Whether none at these places is too large.

@@ -65,10 +65,7 @@ fn read_name<'a>(
     let name = Name::of(alloc, text)?;
     match walk.scope.latest(&name) {
         Some(place) => Ok(place),
-        None => match find_head(alloc, symbols, text) {
-            Ok(head) => apply_alone(alloc, walk, head),
-            Err(fault) => Err(fault),
-        },
+        None => apply_alone(alloc, walk, find_head(alloc, symbols, text)?),
     }
 }
 
@@ -102,10 +99,8 @@ fn read_identifier<'a>(
 ) -> Result<usize, CheckFault>
     ensures { ReadsMeaning Here (λ t. meaning.alone (meaning.of_theory (meaning.identified symbols.now (forms (map seen parts.now))))) walk.old walk.new result }
 {
-    match find_function(alloc, symbols, parts) {
-        Ok(function) => apply_alone(alloc, walk, Head::Theory(function)),
-        Err(fault) => Err(fault),
-    }
+    let function = find_function(alloc, symbols, parts)?;
+    apply_alone(alloc, walk, Head::Theory(function))
 }
 
 /// The place of a term, or its first fault.
@@ -147,10 +142,7 @@ pub fn read_all<'a>(
 {
     let mut all = Items::new(alloc);
     for item in items {
-        match read(alloc, walk, symbols, item) {
-            Ok(place) => all.push(place)?,
-            Err(fault) => return Err(fault),
-        }
+        all.push(read(alloc, walk, symbols, item)?)?;
     }
     Ok(all)
 }
@@ -166,21 +158,15 @@ fn read_application<'a>(
     ensures { (s : meaning.Scope) → Bound walk.old.draft walk.old.scope s
         → ReadsMeaning Here (λ t. meaning.in_parentheses (meaning.head symbols.now (seen first.now)) (length rest.now) (meaning.meant_all t symbols.now s (forms (map seen rest.now)))) walk.old walk.new result }
 {
-    match head_of(alloc, symbols, first) {
-        Ok(head) => {
-            if rest.is_empty() {
-                return Err(CheckFault::Arity);
-            }
-            if !head.takes_count(rest.len()) {
-                return Err(CheckFault::Arity);
-            }
-            match read_all(alloc, walk, symbols, rest) {
-                Ok(places) => apply(alloc, walk, head, places),
-                Err(fault) => Err(fault),
-            }
-        }
-        Err(fault) => Err(fault),
+    let head = head_of(alloc, symbols, first)?;
+    if rest.is_empty() {
+        return Err(CheckFault::Arity);
     }
+    if !head.takes_count(rest.len()) {
+        return Err(CheckFault::Arity);
+    }
+    let places = read_all(alloc, walk, symbols, rest)?;
+    apply(alloc, walk, head, places)
 }
 
 #[cycle(read)]
@@ -200,10 +186,8 @@ fn read_let<'a>(
                 if !are_bindings(bindings) {
                     return Err(CheckFault::Shape);
                 }
-                match read_values(alloc, walk, symbols, bindings) {
-                    Ok(bound) => read_within(alloc, walk, symbols, bound, body),
-                    Err(fault) => Err(fault),
-                }
+                let bound = read_values(alloc, walk, symbols, bindings)?;
+                read_within(alloc, walk, symbols, bound, body)
             }
             Sexpr::Atom(_, _) => Err(CheckFault::Shape),
         },
@@ -224,10 +208,7 @@ fn read_values<'a>(
 {
     let mut all = Items::new(alloc);
     for binding in bindings {
-        match read_value(alloc, walk, symbols, binding) {
-            Ok(bound) => all.append(bound)?,
-            Err(fault) => return Err(fault),
-        }
+        all.append(read_value(alloc, walk, symbols, binding)?)?;
     }
     Ok(all)
 }
@@ -245,10 +226,10 @@ fn read_value<'a>(
 {
     match binding {
         Sexpr::List(items) => match items.as_slice() {
-            [name, value] => match read(alloc, walk, symbols, value) {
-                Ok(place) => note_value(alloc, walk, name, place),
-                Err(fault) => Err(fault),
-            },
+            [name, value] => {
+                let place = read(alloc, walk, symbols, value)?;
+                note_value(alloc, walk, name, place)
+            }
             _ => Err(CheckFault::Shape),
         },
         Sexpr::Atom(_, _) => Err(CheckFault::Shape),
@@ -269,13 +250,9 @@ fn read_within<'a>(
 {
     let mark = walk.scope.len();
     bind(alloc, &mut walk.scope, bound.as_slice())?;
-    match read(alloc, walk, symbols, body) {
-        Ok(place) => {
-            walk.scope.leave(mark);
-            Ok(place)
-        }
-        Err(fault) => Err(fault),
-    }
+    let place = read(alloc, walk, symbols, body)?;
+    walk.scope.leave(mark);
+    Ok(place)
 }
 
 #[cycle(read)]
@@ -297,10 +274,8 @@ fn read_quantifier<'a>(
                 }
                 let variables = variables(alloc, bound)?;
                 let constants = constants(alloc, walk, variables.as_slice(), false)?;
-                match read_within(alloc, walk, symbols, constants, body) {
-                    Ok(place) => quantify(walk, place),
-                    Err(fault) => Err(fault),
-                }
+                let place = read_within(alloc, walk, symbols, constants, body)?;
+                quantify(walk, place)
             }
             Sexpr::Atom(_, _) => Err(CheckFault::Shape),
         },

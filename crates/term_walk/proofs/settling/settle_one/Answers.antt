@@ -11,7 +11,7 @@ returns-then-walk c =
     let e = c.in_ok-bind.ensures ∙ ap (λ z. c.constants.new.walk.scope ++ z) c.as_slice.ensures in
     let b = begin-bound c.new-walk.result c.constants.new.walk c.args.parameters.now c.in_ok-bound.bound c.in_ok-bound.ensures c.bind.new.scope c.new-walk.ensures.scope e in
     let p = begin-past c.new-walk.result c.constants.new.walk c.args.parameters.now c.in_ok-bound.bound c.in_ok-bound.ensures c.new-walk.ensures.past in
-    one-past c.args.symbols.now s (seen c.args.term.now) (record c.constants.new.walk { scope = c.bind.new.scope }) c.read.new.walk c.in-Ok.place (c.in-Ok.ensures s b) p c.if-walk.true
+    one-past c.args.symbols.now s (seen c.args.term.now) (record c.constants.new.walk { scope = c.bind.new.scope }) c.read.new.walk c.in_ok-place.place (c.in_ok-place.ensures s b) p c.if-walk.true
 
 pub returns-then-not-fits : goal.returns-then-not-fits
 returns-then-not-fits c =
@@ -19,12 +19,12 @@ returns-then-not-fits c =
     let e = c.in_ok-bind.ensures ∙ ap (λ z. c.constants.new.walk.scope ++ z) c.as_slice.ensures in
     let b = begin-bound c.new-walk.result c.constants.new.walk c.args.parameters.now c.in_ok-bound.bound c.in_ok-bound.ensures c.bind.new.scope c.new-walk.ensures.scope e in
     let p = begin-past c.new-walk.result c.constants.new.walk c.args.parameters.now c.in_ok-bound.bound c.in_ok-bound.ensures c.new-walk.ensures.past in
-    one-unfit c.args.symbols.now s (seen c.args.term.now) (record c.constants.new.walk { scope = c.bind.new.scope }) c.read.new.walk c.in-Ok.place (c.in-Ok.ensures s b) p c.if-walk.false (sym c.fits.ensures ∙ c.if-not-fits.true)
+    one-unfit c.args.symbols.now s (seen c.args.term.now) (record c.constants.new.walk { scope = c.bind.new.scope }) c.read.new.walk c.in_ok-place.place (c.in_ok-place.ensures s b) p c.if-walk.false (sym c.fits.ensures ∙ c.if-not-fits.true)
 
-pub returns-in-Ok : goal.returns-in-Ok
-returns-in-Ok c =
+pub returns : goal.returns
+returns c =
     let s = as_constants parameter_name c.args.parameters.now in
     let e = c.in_ok-bind.ensures ∙ ap (λ z. c.constants.new.walk.scope ++ z) c.as_slice.ensures in
     let b = begin-bound c.new-walk.result c.constants.new.walk c.args.parameters.now c.in_ok-bound.bound c.in_ok-bound.ensures c.bind.new.scope c.new-walk.ensures.scope e in
     let p = begin-past c.new-walk.result c.constants.new.walk c.args.parameters.now c.in_ok-bound.bound c.in_ok-bound.ensures c.new-walk.ensures.past in
-    one-settled c.args.symbols.now s (seen c.args.term.now) (record c.constants.new.walk { scope = c.bind.new.scope }) c.read.new.walk c.in-Ok.place (c.in-Ok.ensures s b) p c.in_ok-build_at-in-Ok.field-0 c.if-walk.false (sym c.fits.ensures ∙ c.if-not-fits.false) c.in_ok-build_at-in-Ok.ensures
+    one-settled c.args.symbols.now s (seen c.args.term.now) (record c.constants.new.walk { scope = c.bind.new.scope }) c.read.new.walk c.in_ok-place.place (c.in_ok-place.ensures s b) p c.in_ok-build_at.field-0 c.if-walk.false (sym c.fits.ensures ∙ c.if-not-fits.false) c.in_ok-build_at.ensures

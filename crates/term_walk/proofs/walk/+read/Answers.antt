@@ -1,5 +1,6 @@
 use Rattle.std.proofs.Common.{◌≡◌, refl, sym, ap, subst, ◌∙◌, ◌-◌, ◌+◌, ◌∷◌, [], ◌++◌, take, drop, map, length, Ok, Err, List, ℕ, Result, arith}
 use Rattle.std.proofs.lemmas.Grind.{common_steps}
+use Rattle.std.proofs.lemmas.Result.{err_from_is_err_and}
 use Rattle.sexpr_reader.specs.declared.sexpr.Sexpr.TheVariants as v
 use Rattle.smt_names.specs.declared.opening.Opening.TheVariants as o
 use Rattle.smt_names.specs.Form.{forms, seen, end, ◌⨾◌}
@@ -10,7 +11,7 @@ use Rattle.smt_names.specs.Signature.{Name}
 use Rattle.term_walk.specs.Walks.{Each, Bound, Read, Here, ReadsMeaning}
 use Rattle.term_walk.proofs.Reading.{fault-first, gathered, single, each-grow, each-append, bound-grow, bound-append}
 use Rattle.smt_names.specs.Shapes.{none-seen, two-seen, seen-List, seen-Atom, count-seen}
-use Rattle.term_walk.proofs.Termwise.{atom-read, list-read, arm-read, annotated-read, application-read, application-fault, go-on, gather-none, gather-next, gather-fault, gather-end, single-read, single-fault, all-read, values-read, rest-seen, within-read, quantifier-read, quantifier-fault, let-few, let-many, quantifier-few, quantifier-many, empty-shape, binding-seen, value-read, value-fault, value-few, value-many, let-read, let-fault, at-least}
+use Rattle.term_walk.proofs.Termwise.{atom-read, list-read, arm-read, annotated-read, application-read, go-on, gather-none, gather-next, gather-fault, gather-end, single-read, single-fault, all-read, values-read, rest-seen, within-read, quantifier-read, quantifier-fault, let-few, let-many, quantifier-few, quantifier-many, empty-shape, binding-seen, value-read, value-fault, value-few, value-many, let-read, let-fault, at-least}
 use Rattle.term_walk.proofs.walk.+read.Goals as goal
 
 pub read-returns-in-Atom : goal.read-returns-in-Atom
@@ -23,39 +24,25 @@ pub read_all-loop-item-preserved : goal.read_all-loop-item-preserved
 read_all-loop-item-preserved t c =
     λ s b.
     let a = c.loop-item.invariant s b in
-    subst (λ (z : List ℕ). Read Each (λ t. gathered (λ f. single (meant t c.args.symbols.now s f)) (map seen (take (c.loop-item.item-index + 1) c.args.items.now))) c.args.walk.now c.read.new.walk z) (sym c.in_ok-push-in-Ok.ensures.ok)
-    (gather-next Each each-grow each-append (λ t f. single (meant t c.args.symbols.now s f)) c.args.items.now c.loop-item.item-index c.item-item.result c.args.walk.now c.loop-item.walk c.read.new.walk c.loop-item.all (c.in-Ok.place ∷ []) c.loop-item-test.true c.item-item.is a
-    (single-read (λ t. meant t c.args.symbols.now s (seen c.item-item.result)) c.loop-item.walk c.read.new.walk c.in-Ok.place (c.in-Ok.ensures s (go-on s c.args.walk.now c.loop-item.walk c.loop-item.all a b))))
-
-pub read_all-returns-in-Err : goal.read_all-returns-in-Err
-read_all-returns-in-Err t c =
-    λ s b.
-    let a = c.loop-item.invariant s b in
-    all-read c.args.symbols.now s c.args.items.now c.args.walk.now c.read.new.walk (Err c.in-Err.fault)
-    (gather-fault Each each-grow each-append (λ t f. single (meant t c.args.symbols.now s f)) c.args.items.now c.loop-item.item-index c.item-item.result c.args.walk.now c.loop-item.walk c.read.new.walk c.loop-item.all c.in-Err.fault c.loop-item-test.true c.item-item.is a
-    (single-fault (λ t. meant t c.args.symbols.now s (seen c.item-item.result)) c.loop-item.walk c.read.new.walk c.in-Err.fault (c.in-Err.ensures s (go-on s c.args.walk.now c.loop-item.walk c.loop-item.all a b))))
+    subst (λ (z : List ℕ). Read Each (λ t. gathered (λ f. single (meant t c.args.symbols.now s f)) (map seen (take (c.loop-item.item-index + 1) c.args.items.now))) c.args.walk.now c.read.new.walk z) (sym c.in_ok-push.ensures.ok)
+    (gather-next Each each-grow each-append (λ t f. single (meant t c.args.symbols.now s f)) c.args.items.now c.loop-item.item-index c.item-item.result c.args.walk.now c.loop-item.walk c.read.new.walk c.loop-item.all (c.in_ok-read.field-0 ∷ []) c.loop-item-test.true c.item-item.is a
+    (single-read (λ t. meant t c.args.symbols.now s (seen c.item-item.result)) c.loop-item.walk c.read.new.walk c.in_ok-read.field-0 (c.in_ok-read.ensures s (go-on s c.args.walk.now c.loop-item.walk c.loop-item.all a b))))
 
 pub read_all-returns : goal.read_all-returns
 read_all-returns t c = λ s b. all-read c.args.symbols.now s c.args.items.now c.args.walk.now c.loop-item.walk (Ok c.loop-item.all) (gather-end Each each-grow each-append (λ t f. single (meant t c.args.symbols.now s f)) c.args.items.now c.loop-item.item-index c.args.walk.now c.loop-item.walk c.loop-item.all (omega arith) (c.loop-item.invariant s b))
 
-pub read_application-returns-in-Ok-read_all : goal.read_application-returns-in-Ok-read_all
-read_application-returns-in-Ok-read_all t c =
+pub read_application-returns : goal.read_application-returns
+read_application-returns t c =
     λ s b.
-    let a = c.in-Ok-read_all.ensures s b in
-    subst (λ (r : Result Head CheckFault). ReadsMeaning Here (λ t. in_parentheses r (length c.args.rest.now) (meant_all t c.args.symbols.now s (forms (map seen c.args.rest.now)))) c.args.walk.now c.apply.new.walk c.apply.result) (sym c.in-Ok.ensures)
-    (application-read c.args.symbols.now s c.args.walk.now c.read_all.new.walk c.apply.new.walk (forms (map seen c.args.rest.now)) (length c.args.rest.now) (kept c.in-Ok.head) c.in-Ok-read_all.places c.apply.result (at-least c.args.rest.now (sym c.is_empty.ensures ∙ c.if-is_empty.false)) (sym c.takes_count.ensures ∙ c.if-not-takes_count.false) a c.apply.ensures)
+    let a = c.in_ok-places.ensures s b in
+    subst (λ (r : Result Head CheckFault). ReadsMeaning Here (λ t. in_parentheses r (length c.args.rest.now) (meant_all t c.args.symbols.now s (forms (map seen c.args.rest.now)))) c.args.walk.now c.apply.new.walk c.apply.result) (sym c.in_ok-head.ensures)
+    (application-read c.args.symbols.now s c.args.walk.now c.read_all.new.walk c.apply.new.walk (forms (map seen c.args.rest.now)) (length c.args.rest.now) (kept c.in_ok-head.head) c.in_ok-places.places c.apply.result (at-least c.args.rest.now (sym c.is_empty.ensures ∙ c.if-is_empty.false)) (sym c.takes_count.ensures ∙ c.if-not-takes_count.false) a c.apply.ensures)
 
-pub read_application-returns-in-Err-read_all : goal.read_application-returns-in-Err-read_all
-read_application-returns-in-Err-read_all t c = λ s b. subst (λ (r : Result Head CheckFault). ReadsMeaning Here (λ t. in_parentheses r (length c.args.rest.now) (meant_all t c.args.symbols.now s (forms (map seen c.args.rest.now)))) c.args.walk.now c.read_all.new.walk (Err c.in-Err-read_all.fault)) (sym c.in-Ok.ensures) (application-fault c.args.symbols.now s c.args.walk.now c.read_all.new.walk c.read_all.new.walk (forms (map seen c.args.rest.now)) (length c.args.rest.now) (kept c.in-Ok.head) c.in-Err-read_all.fault (at-least c.args.rest.now (sym c.is_empty.ensures ∙ c.if-is_empty.false)) (sym c.takes_count.ensures ∙ c.if-not-takes_count.false) (c.in-Err-read_all.ensures s b))
-
-pub read_let-returns-in-Ok : goal.read_let-returns-in-Ok
-read_let-returns-in-Ok t c =
+pub read_let-returns-in_ok-bound-in-List : goal.read_let-returns-in_ok-bound-in-List
+read_let-returns-in_ok-bound-in-List t c =
     λ s b.
-    let a = c.in-Ok.ensures s b in
-    let-read c.args.symbols.now s c.args.walk.now c.read_values.new.walk c.read_within.new.walk c.as_slice-bindings.result.now (seen c.body-item.result) (forms (map seen c.args.parts.now)) c.in-Ok.bound c.read_within.result (two-seen c.args.parts.now c.bindings-item.result c.body-item.result c.in-len2.len_at_least c.in-len2.len_below c.bindings-item.is c.body-item.is ∙ ap (λ z. z ⨾ seen c.body-item.result ⨾ end) (ap seen (c.in-List.is ∙ ap v.List (sym c.as_slice-bindings.ensures)) ∙ seen-List c.as_slice-bindings.result.now)) (sym c.if-not-are_bindings.ensures) a (c.read_within.ensures s a.what (go-on s c.args.walk.now c.read_values.new.walk c.in-Ok.bound a b) a.there)
-
-pub read_let-returns-in-Err : goal.read_let-returns-in-Err
-read_let-returns-in-Err t c = λ s b. let-fault c.args.symbols.now s c.args.walk.now c.read_values.new.walk c.as_slice-bindings.result.now (seen c.body-item.result) (forms (map seen c.args.parts.now)) c.in-Err.fault (two-seen c.args.parts.now c.bindings-item.result c.body-item.result c.in-len2.len_at_least c.in-len2.len_below c.bindings-item.is c.body-item.is ∙ ap (λ z. z ⨾ seen c.body-item.result ⨾ end) (ap seen (c.in-List.is ∙ ap v.List (sym c.as_slice-bindings.ensures)) ∙ seen-List c.as_slice-bindings.result.now)) (sym c.if-not-are_bindings.ensures) (c.in-Err.ensures s b)
+    let a = c.in_ok-bound-in-List.ensures s b in
+    let-read c.args.symbols.now s c.args.walk.now c.read_values.new.walk c.read_within.new.walk c.as_slice-bindings.result.now (seen c.body-item.result) (forms (map seen c.args.parts.now)) c.in_ok-bound-in-List.bound c.read_within.result (two-seen c.args.parts.now c.bindings-item.result c.body-item.result c.in-len2.len_at_least c.in-len2.len_below c.bindings-item.is c.body-item.is ∙ ap (λ z. z ⨾ seen c.body-item.result ⨾ end) (ap seen (c.in-List.is ∙ ap v.List (sym c.as_slice-bindings.ensures)) ∙ seen-List c.as_slice-bindings.result.now)) (sym c.if-not-are_bindings.ensures) a (c.read_within.ensures s a.what (go-on s c.args.walk.now c.read_values.new.walk c.in_ok-bound-in-List.bound a b) a.there)
 
 pub read_values-loop-binding-init : goal.read_values-loop-binding-init
 read_values-loop-binding-init t c = λ s b. subst (λ (z : List (Name × ℕ)). Read Bound (λ t. gathered (meant_value t c.args.symbols.now s) (map seen (take 0 c.args.bindings.now))) c.args.walk.now c.args.walk.now z) (sym c.new-all.ensures) (gather-none Bound bound-grow bound-append (λ t. meant_value t c.args.symbols.now s) c.args.walk.now tt)
@@ -64,26 +51,15 @@ pub read_values-loop-binding-preserved : goal.read_values-loop-binding-preserved
 read_values-loop-binding-preserved t c =
     λ s b.
     let a = c.loop-binding.invariant s b in
-    subst (λ (z : List (Name × ℕ)). Read Bound (λ t. gathered (meant_value t c.args.symbols.now s) (map seen (take (c.loop-binding.binding-index + 1) c.args.bindings.now))) c.args.walk.now c.read_value.new.walk z) (sym c.in_ok-append-in-Ok.ensures.ok)
-    (gather-next Bound bound-grow bound-append (λ t. meant_value t c.args.symbols.now s) c.args.bindings.now c.loop-binding.binding-index c.binding-item.result c.args.walk.now c.loop-binding.walk c.read_value.new.walk c.loop-binding.all c.in-Ok.bound c.loop-binding-test.true c.binding-item.is a
-    (c.in-Ok.ensures s (go-on s c.args.walk.now c.loop-binding.walk c.loop-binding.all a b)))
+    subst (λ (z : List (Name × ℕ)). Read Bound (λ t. gathered (meant_value t c.args.symbols.now s) (map seen (take (c.loop-binding.binding-index + 1) c.args.bindings.now))) c.args.walk.now c.read_value.new.walk z) (sym c.in_ok-append.ensures.ok)
+    (gather-next Bound bound-grow bound-append (λ t. meant_value t c.args.symbols.now s) c.args.bindings.now c.loop-binding.binding-index c.binding-item.result c.args.walk.now c.loop-binding.walk c.read_value.new.walk c.loop-binding.all c.in_ok-read_value.field-0 c.loop-binding-test.true c.binding-item.is a
+    (c.in_ok-read_value.ensures s (go-on s c.args.walk.now c.loop-binding.walk c.loop-binding.all a b)))
 
 pub read_values-returns : goal.read_values-returns
 read_values-returns t c = λ s b. values-read c.args.symbols.now s c.args.bindings.now c.args.walk.now c.loop-binding.walk (Ok c.loop-binding.all) (gather-end Bound bound-grow bound-append (λ t. meant_value t c.args.symbols.now s) c.args.bindings.now c.loop-binding.binding-index c.args.walk.now c.loop-binding.walk c.loop-binding.all (omega arith) (c.loop-binding.invariant s b))
 
-pub read_values-returns-in-Err : goal.read_values-returns-in-Err
-read_values-returns-in-Err t c =
-    λ s b.
-    let a = c.loop-binding.invariant s b in
-    values-read c.args.symbols.now s c.args.bindings.now c.args.walk.now c.read_value.new.walk (Err c.in-Err.fault)
-    (gather-fault Bound bound-grow bound-append (λ t. meant_value t c.args.symbols.now s) c.args.bindings.now c.loop-binding.binding-index c.binding-item.result c.args.walk.now c.loop-binding.walk c.read_value.new.walk c.loop-binding.all c.in-Err.fault c.loop-binding-test.true c.binding-item.is a
-    (c.in-Err.ensures s (go-on s c.args.walk.now c.loop-binding.walk c.loop-binding.all a b)))
-
-pub read_value-returns-in-Ok : goal.read_value-returns-in-Ok
-read_value-returns-in-Ok t c = λ s b. value-read c.args.symbols.now s (seen c.args.binding.now) (seen c.name-item.result) (seen c.value-item.result) c.args.walk.now c.read.new.walk c.note_value.new.walk c.in-Ok.place c.note_value.result (binding-seen c.args.binding.now c.as_slice.result.now (c.in-List.is ∙ ap v.List (sym c.as_slice.ensures)) c.name-item.result c.value-item.result c.in-len2.len_at_least c.in-len2.len_below c.name-item.is c.value-item.is) (c.in-Ok.ensures s b) (c.note_value.ensures (c.in-Ok.ensures s b).what (c.in-Ok.ensures s b).there)
-
-pub read_value-returns-in-Err : goal.read_value-returns-in-Err
-read_value-returns-in-Err t c = λ s b. value-fault c.args.symbols.now s (seen c.args.binding.now) (seen c.name-item.result) (seen c.value-item.result) c.args.walk.now c.read.new.walk c.in-Err.fault (binding-seen c.args.binding.now c.as_slice.result.now (c.in-List.is ∙ ap v.List (sym c.as_slice.ensures)) c.name-item.result c.value-item.result c.in-len2.len_at_least c.in-len2.len_below c.name-item.is c.value-item.is) (c.in-Err.ensures s b)
+pub read_value-returns-in_ok-place-in-len2 : goal.read_value-returns-in_ok-place-in-len2
+read_value-returns-in_ok-place-in-len2 t c = λ s b. value-read c.args.symbols.now s (seen c.args.binding.now) (seen c.name-item.result) (seen c.value-item.result) c.args.walk.now c.read.new.walk c.note_value.new.walk c.in_ok-place-in-len2.place c.note_value.result (binding-seen c.args.binding.now c.as_slice.result.now (c.in-List.is ∙ ap v.List (sym c.as_slice.ensures)) c.name-item.result c.value-item.result c.in-len2.len_at_least c.in-len2.len_below c.name-item.is c.value-item.is) (c.in_ok-place-in-len2.ensures s b) (c.note_value.ensures (c.in_ok-place-in-len2.ensures s b).what (c.in_ok-place-in-len2.ensures s b).there)
 
 pub read_value-returns-in_default : goal.read_value-returns-in_default
 read_value-returns-in_default t c =
@@ -95,26 +71,19 @@ read_value-returns-in_default t c =
 pub read_value-returns-in-Atom : goal.read_value-returns-in-Atom
 read_value-returns-in-Atom t c = λ s b. ap (meant_value any_size c.args.symbols.now s) (ap seen c.in-Atom.is ∙ seen-Atom c.in-Atom.field-0 c.in-Atom.field-1)
 
-pub read_within-returns-in-Ok : goal.read_within-returns-in-Ok
-read_within-returns-in-Ok t c =
-    λ s q b d.
-    let e : c.bind.new.scope ≡ c.args.walk.now.scope ++ c.args.bound = c.in_ok-bind.ensures ∙ ap (λ z. c.args.walk.now.scope ++ z) c.as_slice.ensures in
-    let k : Bound c.args.walk.now.draft c.bind.new.scope (s ++ q) = subst (λ (z : List (Name × ℕ)). Bound c.args.walk.now.draft z (s ++ q)) (sym e) (bound-append c.args.walk.now.draft c.args.walk.now.scope c.args.bound s q b d) in
-    within-read (λ t. meant t c.args.symbols.now (s ++ q) (seen c.args.body.now)) c.args.walk.now (record c.args.walk.now { scope = c.bind.new.scope }) c.read.new.walk (record c.read.new.walk { scope = c.leave.new.self }) c.args.bound c.in-Ok.place c.len-mark.result e refl refl c.len-mark.ensures (c.in-Ok.ensures (s ++ q) k) (ap (λ z. record c.read.new.walk { scope = z }) c.leave.ensures)
-
-pub read_quantifier-returns-in-Ok : goal.read_quantifier-returns-in-Ok
-read_quantifier-returns-in-Ok t c =
-    λ s b.
-    let first = c.in_ok-constants-in-List.ensures in
-    let second = c.in-Ok.ensures s first.what (go-on s c.args.walk.now c.constants.new.walk c.in_ok-constants-in-List.constants first b) first.there in
-    quantifier-read c.args.symbols.now s c.as_slice-bound.result.now (seen c.body-item.result) (forms (map seen c.args.parts.now)) (two-seen c.args.parts.now c.bound-item.result c.body-item.result c.in-len2.len_at_least c.in-len2.len_below c.bound-item.is c.body-item.is ∙ ap (λ z. z ⨾ seen c.body-item.result ⨾ end) (ap seen (c.in-List.is ∙ ap v.List (sym c.as_slice-bound.ensures)) ∙ seen-List c.as_slice-bound.result.now)) c.args.walk.now c.constants.new.walk c.read_within.new.walk c.quantify.new.walk c.as_slice.result.now c.in_ok-constants-in-List.constants c.in-Ok.place c.quantify.result (sym c.if-not-are_variables.ensures) (c.as_slice.ensures ∙ c.in_ok-variables-in-List.ensures) first second (c.quantify.ensures second.what second.there)
-
 pub read_within-returns : goal.read_within-returns
 read_within-returns t c =
     λ s q b d.
     let e : c.bind.new.scope ≡ c.args.walk.now.scope ++ c.args.bound = c.in_ok-bind.ensures ∙ ap (λ z. c.args.walk.now.scope ++ z) c.as_slice.ensures in
     let k : Bound c.args.walk.now.draft c.bind.new.scope (s ++ q) = subst (λ (z : List (Name × ℕ)). Bound c.args.walk.now.draft z (s ++ q)) (sym e) (bound-append c.args.walk.now.draft c.args.walk.now.scope c.args.bound s q b d) in
-    fault-first Here Here (λ t. meant t c.args.symbols.now (s ++ q) (seen c.args.body.now)) (λ t. meant t c.args.symbols.now (s ++ q) (seen c.args.body.now)) c.args.walk.now c.read.new.walk c.read.new.walk c.in-Err.fault (λ z h. h) (c.in-Err.ensures (s ++ q) k)
+    within-read (λ t. meant t c.args.symbols.now (s ++ q) (seen c.args.body.now)) c.args.walk.now (record c.args.walk.now { scope = c.bind.new.scope }) c.read.new.walk (record c.read.new.walk { scope = c.leave.new.self }) c.args.bound c.in_ok-place.place c.len-mark.result e refl refl c.len-mark.ensures (c.in_ok-place.ensures (s ++ q) k) (ap (λ z. record c.read.new.walk { scope = z }) c.leave.ensures)
+
+pub read_quantifier-returns-in_ok-place-in-List : goal.read_quantifier-returns-in_ok-place-in-List
+read_quantifier-returns-in_ok-place-in-List t c =
+    λ s b.
+    let first = c.in_ok-constants-in-List.ensures in
+    let second = c.in_ok-place-in-List.ensures s first.what (go-on s c.args.walk.now c.constants.new.walk c.in_ok-constants-in-List.constants first b) first.there in
+    quantifier-read c.args.symbols.now s c.as_slice-bound.result.now (seen c.body-item.result) (forms (map seen c.args.parts.now)) (two-seen c.args.parts.now c.bound-item.result c.body-item.result c.in-len2.len_at_least c.in-len2.len_below c.bound-item.is c.body-item.is ∙ ap (λ z. z ⨾ seen c.body-item.result ⨾ end) (ap seen (c.in-List.is ∙ ap v.List (sym c.as_slice-bound.ensures)) ∙ seen-List c.as_slice-bound.result.now)) c.args.walk.now c.constants.new.walk c.read_within.new.walk c.quantify.new.walk c.as_slice.result.now c.in_ok-constants-in-List.constants c.in_ok-place-in-List.place c.quantify.result (sym c.if-not-are_variables.ensures) (c.as_slice.ensures ∙ c.in_ok-variables-in-List.ensures) first second (c.quantify.ensures second.what second.there)
 
 pub read-returns-in-Let : goal.read-returns-in-Let
 read-returns-in-Let t c = λ s b. list-read c.args.symbols.now s c.args.walk.now c.read_let.new.walk c.read_let.result c.args.item.now c.in-List.items c.as_slice-in-List.result.now c.in-List.is c.as_slice-in-List.ensures (arm-read c.args.symbols.now s c.args.walk.now c.read_let.new.walk c.read_let.result (forms (map seen c.as_slice-in-List.result.now)) (forms (map seen (take (length c.as_slice-in-List.result.now - 1) (drop 1 c.as_slice-in-List.result.now)))) (seen c.first-item.result) o.Let (rest-seen c.as_slice-in-List.result.now c.first-item.result c.in-len1-up.len_at_least c.first-item.is) (sym c.opening.ensures ∙ c.in-Let.is) (c.read_let.ensures s b))
@@ -149,14 +118,8 @@ read_quantifier-returns-in_default t c = λ s b. quantifier-few any_size c.args.
 pub read_quantifier-returns-in_default-2 : goal.read_quantifier-returns-in_default-2
 read_quantifier-returns-in_default-2 t c = λ s b. quantifier-many any_size c.args.symbols.now s c.args.parts.now c.in_default.len_at_least
 
-pub read_quantifier-returns-in-List : goal.read_quantifier-returns-in-List
-read_quantifier-returns-in-List t c =
-    λ s b.
-    let first = c.in_ok-constants-in-List.ensures in
-    quantifier-fault c.args.symbols.now s c.as_slice-bound.result.now (seen c.body-item.result) (forms (map seen c.args.parts.now)) (two-seen c.args.parts.now c.bound-item.result c.body-item.result c.in-len2.len_at_least c.in-len2.len_below c.bound-item.is c.body-item.is ∙ ap (λ z. z ⨾ seen c.body-item.result ⨾ end) (ap seen (c.in-List.is ∙ ap v.List (sym c.as_slice-bound.ensures)) ∙ seen-List c.as_slice-bound.result.now)) c.args.walk.now c.constants.new.walk c.read_within.new.walk c.as_slice.result.now c.in_ok-constants-in-List.constants c.in-Err.fault (sym c.if-not-are_variables.ensures) (c.as_slice.ensures ∙ c.in_ok-variables-in-List.ensures) first (c.in-Err.ensures s first.what (go-on s c.args.walk.now c.constants.new.walk c.in_ok-constants-in-List.constants first b) first.there)
-
-pub read_quantifier-returns-in-len2 : goal.read_quantifier-returns-in-len2
-read_quantifier-returns-in-len2 t c =
+pub read_quantifier-returns-in-Atom : goal.read_quantifier-returns-in-Atom
+read_quantifier-returns-in-Atom t c =
     λ s b. ap (meant_quantifier any_size c.args.symbols.now s) (two-seen c.args.parts.now c.bound-item.result c.body-item.result c.in-len2.len_at_least c.in-len2.len_below c.bound-item.is c.body-item.is ∙ ap (λ z. z ⨾ seen c.body-item.result ⨾ end) (ap seen c.in-Atom.is ∙ seen-Atom c.in-Atom.field-0 c.in-Atom.field-1))
 
 pub read_let-returns-in-Atom : goal.read_let-returns-in-Atom
@@ -165,3 +128,48 @@ read_let-returns-in-Atom t c =
 
 pub read_annotated-returns-in-empty : goal.read_annotated-returns-in-empty
 read_annotated-returns-in-empty t c = λ s b. ap (meant_annotated any_size c.args.symbols.now s) (none-seen c.args.parts.now c.in-empty.len_below)
+
+pub read_all-returns-in_err-read : goal.read_all-returns-in_err-read
+read_all-returns-in_err-read t c =
+    λ s b.
+    let a = c.loop-item.invariant s b in
+    let exit = err_from_is_err_and c.from_residual.result c.from_residual.ensures.1 in
+    rw (exit.1, exit.2) (all-read c.args.symbols.now s c.args.items.now c.args.walk.now c.read.new.walk (Err c.in_err-read.field-0.0)
+    (gather-fault Each each-grow each-append (λ t f. single (meant t c.args.symbols.now s f)) c.args.items.now c.loop-item.item-index c.item-item.result c.args.walk.now c.loop-item.walk c.read.new.walk c.loop-item.all c.in_err-read.field-0.0 c.loop-item-test.true c.item-item.is a
+    (single-fault (λ t. meant t c.args.symbols.now s (seen c.item-item.result)) c.loop-item.walk c.read.new.walk c.in_err-read.field-0.0 (c.in_err-read.ensures s (go-on s c.args.walk.now c.loop-item.walk c.loop-item.all a b)))))
+
+pub read_let-returns-in_err-bound-in-List : goal.read_let-returns-in_err-bound-in-List
+read_let-returns-in_err-bound-in-List t c =
+    λ s b.
+    let exit = err_from_is_err_and c.from_residual.result c.from_residual.ensures.1 in
+    rw (exit.1, exit.2) (let-fault c.args.symbols.now s c.args.walk.now c.read_values.new.walk c.as_slice-bindings.result.now (seen c.body-item.result) (forms (map seen c.args.parts.now)) c.in_err-bound-in-List.field-0.0 (two-seen c.args.parts.now c.bindings-item.result c.body-item.result c.in-len2.len_at_least c.in-len2.len_below c.bindings-item.is c.body-item.is ∙ ap (λ z. z ⨾ seen c.body-item.result ⨾ end) (ap seen (c.in-List.is ∙ ap v.List (sym c.as_slice-bindings.ensures)) ∙ seen-List c.as_slice-bindings.result.now)) (sym c.if-not-are_bindings.ensures) (c.in_err-bound-in-List.ensures s b))
+
+pub read_values-returns-in_err-read_value : goal.read_values-returns-in_err-read_value
+read_values-returns-in_err-read_value t c =
+    λ s b.
+    let a = c.loop-binding.invariant s b in
+    let exit = err_from_is_err_and c.from_residual.result c.from_residual.ensures.1 in
+    rw (exit.1, exit.2) (values-read c.args.symbols.now s c.args.bindings.now c.args.walk.now c.read_value.new.walk (Err c.in_err-read_value.field-0.0)
+    (gather-fault Bound bound-grow bound-append (λ t. meant_value t c.args.symbols.now s) c.args.bindings.now c.loop-binding.binding-index c.binding-item.result c.args.walk.now c.loop-binding.walk c.read_value.new.walk c.loop-binding.all c.in_err-read_value.field-0.0 c.loop-binding-test.true c.binding-item.is a
+    (c.in_err-read_value.ensures s (go-on s c.args.walk.now c.loop-binding.walk c.loop-binding.all a b))))
+
+pub read_value-returns-in_err-place-in-len2 : goal.read_value-returns-in_err-place-in-len2
+read_value-returns-in_err-place-in-len2 t c =
+    λ s b.
+    let exit = err_from_is_err_and c.from_residual.result c.from_residual.ensures.1 in
+    rw (exit.1, exit.2) (value-fault c.args.symbols.now s (seen c.args.binding.now) (seen c.name-item.result) (seen c.value-item.result) c.args.walk.now c.read.new.walk c.in_err-place-in-len2.field-0.0 (binding-seen c.args.binding.now c.as_slice.result.now (c.in-List.is ∙ ap v.List (sym c.as_slice.ensures)) c.name-item.result c.value-item.result c.in-len2.len_at_least c.in-len2.len_below c.name-item.is c.value-item.is) (c.in_err-place-in-len2.ensures s b))
+
+pub read_within-returns-in_err-place : goal.read_within-returns-in_err-place
+read_within-returns-in_err-place t c =
+    λ s q b d.
+    let e : c.bind.new.scope ≡ c.args.walk.now.scope ++ c.args.bound = c.in_ok-bind.ensures ∙ ap (λ z. c.args.walk.now.scope ++ z) c.as_slice.ensures in
+    let k : Bound c.args.walk.now.draft c.bind.new.scope (s ++ q) = subst (λ (z : List (Name × ℕ)). Bound c.args.walk.now.draft z (s ++ q)) (sym e) (bound-append c.args.walk.now.draft c.args.walk.now.scope c.args.bound s q b d) in
+    let exit = err_from_is_err_and c.from_residual-in_err-place.result c.from_residual-in_err-place.ensures.1 in
+    rw (exit.1, exit.2) (fault-first Here Here (λ t. meant t c.args.symbols.now (s ++ q) (seen c.args.body.now)) (λ t. meant t c.args.symbols.now (s ++ q) (seen c.args.body.now)) c.args.walk.now c.read.new.walk c.read.new.walk c.in_err-place.field-0.0 (λ z h. h) (c.in_err-place.ensures (s ++ q) k))
+
+pub read_quantifier-returns-in_err-place-in-List : goal.read_quantifier-returns-in_err-place-in-List
+read_quantifier-returns-in_err-place-in-List t c =
+    λ s b.
+    let first = c.in_ok-constants-in-List.ensures in
+    let exit = err_from_is_err_and c.from_residual-in_err-place-in-List.result c.from_residual-in_err-place-in-List.ensures.1 in
+    rw (exit.1, exit.2) (quantifier-fault c.args.symbols.now s c.as_slice-bound.result.now (seen c.body-item.result) (forms (map seen c.args.parts.now)) (two-seen c.args.parts.now c.bound-item.result c.body-item.result c.in-len2.len_at_least c.in-len2.len_below c.bound-item.is c.body-item.is ∙ ap (λ z. z ⨾ seen c.body-item.result ⨾ end) (ap seen (c.in-List.is ∙ ap v.List (sym c.as_slice-bound.ensures)) ∙ seen-List c.as_slice-bound.result.now)) c.args.walk.now c.constants.new.walk c.read_within.new.walk c.as_slice.result.now c.in_ok-constants-in-List.constants c.in_err-place-in-List.field-0.0 (sym c.if-not-are_variables.ensures) (c.as_slice.ensures ∙ c.in_ok-variables-in-List.ensures) first (c.in_err-place-in-List.ensures s first.what (go-on s c.args.walk.now c.constants.new.walk c.in_ok-constants-in-List.constants first b) first.there))
