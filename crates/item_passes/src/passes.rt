@@ -156,13 +156,9 @@ fn look_let(alloc: Global, pass: Pass, parts: &[Sexpr]) -> Result<(), CheckFault
                 if !are_bindings(bindings) {
                     return Ok(());
                 }
-                match at_bindings(alloc, pass, bindings) {
-                    Ok(()) => match look_values(alloc, pass, bindings) {
-                        Ok(()) => look(alloc, pass, body),
-                        Err(fault) => Err(fault),
-                    },
-                    Err(fault) => Err(fault),
-                }
+                at_bindings(alloc, pass, bindings)?;
+                look_values(alloc, pass, bindings)?;
+                look(alloc, pass, body)
             }
             Sexpr::Atom(_, _) => Ok(()),
         },
@@ -206,10 +202,8 @@ fn look_quantifier(alloc: Global, pass: Pass, parts: &[Sexpr]) -> Result<(), Che
                 if !are_variables(variables) {
                     return Ok(());
                 }
-                match at_variables(pass, variables) {
-                    Ok(()) => look(alloc, pass, body),
-                    Err(fault) => Err(fault),
-                }
+                at_variables(pass, variables)?;
+                look(alloc, pass, body)
             }
             Sexpr::Atom(_, _) => Ok(()),
         },

@@ -1,10 +1,8 @@
-use Rattle.std.proofs.Common.{sym, ap, ◌∙◌, map, Err}
+use Rattle.std.proofs.Common.{sym, ap, ◌∙◌}
+use Rattle.std.proofs.lemmas.Result.{err_from_is_err_and}
 use Rattle.sexpr_reader.specs.declared.sexpr.Sexpr.TheVariants as v
-use Rattle.item_passes.proofs.Bound.{let-value, let-body, quantifier-variable, quantifier-body, value-two, value-few, value-many}
+use Rattle.item_passes.proofs.Bound.{let-value, let-body, quantifier-body, value-two, value-few, value-many}
 use Rattle.item_passes.proofs.Looking.{look-atom, look-none, look-let, look-quantifier, look-annotated, look-identifier, look-application}
-use Rattle.smt_names.specs.Form.{forms, seen}
-use Rattle.item_passes.specs.Passes.{looked_quantifier}
-use Rattle.smt_names.specs.Answering.{exact-answers}
 use Rattle.item_passes.proofs.passes.+look.Goals as goal
 
 pub look_value-returns-in-len2 : goal.look_value-returns-in-len2
@@ -16,17 +14,16 @@ look_value-returns-in_default t c = value-few c.args.pass c.args.binding.now c.a
 pub look_value-returns-in_default-2 : goal.look_value-returns-in_default-2
 look_value-returns-in_default-2 t c = value-many c.args.pass c.args.binding.now c.as_slice.result.now (c.in-List.is ∙ ap v.List (sym c.as_slice.ensures)) c.in_default.len_at_least
 
-pub look_let-returns-in-Err-look_values : goal.look_let-returns-in-Err-look_values
-look_let-returns-in-Err-look_values t c = let-value c.args.pass c.args.parts.now c.bindings-item.result c.body-item.result c.in-len2.len_at_least c.in-len2.len_below c.bindings-item.is c.body-item.is c.as_slice-bindings.result.now (c.in-List.is ∙ ap v.List (sym c.as_slice-bindings.ensures)) c.in-Err-look_values.fault c.in-Ok.field-0 (sym c.if-not-are_bindings.ensures) c.in-Ok.ensures c.in-Err-look_values.ensures
+pub look_let-returns-in_err-look_values-in-List : goal.look_let-returns-in_err-look_values-in-List
+look_let-returns-in_err-look_values-in-List t c =
+    let exit = err_from_is_err_and c.from_residual-in_err-look_values-in-List.result c.from_residual-in_err-look_values-in-List.ensures.1 in
+    rw (exit.1, exit.2) (let-value c.args.pass c.args.parts.now c.bindings-item.result c.body-item.result c.in-len2.len_at_least c.in-len2.len_below c.bindings-item.is c.body-item.is c.as_slice-bindings.result.now (c.in-List.is ∙ ap v.List (sym c.as_slice-bindings.ensures)) c.in_err-look_values-in-List.field-0.0 c.in_ok-at_bindings-in-List.field-0 (sym c.if-not-are_bindings.ensures) c.in_ok-at_bindings-in-List.ensures c.in_err-look_values-in-List.ensures)
 
-pub look_let-returns-in-Ok-look_values : goal.look_let-returns-in-Ok-look_values
-look_let-returns-in-Ok-look_values t c = let-body c.args.pass c.args.parts.now c.bindings-item.result c.body-item.result c.in-len2.len_at_least c.in-len2.len_below c.bindings-item.is c.body-item.is c.as_slice-bindings.result.now (c.in-List.is ∙ ap v.List (sym c.as_slice-bindings.ensures)) c.look.result c.in-Ok.field-0 c.in-Ok-look_values.field-0 (sym c.if-not-are_bindings.ensures) c.in-Ok.ensures c.in-Ok-look_values.ensures c.look.ensures
+pub look_let-returns-in_ok-look_values-in-List : goal.look_let-returns-in_ok-look_values-in-List
+look_let-returns-in_ok-look_values-in-List t c = let-body c.args.pass c.args.parts.now c.bindings-item.result c.body-item.result c.in-len2.len_at_least c.in-len2.len_below c.bindings-item.is c.body-item.is c.as_slice-bindings.result.now (c.in-List.is ∙ ap v.List (sym c.as_slice-bindings.ensures)) c.look.result c.in_ok-at_bindings-in-List.field-0 c.in_ok-look_values-in-List.field-0 (sym c.if-not-are_bindings.ensures) c.in_ok-at_bindings-in-List.ensures c.in_ok-look_values-in-List.ensures c.look.ensures
 
-pub look_quantifier-returns-in-Err : goal.look_quantifier-returns-in-Err
-look_quantifier-returns-in-Err t c = exact-answers (looked_quantifier c.args.pass (forms (map seen c.args.parts.now))) (Err c.in-Err.fault) (quantifier-variable c.args.pass c.args.parts.now c.variables-item.result c.body-item.result c.in-len2.len_at_least c.in-len2.len_below c.variables-item.is c.body-item.is c.as_slice-variables.result.now (c.in-List.is ∙ ap v.List (sym c.as_slice-variables.ensures)) c.in-Err.fault (sym c.if-not-are_variables.ensures) (sym c.in-Err.ensures))
-
-pub look_quantifier-returns-in-Ok : goal.look_quantifier-returns-in-Ok
-look_quantifier-returns-in-Ok t c = quantifier-body c.args.pass c.args.parts.now c.variables-item.result c.body-item.result c.in-len2.len_at_least c.in-len2.len_below c.variables-item.is c.body-item.is c.as_slice-variables.result.now (c.in-List.is ∙ ap v.List (sym c.as_slice-variables.ensures)) c.look.result c.in-Ok.field-0 (sym c.if-not-are_variables.ensures) (sym c.in-Ok.ensures) c.look.ensures
+pub look_quantifier-returns-in_ok-at_variables-in-List : goal.look_quantifier-returns-in_ok-at_variables-in-List
+look_quantifier-returns-in_ok-at_variables-in-List t c = quantifier-body c.args.pass c.args.parts.now c.variables-item.result c.body-item.result c.in-len2.len_at_least c.in-len2.len_below c.variables-item.is c.body-item.is c.as_slice-variables.result.now (c.in-List.is ∙ ap v.List (sym c.as_slice-variables.ensures)) c.look.result c.in_ok-at_variables-in-List.field-0 (sym c.if-not-are_variables.ensures) (sym c.in_ok-at_variables-in-List.ensures) c.look.ensures
 
 pub look-returns-in-Atom : goal.look-returns-in-Atom
 look-returns-in-Atom t c = look-atom c.args.pass c.args.item.now c.in-Atom.field-0 c.in-Atom.field-1 c.at_numeral.result c.in-Atom.is c.at_numeral.ensures
