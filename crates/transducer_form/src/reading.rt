@@ -106,8 +106,6 @@ pub fn build_transducer(
     if description.ends.len() > MOST_TRANSDUCER_ENDS {
         return Err(CheckFault::Transducer);
     }
-    match state_names(alloc, description.states) {
-        Ok(states) => build_over(alloc, description, &states),
-        Err(fault) => Err(fault),
-    }
+    let states = state_names(alloc, description.states)?;
+    build_over(alloc, description, &states)
 }
