@@ -140,21 +140,19 @@ fn value_of(alloc: Global, term: &Term, model: &Model) -> Result<Value, EvalFaul
             Some(value) => Ok(value.copy(alloc)?),
             None => Err(EvalFault::Opaque),
         },
-        Term::Apply(op, terms) => match values_of(alloc, terms.as_slice(), model) {
-            Ok(arguments) => apply(alloc, *op, arguments.as_slice()),
-            Err(fault) => Err(fault),
-        },
-        Term::InRe(term, regex) => match value_of(alloc, term.get(), model) {
-            Ok(value) => is_member(alloc, &value, regex),
-            Err(fault) => Err(fault),
-        },
-        Term::Related(transducer, read, written) => match value_of(alloc, read.get(), model) {
-            Ok(read) => match value_of(alloc, written.get(), model) {
-                Ok(written) => relation(alloc, transducer.get(), &read, &written),
-                Err(fault) => Err(fault),
-            },
-            Err(fault) => Err(fault),
-        },
+        Term::Apply(op, terms) => {
+            let arguments = values_of(alloc, terms.as_slice(), model)?;
+            apply(alloc, *op, arguments.as_slice())
+        }
+        Term::InRe(term, regex) => {
+            let value = value_of(alloc, term.get(), model)?;
+            is_member(alloc, &value, regex)
+        }
+        Term::Related(transducer, read, written) => {
+            let read = value_of(alloc, read.get(), model)?;
+            let written = value_of(alloc, written.get(), model)?;
+            relation(alloc, transducer.get(), &read, &written)
+        }
         Term::Opaque(_) => Err(EvalFault::Opaque),
     }
 }
@@ -166,10 +164,7 @@ fn values_of(alloc: Global, terms: &[Term], model: &Model) -> Result<Items<Value
 {
     let mut all = Items::new(alloc);
     for term in terms {
-        match value_of(alloc, term, model) {
-            Ok(value) => all.push(value)?,
-            Err(fault) => return Err(fault),
-        }
+        all.push(value_of(alloc, term, model)?)?;
     }
     Ok(all)
 }
