@@ -17,10 +17,8 @@ pub fn write_all<K: Sink>(sink: &mut K, text: &[u8]) -> Result<(), SinkFault>
 {
     let mut rest = text;
     'pieces: while !rest.is_empty() {
-        match sink.write(rest) {
-            Ok(count) => rest = &rest[count..],
-            Err(fault) => return Err(fault),
-        }
+        let count = sink.write(rest)?;
+        rest = &rest[count..];
     }
     match sink.flush() {
         Ok(()) => Ok(()),
@@ -42,8 +40,5 @@ pub fn write_reply<K: Sink>(alloc: Global, sink: &mut K, reply: &Reply) -> Resul
     if text.is_empty() {
         return Ok(());
     }
-    match write_all(sink, &text) {
-        Ok(()) => Ok(()),
-        Err(fault) => Err(fault),
-    }
+    write_all(sink, &text)
 }
