@@ -22,10 +22,8 @@ fn join_words(alloc: Global, parts: &[Sexpr]) -> Result<Word, CheckFault>
 {
     let mut all = Word::new(alloc);
     for part in parts {
-        match word(alloc, part) {
-            Ok(more) => all.append(&more)?,
-            Err(fault) => return Err(fault),
-        }
+        let more = word(alloc, part)?;
+        all.append(&more)?;
     }
     Ok(all)
 }
@@ -59,10 +57,7 @@ pub(crate) fn ends(
 {
     let mut all = Items::new(alloc);
     for part in parts {
-        match end(alloc, states, part) {
-            Ok(end) => all.push(end)?,
-            Err(fault) => return Err(fault),
-        }
+        all.push(end(alloc, states, part)?)?;
     }
     Ok(all)
 }

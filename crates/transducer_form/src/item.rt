@@ -65,10 +65,7 @@ pub(crate) fn items(alloc: Global, parts: &[Sexpr]) -> Result<Items<Item>, Check
 {
     let mut all = Items::new(alloc);
     for part in parts {
-        match item_of(alloc, part) {
-            Ok(item) => all.push(item)?,
-            Err(fault) => return Err(fault),
-        }
+        all.push(item_of(alloc, part)?)?;
     }
     Ok(all)
 }

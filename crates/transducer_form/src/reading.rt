@@ -59,10 +59,7 @@ fn edges(
 {
     let mut all = Items::new(alloc);
     for part in parts {
-        match edge(alloc, states, part) {
-            Ok(edge) => all.push(edge)?,
-            Err(fault) => return Err(fault),
-        }
+        all.push(edge(alloc, states, part)?)?;
     }
     Ok(all)
 }
