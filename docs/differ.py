@@ -10,7 +10,7 @@ letters of the script and one more, small numbers. A peer reads each script with
 such as "cvc5 --lang smt2 --strings-exp --produce-models --tlimit=3000 -q -"; where it says `sat` and the program `unsat`,
 the peer's model is looked at in the same way, and a peer's `unsat` against a `sat` is told.
 Prints each script with a verdict that is shown to be wrong, and ends with 1 if there is one. A model with a word of more
-than 200 characters isn't looked at, and is counted apart.
+than 200 characters isn't looked at, and is counted apart; an `unknown` is counted with its cause.
 """
 import argparse
 import collections
@@ -382,12 +382,14 @@ class Script:
 
 
 def ask(command, text, seconds=20):
-    """What a solver's first reply is, and the values behind a `sat`."""
+    """What a solver's first reply is, and behind it the values of a `sat`, or what is told of an `unknown`."""
     try:
         ran = subprocess.run(command, input=text, capture_output=True, text=True, timeout=seconds)
     except subprocess.TimeoutExpired:
         return "timeout", None
     verdict, _, rest = ran.stdout.partition("\n")
+    if verdict == "unknown":
+        return verdict, (re.findall(r"\(:reason-unknown (?:\(cube \d+ )?([\w-]+)", rest) or [None])[0]
     if verdict != "sat":
         return verdict, None
     values = {}
@@ -424,10 +426,11 @@ def main():
     counts, bad = collections.Counter(), 0
     for seed in range(given.seed, given.seed + given.scripts):
         script = Script(seed)
-        verdict, values = ask([given.program], script.commands())
+        verdict, values = ask([given.program], script.commands() + "(get-info :reason-unknown)\n")
         peer = ask(given.peer.split(), script.commands()) if given.peer and not script.transducer else ("", None)
         is_long = verdict == "sat" and any(isinstance(it, tuple) and len(it) > LONGEST for it in values.values())
-        counts[verdict + " with a long word" * is_long, peer[0] if peer[0] in ("", "sat", "unsat") else "other"] += 1
+        told = verdict + " with a long word" * is_long + f", {values}" * (verdict == "unknown")
+        counts[told, peer[0] if peer[0] in ("", "sat", "unsat") else "other"] += 1
         why = None if is_long else wrong(script, verdict, values, peer)
         if why:
             bad += 1
