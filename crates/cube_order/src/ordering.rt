@@ -181,6 +181,7 @@ fn rows(alloc: Global, variables: u32) -> Result<Vec<Items<Waiter>>, AllocError>
 pub fn next_ahead(ahead: &[bool], used: &[u32], from: usize) -> usize
     requires below { AreBelow (length ahead.now) used.now }
     requires within { from ≤ length used.now }
+    ensures onward { from ≤ result }
     ensures within { result ≤ length used.now }
     ensures before { (i : ℕ) → from ≤ i → i < result → IsAhead ahead.now (get_or used.now i 0) → ⊥ }
     ensures here { result < length used.now → IsAhead ahead.now (get_or used.now result 0) }
