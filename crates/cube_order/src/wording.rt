@@ -38,23 +38,19 @@ pub fn settle_words(
 {
     let numbering = number_places(alloc, names.len(), equalities)?;
     let renamed = renamed(alloc, numbering.of.as_slice(), definitions)?;
-    match straighten(alloc, numbering.count, renamed) {
-        Ok(straight) => {
-            let variables = variables(
-                alloc,
-                numbering.count,
-                numbering.of.as_slice(),
-                names,
-                parts,
-            )?;
-            Ok(NumberedDefinitions {
-                of: numbering.of,
-                variables,
-                definitions: straight,
-            })
-        }
-        Err(fault) => Err(fault),
-    }
+    let definitions = straighten(alloc, numbering.count, renamed)?;
+    let variables = variables(
+        alloc,
+        numbering.count,
+        numbering.of.as_slice(),
+        names,
+        parts,
+    )?;
+    Ok(NumberedDefinitions {
+        of: numbering.of,
+        variables,
+        definitions,
+    })
 }
 
 /// The variables of so many places, where these pairs of places are one.

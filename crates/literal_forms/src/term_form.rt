@@ -42,35 +42,29 @@ impl TermForm {
     pub fn scale(&self, alloc: Global, by: i128) -> Result<TermForm, FormFault>
         ensures { (us : List (List ℤ)) (a : Linear) → AreNumbered us → IsNumbered us a self.now → IsFormOrPast us (scaled a by) (scaling a by ∷ []) result }
     {
-        match self.form.scale(alloc, by) {
-            Ok(form) => Ok(TermForm {
-                form,
-                constant: self.constant,
-            }),
-            Err(fault) => Err(fault),
-        }
+        let form = self.form.scale(alloc, by)?;
+        Ok(TermForm {
+            form,
+            constant: self.constant,
+        })
     }
 
     /// The sum of both forms, linear in their terms. `Past` where a sum leaves 128 bits.
     pub fn add(&self, alloc: Global, other: &TermForm) -> Result<TermForm, FormFault>
         ensures { (us : List (List ℤ)) (a b : Linear) → AreNumbered us → IsNumbered us a self.now → IsNumbered us b other.now → IsFormOrPast us (added a b) (addition a b ∷ []) result }
     {
-        match self.form.add(alloc, &other.form) {
-            Ok(form) => Ok(TermForm {
-                form,
-                constant: both(self.constant, other.constant),
-            }),
-            Err(fault) => Err(fault),
-        }
+        let form = self.form.add(alloc, &other.form)?;
+        Ok(TermForm {
+            form,
+            constant: both(self.constant, other.constant),
+        })
     }
 
     fn subtract(&self, alloc: Global, other: &TermForm) -> Result<TermForm, FormFault>
         ensures { (us : List (List ℤ)) (a b : Linear) → AreNumbered us → IsNumbered us a self.now → IsNumbered us b other.now → IsFormOrPast us (less a b) (less_steps a b) result }
     {
-        match other.scale(alloc, -1) {
-            Ok(negative) => self.add(alloc, &negative),
-            Err(fault) => Err(fault),
-        }
+        let negative = other.scale(alloc, -1)?;
+        self.add(alloc, &negative)
     }
 
     fn multiply(&self, alloc: Global, other: &TermForm) -> Result<TermForm, FormFault>

@@ -195,10 +195,8 @@ fn before_one(
 fn make_complement(alloc: Global, r: &Regex, limit: u64) -> Result<Explicit, BuildFault>
     ensures { Builds (λ w. IsWord w × (In r.now w → ⊥)) (2 ^ size r.now) limit result }
 {
-    match make(alloc, r, limit) {
-        Ok(part) => complement(alloc, &part, limit),
-        Err(fault) => Err(fault),
-    }
+    let part = make(alloc, r, limit)?;
+    complement(alloc, &part, limit)
 }
 
 #[cycle(make)]
@@ -229,10 +227,8 @@ fn make_copies(
     requires once { IsTrue again → most ≡ 1 }
     ensures { Builds (InCopies (In r.now) least most again) (copies_size least most (size r.now)) limit result }
 {
-    match make(alloc, r, limit) {
-        Ok(part) => repeat(alloc, &part, least, most, again, limit),
-        Err(fault) => Err(fault),
-    }
+    let part = make(alloc, r, limit)?;
+    repeat(alloc, &part, least, most, again, limit)
 }
 
 #[cycle(make)]

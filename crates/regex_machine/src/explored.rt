@@ -16,8 +16,5 @@ pub fn list_states<M: Machine>(
     requires { M.width machine.now ≡ 0 }
     ensures { Builds (λ w. RunsFrom (M.ends_with machine.now) (M.steps_to machine.now) (M.first machine.now) w []) (M.size machine.now) limit result }
 {
-    match materialise(alloc, machine, limit) {
-        Ok(built) => Ok(built.machine),
-        Err(fault) => Err(fault),
-    }
+    Ok(materialise(alloc, machine, limit)?.machine)
 }

@@ -101,10 +101,9 @@ impl Reader {
     pub fn end(&mut self) -> Result<Option<Sexpr>, SyntaxFault>
         ensures answers { (ended : Bool) (bytes : List ℕ) (given : List Sexpr) → HasGiven ended self.old bytes given → AnswersEnd ended self.new bytes given result }
     {
-        match self.read_on() {
-            Ok(None) => self.read_last(),
-            Ok(Some(item)) => Ok(Some(item)),
-            Err(fault) => Err(fault),
+        match self.read_on()? {
+            Some(item) => Ok(Some(item)),
+            None => self.read_last(),
         }
     }
 
@@ -115,10 +114,8 @@ impl Reader {
         ensures start { result ≡ Ok None → self.new.start ≡ 0 }
     {
         'bytes: while self.at < self.pending.len() {
-            match self.advance() {
-                Ok(None) => {}
-                Ok(Some(item)) => return Ok(Some(item)),
-                Err(fault) => return Err(fault),
+            if let Some(item) = self.advance()? {
+                return Ok(Some(item));
             }
         }
         self.compact();
@@ -130,10 +127,8 @@ impl Reader {
         requires { length self.old.pending.items ≡ self.old.at }
         ensures { (ended : Bool) (bytes : List ℕ) (given : List Sexpr) → HasGiven ended self.old bytes given → AnswersEnd ended self.new bytes given result }
     {
-        match self.last_atom() {
-            Ok(None) => {}
-            Ok(Some(item)) => return Ok(Some(item)),
-            Err(fault) => return Err(fault),
+        if let Some(item) = self.last_atom()? {
+            return Ok(Some(item));
         }
         if self.is_done() {
             return Ok(None);

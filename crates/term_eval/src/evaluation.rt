@@ -90,7 +90,6 @@ fn is_member(alloc: Global, value: &Value, regex: &Regex) -> Result<Value, EvalF
 }
 
 // Whether the transducer relates two words.
-#[tactic(auto, using(crate::proofs::Evaluating::relating))]
 fn is_related(
     alloc: Global,
     transducer: &Transducer,
@@ -101,11 +100,7 @@ fn is_related(
 {
     pairs_are_decided();
     pairs_are_runs();
-    match run_pair(alloc, transducer, read, written) {
-        Ok(Some(_)) => Ok(true),
-        Ok(None) => Ok(false),
-        Err(error) => Err(error),
-    }
+    Ok(run_pair(alloc, transducer, read, written)?.is_some())
 }
 
 // `(T s t)`

@@ -16,7 +16,7 @@ use Rattle.regex_machine.proofs.WeaveLemmas.{begun-end, finished, before-form, b
 use Rattle.regex_machine.proofs.OnwardLemmas.{unmade-most}
 use Rattle.regex_machine.proofs.LetterLemmas.{range-words}
 use Rattle.regex_machine.specs.Onwards.{PrecedesRest, unmade}
-use Rattle.std.proofs.lemmas.Result.{IfOk-weaker}
+use Rattle.std.proofs.lemmas.Result.{IfOk-weaker, err_from_is_err_and}
 use Rattle.sv_list.specs.Lists.{some-tested}
 use Rattle.machine_meet.specs.Products.{summed}
 use Rattle.regex_machine.proofs.building.+make.Goals as goal
@@ -78,10 +78,10 @@ pub make-returns-in-Loop : goal.make-returns-in-Loop
 make-returns-in-Loop t c = builds-Loop c.args.regex.now c.args.limit c.make_loop.result c.in-Loop.r c.get-in-Loop.result.now c.get-in-Loop.ensures c.in-Loop.i c.in-Loop.j c.in-Loop.is c.make_loop.ensures
 
 pub make_complement-complement-requires : goal.make_complement-complement-requires
-make_complement-complement-requires t c = c.in-Ok.ensures.0.plain
+make_complement-complement-requires t c = c.in_ok-part.ensures.0.plain
 
-pub make_complement-returns-in-Ok : goal.make_complement-returns-in-Ok
-make_complement-returns-in-Ok t c = complement-made c.args.limit c.complement.result c.args.r.now c.in-Ok.part c.in-Ok.ensures.0 c.in-Ok.ensures.1 c.complement.ensures
+pub make_complement-returns : goal.make_complement-returns
+make_complement-returns t c = complement-made c.args.limit c.complement.result c.args.r.now c.in_ok-part.part c.in_ok-part.ensures.0 c.in_ok-part.ensures.1 c.complement.ensures
 
 pub make_loop-returns-then-i-j : goal.make_loop-returns-then-i-j
 make_loop-returns-then-i-j t c =
@@ -95,10 +95,10 @@ pub make_loop-returns : goal.make_loop-returns
 make_loop-returns t c = loop-made c.args.limit c.make_copies.result c.args.r.now c.args.i c.args.j c.make_copies.ensures
 
 pub make_copies-repeat-requires-clause-plain : goal.make_copies-repeat-requires-clause-plain
-make_copies-repeat-requires-clause-plain t c = c.in-Ok.ensures.0.plain
+make_copies-repeat-requires-clause-plain t c = c.in_ok-part.ensures.0.plain
 
-pub make_copies-returns-in-Ok : goal.make_copies-returns-in-Ok
-make_copies-returns-in-Ok t c = copies-made c.args.limit c.repeat.result c.args.r.now c.in-Ok.part c.args.least c.args.most c.args.again c.in-Ok.ensures.0 c.in-Ok.ensures.1 c.repeat.ensures
+pub make_copies-returns : goal.make_copies-returns
+make_copies-returns t c = copies-made c.args.limit c.repeat.result c.args.r.now c.in_ok-part.part c.args.least c.args.most c.args.again c.in_ok-part.ensures.0 c.in_ok-part.ensures.1 c.repeat.ensures
 
 pub make_difference-difference-requires : goal.make_difference-difference-requires
 make_difference-difference-requires t c = subst HaveNoRegisters (sym c.as_slice.ensures) (made-plain _ _ c.in_ok-parts.ensures.made)
@@ -114,14 +114,19 @@ make_all-loop-r-preserved t c =
 pub make_all-returns-clause-made : goal.make_all-returns-clause-made
 make_all-returns-clause-made t c = made-all c.args.rs.now c.loop-r.r-index c.loop-r.parts c.loop-r-test.false c.loop-r.invariant
 
-pub make_complement-returns-in-Err : goal.make_complement-returns-in-Err
-make_complement-returns-in-Err t c = builds-more (In c.args.r.now) (λ w. IsWord w × (In c.args.r.now w → ⊥)) (size c.args.r.now) (2 ^ size c.args.r.now) c.args.limit c.in-Err.fault
-    (let more = power-above (size c.args.r.now) in omega arith) c.in-Err.ensures
+pub make_complement-returns-in_err-part : goal.make_complement-returns-in_err-part
+make_complement-returns-in_err-part t c =
+    let exit = err_from_is_err_and c.from_residual.result c.from_residual.ensures.1 in
+    rw (exit.1, exit.2)
+    (builds-more (In c.args.r.now) (λ w. IsWord w × (In c.args.r.now w → ⊥)) (size c.args.r.now) (2 ^ size c.args.r.now) c.args.limit c.in_err-part.field-0.0
+    (let more = power-above (size c.args.r.now) in omega arith) c.in_err-part.ensures)
 
-pub make_copies-returns-in-Err : goal.make_copies-returns-in-Err
-make_copies-returns-in-Err t c =
-    builds-more (In c.args.r.now) (InCopies (In c.args.r.now) c.args.least c.args.most c.args.again) (size c.args.r.now) (copies_size c.args.least c.args.most (size c.args.r.now)) c.args.limit c.in-Err.fault
-    (let more = copies-least c.args.least c.args.most (size c.args.r.now) c.requires.some in omega arith) c.in-Err.ensures
+pub make_copies-returns-in_err-part : goal.make_copies-returns-in_err-part
+make_copies-returns-in_err-part t c =
+    let exit = err_from_is_err_and c.from_residual.result c.from_residual.ensures.1 in
+    rw (exit.1, exit.2)
+    (builds-more (In c.args.r.now) (InCopies (In c.args.r.now) c.args.least c.args.most c.args.again) (size c.args.r.now) (copies_size c.args.least c.args.most (size c.args.r.now)) c.args.limit c.in_err-part.field-0.0
+    (let more = copies-least c.args.least c.args.most (size c.args.r.now) c.requires.some in omega arith) c.in_err-part.ensures)
 
 pub make_difference-returns-in_err-parts : goal.make_difference-returns-in_err-parts
 make_difference-returns-in_err-parts t c = builds-err _ _ c.args.limit c.from_residual.result c.from_residual.ensures.0 (λ n e.
