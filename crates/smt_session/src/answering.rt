@@ -55,14 +55,10 @@ impl Answering {
         ensures replies { self.new.replies ≡ self.old.replies }
     {
         more_bytes_may_follow();
-        let fed = match self.fed.checked_add(piece.len() as u64) {
-            Some(fed) => fed,
-            None => return Err(AllocError),
+        let Some(fed) = self.fed.checked_add(piece.len() as u64) else {
+            return Err(AllocError);
         };
-        match self.reader.feed(piece) {
-            Ok(()) => {}
-            Err(error) => return Err(error),
-        }
+        self.reader.feed(piece)?;
         self.fed = fed;
         Ok(())
     }
@@ -88,9 +84,8 @@ impl Answering {
                 Ok(None) => return None,
                 Err(fault) => return Some(self.refuse(alloc, sink, fault)),
             };
-            match self.answer(rt, alloc, sink, &item) {
-                None => {}
-                Some(status) => return Some(status),
+            if let Some(status) = self.answer(rt, alloc, sink, &item) {
+                return Some(status);
             }
         }
     }
@@ -115,9 +110,8 @@ impl Answering {
                 Ok(None) => return self.replies.status(),
                 Err(fault) => return self.refuse(alloc, sink, fault),
             };
-            match self.answer(rt, alloc, sink, &item) {
-                None => {}
-                Some(status) => return status,
+            if let Some(status) = self.answer(rt, alloc, sink, &item) {
+                return status;
             }
         }
     }
@@ -144,9 +138,8 @@ impl Answering {
         };
         let written = write_reply(alloc, sink, &reply);
         self.replies = self.replies.and(&reply);
-        match written {
-            Ok(()) => {}
-            Err(fault) => return Some(Status::of_fault(fault)),
+        if let Err(fault) = written {
+            return Some(Status::of_fault(fault));
         }
         if self.session.has_ended() {
             return Some(self.replies.status());

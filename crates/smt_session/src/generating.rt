@@ -56,9 +56,8 @@ fn answer_blocks<R: Threads + Sync>(
             Ok(()) => {}
             Err(_) => return Status::NoMemory,
         }
-        match answering.answer_whole(rt, alloc, &mut mute) {
-            None => {}
-            Some(status) => return status,
+        if let Some(status) = answering.answer_whole(rt, alloc, &mut mute) {
+            return status;
         }
     }
     answering.answer_rest(rt, alloc, &mut mute)

@@ -83,9 +83,8 @@ fn answer_source<R: Threads + Sync, S: Source, K: Sink>(
             Ok(()) => {}
             Err(_) => return Status::NoMemory,
         }
-        match answering.answer_whole(rt, alloc, sink) {
-            None => {}
-            Some(status) => return status,
+        if let Some(status) = answering.answer_whole(rt, alloc, sink) {
+            return status;
         }
     }
 }

@@ -40,7 +40,7 @@ loop-block-preserved g c =
     let less : c.args.size - c.loop-block._block ≡ suc (c.args.size - (c.loop-block._block + 1)) = omega (arith, c.loop-block-test.true) in
     let fed = next-fed (script c.args.seed c.args.size) i.0 c.deref.result.now c.loop-block.blocks (c.args.size - c.loop-block._block) (c.args.size - (c.loop-block._block + 1)) less (c.deref.ensures.value ∙ c.in-Ok.ensures.text) i.2 in (
       i.0 ++ c.deref.result.now,
-      c.in-None.ensures.went (i.0 ++ c.deref.result.now) None (c.in-Ok-feed.ensures.ok i.0 None None i.1.answering),
+      c.in_default.ensures.went (i.0 ++ c.deref.result.now) None (c.in-Ok-feed.ensures.ok i.0 None None i.1.answering),
       subst (λ s. script c.args.seed c.args.size ≡ (i.0 ++ c.deref.result.now) ++ blocks s (c.args.size - (c.loop-block._block + 1))) (sym c.in-Ok.ensures.ok) fed,
     )
 

@@ -36,7 +36,7 @@ answer_whole-requires-clause-answering g c κs within = let r = c.pieces.invaria
 pub pieces-preserved : goal.pieces-preserved
 pieces-preserved g c =
     let r = c.pieces.invariant.reading in record {
-      reading = ((r.0 ++ take c.in-Ok.count c.read.new.buffer), Consumes-trans (g.S.Source.left c.args.source.now) (g.S.Source.left c.pieces.source) (g.S.Source.left c.read.new.self) r.0 (take c.in-Ok.count c.read.new.buffer) r.1 c.in-Ok.ensures.bytes.0, c.in-None.ensures.went (r.0 ++ take c.in-Ok.count c.read.new.buffer) (g.K.Sink.taken c.args.sink.now) (c.in-Ok-feed.ensures.ok r.0 (g.K.Sink.taken c.args.sink.now) (g.K.Sink.taken c.pieces.sink) r.2.answering));
+      reading = ((r.0 ++ take c.in-Ok.count c.read.new.buffer), Consumes-trans (g.S.Source.left c.args.source.now) (g.S.Source.left c.pieces.source) (g.S.Source.left c.read.new.self) r.0 (take c.in-Ok.count c.read.new.buffer) r.1 c.in-Ok.ensures.bytes.0, c.in_default.ensures.went (r.0 ++ take c.in-Ok.count c.read.new.buffer) (g.K.Sink.taken c.args.sink.now) (c.in-Ok-feed.ensures.ok r.0 (g.K.Sink.taken c.args.sink.now) (g.K.Sink.taken c.pieces.sink) r.2.answering));
       is_open = c.read.ensures.open;
       read_later = omega (arith, c.pieces.invariant.read_later, c.read.ensures.cause.later);
       written_later = omega (arith, c.pieces.invariant.written_later, c.answer_whole.ensures.later);

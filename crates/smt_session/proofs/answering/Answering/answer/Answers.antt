@@ -15,13 +15,13 @@ returns-in-Err-written-clause-went g c = λ ended bytes taken h.
 pub returns-then-has_ended-clause-went : goal.returns-then-has_ended-clause-went
 returns-then-has_ended-clause-went g c = λ ended bytes taken h.
     done_stops ended bytes taken (g.K.Sink.taken c.write_reply-written.new.sink) c.and-self.result c.status.result c.status.ensures.either c.status.ensures.right c.status.ensures.error
-    (given_exit ended c.args.self.now c.args.item.now bytes taken (g.K.Sink.taken c.args.sink.now) (g.K.Sink.taken c.write_reply-written.new.sink) h c.step.new.self c.in-Ok.reply c.and-self.result c.in-Ok.ensures.ok c.and-self.ensures c.in-Ok-written.ensures.ok (sym c.has_ended.ensures ∙ c.if-has_ended.true))
+    (given_exit ended c.args.self.now c.args.item.now bytes taken (g.K.Sink.taken c.args.sink.now) (g.K.Sink.taken c.write_reply-written.new.sink) h c.step.new.self c.in-Ok.reply c.and-self.result c.in-Ok.ensures.ok c.and-self.ensures c.in_default.ensures.ok (sym c.has_ended.ensures ∙ c.if-has_ended.true))
 
 pub returns-clause-went : goal.returns-clause-went
 returns-clause-went g c = λ ended bytes taken h. record {
   items = h.items ++ c.args.item.now ∷ [];
   stands = h.gives.stands;
-  written = given_more ended c.args.self.now c.args.item.now bytes taken (g.K.Sink.taken c.args.sink.now) (g.K.Sink.taken c.write_reply-written.new.sink) h c.step.new.self c.in-Ok.reply c.and-self.result c.in-Ok.ensures.ok c.and-self.ensures c.in-Ok-written.ensures.ok (sym c.has_ended.ensures ∙ c.if-has_ended.false);
+  written = given_more ended c.args.self.now c.args.item.now bytes taken (g.K.Sink.taken c.args.sink.now) (g.K.Sink.taken c.write_reply-written.new.sink) h c.step.new.self c.in-Ok.reply c.and-self.result c.in-Ok.ensures.ok c.and-self.ensures c.in_default.ensures.ok (sym c.has_ended.ensures ∙ c.if-has_ended.false);
   fed = h.fed;
 }
 

@@ -19,16 +19,16 @@ returns-in-Err-clause-went g c = λ bytes taken h.
 pub returns-in-Some-clause-went : goal.returns-in-Some-clause-went
 returns-in-Some-clause-went g c = λ bytes taken h. let p = c.items.invariant.all bytes taken h in c.in-Some.ensures.went true bytes taken (end_given p.0 c.items.self c.end.new.self c.in-Ok-Some.item bytes taken (g.K.Sink.taken c.items.sink) p.1 (λ rest. c.more_bytes_may_follow.ensures.items true bytes [] p.1.items rest) (end_item p.0 c.end.new.self bytes p.1.items c.in-Ok-Some.field-0 c.in-Ok-Some.item (c.in-Ok-Some.ensures.answers p.0 bytes p.1.items p.1.stands) c.in-Ok-Some.field-0-is))
 
-pub items-smaller-in-None : goal.items-smaller-in-None
-items-smaller-in-None g c =
+pub items-smaller-in_default : goal.items-smaller-in_default
+items-smaller-in_default g c =
     let s = c.items.invariant.some in
     let room = room_left true (record { reader = c.end.new.self; session = c.items.self.session; replies = c.items.self.replies; fed = c.items.self.fed }) c.in-Ok-Some.item s.1 s.2 (g.K.Sink.taken c.items.sink) (end_given s.0 c.items.self c.end.new.self c.in-Ok-Some.item s.1 s.2 (g.K.Sink.taken c.items.sink) s.3 (λ rest. c.more_bytes_may_follow.ensures.items true s.1 [] s.3.items rest) (end_item s.0 c.end.new.self s.1 s.3.items c.in-Ok-Some.field-0 c.in-Ok-Some.item (c.in-Ok-Some.ensures.answers s.0 s.1 s.3.items s.3.stands) c.in-Ok-Some.field-0-is)) in
-    let less : c.answer.new.self.fed - length c.answer.new.self.replies < c.items.self.fed - length c.items.self.replies = omega (arith, c.in-None.ensures.count, c.answer.ensures.fed, room) in less
+    let less : c.answer.new.self.fed - length c.answer.new.self.replies < c.items.self.fed - length c.items.self.replies = omega (arith, c.in_default.ensures.count, c.answer.ensures.fed, room) in less
 
-pub items-preserved-in-None : goal.items-preserved-in-None
-items-preserved-in-None g c = record {
-  all = λ bytes taken h. let p = c.items.invariant.all bytes taken h in (true, c.in-None.ensures.went true bytes taken (end_given p.0 c.items.self c.end.new.self c.in-Ok-Some.item bytes taken (g.K.Sink.taken c.items.sink) p.1 (λ rest. c.more_bytes_may_follow.ensures.items true bytes [] p.1.items rest) (end_item p.0 c.end.new.self bytes p.1.items c.in-Ok-Some.field-0 c.in-Ok-Some.item (c.in-Ok-Some.ensures.answers p.0 bytes p.1.items p.1.stands) c.in-Ok-Some.field-0-is)));
-  some = let s = c.items.invariant.some in (true, s.1, s.2, c.in-None.ensures.went true s.1 s.2 (end_given s.0 c.items.self c.end.new.self c.in-Ok-Some.item s.1 s.2 (g.K.Sink.taken c.items.sink) s.3 (λ rest. c.more_bytes_may_follow.ensures.items true s.1 [] s.3.items rest) (end_item s.0 c.end.new.self s.1 s.3.items c.in-Ok-Some.field-0 c.in-Ok-Some.item (c.in-Ok-Some.ensures.answers s.0 s.1 s.3.items s.3.stands) c.in-Ok-Some.field-0-is)));
+pub items-preserved-in_default : goal.items-preserved-in_default
+items-preserved-in_default g c = record {
+  all = λ bytes taken h. let p = c.items.invariant.all bytes taken h in (true, c.in_default.ensures.went true bytes taken (end_given p.0 c.items.self c.end.new.self c.in-Ok-Some.item bytes taken (g.K.Sink.taken c.items.sink) p.1 (λ rest. c.more_bytes_may_follow.ensures.items true bytes [] p.1.items rest) (end_item p.0 c.end.new.self bytes p.1.items c.in-Ok-Some.field-0 c.in-Ok-Some.item (c.in-Ok-Some.ensures.answers p.0 bytes p.1.items p.1.stands) c.in-Ok-Some.field-0-is)));
+  some = let s = c.items.invariant.some in (true, s.1, s.2, c.in_default.ensures.went true s.1 s.2 (end_given s.0 c.items.self c.end.new.self c.in-Ok-Some.item s.1 s.2 (g.K.Sink.taken c.items.sink) s.3 (λ rest. c.more_bytes_may_follow.ensures.items true s.1 [] s.3.items rest) (end_item s.0 c.end.new.self s.1 s.3.items c.in-Ok-Some.field-0 c.in-Ok-Some.item (c.in-Ok-Some.ensures.answers s.0 s.1 s.3.items s.3.stands) c.in-Ok-Some.field-0-is)));
   later = omega (arith, c.items.invariant.later, c.answer.ensures.later);
   added = adds_more c.args.self.now.replies c.items.self.replies c.answer.new.self.replies (g.K.Sink.taken c.args.sink.now) (g.K.Sink.taken c.items.sink) (g.K.Sink.taken c.answer.new.sink) c.items.invariant.added c.answer.ensures.added;
 }
@@ -37,12 +37,12 @@ pub items-smaller : goal.items-smaller
 items-smaller g c =
     let s = c.items.invariant.some in
     let room = room_left true (record { reader = c.end.new.self; session = c.items.self.session; replies = c.items.self.replies; fed = c.items.self.fed }) c.in-Ok-Some.item s.1 s.2 (g.K.Sink.taken c.items.sink) (end_given s.0 c.items.self c.end.new.self c.in-Ok-Some.item s.1 s.2 (g.K.Sink.taken c.items.sink) s.3 (λ rest. c.more_bytes_may_follow.ensures.items true s.1 [] s.3.items rest) (end_item s.0 c.end.new.self s.1 s.3.items c.in-Ok-Some.field-0 c.in-Ok-Some.item (c.in-Ok-Some.ensures.answers s.0 s.1 s.3.items s.3.stands) c.in-Ok-Some.field-0-is)) in
-    let less : c.answer.new.self.fed - length c.answer.new.self.replies < c.items.self.fed - length c.items.self.replies = omega (arith, c.in-None.ensures.count, c.answer.ensures.fed, room) in less
+    let less : c.answer.new.self.fed - length c.answer.new.self.replies < c.items.self.fed - length c.items.self.replies = omega (arith, c.in_default.ensures.count, c.answer.ensures.fed, room) in less
 
 pub items-preserved : goal.items-preserved
 items-preserved g c = record {
-  all = λ bytes taken h. let p = c.items.invariant.all bytes taken h in (true, c.in-None.ensures.went true bytes taken (end_given p.0 c.items.self c.end.new.self c.in-Ok-Some.item bytes taken (g.K.Sink.taken c.items.sink) p.1 (λ rest. c.more_bytes_may_follow.ensures.items true bytes [] p.1.items rest) (end_item p.0 c.end.new.self bytes p.1.items c.in-Ok-Some.field-0 c.in-Ok-Some.item (c.in-Ok-Some.ensures.answers p.0 bytes p.1.items p.1.stands) c.in-Ok-Some.field-0-is)));
-  some = let s = c.items.invariant.some in (true, s.1, s.2, c.in-None.ensures.went true s.1 s.2 (end_given s.0 c.items.self c.end.new.self c.in-Ok-Some.item s.1 s.2 (g.K.Sink.taken c.items.sink) s.3 (λ rest. c.more_bytes_may_follow.ensures.items true s.1 [] s.3.items rest) (end_item s.0 c.end.new.self s.1 s.3.items c.in-Ok-Some.field-0 c.in-Ok-Some.item (c.in-Ok-Some.ensures.answers s.0 s.1 s.3.items s.3.stands) c.in-Ok-Some.field-0-is)));
+  all = λ bytes taken h. let p = c.items.invariant.all bytes taken h in (true, c.in_default.ensures.went true bytes taken (end_given p.0 c.items.self c.end.new.self c.in-Ok-Some.item bytes taken (g.K.Sink.taken c.items.sink) p.1 (λ rest. c.more_bytes_may_follow.ensures.items true bytes [] p.1.items rest) (end_item p.0 c.end.new.self bytes p.1.items c.in-Ok-Some.field-0 c.in-Ok-Some.item (c.in-Ok-Some.ensures.answers p.0 bytes p.1.items p.1.stands) c.in-Ok-Some.field-0-is)));
+  some = let s = c.items.invariant.some in (true, s.1, s.2, c.in_default.ensures.went true s.1 s.2 (end_given s.0 c.items.self c.end.new.self c.in-Ok-Some.item s.1 s.2 (g.K.Sink.taken c.items.sink) s.3 (λ rest. c.more_bytes_may_follow.ensures.items true s.1 [] s.3.items rest) (end_item s.0 c.end.new.self s.1 s.3.items c.in-Ok-Some.field-0 c.in-Ok-Some.item (c.in-Ok-Some.ensures.answers s.0 s.1 s.3.items s.3.stands) c.in-Ok-Some.field-0-is)));
   later = omega (arith, c.items.invariant.later, c.answer.ensures.later);
   added = adds_more c.args.self.now.replies c.items.self.replies c.answer.new.self.replies (g.K.Sink.taken c.args.sink.now) (g.K.Sink.taken c.items.sink) (g.K.Sink.taken c.answer.new.sink) c.items.invariant.added c.answer.ensures.added;
 }

@@ -16,16 +16,16 @@ returns-in-Err-clause-went g c = λ bytes taken h.
 pub returns-in-Some-clause-went : goal.returns-in-Some-clause-went
 returns-in-Some-clause-went g c = λ bytes taken h. let k = c.items.invariant.all bytes taken h in c.in-Some.ensures.went false bytes taken (next_given c.items.self c.next.new.self c.in-Ok-Some.item bytes taken (g.K.Sink.taken c.items.sink) k (next_item c.next.new.self bytes k.items c.in-Ok-Some.field-0 c.in-Ok-Some.item (c.in-Ok-Some.ensures.answers bytes k.items k.stands) c.in-Ok-Some.field-0-is))
 
-pub items-smaller-in-None : goal.items-smaller-in-None
-items-smaller-in-None g c =
+pub items-smaller-in_default : goal.items-smaller-in_default
+items-smaller-in_default g c =
     let s = c.items.invariant.some in
     let room = room_left false (record { reader = c.next.new.self; session = c.items.self.session; replies = c.items.self.replies; fed = c.items.self.fed }) c.in-Ok-Some.item s.0 s.1 (g.K.Sink.taken c.items.sink) (next_given c.items.self c.next.new.self c.in-Ok-Some.item s.0 s.1 (g.K.Sink.taken c.items.sink) s.2 (next_item c.next.new.self s.0 s.2.items c.in-Ok-Some.field-0 c.in-Ok-Some.item (c.in-Ok-Some.ensures.answers s.0 s.2.items s.2.stands) c.in-Ok-Some.field-0-is)) in
-    let less : c.answer.new.self.fed - length c.answer.new.self.replies < c.items.self.fed - length c.items.self.replies = omega (arith, c.in-None.ensures.count, c.answer.ensures.fed, room) in less
+    let less : c.answer.new.self.fed - length c.answer.new.self.replies < c.items.self.fed - length c.items.self.replies = omega (arith, c.in_default.ensures.count, c.answer.ensures.fed, room) in less
 
-pub items-preserved-in-None : goal.items-preserved-in-None
-items-preserved-in-None g c = record {
-  all = λ bytes taken h. let k = c.items.invariant.all bytes taken h in c.in-None.ensures.went false bytes taken (next_given c.items.self c.next.new.self c.in-Ok-Some.item bytes taken (g.K.Sink.taken c.items.sink) k (next_item c.next.new.self bytes k.items c.in-Ok-Some.field-0 c.in-Ok-Some.item (c.in-Ok-Some.ensures.answers bytes k.items k.stands) c.in-Ok-Some.field-0-is));
-  some = let s = c.items.invariant.some in (s.0, s.1, c.in-None.ensures.went false s.0 s.1 (next_given c.items.self c.next.new.self c.in-Ok-Some.item s.0 s.1 (g.K.Sink.taken c.items.sink) s.2 (next_item c.next.new.self s.0 s.2.items c.in-Ok-Some.field-0 c.in-Ok-Some.item (c.in-Ok-Some.ensures.answers s.0 s.2.items s.2.stands) c.in-Ok-Some.field-0-is)));
+pub items-preserved-in_default : goal.items-preserved-in_default
+items-preserved-in_default g c = record {
+  all = λ bytes taken h. let k = c.items.invariant.all bytes taken h in c.in_default.ensures.went false bytes taken (next_given c.items.self c.next.new.self c.in-Ok-Some.item bytes taken (g.K.Sink.taken c.items.sink) k (next_item c.next.new.self bytes k.items c.in-Ok-Some.field-0 c.in-Ok-Some.item (c.in-Ok-Some.ensures.answers bytes k.items k.stands) c.in-Ok-Some.field-0-is));
+  some = let s = c.items.invariant.some in (s.0, s.1, c.in_default.ensures.went false s.0 s.1 (next_given c.items.self c.next.new.self c.in-Ok-Some.item s.0 s.1 (g.K.Sink.taken c.items.sink) s.2 (next_item c.next.new.self s.0 s.2.items c.in-Ok-Some.field-0 c.in-Ok-Some.item (c.in-Ok-Some.ensures.answers s.0 s.2.items s.2.stands) c.in-Ok-Some.field-0-is)));
   later = omega (arith, c.items.invariant.later, c.answer.ensures.later);
   added = adds_more c.args.self.now.replies c.items.self.replies c.answer.new.self.replies (g.K.Sink.taken c.args.sink.now) (g.K.Sink.taken c.items.sink) (g.K.Sink.taken c.answer.new.sink) c.items.invariant.added c.answer.ensures.added;
 }
@@ -34,12 +34,12 @@ pub items-smaller : goal.items-smaller
 items-smaller g c =
     let s = c.items.invariant.some in
     let room = room_left false (record { reader = c.next.new.self; session = c.items.self.session; replies = c.items.self.replies; fed = c.items.self.fed }) c.in-Ok-Some.item s.0 s.1 (g.K.Sink.taken c.items.sink) (next_given c.items.self c.next.new.self c.in-Ok-Some.item s.0 s.1 (g.K.Sink.taken c.items.sink) s.2 (next_item c.next.new.self s.0 s.2.items c.in-Ok-Some.field-0 c.in-Ok-Some.item (c.in-Ok-Some.ensures.answers s.0 s.2.items s.2.stands) c.in-Ok-Some.field-0-is)) in
-    let less : c.answer.new.self.fed - length c.answer.new.self.replies < c.items.self.fed - length c.items.self.replies = omega (arith, c.in-None.ensures.count, c.answer.ensures.fed, room) in less
+    let less : c.answer.new.self.fed - length c.answer.new.self.replies < c.items.self.fed - length c.items.self.replies = omega (arith, c.in_default.ensures.count, c.answer.ensures.fed, room) in less
 
 pub items-preserved : goal.items-preserved
 items-preserved g c = record {
-  all = λ bytes taken h. let k = c.items.invariant.all bytes taken h in c.in-None.ensures.went false bytes taken (next_given c.items.self c.next.new.self c.in-Ok-Some.item bytes taken (g.K.Sink.taken c.items.sink) k (next_item c.next.new.self bytes k.items c.in-Ok-Some.field-0 c.in-Ok-Some.item (c.in-Ok-Some.ensures.answers bytes k.items k.stands) c.in-Ok-Some.field-0-is));
-  some = let s = c.items.invariant.some in (s.0, s.1, c.in-None.ensures.went false s.0 s.1 (next_given c.items.self c.next.new.self c.in-Ok-Some.item s.0 s.1 (g.K.Sink.taken c.items.sink) s.2 (next_item c.next.new.self s.0 s.2.items c.in-Ok-Some.field-0 c.in-Ok-Some.item (c.in-Ok-Some.ensures.answers s.0 s.2.items s.2.stands) c.in-Ok-Some.field-0-is)));
+  all = λ bytes taken h. let k = c.items.invariant.all bytes taken h in c.in_default.ensures.went false bytes taken (next_given c.items.self c.next.new.self c.in-Ok-Some.item bytes taken (g.K.Sink.taken c.items.sink) k (next_item c.next.new.self bytes k.items c.in-Ok-Some.field-0 c.in-Ok-Some.item (c.in-Ok-Some.ensures.answers bytes k.items k.stands) c.in-Ok-Some.field-0-is));
+  some = let s = c.items.invariant.some in (s.0, s.1, c.in_default.ensures.went false s.0 s.1 (next_given c.items.self c.next.new.self c.in-Ok-Some.item s.0 s.1 (g.K.Sink.taken c.items.sink) s.2 (next_item c.next.new.self s.0 s.2.items c.in-Ok-Some.field-0 c.in-Ok-Some.item (c.in-Ok-Some.ensures.answers s.0 s.2.items s.2.stands) c.in-Ok-Some.field-0-is)));
   later = omega (arith, c.items.invariant.later, c.answer.ensures.later);
   added = adds_more c.args.self.now.replies c.items.self.replies c.answer.new.self.replies (g.K.Sink.taken c.args.sink.now) (g.K.Sink.taken c.items.sink) (g.K.Sink.taken c.answer.new.sink) c.items.invariant.added c.answer.ensures.added;
 }
