@@ -31,14 +31,12 @@ pub(crate) fn state_names(alloc: Global, states: &[Sexpr]) -> Result<IndexSet<Na
 {
     let mut names: IndexSet<Name> = IndexSet::new(alloc);
     for state in states {
-        match symbol(state) {
-            Some(text) => {
-                let name = Name::of(alloc, text)?;
-                if !is_new(&mut names, name)? {
-                    return Err(CheckFault::Transducer);
-                }
-            }
-            None => return Err(CheckFault::Shape),
+        let Some(text) = symbol(state) else {
+            return Err(CheckFault::Shape);
+        };
+        let name = Name::of(alloc, text)?;
+        if !is_new(&mut names, name)? {
+            return Err(CheckFault::Transducer);
         }
     }
     Ok(names)
