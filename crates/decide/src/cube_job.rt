@@ -78,12 +78,12 @@ pub fn answer_for(shared: &Shared<'_>, cube: &Cube) -> Result<CubeAnswer, AllocE
     refusals_have_no_flat_cube();
     match flatten(shared.alloc, cube) {
         Ok(flat) => flat_answer(shared, cube, &flat),
-        Err(fault) => refused(fault),
+        Err(fault) => refuse(fault),
     }
 }
 
 /// The answer for a cube that has no flat cube.
-fn refused(fault: FlatFault) -> Result<CubeAnswer, AllocError>
+fn refuse(fault: FlatFault) -> Result<CubeAnswer, AllocError>
     ensures { result ≡ refused_answer fault }
 {
     match fault {

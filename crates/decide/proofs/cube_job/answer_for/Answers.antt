@@ -5,7 +5,7 @@ use Rattle.decide.proofs.cube_job.answer_for.Goals as goal
 
 pub returns-in-Err : goal.returns-in-Err
 returns-in-Err c =
-    subst (λ r. IfOk r (IsOutcome c.args.shared.now.terms.now c.args.cube.now)) (sym c.refused.ensures)
+    subst (λ r. IfOk r (IsOutcome c.args.shared.now.terms.now c.args.cube.now)) (sym c.refuse.ensures)
     (refused-outcome c.refusals_have_no_flat_cube.ensures c.args.shared.now.terms.now c.args.cube.now c.in-Err.fault c.in-Err.ensures.flat)
 
 pub flat_answer-requires-clause-apart : goal.flat_answer-requires-clause-apart
