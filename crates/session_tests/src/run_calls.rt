@@ -724,23 +724,26 @@ fn each_call_may_fail(rt: HostRuntime) -> Result<(), Fail> {
             taken,
         )?;
     }
-    for (call, taken) in [
-        (0, b"".as_slice()),
-        (1, b"\"a\"\n"),
-        (2, b"\"a\"\n"),
-        (3, b"\"a\"\nsat\n"),
-        (4, b"\"a\"\nsat\n"),
-        (5, b"\"a\"\nsat\n\"b\"\n"),
-    ] {
-        run_over(
-            &rt,
-            alloc,
-            script,
-            8,
-            (&[], &[call]),
-            Status::WriteFailed,
-            taken,
-        )?;
+    // each reply is flushed before the next one, where a piece ends no item or one, and where it ends all
+    for piece in [8, 4096] {
+        for (call, taken) in [
+            (0, b"".as_slice()),
+            (1, b"\"a\"\n"),
+            (2, b"\"a\"\n"),
+            (3, b"\"a\"\nsat\n"),
+            (4, b"\"a\"\nsat\n"),
+            (5, b"\"a\"\nsat\n\"b\"\n"),
+        ] {
+            run_over(
+                &rt,
+                alloc,
+                script,
+                piece,
+                (&[], &[call]),
+                Status::WriteFailed,
+                taken,
+            )?;
+        }
     }
     Ok(())
 }
