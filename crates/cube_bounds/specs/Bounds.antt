@@ -1,7 +1,7 @@
 -- How many states the machines of the variables of a flat cube have at most: numbers of its text,
 -- without bound.
-use Rattle.std.specs.Prelude.{ℕ, ◌+◌, ◌*◌, ◌-◌, ◌^◌, max, List, [], ◌∷◌, map, length, get_or, slice_set, filter, not, nat_eq, Bool, true, false}
-use Rattle.std.specs.List.{list_any, range_with_len}
+use Rattle.std.specs.Prelude.{ℕ, ◌+◌, ◌*◌, ◌-◌, ◌^◌, max, List, [], ◌∷◌, map, length, get_or, slice_set, filter, not, Bool, true, false}
+use Rattle.std.specs.List.{range_with_len}
 use Rattle.sv_terms.specs.Bounds.{size}
 use Rattle.flat_cubes.specs.Using.{is_defined, used}
 use Rattle.flat_cubes.specs.declared.variable.Own.{Own}

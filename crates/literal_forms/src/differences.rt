@@ -1,5 +1,5 @@
 //! The differences of two terms of sort Int, and whether the forms of an atom stay within 128 bits.
-ghost use Rattle.std.specs.Prelude.{◌≡◌, [], ◌∷◌, ℤ, List, pos, IfOk};
+ghost use Rattle.std.specs.Prelude.{[], ◌∷◌, ℤ, List, pos, IfOk};
 ghost use Rattle.literal_forms.specs.Linear.{Linear, addition, linear, of_number};
 ghost use Rattle.literal_forms.specs.Numbered.{AreDifferences, AreNumbered, IsNumbered};
 ghost use Rattle.literal_forms.specs.Past.{IsPlainExactly, atom_steps, comparison_steps, equality_steps};
@@ -11,7 +11,7 @@ use crate::roles::Joint;
 use crate::sorts::head_sort;
 use crate::term_form::TermForm;
 use crate::unknowns::Unknowns;
-use std::alloc::{AllocError, Global};
+use std::alloc::Global;
 use sv_linear::FormFault;
 use sv_terms::{Sort, Term};
 

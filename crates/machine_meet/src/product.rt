@@ -6,7 +6,7 @@ ghost use Rattle.machine_meet.specs.Products.{AreStates, summed, IsNothing, AreP
 use crate::join::join_all;
 use machine_core::{Cost, Machine, Move, State};
 use std::alloc::{AllocError, Global};
-use sv_list::{Copied, Items};
+use sv_list::Items;
 use sv_word::Ranges;
 
 // The move of no machine at all: any character, at no cost.

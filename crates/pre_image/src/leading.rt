@@ -1,5 +1,5 @@
 //! Where a target may be once it went along what a transducer writes.
-ghost use Rattle.std.specs.Prelude.{◌≡◌, ⊤, ℕ, ◌++◌, ◌*◌, ◌<◌, ◌≤◌, ◌^◌, ◌↔◌, ◌⊎◌, ◌&&◌, ◌||◌, List, [], ◌∷◌, length, IfOk, IfSome, OnOk, Any, Contains, MatchOption};
+ghost use Rattle.std.specs.Prelude.{◌≡◌, ⊤, ℕ, ◌++◌, ◌*◌, ◌<◌, ◌≤◌, ◌^◌, ◌↔◌, ◌⊎◌, ◌&&◌, ◌||◌, List, [], ◌∷◌, length, IfOk, OnOk, Any, Contains, MatchOption};
 ghost use Rattle.sv_word.specs.Ranges.{in_pair, in_ranges, IsInhabited};
 ghost use Rattle.machine_core.specs.declared.machine.Move.{Move};
 ghost use Rattle.machine_core.specs.Moves.{Moves};

@@ -8,7 +8,7 @@ use Rattle.smt_names.specs.declared.check_fault.CheckFault.TheVariants as fault
 use Rattle.smt_names.specs.declared.opening.Opening.{Opening}
 use Rattle.smt_names.specs.declared.opening.Opening.TheVariants as o
 use Rattle.smt_names.specs.Faults.{Answers, made_of}
-use Rattle.smt_names.specs.Form.{Form, Forms, forms, group, seen}
+use Rattle.smt_names.specs.Form.{Forms, forms, group, seen}
 use Rattle.smt_names.specs.Shapes.{none-seen, seen-Atom, seen-List}
 use Rattle.smt_names.specs.Tokens.{is_identifier, opening, symbol}
 use Rattle.term_walk.specs.Heads.{kept}
