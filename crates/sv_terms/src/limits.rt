@@ -1,5 +1,5 @@
-//! The limits of the profile. The first refuse a command, the others leave a check open; none of
-//! them is a limit of a type of this crate.
+//! The limits on commands and checks. The first refuse a command, the others leave a check open;
+//! none of them is a limit of a type of this crate.
 
 /// The most levels that may be pushed on the outermost one.
 pub const MOST_LEVELS: u64 = 65_535;
