@@ -64,11 +64,11 @@ link_crates() {
 
 # Proves the crate $1 by $2 jobs, and builds its library, or the program; says why it can't.
 build_crate() {
-    local verb=lib log=$building/$1.log to=$root/crates/$1/out made
-    if [ "$1" = strsolve ]; then verb=run; fi
+    local -a command=(python3 "$root/lib_of_statements.py")
+    local log=$building/$1.log to=$root/crates/$1/out made
+    if [ "$1" = strsolve ]; then command=(rt run); fi
     link_crates "$1" || return 1
-    if ! (cd "$building/$1/crates/$1" && python3 "$root/remembering_rt.py" "$verb" --jobs "$2") \
-        </dev/null >"$log" 2>&1 9>&-; then
+    if ! (cd "$building/$1/crates/$1" && "${command[@]}" --jobs "$2") </dev/null >"$log" 2>&1 9>&-; then
         cat "$log" >&2
         return 1
     fi
