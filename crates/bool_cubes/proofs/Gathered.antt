@@ -5,7 +5,7 @@ use Rattle.std.proofs.lemmas.Bool.{cases_lt}
 use Rattle.std.proofs.lemmas.List.{length-map, drop_all}
 use Rattle.std.proofs.Math.Nat.{mul-le-mul_left, mul_comm}
 use Rattle.bool_cubes.specs.Cubes.{count, cube, cubes}
-use Rattle.bool_cubes.specs.Counting.{formulas_of}
+use Rattle.bool_cubes.specs.Arguments.{formulas_of}
 use Rattle.bool_cubes.specs.Given.{IsGiving}
 use borrow.Author.Tests.{ltb-true, ltb-false}
 use Rattle.bool_cubes.specs.Nodes.{IsMade, IsOfEarlier, IsPlan, IsPlanned, made, tree_at, trees_of}
@@ -230,6 +230,10 @@ refused_by X ts fault e q h = subst (λ z. IsRefusedExactly {X = X} ts (Err z)) 
     by_fault : (fault : FormFault) → IsPlainExactly {X = Unit {0}} (tree_steps (tree_of ts)) (Err fault) → IsRefusedExactly {X = X} ts (Err (fault_of fault))
     by_fault (form.Past l r) h = h
     by_fault (form.Memory e) h = tt
+
+-- a node of the assertions' tree keeps the number of their cubes
+pub counted : (ts : List Term) (old new : List CubeNode) (s : NodePair) (n : ℕ) → IsPlanned old new s (conjunction (formulas_of ts)) → n ≡ cut_off (count (tree_at new s.holding)) → n ≡ cut_off (count_of ts)
+counted ts old new s n p e = e ∙ ap (λ t. cut_off (count t)) (planned_tree ts old new s p)
 
 pub many : (ts : List Term) (n : ℕ) → n ≡ cut_off (count_of ts) → most_cubes < n → most_cubes < count_of ts
 many ts n e l = omega arith

@@ -3,8 +3,7 @@ pub mod Deciding
 pub mod Ranked
 pub mod Meanings
 pub mod Exact
-pub mod Tallies
-pub mod Arms
+pub mod Lists
 pub mod Picked
 pub mod Kept
 pub mod Carried

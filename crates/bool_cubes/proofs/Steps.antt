@@ -7,7 +7,7 @@ use Rattle.sv_terms.specs.declared.op.Op.TheVariants as op
 use Rattle.sv_terms.specs.declared.sort.Sort.TheVariants as sort
 use Rattle.sv_terms.specs.declared.term.Term.{Term}
 use Rattle.sv_terms.specs.declared.term.Term.TheVariants as term
-use Rattle.bool_cubes.specs.Counting.{first_pairs, formulas_of, part_of, parts_of}
+use Rattle.bool_cubes.specs.Arguments.{first_pairs, formulas_of, part_of, parts_of}
 use Rattle.literal_forms.specs.Mirrors.{raw-seen, seen-Truth, seen-Apply}
 use Rattle.bool_cubes.specs.Nodes.{IsLonger, IsPlanned, HasBothTrees}
 use Rattle.bool_cubes.specs.Planned.{AreNodePairs, AreBooleanSides, HasSide}
@@ -16,7 +16,7 @@ use Rattle.bool_cubes.specs.Trees.{Formula, Part, agreement, applied, atom, chai
 use Rattle.bool_cubes.specs.declared.node.CubeNode.{CubeNode}
 use Rattle.bool_cubes.specs.declared.node.NodePair.{NodePair}
 use Rattle.bool_cubes.proofs.Plans.{longer_trans, stands_longer, planned_trans, relabelled, turned}
-use Rattle.bool_cubes.proofs.Tallies.{exclusive_push, formulas_more}
+use Rattle.bool_cubes.proofs.Lists.{exclusive_push, formulas_more}
 
 pub planned_as : (a b : List CubeNode) (s : NodePair) (f g : Formula) → IsPlanned a b s f → f ≡ g → IsPlanned a b s g
 planned_as a b s f g p e = subst (λ h. IsPlanned a b s h) e p

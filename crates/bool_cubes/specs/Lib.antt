@@ -3,7 +3,7 @@ pub mod Cubes
 pub mod Past
 pub mod Refusing
 pub mod Laws
-pub mod Counting
+pub mod Arguments
 pub mod Picking
 pub mod Nodes
 pub mod Planned

@@ -6,7 +6,6 @@ ghost use Rattle.bool_cubes.specs.Nodes.{IsPlan, tree_at};
 ghost use Rattle.bool_cubes.specs.Picking.{cube_at};
 ghost use Rattle.bool_cubes.specs.Refusing.{IsRefusedExactly, most_cubes};
 
-use crate::counts::count_terms;
 use crate::fault::{CubeFault, cube_fault};
 use crate::node::{CubeNode, NodeKind};
 use crate::past;
@@ -67,9 +66,7 @@ impl Cubes {
         ensures cubes { IfOk result (λ c. c ≡ cubes_of terms.now) }
         ensures refused { IsRefusedExactly terms.now result }
     {
-        let mut plan = Plan {
-            nodes: Items::new(alloc),
-        };
+        let mut plan = Plan::new(alloc);
         let sides = match all_sides(&mut plan, alloc, terms) {
             Ok(sides) => sides,
             Err(error) => return Err(CubeFault::Memory(error)),
@@ -78,7 +75,7 @@ impl Cubes {
             Ok(()) => {}
             Err(fault) => return Err(cube_fault(fault)),
         }
-        let cubes = count_terms(terms);
+        let cubes = plan.count_at(sides.holding);
         if cubes > MOST_CUBES {
             return Err(CubeFault::TooMany(cubes));
         }

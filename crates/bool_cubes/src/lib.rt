@@ -7,9 +7,9 @@
 //!
 //! What leaves 128 bits in the linear form of an atom is found before the first cube is given.
 //!
-//! Costs: `count` goes over the terms once and takes no memory. `Cubes::new` takes time and memory
-//! linear in the terms, but for `distinct`, which has a part for each pair of its arguments, and for the
-//! forms, which are added up from the left. A cube costs its own literals and the depth of the tree.
+//! Costs: `count` and `Cubes::new` take time and memory linear in the terms, but for `distinct`, which has a
+//! part for each pair of its arguments, and `Cubes::new` for the forms, which are added up from the left. A
+//! cube costs its own literals and the depth of the tree.
 //!
 //! ```text
 //! let mut cubes = Cubes::new(alloc, terms)?;     // (or p q), (or r s)

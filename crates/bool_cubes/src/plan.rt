@@ -20,6 +20,23 @@ pub struct Plan {
 }
 
 impl Plan {
+    pub fn new(alloc: Global) -> Plan
+        ensures { IsPlan result.nodes }
+    {
+        Plan {
+            nodes: Items::new(alloc),
+        }
+    }
+
+    /// The number of cubes of a node's tree, 2^64 - 1 where they are more.
+    pub fn count_at(&self, node: usize) -> u64
+        requires plan { IsPlan self.now.nodes }
+        requires node { node < length self.now.nodes }
+        ensures { result ≡ cut_off (count (tree_at self.now.nodes node)) }
+    {
+        self.nodes.as_slice()[node].cubes
+    }
+
     fn push(&mut self, kind: NodeKind, cubes: u64) -> Result<usize, AllocError>
         requires plan { IsPlan self.old.nodes }
         requires earlier { IsOfEarlier (length self.old.nodes) kind }

@@ -3,7 +3,7 @@ ghost use Rattle.std.specs.Prelude.{◌≡◌, ℕ, ◌<◌, IfOk, List, ◌+◌
 ghost use Rattle.sv_terms.specs.declared.op.Op.TheVariants as op;
 ghost use Rattle.sv_terms.specs.declared.sort.Sort.TheVariants as sort;
 ghost use Rattle.sv_terms.specs.declared.term.Term.{Term as AnyTerm};
-ghost use Rattle.bool_cubes.specs.Counting.{first_pairs, formulas_of, part_of, parts_of};
+ghost use Rattle.bool_cubes.specs.Arguments.{first_pairs, formulas_of, part_of, parts_of};
 ghost use Rattle.bool_cubes.specs.Nodes.{AreOf, IsLonger, IsPlan, IsPlanned, HasBothTrees};
 ghost use Rattle.bool_cubes.specs.Planned.{AreBooleanSides, HasSide};
 ghost use Rattle.literal_forms.specs.Shapes.{head_sort, seen};

@@ -30,7 +30,7 @@ pub fn print_table(rt: HostRuntime, live: &[Term]) -> Result<(), TableStop>
         head.add("\n")?;
     }
     head.add("cubes: ")?;
-    head.number(count(terms.as_slice()))?;
+    head.number(count(alloc, terms.as_slice())?)?;
     head.add("\n")?;
     head.print(rt)?;
     print_cubes(rt, terms.as_slice())

@@ -50,19 +50,23 @@ impl Pace {
 }
 
 /// Whether the term leaves no choice.
-fn is_single(term: &Term) -> bool
+fn is_single(alloc: Global, term: &Term) -> Result<bool, AllocError>
     requires { IsClearBool term.now }
-    ensures { result ≡ is_single term.now }
+    ensures { IfOk result (λ single. single ≡ is_single term.now) }
 {
-    count(std::slice::from_ref(term)) == 1
+    let cubes = count(alloc, std::slice::from_ref(term))?;
+    Ok(cubes == 1)
 }
 
 /// Whether all cubes of one choice for the first terms share what the term at this place says.
-fn is_shared(term: &Term, at: usize, first: usize) -> bool
+fn is_shared(alloc: Global, term: &Term, at: usize, first: usize) -> Result<bool, AllocError>
     requires { IsClearBool term.now }
-    ensures { result ≡ (nat_lt at first || is_single term.now) }
+    ensures { IfOk result (λ shared. shared ≡ (nat_lt at first || is_single term.now)) }
 {
-    at < first || is_single(term)
+    if at < first {
+        return Ok(true);
+    }
+    is_single(alloc, term)
 }
 
 fn push_if_shared(
@@ -75,7 +79,7 @@ fn push_if_shared(
     requires { IsClearBool term.now }
     ensures { OnOk result (all.new ≡ all.old ++ (if nat_lt at first || is_single term.now then term.now ∷ [] else [])) }
 {
-    if !is_shared(term, at, first) {
+    if !is_shared(alloc, term, at, first)? {
         return Ok(());
     }
     all.push(term.copy(alloc)?)?;
@@ -119,18 +123,18 @@ pub fn shared_literals(
 }
 
 /// How many cubes make one choice for the first terms, one after another: 0 where they are too many.
-pub fn block_of(terms: &[Term], first: usize) -> u64
+pub fn block_of(alloc: Global, terms: &[Term], first: usize) -> Result<u64, AllocError>
     requires sorted { AllByRecursion IsClearBool terms.now }
     requires first { first ≤ length terms.now }
-    ensures counted { 0 < result → result ≡ count_of (drop first terms.now) }
-    ensures few { count_of (drop first terms.now) ≤ most_cubes → result ≡ count_of (drop first terms.now) }
-    ensures most { result ≤ most_cubes }
+    ensures counted { IfOk result (λ block. 0 < block → block ≡ count_of (drop first terms.now)) }
+    ensures few { IfOk result (λ block. count_of (drop first terms.now) ≤ most_cubes → block ≡ count_of (drop first terms.now)) }
+    ensures most { IfOk result (λ block. block ≤ most_cubes) }
 {
-    let cubes = count(&terms[first..]);
+    let cubes = count(alloc, &terms[first..])?;
     if cubes > MOST_CUBES {
-        return 0;
+        return Ok(0);
     }
-    cubes
+    Ok(cubes)
 }
 
 /// How many of the cubes behind so many are in the block in which the first of them is, in whole batches.
@@ -147,33 +151,33 @@ pub fn count_ahead(block: u64, given: u64) -> u64
 }
 
 /// Whether a block of one choice for so many first terms goes on for a whole batch.
-fn goes_on(terms: &[Term], given: u64, first: usize) -> bool
+fn goes_on(alloc: Global, terms: &[Term], given: u64, first: usize) -> Result<bool, AllocError>
     requires sorted { AllByRecursion IsClearBool terms.now }
     requires first { first ≤ length terms.now }
-    ensures yes { result ≡ true → GoesOn terms.now given first }
-    ensures no { result ≡ false → GoesOn terms.now given first → ⊥ }
+    ensures yes { IfOk result (λ goes. goes ≡ true → GoesOn terms.now given first) }
+    ensures no { IfOk result (λ goes. goes ≡ false → GoesOn terms.now given first → ⊥) }
 {
-    let block = block_of(terms, first);
-    count_ahead(block, given) > 0
+    let block = block_of(alloc, terms, first)?;
+    Ok(count_ahead(block, given) > 0)
 }
 
 /// A number of first terms of which a block goes on for a whole batch, and with one more doesn't; 0 where none is
 /// found. Found by halving.
-pub fn longest_choice(terms: &[Term], given: u64) -> usize
+pub fn longest_choice(alloc: Global, terms: &[Term], given: u64) -> Result<usize, AllocError>
     requires { AllByRecursion IsClearBool terms.now }
-    ensures within { result ≤ length terms.now }
-    ensures some { 0 < result → GoesOn terms.now given result }
-    ensures most { result < length terms.now → GoesOn terms.now given (result + 1) → ⊥ }
+    ensures within { IfOk result (λ first. first ≤ length terms.now) }
+    ensures some { IfOk result (λ first. 0 < first → GoesOn terms.now given first) }
+    ensures most { IfOk result (λ first. first < length terms.now → GoesOn terms.now given (first + 1) → ⊥) }
 {
     let mut least = 0;
     let mut most = terms.len();
     while least < most {
         let middle = most - (most - least) / 2;
-        if goes_on(terms, given, middle) {
+        if goes_on(alloc, terms, given, middle)? {
             least = middle;
         } else {
             most = middle - 1;
         }
     }
-    least
+    Ok(least)
 }

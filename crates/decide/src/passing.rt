@@ -42,7 +42,7 @@ fn count_refuted_by(
 {
     cubes_are_counted();
     cubes_are_picked();
-    let block = block_of(terms, first);
+    let block = block_of(shared.alloc, terms, first)?;
     let cubes = count_ahead(block, given);
     if cubes == 0 {
         return Ok(0);
@@ -73,7 +73,7 @@ pub fn count_refuted_ahead(
     ensures { IfOk result (AreKnown terms.now given) }
 {
     let mut least = 0;
-    let mut most = longest_choice(terms, given);
+    let mut most = longest_choice(shared.alloc, terms, given)?;
     let mut cubes = count_refuted_by(shared, terms, given, most)?;
     if cubes == 0 {
         return Ok(0);

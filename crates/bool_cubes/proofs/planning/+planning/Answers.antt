@@ -2,13 +2,13 @@ use Rattle.std.proofs.Common.{◌≡◌, ◌∙◌, ◌-◌, ap, arith, drop, le
 use Rattle.std.proofs.lemmas.Bool.Decides.{Decides-eqb}
 use Rattle.sv_terms.specs.declared.op.Op.TheVariants as op
 use Rattle.sv_terms.specs.declared.term.Term.TheVariants as term
-use Rattle.bool_cubes.specs.Counting.{formulas_of, parts_of}
+use Rattle.bool_cubes.specs.Arguments.{formulas_of, parts_of}
 use Rattle.bool_cubes.specs.Nodes.{IsPlanned}
 use Rattle.bool_cubes.specs.Trees.{applied, atom, conjunction, disjunction, equal, exclusive, fixed, formula, implied, negated, neighbours, pairs}
 use Rattle.literal_forms.specs.Shapes.{seen}
 use Rattle.bool_cubes.proofs.Plans.{longer_trans, within_longer}
 use Rattle.bool_cubes.proofs.Steps.{all_none, all_step, answered_as, any_none, any_step, boolean_longer, choice_other, choice_three, equal_step, exclusive_all, exclusive_none, exclusive_step, formula_apply, formula_other, formula_truth, implied_none, implied_step, not_one, not_other, pairs_step, side_left, side_right}
-use Rattle.bool_cubes.proofs.Tallies.{parts_formulas}
+use Rattle.bool_cubes.proofs.Lists.{parts_formulas}
 use Rattle.bool_cubes.proofs.planning.+planning.Goals as goal
 
 pub all_sides-loop-i-preserved : goal.all_sides-loop-i-preserved

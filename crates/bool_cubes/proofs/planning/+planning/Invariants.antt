@@ -1,5 +1,5 @@
 use Rattle.std.proofs.Common.{◌-◌, ◌<◌, drop, length, take}
-use Rattle.bool_cubes.specs.Counting.{formulas_of, parts_of}
+use Rattle.bool_cubes.specs.Arguments.{formulas_of, parts_of}
 use Rattle.bool_cubes.specs.Nodes.{IsLonger, IsPlanned}
 use Rattle.bool_cubes.specs.Planned.{AreBooleanSides, AreNodePairs}
 use Rattle.bool_cubes.specs.Trees.{conjunction, disjunction, equal, exclusive, implied, negated, neighbours, pairs}

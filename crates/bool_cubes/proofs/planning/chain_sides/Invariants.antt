@@ -1,5 +1,5 @@
 use Rattle.std.proofs.Common.{◌-◌, drop}
-use Rattle.bool_cubes.specs.Counting.{parts_of}
+use Rattle.bool_cubes.specs.Arguments.{parts_of}
 use Rattle.bool_cubes.specs.Nodes.{IsPlanned}
 use Rattle.bool_cubes.specs.Trees.{chain}
 use Rattle.bool_cubes.proofs.planning.chain_sides.Given as goal

@@ -1,5 +1,5 @@
 use Rattle.std.proofs.Common.{◌≡◌, ◌+◌, ◌-◌, ◌++◌, ap, arith, drop, subst}
-use Rattle.bool_cubes.specs.Counting.{first_pairs, part_of}
+use Rattle.bool_cubes.specs.Arguments.{first_pairs, part_of}
 use Rattle.bool_cubes.specs.Nodes.{IsPlanned}
 use Rattle.bool_cubes.specs.Trees.{conjunction, equal}
 use Rattle.bool_cubes.proofs.Plans.{longer_trans, turned_within, within_longer}

@@ -1,6 +1,6 @@
 use Rattle.std.proofs.Common.{◌≡◌, ◌+◌, ◌++◌, ◌≤◌, List, drop, get_or}
 use Rattle.sv_terms.specs.declared.term.Term.{Term}
-use Rattle.bool_cubes.specs.Counting.{first_pairs}
+use Rattle.bool_cubes.specs.Arguments.{first_pairs}
 use Rattle.bool_cubes.specs.Nodes.{AreOf, IsLonger, IsPlanned, HasBothTrees}
 use Rattle.bool_cubes.specs.Planned.{AreBooleanSides}
 use Rattle.bool_cubes.specs.Trees.{Formula, conjunction}

@@ -5,10 +5,10 @@ use Rattle.decide.proofs.blocks.goes_on.Goals as goal
 
 pub returns-clause-yes : goal.returns-clause-yes
 returns-clause-yes c = λ yes.
-    goes-on c.args.terms.now c.args.given c.args.first c.block_of-block.result c.count_ahead.result c.block_of-block.ensures.counted
-    c.block_of-block.ensures.most c.count_ahead.ensures.whole c.count_ahead.ensures.below c.count_ahead.ensures.within (grind (arith, nat_tests))
+    goes-on c.args.terms.now c.args.given c.args.first c.in_ok-block.block c.count_ahead.result c.in_ok-block.ensures.counted
+    c.in_ok-block.ensures.most c.count_ahead.ensures.whole c.count_ahead.ensures.below c.count_ahead.ensures.within (grind (arith, nat_tests))
 
 pub returns-clause-no : goal.returns-clause-no
 returns-clause-no c = λ no.
-    stops c.args.terms.now c.args.given c.args.first c.block_of-block.result c.count_ahead.result c.block_of-block.ensures.counted
-    c.block_of-block.ensures.few c.count_ahead.ensures.most (grind (arith, nat_tests))
+    stops c.args.terms.now c.args.given c.args.first c.in_ok-block.block c.count_ahead.result c.in_ok-block.ensures.counted
+    c.in_ok-block.ensures.few c.count_ahead.ensures.most (grind (arith, nat_tests))
