@@ -69,6 +69,11 @@ def chain(count):
     )
 
 
+def definitions(count):
+    """So many definitions, each of one variable by another."""
+    return "".join(declare("String", f"x{n}", f"y{n}") + claim(f'(= x{n} (str.++ y{n} "a"))') for n in range(count))
+
+
 def escapes():
     table = [("&", "&amp;"), ("<", "&lt;"), (">", "&gt;"), ('""', "&quot;"), ("'", "&#39;")]
     names = [f"x{n}" for n in range(len(table) + 1)]
@@ -189,6 +194,9 @@ def rows():
         count = 990 if name == "not" else 490
         term = nested(f"({name} ", "p", count)
         yield f"{count} `{name}` in one another, checked, within {most:,} KB of stack", declare("Bool", "p") + claim(term) + check(), None, most
+    yield "990 `distinct true` in one another, checked", declare("Bool", "p") + claim(nested("(distinct true ", "p", 990)) + check(), "sat\n", None
+    for count, most in ((200, 2048), (800, 8192)):
+        yield f"{count} definitions in one cube, checked, within {most:,} KB of stack", definitions(count) + check(), "sat\n", most
     for name, most in (("re.*", 820), ("re.opt", 820), ("re.comp", 820), ('re.union (str.to_re "b")', 1093), ('re.++ (str.to_re "b")', 1093), ('re.diff (str.to_re "b")', 1093)):
         term = nested(f"({name} ", '(str.to_re "a")', 990)
         yield f"990 `{name}` in one another, checked, within {most:,} KB of stack", declare("String", "x") + claim(f"(str.in_re x {term})") + check(), None, most

@@ -3,7 +3,7 @@
 
     python3 docs/named.py
 
-In README.md, CONTRIBUTING.md and docs/*.md: each path into a crate must be a file; each name in front of such a path
+In README.md, CONTRIBUTING.md and docs/*.md: each path to a source, definition, proof or script of a crate must be a file; each name in front of such a path
 (`check`, decide/src/checking.rt) must be declared in that file; each name in the last column of docs/PROVED.md must stand
 in the sources or definitions of its row's crate; docs/TESTING.md must count each crate's edits rightly; and each text
 that an edit replaces must stand just once in its file. Ends with 1 where something isn't so.
