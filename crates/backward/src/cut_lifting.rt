@@ -14,6 +14,7 @@ use crate::family::machine_at;
 use crate::leaf_state::{FamilyOrigin, LeafState};
 use crate::lifting::run_at;
 use crate::meeting::{Apart, MetPart, take_apart};
+use crate::shared::Shared;
 use machine_core::{Cost, Explicit, Machine, Run};
 use pre_image::{Slice, joined_runs_are_runs, lift_concat};
 use std::alloc::{AllocError, Global};
@@ -24,7 +25,7 @@ use sv_word::Word;
 // cut, the pieces, the cuts, and the meetings of the pieces, the last piece first.
 #[derive(Drop)]
 struct CarriedCut<'a> {
-    machines: &'a [Option<Explicit>],
+    machines: &'a [Option<Shared<Explicit>>],
     x: u32,
     target: &'a Explicit,
     pieces: &'a [u32],

@@ -9,6 +9,7 @@ ghost use Rattle.backward.specs.Chains.{width};
 ghost use Rattle.backward.specs.States.{AreOwnMachines, IsState};
 
 use crate::leaf_state::{FamilyOrigin, LeafState};
+use crate::shared::Shared;
 use cube_bounds::{growth_is_solved, states_are_solved};
 use flat_cubes::Flat;
 use machine_core::{Cost, Explicit};
@@ -44,11 +45,15 @@ impl LeafState {
 }
 
 // Each machine as one that is there.
-fn all_some(alloc: Global, machines: Items<Explicit>) -> Result<Items<Option<Explicit>>, AllocError>
+fn all_some(
+    alloc: Global,
+    machines: Items<Explicit>,
+) -> Result<Items<Option<Shared<Explicit>>>, AllocError>
     ensures { IfOk result (λ all. all ≡ map Some machines) }
 {
     let mut all = Items::new(alloc);
     for machine in machines.into_vec() {
+        let machine = Shared::new(alloc, machine)?;
         all.push(Some(machine))?;
     }
     Ok(all)

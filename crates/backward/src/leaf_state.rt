@@ -1,6 +1,7 @@
 ghost use Rattle.backward.specs.Families.{AreWide};
 
 use crate::meeting::MetPart;
+use crate::shared::Shared;
 use crate::through::PreBuilt;
 use machine_core::Explicit;
 use sv_list::Items;
@@ -19,10 +20,11 @@ pub enum FamilyOrigin {
 }
 
 /// A family of machines by the numbers of their variables: one for each variable that isn't carried
-/// yet, and none for the others. All have the same number of registers.
+/// yet, and none for the others. All have the same number of registers. A machine that stays is shared with the
+/// family that this one was made of.
 pub struct LeafState {
     pub registers: usize,
-    pub machines: Items<Option<Explicit>>,
+    pub machines: Items<Option<Shared<Explicit>>>,
     pub made: FamilyOrigin,
     pub ghost wide: { AreWide registers machines },
 }

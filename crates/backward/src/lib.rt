@@ -29,6 +29,7 @@ mod laws;
 mod leaf_state;
 mod lifting;
 mod meeting;
+mod shared;
 mod stepping;
 mod through;
 
@@ -41,5 +42,6 @@ pub use laws::{
 pub use leaf_state::{FamilyOrigin, LeafState};
 pub use lifting::lift_through;
 pub use meeting::MetPart;
+pub use shared::Shared;
 pub use stepping::{lift_step, step_concat, step_through};
 pub use through::{PreBuilt, carry_through};

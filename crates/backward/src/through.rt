@@ -8,13 +8,12 @@ ghost use Rattle.backward.specs.PreBuilt.{IsPreKept};
 ghost use Rattle.backward.specs.Made.{IsPassed};
 ghost use Rattle.backward.specs.Carried.{CanPass, IsCarriedThrough};
 
-use crate::family::{copy_without, machine_at};
+use crate::family::{machine_at, share_copy, share_without};
 use crate::leaf_state::{FamilyOrigin, LeafState};
 use crate::meeting::meet_slice;
 use machine_core::Explicit;
 use pre_image::{Pre, pre_costs_are_bounded, pre_is_exact};
 use std::alloc::Global;
-use sv_list::Copied;
 use sv_terms::Transducer;
 use trim_search::{BuildFault, Built, lifted_runs_are_runs, materialise};
 
@@ -75,8 +74,8 @@ pub fn carry_through(
     let reader = machine_at(state.machines.as_slice(), v);
     let before = pre_image(alloc, &through, target, limit)?;
     let meeting = meet_slice(alloc, reader, &before.built.machine, 0, None, limit)?;
-    let met = meeting.small.machine.copy(alloc)?;
-    let mut machines = copy_without(alloc, state.machines.as_slice(), x)?;
+    let met = share_copy(alloc, &meeting.small.machine)?;
+    let mut machines = share_without(alloc, state.machines.as_slice(), x)?;
     machines.set(v as usize, Some(met));
     Ok(LeafState {
         registers: state.registers,

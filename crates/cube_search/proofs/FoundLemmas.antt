@@ -17,7 +17,6 @@ use Rattle.flat_cubes.specs.Using.{is_defined, used}
 use Rattle.cube_bounds.specs.Growth.{reach}
 use Rattle.flat_cubes.specs.Satisfying.{ComesBy}
 use Rattle.flat_cubes.specs.Straight.{IsStraight, InOrder}
-use Rattle.flat_cubes.specs.declared.definition.By.TheVariants as by
 use Rattle.flat_cubes.specs.declared.definition.Definition.{Definition}
 use Rattle.flat_cubes.specs.declared.flat.Flat.{Flat}
 use Rattle.backward.specs.Back.{AreBack}

@@ -3,16 +3,16 @@ ghost use Rattle.std.specs.Prelude.{◌≡◌, ℕ, true, List, [], Some};
 ghost use Rattle.machine_core.specs.declared.graph.Graph.{Graph};
 ghost use Rattle.backward.specs.Families.{Words, Conf};
 
-use backward::LeafState;
+use backward::{LeafState, Shared};
 use machine_core::Explicit;
 
 // Whether there is a machine, and it has no end.
-fn is_dead(machine: &Option<Explicit>) -> bool
+fn is_dead(machine: &Option<Shared<Explicit>>) -> bool
     ensures { result ≡ true → (m : Graph) × (machine.now ≡ Some m) × (m.ends ≡ []) }
 {
     match machine {
         None => false,
-        Some(machine) => machine.finals().is_empty(),
+        Some(machine) => machine.get().finals().is_empty(),
     }
 }
 

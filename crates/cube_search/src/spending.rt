@@ -4,21 +4,21 @@ ghost use Rattle.trim_search.specs.declared.build_fault.BuildFault.TheVariants.{
 ghost use Rattle.cube_search.specs.declared.allowance.Allowance.TheVariants.{Part};
 
 use crate::allowance::Allowance;
-use backward::{FamilyOrigin, LeafState, MetPart};
+use backward::{FamilyOrigin, LeafState, MetPart, Shared};
 use machine_core::Explicit;
 use trim_search::BuildFault;
 
 // A family counts as so many states more, for what is done once for each.
 const FAMILY_EFFORT: u64 = 64;
 
-fn states_of(machine: &Option<Explicit>) -> u64 {
+fn states_of(machine: &Option<Shared<Explicit>>) -> u64 {
     match machine {
         None => 0,
-        Some(machine) => u64::from(machine.states()),
+        Some(machine) => u64::from(machine.get().states()),
     }
 }
 
-fn states_of_all(machines: &[Option<Explicit>]) -> u64 {
+fn states_of_all(machines: &[Option<Shared<Explicit>>]) -> u64 {
     let mut sum = 0u64;
     for machine in machines {
         sum = sum.saturating_add(states_of(machine));

@@ -7,7 +7,7 @@ ghost use Rattle.backward.specs.Leaves.{machines_of};
 ghost use Rattle.cube_search.specs.Spreads.{IsSpread};
 
 use crate::found::FoundRuns;
-use backward::LeafState;
+use backward::{LeafState, Shared};
 use machine_core::{Explicit, Run};
 use search_hits::Hit;
 use std::alloc::{AllocError, Global};
@@ -15,7 +15,7 @@ use std::vec::IntoIter;
 use sv_list::Items;
 
 // The next run, where the variable has a machine.
-fn next_run(machine: &Option<Explicit>, left: &mut IntoIter<Run<u32>>) -> Option<Run<u32>>
+fn next_run(machine: &Option<Shared<Explicit>>, left: &mut IntoIter<Run<u32>>) -> Option<Run<u32>>
     ensures carried { machine.now ≡ None → (result ≡ None) × (into_iter_items left.new ≡ into_iter_items left.old) }
     ensures standing { (m : Graph) → machine.now ≡ Some m → MatchOption result (into_iter_items left.old ≡ []) (λ run. into_iter_items left.old ≡ run ∷ into_iter_items left.new) }
 {

@@ -54,7 +54,7 @@ pub fn states_at(flat: &Flat, state: &LeafState, at: u32) -> u32
 {
     let definition = definition_at(flat, at);
     match &state.machines.as_slice()[definition.variable as usize] {
-        Some(machine) => machine.states(),
+        Some(machine) => machine.get().states(),
         None => 0,
     }
 }

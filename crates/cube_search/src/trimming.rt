@@ -19,7 +19,7 @@ pub fn trim_family(alloc: Global, state: &LeafState) -> Result<Items<Built<u32>>
     let mut trims = Items::new(alloc);
     for machine in state.machines.as_slice() {
         if let Some(machine) = machine {
-            trims.push(trim_named(alloc, machine)?)?;
+            trims.push(trim_named(alloc, machine.get())?)?;
         }
     }
     Ok(trims)

@@ -70,7 +70,7 @@ fn family(alloc: Global, y: Explicit, x: Explicit, z: Explicit) -> Result<LeafSt
 // The length of a shortest word of the machine at this place, which is there.
 fn least_length(alloc: Global, state: &LeafState, v: usize) -> Result<Option<usize>, AllocError> {
     match state.machines.as_slice().get(v) {
-        Some(Some(machine)) => match shortest(alloc, machine)? {
+        Some(Some(machine)) => match shortest(alloc, machine.get())? {
             Some(run) => Ok(Some(run.word.len())),
             None => Ok(None),
         },

@@ -10,8 +10,8 @@ use Rattle.backward.proofs.carrying.carry_concat.Goals as goal
 pub machine_at-target-requires : goal.machine_at-target-requires
 machine_at-target-requires c = (c.requires.0, subst (λ l. HasMachine l c.args.x c.requires.0) (sym c.as_slice.ensures) c.requires.1.machine)
 
-pub copy_without-requires : goal.copy_without-requires
-copy_without-requires c = subst (λ (l : Family). c.args.x < length l) (sym c.as_slice-2.ensures) (slice_get_within c.args.state.now.machines c.args.x (Some c.requires.0) c.requires.1.machine)
+pub share_without-requires : goal.share_without-requires
+share_without-requires c = subst (λ (l : Family). c.args.x < length l) (sym c.as_slice-2.ensures) (slice_get_within c.args.state.now.machines c.args.x (Some c.requires.0) c.requires.1.machine)
 
 pub loop-left-init : goal.loop-left-init
 loop-left-init c =

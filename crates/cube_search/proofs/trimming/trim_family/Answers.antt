@@ -1,5 +1,6 @@
 use Rattle.std.proofs.Common.{◌+◌, ◌∙◌, sym, subst, take, ◌++◌, ◌∷◌, []}
 use Rattle.std.specs.List.{AllZip}
+use Rattle.machine_core.specs.declared.graph.Graph.{Graph}
 use Rattle.backward.specs.Leaves.{machines_of}
 use Rattle.cube_search.specs.Leaves.{IsTrim}
 use Rattle.cube_search.proofs.TrimLemmas.{machines-some, machines-none, trims-push}
@@ -16,7 +17,8 @@ loop-machine-preserved c =
       | in-Some+in_ok-trim_named+in_ok-push w ↦
           let e = machines-some items at c.machine-item.result w.in-Some.machine c.loop-machine-test.true c.machine-item.is w.in-Some.is in
           let t = w.in_ok-trim_named.ensures in
-          let here : IsTrim w.in-Some.machine w.in_ok-trim_named.field-0 = record { language = t.language; registers = t.registers; states = t.states; used = t.used; lifts = t.lifts } in
+          let got : IsTrim w.get.result.now w.in_ok-trim_named.field-0 = record { language = t.language; registers = t.registers; states = t.states; used = t.used; lifts = t.lifts } in
+          let here = subst (λ (m : Graph). IsTrim m w.in_ok-trim_named.field-0) w.get.ensures got in
           subst (λ ts. AllZip IsTrim (machines_of (take (at + 1) items)) ts) (sym (w.trims-is ∙ w.in_ok-push.ensures.ok))
           (subst (λ ms. AllZip IsTrim ms (c.loop-machine.trims ++ w.in_ok-trim_named.field-0 ∷ [])) (sym e)
           (trims-push (machines_of (take at items)) c.loop-machine.trims w.in-Some.machine w.in_ok-trim_named.field-0 before here))
