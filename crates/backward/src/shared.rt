@@ -38,7 +38,7 @@ impl<T: Drop> Shared<T> {
         })
     }
 
-    /// One owner more of the same value. Takes no memory.
+    /// One owner more of the same value. Takes no memory: the error comes where owners can no longer be counted.
     pub fn share(&self) -> Result<Shared<T>, AllocError>
         ensures { IfOk result (λ b. b ≡ self.now) }
     {
