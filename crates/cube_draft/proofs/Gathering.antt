@@ -1,7 +1,8 @@
 -- What is gathered is what was met: each step of a meeting keeps that.
 use Rattle.std.proofs.Common.{◌≡◌, refl, sym, ap, ◌∙◌, subst, Bool, true, false, ◌||◌, ℕ, zero, suc, ◌<◌, ℤ, pos, List, [], ◌∷◌, ◌++◌, map, length, get_or, slice_get, Option, Some, None, nat_eq, length-append, arith, inl, inr}
-use Rattle.std.specs.Prelude.{if◌then◌else◌}
+use Rattle.std.specs.Prelude.{if◌then◌else◌, not}
 use Rattle.std.specs.List.{AllZip, AllByRecursion, list_any}
+use Rattle.std.specs.Map.{lookup}
 use Rattle.std.specs.Option.{option_map}
 use Rattle.std.specs.Ordering.{int_eq}
 use Rattle.std.specs.Cmp.Lexicographic.{pointwise}
@@ -18,9 +19,10 @@ use Rattle.literal_forms.specs.Linear.{Unknown, integer, length_of, same_unknown
 use Rattle.literal_forms.specs.Shapes.{Shape, truth, number, text, constant, apply, member, related, opaque}
 use Rattle.flat_cubes.specs.Drafted.{HoldsDraft, integers_among, registers_among, term_at, unknown_at}
 use Rattle.flat_cubes.specs.Flattening.{Bounded, IsRowFor, bounded_of, coefficient_at, name_of}
-use Rattle.cube_draft.specs.Gathered.{Gathers, IsInside, IsRowAmong, coefficient_where, index_of, number_at, unknowns_at}
-use Rattle.written_terms.specs.Strings.{is_text}
-use Rattle.flat_cubes.specs.Met.{Comparison, DraftView, place_of, with_comparison, with_definition, with_equality, with_part, with_term}
+use Rattle.cube_draft.specs.Gathered.{Becomes, Gathers, IsInside, IsRowAmong, coefficient_where, index_of, number_at, unknowns_at}
+use Rattle.cube_draft.specs.Strings.{is_text}
+use Rattle.flat_cubes.specs.Met.{Comparison, DraftView, place_of, with_comparison, with_definition, with_equality, with_part, with_term, with_truth, with_value}
+use Rattle.sv_terms.specs.Meaning.{same_truth}
 use Rattle.flat_cubes.specs.declared.definition.By.{By}
 use Rattle.flat_cubes.specs.declared.variable.Own.{Own}
 use Rattle.flat_cubes.specs.declared.draft.Quantity.{Quantity}
@@ -164,6 +166,25 @@ gathers_equality m d i j g = record { names = g.names; places = g.places; parts 
 
 pub gathers_broken : (m : DraftBuilder) (d : DraftView) (b : Bool) → Gathers m d → Gathers (record m { broken = m.broken || b }) (record d { broken = d.broken || b })
 gathers_broken m d b g = record { names = g.names; places = g.places; parts = g.parts; definitions = g.definitions; equalities = g.equalities; integers = g.integers; registers = g.registers; inside = g.inside; numbers = g.numbers; apart = g.apart; rows = g.rows; symmetric = g.symmetric; truths = g.truths; broken = ap (λ c. c || b) g.broken }
+
+gathers_truth : (m : DraftBuilder) (d : DraftView) (t : List ℕ × Bool) → Gathers m d → Gathers (record m { truths = m.truths ++ t ∷ [] }) (record d { truths = d.truths ++ t ∷ [] })
+gathers_truth m d t g = record { names = g.names; places = g.places; parts = g.parts; definitions = g.definitions; equalities = g.equalities; integers = g.integers; registers = g.registers; inside = g.inside; numbers = g.numbers; apart = g.apart; rows = g.rows; symmetric = g.symmetric; truths = ap (λ ts. ts ++ t ∷ []) g.truths; broken = g.broken }
+
+-- a Bool constant that had no value, and one that had
+module _ (m n : DraftBuilder) (name : List ℕ) (b : Bool) where
+  pub truth_new : None ≡ lookup (pointwise nat_eq name) m.truths → n ≡ record m { truths = m.truths ++ (name, b) ∷ [] } → Becomes m n (with_truth name b)
+  truth_new e f = record {
+    each = λ d g.
+        subst (λ (o : Option Bool). Gathers n (with_value o name b d)) (e ∙ ap (lookup (pointwise nat_eq name)) g.truths)
+        (subst (λ x. Gathers x (record d { truths = d.truths ++ (name, b) ∷ [] })) (sym f) (gathers_truth m d (name, b) g));
+  }
+
+  pub truth_known : (c : Bool) → Some c ≡ lookup (pointwise nat_eq name) m.truths → n ≡ record m { broken = m.broken || not (same_truth b c) } → Becomes m n (with_truth name b)
+  truth_known c e f = record {
+    each = λ d g.
+        subst (λ (o : Option Bool). Gathers n (with_value o name b d)) (e ∙ ap (lookup (pointwise nat_eq name)) g.truths)
+        (subst (λ x. Gathers x (record d { broken = d.broken || not (same_truth b c) })) (sym f) (gathers_broken m d (not (same_truth b c)) g));
+  }
 
 pub gathers_row : (m : DraftBuilder) (d : DraftView) (c : Comparison) (r : Row) → Gathers m d → IsRowAmong (unknowns_at d.terms m.quantities) (bounded_of c) r → HasSymmetricEntries r.form
     → Gathers (record m { rows = m.rows ++ r ∷ [] }) (with_comparison c d)

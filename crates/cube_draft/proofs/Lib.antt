@@ -12,3 +12,4 @@ pub mod Inserted
 pub mod Comparisons
 pub mod Proper
 pub mod Scanned
+pub mod Forms

@@ -16,20 +16,20 @@ use Rattle.literal_forms.specs.Shapes.{Shape, Shapes, truth, number, text, const
 use Rattle.literal_forms.proofs.Spelled.{set_end, before_other, before_leaf}
 use Rattle.flat_cubes.specs.Flattening.{name_of}
 use Rattle.cube_draft.specs.Gathered.{ArePieced, Gathers, IsTermMet, IsSought, number_at}
-use Rattle.written_terms.specs.Strings.{build_of, is_text, replacer}
-use Rattle.written_terms.specs.declared.strings.Occurrences.{Occurrences}
-use Rattle.written_terms.specs.declared.strings.Occurrences.TheVariants as occurrences
+use Rattle.cube_draft.specs.Strings.{build_of, is_text, replacer}
+use Rattle.cube_draft.specs.declared.string_terms.Occurrences.{Occurrences}
+use Rattle.cube_draft.specs.declared.string_terms.Occurrences.TheVariants as occurrences
 use Rattle.cube_draft.specs.Kinds.{literals_of, replaced_by}
 use Rattle.flat_cubes.specs.Met.{DraftView, Found, known_or, meet, meet_all, place_of, with_definition, with_part, with_term}
 use Rattle.flat_cubes.specs.declared.definition.By.{By}
 use Rattle.flat_cubes.specs.declared.definition.By.TheVariants as by
-use Rattle.written_terms.specs.declared.strings.PlaceBuild.{PlaceBuild}
-use Rattle.written_terms.specs.declared.strings.PlaceBuild.TheVariants as build
+use Rattle.cube_draft.specs.declared.string_terms.PlaceBuild.{PlaceBuild}
+use Rattle.cube_draft.specs.declared.string_terms.PlaceBuild.TheVariants as build
 use Rattle.cube_draft.specs.declared.meeting.DraftBuilder.{DraftBuilder}
 use Rattle.cube_draft.specs.declared.meeting.TermPlace.{TermPlace}
 use Rattle.cube_draft.specs.declared.meeting.TermPlace.TheVariants.{Known, New}
 use Rattle.flat_cubes.specs.declared.variable.Own.TheVariants as own
-use Rattle.written_terms.proofs.Forms.{concat_op, no_text, replacer_op, seen_all, seen_apply}
+use Rattle.cube_draft.proofs.Forms.{concat_op, no_text, replacer_op, seen_all, seen_apply}
 use Rattle.cube_draft.proofs.Gathering.{finds_new, finds_text, gathers_definition, gathers_part, gathers_term, map_length}
 
 names_long : (m : DraftBuilder) (d : DraftView) → Gathers m d → length m.names ≡ length d.terms

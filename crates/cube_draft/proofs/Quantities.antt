@@ -18,16 +18,16 @@ use Rattle.literal_forms.specs.Mirrors.{raw-seen, seen-Constant}
 use Rattle.literal_forms.specs.Shapes.{Shape, Shapes, truth, number, text, constant, apply, member, related, opaque, end, ◌⨾◌, raw, seen}
 use Rattle.flat_cubes.specs.Drafted.{term_at}
 use Rattle.cube_draft.specs.Gathered.{AreCounted, Gathers, IsCounted, IsIntegerCounted, IsTermMet, KeepsNumbers, Knows, number_at}
-use Rattle.written_terms.specs.Strings.{is_text}
-use Rattle.written_terms.specs.Numbers.{joining_of}
+use Rattle.cube_draft.specs.Strings.{is_text}
+use Rattle.cube_draft.specs.Numbers.{joining_of}
 use Rattle.flat_cubes.specs.Met.{DraftView, meet, meet_all_unknowns, meet_unknowns, registered, with_integer, with_register}
 use Rattle.flat_cubes.specs.declared.draft.Quantity.TheVariants.{Integer, Length}
-use Rattle.written_terms.specs.declared.numbers.Joining.{Joining}
-use Rattle.written_terms.specs.declared.numbers.Joining.TheVariants as joining
+use Rattle.cube_draft.specs.declared.number_terms.Joining.{Joining}
+use Rattle.cube_draft.specs.declared.number_terms.Joining.TheVariants as joining
 use Rattle.cube_draft.specs.declared.meeting.DraftBuilder.{DraftBuilder}
 use Rattle.cube_draft.proofs.Entries.{At, at_within, is_entered}
 use Rattle.cube_draft.proofs.Fine.{fine_difference, fine_product, fine_sum}
-use Rattle.written_terms.proofs.Forms.{seen_all, seen_apply}
+use Rattle.cube_draft.proofs.Forms.{seen_all, seen_apply}
 use Rattle.cube_draft.proofs.Gathering.{gathers_quantity, integer_there, integers_kept, integers_push, is_there, length_there, number_push, or_else, registers_kept, registers_push}
 use Rattle.cube_draft.proofs.Strings.{string_written}
 

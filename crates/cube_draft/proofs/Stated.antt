@@ -19,7 +19,7 @@ use Rattle.literal_forms.specs.Shapes.{Shape, Shapes, truth, number, text, const
 use Rattle.literal_forms.specs.declared.literal.Literal.{Literal}
 use Rattle.cube_draft.specs.Comparing.{AtomFits, IsComparable, IsGathered, ComparisonFits}
 use Rattle.cube_draft.specs.Gathered.{Becomes, Gathers, IsLiteralAdded, IsCounted, IsTermMet}
-use Rattle.written_terms.specs.Strings.{is_text}
+use Rattle.cube_draft.specs.Strings.{is_text}
 use Rattle.cube_draft.specs.Kinds.{affix_said, head_of, own_by}
 use Rattle.flat_cubes.specs.Met.{add, with_comparison}
 use Rattle.flat_cubes.specs.Said.{Said, are_one, atom_said, compares, constant_said, equality_said, has_part, holds, is_outside, one_said, pair_said, part_said, row_said, said, string_said, written_by}
@@ -33,7 +33,7 @@ use Rattle.cube_draft.specs.declared.literals.LiteralReading.TheVariants as kind
 use Rattle.cube_draft.specs.declared.meeting.DraftBuilder.{DraftBuilder}
 use Rattle.flat_cubes.specs.declared.variable.Own.{Own}
 use Rattle.flat_cubes.specs.declared.variable.Own.TheVariants as own
-use Rattle.written_terms.proofs.Forms.{no_text, seen_all, seen_apply}
+use Rattle.cube_draft.proofs.Forms.{no_text, seen_all, seen_apply}
 use Rattle.cube_draft.proofs.Quantities.{known_later}
 use Rattle.cube_draft.proofs.Gathering.{gathers_broken, gathers_definition, gathers_equality, gathers_part}
 

@@ -15,7 +15,7 @@ use Rattle.literal_forms.specs.Shapes.{Shape, Shapes, constant}
 use Rattle.sv_terms.specs.declared.sort.Sort.{Sort}
 use Rattle.flat_cubes.specs.Drafted.{integers_among, registers_among, unknown_at}
 use Rattle.flat_cubes.specs.Flattening.{Bounded, bounded_of, name_of}
-use Rattle.written_terms.specs.Strings.{is_text}
+use Rattle.cube_draft.specs.Strings.{is_text}
 use Rattle.flat_cubes.specs.Met.{DraftView, add, meet, meet_all, meet_unknowns, meet_all_unknowns, place_of, with_term}
 use Rattle.flat_cubes.specs.Said.{Said, is_outside}
 use Rattle.cube_draft.specs.declared.literals.LiteralReading.{LiteralReading}

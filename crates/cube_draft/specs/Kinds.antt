@@ -11,8 +11,8 @@ use Rattle.flat_cubes.specs.declared.definition.By.TheVariants as by
 use Rattle.flat_cubes.specs.Said.{Said, outside, part_said}
 use Rattle.flat_cubes.specs.declared.variable.Own.{Own}
 use Rattle.flat_cubes.specs.declared.variable.Own.TheVariants as own
-use Rattle.written_terms.specs.declared.strings.Occurrences.{Occurrences}
-use Rattle.written_terms.specs.declared.strings.Occurrences.TheVariants as occurrences
+use Rattle.cube_draft.specs.declared.string_terms.Occurrences.{Occurrences}
+use Rattle.cube_draft.specs.declared.string_terms.Occurrences.TheVariants as occurrences
 use Rattle.cube_draft.specs.declared.literals.Affix.{Affix}
 use Rattle.cube_draft.specs.declared.literals.Affix.TheVariants as affix
 use Rattle.cube_draft.specs.declared.literals.AtomHead.{AtomHead}

@@ -5,6 +5,10 @@
 //! what is said of a term, its definition and its equalities go by places. A comparison becomes a row over all integer
 //! constants and lengths that stand in comparisons, numbered as they come.
 //!
+//! A term of sort String is written by literals, constants, concatenations and replacements of a literal by a literal
+//! ([`string_terms`]), one of sort Int by numbers, constants, lengths, sums, differences, and products of which one
+//! factor at most has an unknown ([`number_terms`]), as `literal_forms` says by what a literal says.
+//!
 //! Time is linear in the cube, times the depth to which replacements nest in it, but for the forms of comparisons,
 //! which are added up from the left.
 //!
@@ -18,8 +22,10 @@ mod code;
 mod comparison;
 mod literals;
 mod meeting;
+mod number_terms;
 mod places;
 mod scanning;
+mod string_terms;
 mod terms;
 mod truths;
 mod unknowns;

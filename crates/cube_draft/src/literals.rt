@@ -10,13 +10,14 @@ ghost use Rattle.flat_cubes.specs.Said.{atom_said, constant_said, one_said, pair
 ghost use Rattle.flat_cubes.specs.declared.variable.Own.TheVariants as any_own;
 
 use crate::meeting::DraftBuilder;
+use crate::number_terms::is_linear;
+use crate::string_terms::is_string;
 use flat_cubes::{By, Own};
 use literal_forms::{Literal, Role, Test, head_sort, role_of};
 use std::alloc::{AllocError, Global};
 use sv_list::Copied;
 use sv_terms::{Name, Op, Regex, Sort, Term, Transducer};
 use sv_word::Word;
-use written_terms::{is_linear, is_string};
 
 /// Whether a literal is of a written kind.
 pub enum LiteralReading {

@@ -7,7 +7,7 @@ ghost use Rattle.literal_forms.specs.Shapes.{seen, text};
 ghost use Rattle.flat_cubes.specs.Drafted.{HoldsDraft};
 ghost use Rattle.flat_cubes.specs.Flattening.{name_of};
 ghost use Rattle.cube_draft.specs.Gathered.{Becomes, Gathers, IsTermMet, IsSought, number_at};
-ghost use Rattle.written_terms.specs.Strings.{is_text};
+ghost use Rattle.cube_draft.specs.Strings.{is_text};
 ghost use Rattle.flat_cubes.specs.Met.{DraftView as Met, nothing_met, with_truth};
 
 use crate::code::Code;

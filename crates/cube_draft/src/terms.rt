@@ -8,15 +8,15 @@ ghost use Rattle.literal_forms.specs.Linear.{before, pieces, written};
 ghost use Rattle.literal_forms.specs.Shapes.{end, seen, shapes};
 ghost use Rattle.cube_draft.specs.Gathered.{ArePieced, IsTermMet};
 ghost use Rattle.cube_draft.specs.Kinds.{literals_of, replaced_by};
-ghost use Rattle.written_terms.specs.Strings.{replacer};
+ghost use Rattle.cube_draft.specs.Strings.{replacer};
 
 use crate::meeting::{DraftBuilder, TermPlace};
+use crate::string_terms::{Occurrences, PlaceBuild, build_of};
 use flat_cubes::By;
 use std::alloc::{AllocError, Global};
 use sv_list::Items;
 use sv_terms::{Name, Term};
 use sv_word::Word;
-use written_terms::{Occurrences, PlaceBuild, build_of};
 
 impl DraftBuilder {
     /// The place of a string term; nested concatenations are read as one. A term that came before, literals aside,

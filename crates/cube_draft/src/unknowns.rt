@@ -8,12 +8,13 @@ ghost use Rattle.cube_draft.specs.Gathered.{AreCounted, IsCounted, IsIntegerCoun
 
 use crate::code::Code;
 use crate::meeting::DraftBuilder;
+use crate::number_terms::{Joining, joining_of};
+use crate::string_terms::is_text;
 use flat_cubes::Quantity;
 use literal_forms::Written;
 use std::alloc::{AllocError, Global};
 use sv_list::Items;
 use sv_terms::{Name, Op, Term};
-use written_terms::{Joining, is_text, joining_of};
 
 impl DraftBuilder {
     /// Counts the integer constants and the lengths that stand in a term of sort Int. Time is linear in the

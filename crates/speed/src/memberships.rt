@@ -1,11 +1,11 @@
 //! Words in regular expressions: whether they are, by derivatives.
 use crate::stopwatch::Stopwatch;
 use crate::texts::in_turn;
-use regex_match::contains;
 use std::alloc::{AllocError, Global};
 use sv_list::{Boxed, Items};
 use sv_terms::Regex;
 use sv_word::Word;
+use term_eval::contains;
 
 const LONG: u32 = 4_000_000;
 

@@ -8,7 +8,7 @@ use Rattle.std.proofs.lemmas.Map.Keys.{IsDistinct-cons}
 use Rattle.sv_list.specs.Lists.{AllByRecursion-push, AllByRecursion-append, AllByRecursion-filter}
 use Rattle.literal_forms.specs.Shapes.{Shape}
 use Rattle.flat_cubes.specs.Flattening.{name_of, names_at, with_name}
-use Rattle.cube_order.proofs.Ordinals.{passing}
+use Rattle.straight_line.proofs.Ordinals.{passing}
 use Rattle.straight_line.proofs.Saying.{text_self}
 
 -- it is none of these

@@ -5,13 +5,13 @@ use Rattle.std.specs.List.{AllByRecursion}
 use Rattle.literal_forms.specs.Shapes.{Shape}
 use Rattle.literal_forms.specs.declared.literal.Literal.{Literal}
 use Rattle.flat_cubes.specs.Drafted.{HoldsDraft, registers_among, IsDraftOf}
-use Rattle.cube_order.specs.Filling.{ArePartsBelow}
+use Rattle.straight_line.specs.Filling.{ArePartsBelow}
 use Rattle.flat_cubes.specs.Flattening.{IsFinished, IsFlattened, IsFlattening, name_of}
 use Rattle.straight_line.proofs.Called.{names_apart}
-use Rattle.cube_order.specs.Keeping.{AreQuantitiesBelow}
-use Rattle.cube_order.specs.Leading.{AreDefinitionsBelow, ArePairsBelow}
+use Rattle.straight_line.specs.Keeping.{AreQuantitiesBelow}
+use Rattle.straight_line.specs.Leading.{AreDefinitionsBelow, ArePairsBelow}
 use Rattle.flat_cubes.specs.Met.{DraftView, met}
-use Rattle.cube_order.specs.Readiness.{IsReady, UsesSome}
+use Rattle.straight_line.specs.Readiness.{IsReady, UsesSome}
 use Rattle.flat_cubes.specs.Said.{first_outside}
 use Rattle.flat_cubes.specs.declared.draft.FlatDraft.{FlatDraft as Held}
 use Rattle.flat_cubes.specs.declared.draft.Quantity.{Quantity}

@@ -26,7 +26,7 @@ use Rattle.flat_cubes.specs.declared.definition.By.TheVariants as by
 use Rattle.flat_cubes.specs.declared.definition.Definition.{Definition}
 use Rattle.flat_cubes.specs.declared.variable.Own.{Own}
 use Rattle.flat_cubes.specs.declared.variable.Own.TheVariants as own
-use Rattle.cube_order.proofs.Ordered.{ordered_all}
+use Rattle.straight_line.proofs.Ordered.{ordered_all}
 
 abbrev IsFormedAt : ℕ × By → Type 0
 IsFormedAt e = IsFormedBy e.1

@@ -43,11 +43,11 @@ use Rattle.straight_line.proofs.Determined.{determined}
 use Rattle.straight_line.proofs.Determined as draft
 use Rattle.flat_cubes.specs.Members.{Among}
 use Rattle.cube_draft.proofs.Entries.{At, at_within}
-use Rattle.cube_order.proofs.Identified.{AreOne, Rooted, first, identified_agrees, identified_are_one, identified_length, identified_rooted}
+use Rattle.straight_line.proofs.Identified.{AreOne, Rooted, first, identified_agrees, identified_are_one, identified_length, identified_rooted}
 use Rattle.straight_line.proofs.Lists.{all_by_among, all_filtered, among_all, among_map, filtered_among, filtered_range, map_all, map_join, zip_map_at, zip_maps}
 use Rattle.straight_line.proofs.Meetings.{DefinitionHolds, EqualityHolds, Fits, FitsFrom, Holds, PartHolds, TruthHolds}
-use Rattle.cube_order.proofs.Ordered.{ordered_all, ordered_back}
-use Rattle.cube_order.proofs.Ordinals.{placed}
+use Rattle.straight_line.proofs.Ordered.{ordered_all, ordered_back}
+use Rattle.straight_line.proofs.Ordinals.{placed}
 use Rattle.straight_line.proofs.Parted.{IsSound}
 use Rattle.cube_draft.proofs.Ranges.{DefinitionIn, PartIn}
 use Rattle.straight_line.proofs.Readied.{met_settled}

@@ -12,9 +12,9 @@ use Rattle.flat_cubes.specs.Straight.{InOrder, IsStraight, StandsBefore}
 use Rattle.flat_cubes.specs.declared.definition.Definition.{Definition}
 use Rattle.flat_cubes.specs.declared.fault.FlatFault.TheVariants.{Outside, Twice, Cycle, Wide, Memory}
 use Rattle.flat_cubes.specs.declared.flat.Flat.{Flat}
-use Rattle.cube_order.proofs.Acyclic.{acyclic}
-use Rattle.cube_order.proofs.Taking.{defined_none, defines, taken_counts}
-use Rattle.cube_order.proofs.Traced.{passing, passing_is}
+use Rattle.straight_line.proofs.Acyclic.{acyclic}
+use Rattle.straight_line.proofs.Taking.{defined_none, defines, taken_counts}
+use Rattle.straight_line.proofs.Traced.{passing, passing_is}
 
 -- where definitions stand in order, a variable has one at most
 at_most_one : (n v : ℕ) (ds : List Definition) → InOrder n ds → passing (defines v) ds ≤ 1

@@ -1,2 +1,11 @@
 pub mod Laws
 pub mod FormLaws
+pub mod Leading
+pub mod Waiting
+pub mod Tracing
+pub mod Columns
+pub mod Keeping
+pub mod Filling
+pub mod Wording
+pub mod Readiness
+pub mod Rowing

@@ -4,8 +4,8 @@ ghost use Rattle.std.specs.List.{AllByRecursion};
 ghost use Rattle.literal_forms.specs.Past.{IsFitting};
 ghost use Rattle.flat_cubes.specs.Flattening.{IsFlattened};
 
+use crate::finishing::finish;
 use cube_draft::scan;
-use cube_order::finish;
 use flat_cubes::{Flat, FlatFault};
 use literal_forms::Cube;
 use std::alloc::Global;

@@ -5,9 +5,14 @@
 //! defined at most once, by variables that neither this definition nor one after it defines. A cube that has none is
 //! refused, and [`refusals_have_no_flat_cube`] says that no flat cube of it exists then.
 //!
-//! The literals are read into a draft (`cube_draft`), and that is put in order (`cube_order`). Linear in the cube, but
-//! for factors logarithmic in it, for the codes of terms that stand in one another, and for the forms of comparisons,
-//! which are added up from the left.
+//! The literals are read into a draft (`cube_draft`), and that is put in order ([`finishing`]): its places become
+//! variables, its definitions stand one before another, and its rows keep the quantities that count. Places that are
+//! one become a variable, numbered in the order of the least of them; each definition comes behind those of what it
+//! uses, and the first that can come is next; a quantity stays where its column isn't 0 in some row.
+//!
+//! Linear in the cube, but for factors logarithmic in it, for the codes of terms that stand in one another, and for the
+//! forms of comparisons, which are added up from the left. Names, parts and words of a draft are moved, and none is
+//! copied.
 //!
 //! ```text
 //! // (= y (str.++ x "a")) and (= (str.len y) 3): two variables and a literal, one definition, one row
@@ -17,9 +22,23 @@
 //! Its examples are those of the program `cube_table`, which reads them as a script.
 #![tactic(auto)]
 
+mod arranging;
+mod columns;
+mod cycling;
+mod filling;
+mod finishing;
 mod flattening;
 mod form_laws;
+mod identifying;
+mod keeping;
 mod laws;
+mod naming;
+mod numbering;
+mod ordering;
+mod renumbering;
+mod rowing;
+mod straightening;
+mod wording;
 
 pub use flattening::flatten;
 pub use form_laws::{names_are_apart, names_are_sorted, transducers_are_formed};

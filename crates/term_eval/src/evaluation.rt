@@ -7,9 +7,9 @@ ghost use Rattle.sv_terms.specs.Sorting.{is_valued, sort_of};
 ghost use Rattle.sv_terms.specs.Transduction.{writes};
 ghost use Rattle.term_eval.specs.Evaluation.{EvaluatesAs, evaluated, in_turn, or_opaque, value_or_fault};
 
+use crate::contents::contains;
 use crate::fault::EvalFault;
 use crate::functions::apply;
-use regex_match::contains;
 use std::alloc::{AllocError, Global};
 use sv_list::Items;
 use sv_terms::{
@@ -23,7 +23,7 @@ use transducer_core::run_pair;
 ///
 /// Time and memory are those of its functions: linear in the values, but for `distinct`, which
 /// compares each two, for `str.contains`, `str.replace` and `str.replace_all`, which compare the
-/// pattern at each place, for `str.in_re` (see `regex_match`), and for a transducer (see
+/// pattern at each place, for `str.in_re` (see `contains`), and for a transducer (see
 /// `transducer_core`). The stack grows with the nesting.
 ///
 /// # Errors

@@ -1,12 +1,13 @@
-use Rattle.std.proofs.Common.{◌∙◌, arith, refl, subst, sym}
+use Rattle.std.proofs.Common.{◌∙◌, ap, arith, refl, subst, sym}
 use Rattle.std.proofs.lemmas.Result.{IfOk-weaker, on_ok_weaker}
 use Rattle.literal_forms.specs.Linear.{pieces}
 use Rattle.sv_terms.specs.declared.op.Op.TheVariants as any_op
 use Rattle.cube_draft.specs.Gathered.{ArePieced}
 use Rattle.cube_draft.specs.Kinds.{replaced_by}
-use Rattle.written_terms.specs.Strings.{replacer}
-use Rattle.written_terms.proofs.Forms.{seen_all}
-use Rattle.cube_draft.proofs.Placing.{apply_no_name, apply_no_text, built_nothing, concat_is_known, concat_is_new, leaf_nothing, piece_concat, piece_leaf, piece_other, pieced_all, pieced_step, replaced_is_known, replaced_is_new, replaced_nothing, text_is_met}
+use Rattle.cube_draft.specs.declared.meeting.DraftBuilder.{DraftBuilder}
+use Rattle.cube_draft.specs.Strings.{replacer}
+use Rattle.cube_draft.proofs.Forms.{seen_all}
+use Rattle.cube_draft.proofs.Placing.{apply_no_name, apply_no_text, built_nothing, concat_is_known, concat_is_new, leaf_nothing, piece_concat, piece_leaf, piece_other, pieced_all, pieced_none, pieced_step, replaced_is_known, replaced_is_new, replaced_nothing, text_is_met}
 use Rattle.cube_draft.proofs.meeting.DraftBuilder.+terms.Goals as goal
 
 pub place-returns-in_ok-copy-in-Text-clause-met : goal.place-returns-in_ok-copy-in-Text-clause-met
@@ -97,3 +98,39 @@ pieces-loop-i-preserved t c = record {
 
 pub pieces-returns-clause-met : goal.pieces-returns-clause-met
 pieces-returns-clause-met t c = pieced_all c.args.self.now c.loop-i.self c.args.terms.now c.loop-i.i c.args.places.now c.loop-i.places (omega arith) c.loop-i.invariant.met
+
+pub place-constant-requires : goal.place-constant-requires
+place-constant-requires t c = (c.in-Constant.field-1, c.in-Constant.is)
+
+pub place-returns-in_ok-copy-in-Text-clause-numbers : goal.place-returns-in_ok-copy-in-Text-clause-numbers
+place-returns-in_ok-copy-in-Text-clause-numbers t c = c.literal.ensures.numbers
+
+pub place-returns-in-Constant-clause-numbers : goal.place-returns-in-Constant-clause-numbers
+place-returns-in-Constant-clause-numbers t c = c.constant.ensures.numbers
+
+pub place-returns-in-Concat-clause-numbers : goal.place-returns-in-Concat-clause-numbers
+place-returns-in-Concat-clause-numbers t c = c.concat.ensures.numbers
+
+pub place-returns-in-Replace-clause-numbers : goal.place-returns-in-Replace-clause-numbers
+place-returns-in-Replace-clause-numbers t c = c.replace.ensures.numbers
+
+pub concat-returns-in-Known-clause-numbers : goal.concat-returns-in-Known-clause-numbers
+concat-returns-in-Known-clause-numbers t c = c.in_ok-place.ensures.numbers
+
+pub concat-returns-in_ok-define-in-New-clause-numbers : goal.concat-returns-in_ok-define-in-New-clause-numbers
+concat-returns-in_ok-define-in-New-clause-numbers t c = ap (λ (m : DraftBuilder). m.numbers) c.in_ok-define-in-New.ensures ∙ c.in_ok-pieces-in-New.ensures.numbers ∙ c.in_ok-place.ensures.numbers
+
+pub replace-returns-in-Known-clause-numbers : goal.replace-returns-in-Known-clause-numbers
+replace-returns-in-Known-clause-numbers t c = c.in_ok-place.ensures.numbers
+
+pub replace-returns-in_ok-define-in-New-clause-numbers : goal.replace-returns-in_ok-define-in-New-clause-numbers
+replace-returns-in_ok-define-in-New-clause-numbers t c = ap (λ (m : DraftBuilder). m.numbers) c.in_ok-define-in-New.ensures ∙ c.in_ok-inner-in-New.ensures.numbers ∙ c.in_ok-place.ensures.numbers
+
+pub piece-returns-in-Concat-clause-numbers : goal.piece-returns-in-Concat-clause-numbers
+piece-returns-in-Concat-clause-numbers t c = c.pieces.ensures.numbers
+
+pub pieces-loop-i-init : goal.pieces-loop-i-init
+pieces-loop-i-init t c = record { met = pieced_none c.args.self.now c.args.places.now; numbers = refl }
+
+pub pieces-returns-clause-numbers : goal.pieces-returns-clause-numbers
+pieces-returns-clause-numbers t c = c.loop-i.invariant.numbers

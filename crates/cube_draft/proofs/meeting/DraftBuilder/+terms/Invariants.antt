@@ -1,7 +1,7 @@
 use Rattle.std.proofs.Common.{◌≡◌, take}
 use Rattle.literal_forms.specs.Linear.{pieces}
 use Rattle.cube_draft.specs.Gathered.{ArePieced}
-use Rattle.written_terms.proofs.Forms.{seen_all}
+use Rattle.cube_draft.proofs.Forms.{seen_all}
 use Rattle.cube_draft.proofs.meeting.DraftBuilder.+terms.Given as goal
 
 abbrev pub invariant-pieces-loop-i : goal.invariant-pieces-loop-i

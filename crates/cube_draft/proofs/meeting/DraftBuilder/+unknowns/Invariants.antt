@@ -1,6 +1,6 @@
 use Rattle.std.proofs.Common.{take}
 use Rattle.cube_draft.specs.Gathered.{AreCounted}
-use Rattle.written_terms.proofs.Forms.{seen_all}
+use Rattle.cube_draft.proofs.Forms.{seen_all}
 use Rattle.cube_draft.proofs.meeting.DraftBuilder.+unknowns.Given as goal
 
 abbrev pub invariant-count_all-loop-i : goal.invariant-count_all-loop-i

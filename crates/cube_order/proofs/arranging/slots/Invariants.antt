@@ -1,5 +1,0 @@
-use Rattle.std.proofs.Common.{◌≡◌, map, Some}
-use Rattle.cube_order.proofs.arranging.slots.Given as goal
-
-abbrev pub invariant-loop-definition : goal.invariant-loop-definition
-invariant-loop-definition l = l.slots.items ≡ map Some l.yielded

@@ -1,5 +1,0 @@
-use Rattle.cube_order.proofs.Marks.{AreColumns}
-use Rattle.cube_order.proofs.columns.columns_of.Given as goal
-
-abbrev pub invariant-loop-row : goal.invariant-loop-row
-invariant-loop-row l = AreColumns l.unknowns l.rows l.row-index l.used

@@ -1,6 +1,0 @@
-use Rattle.std.proofs.Common.{◌≡◌, take}
-use Rattle.cube_order.specs.Columns.{marked_by}
-use Rattle.cube_order.proofs.columns.mark.Given as goal
-
-abbrev pub invariant-loop-unknown : goal.invariant-loop-unknown
-invariant-loop-unknown l = l.used ≡ marked_by (take l.unknown-index l.terms) l.fn.used

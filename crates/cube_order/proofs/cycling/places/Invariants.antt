@@ -1,5 +1,0 @@
-use Rattle.cube_order.proofs.Traced.{IsPlacedTo}
-use Rattle.cube_order.proofs.cycling.places.Given as goal
-
-abbrev pub invariant-loop-i : goal.invariant-loop-i
-invariant-loop-i l = IsPlacedTo l.definitions l.variables l.i l.places

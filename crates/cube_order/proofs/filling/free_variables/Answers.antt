@@ -1,5 +1,0 @@
-use Rattle.cube_order.proofs.Filled.{free_more}
-use Rattle.cube_order.proofs.filling.free_variables.Goals as goal
-
-pub loop-variable-preserved : goal.loop-variable-preserved
-loop-variable-preserved c = free_more c.loop-variable._variable (record { names = c.new.result; parts = c.new-in-loop-variable.result }) c.loop-variable.variables.items c.push.new.self.items c.in_ok-push.ensures.items c.new.ensures c.new-in-loop-variable.ensures c.loop-variable.invariant

@@ -1,8 +1,0 @@
-use Rattle.cube_order.proofs.Leads.{IsLed}
-use Rattle.cube_order.proofs.identifying.lead.Given as goal
-
-abbrev pub invariant-loop-above : goal.invariant-loop-above
-invariant-loop-above l = IsLed l.fn.above l.above l.place l.at
-
-abbrev pub decreases-loop-above : goal.decreases-loop-above
-decreases-loop-above l = l.at

@@ -1,6 +1,0 @@
-use Rattle.std.proofs.Common.{rules}
-use Rattle.cube_order.proofs.Leads.{range_more}
-use Rattle.cube_order.proofs.identifying.own_places.Goals as goal
-
-pub loop-place-preserved : goal.loop-place-preserved
-loop-place-preserved c = let e = range_more c.loop-place.place in search (rules, e)

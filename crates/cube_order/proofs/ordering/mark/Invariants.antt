@@ -1,6 +1,0 @@
-use Rattle.std.proofs.Common.{◌≡◌, length}
-use Rattle.cube_order.specs.Waiting.{AreFirstMarked}
-use Rattle.cube_order.proofs.ordering.mark.Given as goal
-
-abbrev pub invariant-loop-definition : goal.invariant-loop-definition
-invariant-loop-definition l = (length l.ahead ≡ l.variables) × AreFirstMarked l.definitions l.definition-index l.ahead

@@ -1,9 +1,0 @@
-pub mod Leading
-pub mod Waiting
-pub mod Tracing
-pub mod Columns
-pub mod Keeping
-pub mod Filling
-pub mod Wording
-pub mod Readiness
-pub mod Rowing

@@ -1,9 +1,0 @@
-use Rattle.std.proofs.Common.{◌-◌, length}
-use Rattle.regex_match.specs.Advances.{IsRegexLeft}
-use Rattle.regex_match.proofs.contents.contains.Given as goal
-
-abbrev pub invariant-loop-at : goal.invariant-loop-at
-invariant-loop-at l = IsRegexLeft l.regex l.left l.word l.at
-
-abbrev pub decreases-loop-at : goal.decreases-loop-at
-decreases-loop-at l = length l.word - l.at
