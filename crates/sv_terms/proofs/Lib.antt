@@ -1,10 +1,10 @@
 pub mod Alike
 pub mod AlikeTerms
-pub mod Declaring
 pub mod Differing
 pub mod Entries
 pub mod Matching
 pub mod Pairing
+pub mod Placing
 pub mod ValueSorts
 pub mod Sizing
 pub mod Truths

@@ -8,6 +8,7 @@ pub mod Names
 pub mod OnlyWords
 pub mod Opened
 pub mod Parts
+pub mod Places
 pub mod PatternLaws
 pub mod Replacement
 pub mod ReplacementLaws

@@ -1,3 +1,4 @@
+mod Declaring
 mod Keeping
 mod Layers
 pub mod Placing

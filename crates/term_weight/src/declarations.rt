@@ -6,8 +6,9 @@ ghost use Rattle.term_weight.specs.Macros.{entry_of};
 
 use crate::declared::{Declared, Macro};
 use crate::summaries::Summaries;
+use crate::symbols::Symbols;
 use std::alloc::{AllocError, Global};
-use sv_terms::{Entry, Name, Symbols};
+use sv_terms::{Entry, Name};
 
 /// The declared names, and of each macro what its calls weigh.
 ///

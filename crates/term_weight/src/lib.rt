@@ -1,5 +1,5 @@
 //! What parts of terms weigh before they are built: the sort, the size, and whether an unknown stands
-//! in it or it is opaque.
+//! in it or it is opaque; and the declared names, with what calls of each macro weigh.
 //!
 //! The central fact: a weight tells of a term what `weight_of` tells of it once it is built
 //! (specs/Weights.antt), so an application is weighed by the weights of its arguments, and a call of
@@ -25,6 +25,7 @@ mod rank;
 mod share;
 mod summaries;
 mod summary;
+mod symbols;
 mod tally;
 mod weigh;
 mod weight;

@@ -5,9 +5,10 @@ ghost use Rattle.smt_names.specs.Signature.{same_name};
 ghost use Rattle.term_weight.specs.Macros.{HaveSummaries, HasSummary, IsUndeclared, KeepsOthers};
 
 use crate::summary::Summary;
+use crate::symbols::Symbols;
 use indexmap::IndexMap;
 use std::alloc::{AllocError, Global};
-use sv_terms::{Entry, Name, Symbols};
+use sv_terms::{Entry, Name};
 
 /// Summaries of macros by their names, in the order of their declarations.
 ///
