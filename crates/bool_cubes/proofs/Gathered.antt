@@ -1,5 +1,5 @@
 -- The literals of a cube, gathered from the root down.
-use Rattle.std.proofs.Common.{◌≡◌, refl, sym, ap, ◌∙◌, subst, ℕ, zero, suc, ◌+◌, ◌*◌, ◌-◌, ◌/◌, ◌%◌, ◌<◌, ◌≤◌, Bool, true, false, List, [], ◌∷◌, ◌++◌, map, length, drop, get_or, slice_get, Some, arith, ⊎_elim}
+use Rattle.std.proofs.Common.{append-nil, ◌≡◌, refl, sym, ap, ◌∙◌, subst, ℕ, zero, suc, ◌+◌, ◌*◌, ◌-◌, ◌/◌, ◌%◌, ◌<◌, ◌≤◌, Bool, true, false, List, [], ◌∷◌, ◌++◌, map, length, drop, get_or, slice_get, Some, arith, ⊎_elim}
 use Rattle.std.specs.Prelude.{Err, nat_lt, min, if◌then◌else◌}
 use Rattle.std.proofs.lemmas.Bool.{cases_lt}
 use Rattle.std.proofs.lemmas.List.{length-map, drop_all}
@@ -56,6 +56,15 @@ module _ (ns : List CubeNode) (at : ℕ) (n : CubeNode) (left : ℕ) (p : IsPlan
 
   tree_is : (m : NodeKind) → n.kind ≡ m → tree_at ns at ≡ made (trees_of ns) m
   tree_is m e = is_made.tree ∙ ap (made (trees_of ns)) e
+
+  pub always_part : n.kind ≡ kind.Always → (ls : List Literal) → ls ≡ ls ++ cube_at (tree_at ns at) left
+  always_part e ls = sym (append-nil ls) ∙ ap (λ t. ls ++ cube_at t left) (sym (tree_is kind.Always e))
+
+  pub never_part : {C : Type 0} → n.kind ≡ kind.Never → C
+  never_part e = let z = ap count (tree_is kind.Never e) in let b = d.below in absurd (omega arith)
+
+  pub one_part : (l : Literal) → n.kind ≡ kind.One l → cube_at (tree_at ns at) left ≡ l ∷ []
+  one_part l e = ap (λ t. cube_at t left) (tree_is (kind.One l) e)
 
   stored : (k : ℕ) (m : CubeNode) → k < length ns → m ≡ get_or ns k m → count (tree_at ns k) ≤ most_cubes → m.cubes ≡ count (tree_at ns k)
   stored k m l e h = (p.each k m l e).cubes ∙ uncut (count (tree_at ns k)) h

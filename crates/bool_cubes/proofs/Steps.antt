@@ -1,5 +1,5 @@
 -- The nodes of formulas of lists of terms, one term more at a time.
-use Rattle.std.proofs.Common.{◌≡◌, refl, sym, ap, ap₂, ◌∙◌, subst, ℕ, zero, suc, ◌+◌, ◌-◌, ◌<◌, ◌≤◌, Bool, true, false, List, [], ◌∷◌, ◌++◌, map, length, take, drop, get_or, drop-cons, arith, IfOk, Result}
+use Rattle.std.proofs.Common.{◌≡◌, refl, sym, ap, ap₂, ◌∙◌, subst, ℕ, zero, suc, ◌+◌, ◌-◌, ◌<◌, ◌≤◌, ◌⊎◌, inl, inr, Bool, true, false, List, [], ◌∷◌, ◌++◌, map, length, take, drop, get_or, drop-cons, arith, IfOk, Result}
 use Rattle.std.proofs.lemmas.List.{drop_all, length-drop, length-take}
 use Rattle.std.proofs.lemmas.Result.{IfOk-weaker}
 use Rattle.sv_terms.specs.declared.op.Op.{Op}
@@ -24,6 +24,32 @@ planned_as a b s f g p e = subst (λ h. IsPlanned a b s h) e p
 -- an answer with the sides of a formula has those of an equal one
 pub answered_as : {E : Type 0} (a b : List CubeNode) (r : Result NodePair E) (f g : Formula) → f ≡ g → IfOk r (λ s. IsPlanned a b s f) → IfOk r (λ s. IsPlanned a b s g)
 answered_as a b r f g e h = subst (λ x. IfOk r (λ s. IsPlanned a b s x)) e h
+
+-- functions that are taken together: orders make a chain, others an atom
+abbrev pub IsOrder : Op → Type 0
+IsOrder o = (o ≡ op.LessEqual) ⊎ ((o ≡ op.Less) ⊎ ((o ≡ op.GreaterEqual) ⊎ (o ≡ op.Greater)))
+
+pub order_chain : (o : Op) (ps : List Part) (t : Term) → IsOrder o → chain o ps ≡ applied o ps t
+order_chain o ps t (inl e) = ap (λ x. chain x ps) e ∙ sym (ap (λ x. applied x ps t) e)
+order_chain o ps t (inr (inl e)) = ap (λ x. chain x ps) e ∙ sym (ap (λ x. applied x ps t) e)
+order_chain o ps t (inr (inr (inl e))) = ap (λ x. chain x ps) e ∙ sym (ap (λ x. applied x ps t) e)
+order_chain o ps t (inr (inr (inr e))) = ap (λ x. chain x ps) e ∙ sym (ap (λ x. applied x ps t) e)
+
+abbrev pub IsAtomic : Op → Type 0
+IsAtomic o = (o ≡ op.Add) ⊎ ((o ≡ op.Subtract) ⊎ ((o ≡ op.Multiply) ⊎ ((o ≡ op.Length) ⊎ ((o ≡ op.Concat) ⊎ ((o ≡ op.Replace) ⊎ ((o ≡ op.ReplaceAll) ⊎ ((o ≡ op.PrefixOf) ⊎ ((o ≡ op.SuffixOf) ⊎ ((o ≡ op.Contains) ⊎ (o ≡ op.IsDigit))))))))))
+
+pub atomic_atom : (o : Op) (ps : List Part) (t : Term) → IsAtomic o → atom t ≡ applied o ps t
+atomic_atom o ps t (inl e) = sym (ap (λ x. applied x ps t) e)
+atomic_atom o ps t (inr (inl e)) = sym (ap (λ x. applied x ps t) e)
+atomic_atom o ps t (inr (inr (inl e))) = sym (ap (λ x. applied x ps t) e)
+atomic_atom o ps t (inr (inr (inr (inl e)))) = sym (ap (λ x. applied x ps t) e)
+atomic_atom o ps t (inr (inr (inr (inr (inl e))))) = sym (ap (λ x. applied x ps t) e)
+atomic_atom o ps t (inr (inr (inr (inr (inr (inl e)))))) = sym (ap (λ x. applied x ps t) e)
+atomic_atom o ps t (inr (inr (inr (inr (inr (inr (inl e))))))) = sym (ap (λ x. applied x ps t) e)
+atomic_atom o ps t (inr (inr (inr (inr (inr (inr (inr (inl e)))))))) = sym (ap (λ x. applied x ps t) e)
+atomic_atom o ps t (inr (inr (inr (inr (inr (inr (inr (inr (inl e))))))))) = sym (ap (λ x. applied x ps t) e)
+atomic_atom o ps t (inr (inr (inr (inr (inr (inr (inr (inr (inr (inl e)))))))))) = sym (ap (λ x. applied x ps t) e)
+atomic_atom o ps t (inr (inr (inr (inr (inr (inr (inr (inr (inr (inr e)))))))))) = sym (ap (λ x. applied x ps t) e)
 
 -- the formula of a term, by its head
 pub formula_truth : (t : Term) (b : Bool) → t ≡ term.Truth b → fixed b ≡ formula (seen t)

@@ -1,11 +1,12 @@
 -- Boxes of a region's sides, with totals that are known or not, and where the words of all machines in turn end.
-use Rattle.std.proofs.Common.{◌≡◌, ℕ, zero, suc, ◌+◌, ◌<◌, ◌≤◌, ◌↔◌, ℤ, pos, List, [], ◌∷◌, ◌++◌, length, map, take, get_or, All, Any, Option, Some, None, false, refl, ap, sym, ◌∙◌, subst, arith}
+use Rattle.std.proofs.Common.{◌≡◌, ℕ, zero, suc, ◌+◌, ◌<◌, ◌≤◌, ◌↔◌, inl, inr, ℤ, pos, List, [], ◌∷◌, ◌++◌, length, map, take, get_or, All, Any, Option, Some, None, false, refl, ap, sym, ◌∙◌, subst, arith}
 use Rattle.std.specs.Option.{is_some}
 use Rattle.std.proofs.lemmas.Int.{ints}
 use Rattle.std.proofs.lemmas.List.{length-append, length-map}
 use Rattle.std.proofs.lemmas.List.Elements.{All-nil, All-cons, All-append, All-weaker}
 use Rattle.machine_core.specs.declared.graph.Graph.{Graph}
-use Rattle.sv_list.specs.Lists.{Any-none}
+use Rattle.machine_core.specs.Costs.{zeros}
+use Rattle.sv_list.specs.Lists.{Any-none, Any-here, Any-cases}
 use Rattle.sv_linear.specs.declared.row.Row.{Row}
 use Rattle.search_hits.specs.declared.region.Region.{Region}
 use Rattle.search_hits.specs.Regions.{AreWithin, FitsRegion, whole_side, sides_of, amounts}
@@ -148,6 +149,20 @@ module _ (machines : List Graph) (region : Region) (rows : List Row) (at : Layer
 
   pub ends-inside : (costs : List (List ℕ)) → costs ≡ [] → (at.machine ≡ length machines → ⊥) → EndsSo costs
   ends-inside costs e other cost = rw e ((λ h. absurd (other h.1)), (λ a. absurd (Any-none (λ e. e ≡ cost) a)))
+
+  pub ends-without : (costs : List (List ℕ)) → costs ≡ [] → (AreGoodTotals rows region at.spent → ⊥) → EndsSo costs
+  ends-without costs e none cost = rw e ((λ h. absurd (none h.2)), (λ a. absurd (Any-none (λ e. e ≡ cost) a)))
+
+  pub ends-there : (costs : List (List ℕ)) → costs ≡ zeros (length region.registers) ∷ [] → at.machine ≡ length machines → AreGoodTotals rows region at.spent → EndsSo costs
+  ends-there costs e last good cost =
+      let same = ap zeros (length-uppers region.registers) in
+      rw e (
+        (λ h. Any-here (λ e. e ≡ cost) (zeros (length region.registers)) [] (sym (h.0 ∙ same))),
+        (λ a. elim (Any-cases (λ e. e ≡ cost) (zeros (length region.registers)) [] a) [
+          | inl is ↦ (sym (same ∙ is), last, good)
+          | inr none ↦ absurd (Any-none (λ e. e ≡ cost) none)
+        ]),
+      )
 
   pub spent-length : IsLayerOf machines (uppers_of region) (AreGoodTotals rows region) at → length at.spent ≡ length region.registers
   spent-length h = length_zip at.spent (uppers_of region) h.below ∙ length-uppers region.registers

@@ -1,7 +1,7 @@
 -- A table of layers keeps up with layers that are added.
 use Rattle.std.proofs.Common.{◌≡◌, ℕ, ◌<◌, inl, inr, List, [], ◌∷◌, ◌++◌, length, Option, Some, None, slice_get, slice_set, cond, true, false, refl, ap, sym, ◌∙◌, subst}
 use Rattle.std.specs.Prelude.{MatchOption}
-use Rattle.std.specs.BTreeMap.{BTreeMap, get}
+use Rattle.std.specs.BTreeMap.{BTreeMap, IsUnchanged, get}
 use Rattle.std.specs.Ordering.{is_eq}
 use Rattle.std.proofs.lemmas.Cmp.{tied_itself, nat_cmp_total, nat_list_cmp_total}
 use Rattle.std.specs.declared.cmp.Ordering.{Ordering}
@@ -47,6 +47,16 @@ module _ (uppers : List ℕ) (states machines : ℕ) where
     known = λ s n e h. kept (place_of uppers states s) n (ok.known s n e h);
     others_found = ok.others_found;
     others_known = ok.others_known;
+  }
+
+  -- the map is as it was
+  pub index-kept : (names : List Layer) (table : List (Option ℕ)) (old new : BTreeMap Layer ℕ) → IsUnchanged old new → Index names table old → Index names table new
+  index-kept names table old new same ok = record {
+    distinct = ok.distinct;
+    found = ok.found;
+    known = ok.known;
+    others_found = λ s n e. ok.others_found s n (rw same at e);
+    others_known = λ s n e h. rw same (ok.others_known s n e h);
   }
 
   module _ (names : List Layer) (s : Layer) (fresh : (n : ℕ) → slice_get names n ≡ Some s → ⊥) where

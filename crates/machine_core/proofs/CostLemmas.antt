@@ -1,9 +1,11 @@
 -- The steps of loops that add costs up.
 use Rattle.std.proofs.Common.{◌≡◌, ℕ, zero, suc, ◌+◌, ◌<◌, ◌≤◌, ◌^◌, inl, inr, List, [], ◌∷◌, ◌++◌, length, slice_index, take, get_or, All, refl, ap, sym, ◌∙◌, subst, arith}
 use Rattle.std.proofs.lemmas.List.{take_more, take_all}
+use Rattle.std.specs.declared.alloc.AllocError.{AllocError}
 use Rattle.sv_list.specs.Lists.{below_next-cases}
 use Rattle.machine_core.specs.Costs.{add_costs, entry_total, total_of, IsFirstPast}
 use Rattle.machine_core.specs.CostLaws.{total_of-entry, total_of-length}
+use Rattle.machine_core.specs.declared.run.CostFault.TheVariants.{Past, Memory}
 
 pub take-add_costs : (xs ys : List ℕ) (i : ℕ) → length xs ≡ length ys → i < length xs
     → take (suc i) (add_costs xs ys) ≡ take i (add_costs xs ys) ++ (slice_index xs i + slice_index ys i) ∷ []
@@ -84,3 +86,7 @@ module _ (costs : List (List ℕ)) (last : List ℕ) (wide : All (λ k. length k
     past = subst (λ m. 2 ^ 64 ≤ m) (ap (entry_total i costs) at ∙ sym (total_of-entry costs last i wide)) big;
     first = so_far;
   }
+
+-- want of memory isn't a register
+pub memory-not-past : {C : Type 0} (n : ℕ) (a : AllocError) → Past n ≡ Memory a → C
+memory-not-past n a e = absurd cc

@@ -1,5 +1,5 @@
 -- The moves of two lists that read a character in common, by their intervals.
-use Rattle.std.proofs.Common.{◌≡◌, ℕ, zero, suc, ◌+◌, ◌-◌, ◌<◌, ◌≤◌, ◌⊎◌, inl, inr, ◌↔◌, ◌&&◌, Bool, true, false, List, [], ◌∷◌, ◌++◌, length, map, take, drop, get_or, slice_get, Some, Any, Contains, IsTrue, refl, sym, ap, ◌∙◌, subst, arith, ltb-false, leb-true, le-ltb, le-leb}
+use Rattle.std.proofs.Common.{◌≡◌, ℕ, zero, suc, ◌+◌, ◌<◌, ◌≤◌, ◌⊎◌, inl, inr, ◌↔◌, ◌&&◌, Bool, true, false, List, [], ◌∷◌, ◌++◌, length, map, take, drop, get_or, slice_get, Some, Any, Contains, IsTrue, refl, sym, ap, ◌∙◌, subst, arith, ltb-false, leb-true, le-ltb, le-leb}
 use Rattle.std.specs.Cmp.{and_equiv, on_equiv, nat_eq_equiv, IsEquivalence}
 use Rattle.std.specs.List.{dedup}
 use Rattle.std.specs.List.Retain.{IsFiltered, DiffersFromLast}

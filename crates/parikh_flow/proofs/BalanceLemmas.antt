@@ -3,7 +3,7 @@ use Rattle.std.proofs.Common.{◌≡◌, ℕ, zero, suc, ◌+◌, ◌<◌, ◌�
 use Rattle.std.specs.List.{range_with_len}
 use Rattle.std.proofs.lemmas.Int.{ints}
 use Rattle.std.proofs.lemmas.Bool.Decides.{nat_tests}
-use Rattle.std.proofs.lemmas.List.{map_push}
+use Rattle.std.proofs.lemmas.List.{map_push, take_all}
 use Rattle.std.proofs.lemmas.List.Elements.{Contains-get_or}
 use Rattle.sv_linear.specs.Points.{unit}
 use Rattle.sv_linear.specs.Terms.{coefficient, AscendsWithin}
@@ -170,6 +170,14 @@ added-more {X} by base i unknown xs x a b d lt read next p q =
     added-same (λ s. terms_by (by s) base (take i xs) ++ (unknown, by s x) ∷ []) (λ s. terms_by (by s) base (take (i + 1) xs)) (unknown + 1) a d
     (λ s f g h. subst (λ ts. AreTermsAdded ts f g) (ap (λ n. terms_by (by s) base (take i xs) ++ (n, by s x) ∷ []) next ∙ sym (terms-more (by s) base xs i x x lt read)) h)
     (added-both (λ s. terms_by (by s) base (take i xs)) (λ s. (unknown, by s x) ∷ []) unknown (unknown + 1) a b d p q)
+
+-- all of them were looked at
+pub added-all : {X : Type 0} (by : ℕ → X → ℤ) (base i unknown : ℕ) (xs : List X) (a b : List Form) → length xs ≤ i → i ≤ length xs → unknown ≡ base + i
+    → AreAdded (λ s. terms_by (by s) base (take i xs)) unknown a b → AreAdded (λ s. terms_by (by s) base xs) (base + length xs) a b
+added-all by base i unknown xs a b past within next p =
+    let same : unknown ≡ base + length xs = omega arith in
+    subst (λ n. AreAdded (λ s. terms_by (by s) base xs) n a b) same
+    (subst (λ l. AreAdded (λ s. terms_by (by s) base l) unknown a b) (take_all i xs past) p)
 
 -- forms without unknowns
 pub opened-ascend : (states n : ℕ) (forms : List Form) → AreOpened states forms → (s : ℕ) (f : Form) → slice_get forms s ≡ Some f → AscendsWithin 0 n f.coefficients

@@ -1,7 +1,8 @@
 -- One step of a search of a net.
 use Rattle.std.proofs.Common.{◌≡◌, ℕ, ℤ, pos, zero, suc, ◌+◌, ◌<◌, ◌≤◌, ◌<ℤ◌, ◌⊎◌, ◌↔◌, inl, inr, Bool, true, false, List, [], ◌∷◌, ◌++◌, length, length-append, Contains, All, slice_get, slice_set, get_or, Some, replicate, take, refl, ap, sym, ◌∙◌, subst, arith, length-set}
 use Rattle.std.proofs.lemmas.List.{take_all, take_more}
-use Rattle.std.proofs.lemmas.Option.{slice_get_within, slice_get-get_or}
+use Rattle.std.proofs.lemmas.Bool.{cases_lt}
+use Rattle.std.proofs.lemmas.Option.{slice_get_within, slice_get-get_or, same_Some}
 use Rattle.std.specs.List.Sorted.{IsStrictlyIncreasing}
 use Rattle.machine_core.specs.Places.{places, add_to, IsIndex}
 use Rattle.sv_list.specs.Lists.{slice_get-append, slice_get-push_cases, slice_get-end, slice_get-contains, marked-cases, slice_get-set_same, marked-kept}
@@ -11,6 +12,13 @@ use Rattle.farkas_check.specs.declared.net.Net.{Net}
 use Rattle.farkas_check.specs.declared.net.NetEdge.{NetEdge}
 use Rattle.parikh_flow.specs.Reaching.{source_of, unmarked_count, Traverses, IsReaching}
 use Rattle.machine_core.specs.PlaceLaws.{index-add, length-add_to, places-in, places-all}
+
+-- what holds of those before a place and of the one there holds of all before the next place
+pub one-more : {X : Type 0} (P : X → Type 0) (xs : List X) (i : ℕ) (x : X) → slice_get xs i ≡ Some x → P x → ((p : ℕ) (e : X) → p < i → slice_get xs p ≡ Some e → P e) → (p : ℕ) (e : X) → p < i + 1 → slice_get xs p ≡ Some e → P e
+one-more P xs i x at here before p e l h = elim (cases_lt p i) [
+  | inl less ↦ before p e less h
+  | inr more ↦ let same : i ≡ p = omega arith in subst P (same_Some x e (sym at ∙ ap (slice_get xs) same ∙ h)) here
+]
 
 -- what a property of all elements says of the one at a place
 pub all-at : {X : Type 0} (P : X → Type 0) (xs : List X) (p : ℕ) (x : X) → All P xs → slice_get xs p ≡ Some x → P x

@@ -1,14 +1,17 @@
 -- Rows that are made one after another, and the terms in them.
-use Rattle.std.proofs.Common.{◌≡◌, ℕ, zero, suc, ◌+◌, ℤ, pos, ◌+ℤ◌, List, [], ◌∷◌, ◌++◌, length, map, replicate, nat_eq, Bool, true, false, cond, refl, ap, sym, ◌∙◌, subst, append_assoc, arith}
+use Rattle.std.proofs.Common.{◌≡◌, ℕ, zero, suc, ◌+◌, ◌^◌, ◌<◌, All, Contains, get_or, ℤ, pos, ◌+ℤ◌, List, [], ◌∷◌, ◌++◌, length, map, replicate, nat_eq, Bool, true, false, cond, refl, ap, sym, ◌∙◌, subst, append_assoc, arith}
 use Rattle.std.specs.List.{range_with_len}
 use Rattle.std.proofs.lemmas.Int.{ints}
-use Rattle.sv_linear.specs.Terms.{coefficient}
+use Rattle.std.proofs.lemmas.List.{length-map}
+use Rattle.std.proofs.lemmas.List.Elements.{Contains-get_or}
+use Rattle.sv_linear.specs.Terms.{coefficient, AscendsWithin}
 use Rattle.sv_linear.specs.declared.form.Form.{Form}
 use Rattle.sv_linear.specs.declared.row.Row.{Row}
 use Rattle.machine_core.specs.declared.edge.Edge.{Edge}
 use Rattle.machine_core.specs.declared.end.End.{End}
 use Rattle.machine_core.specs.declared.graph.Graph.{Graph}
 use Rattle.farkas_check.specs.Systems.{Constraint}
+use Rattle.parikh_flow.specs.Counts.{size_of}
 use Rattle.parikh_flow.specs.Rows.{terms_by, machine_terms, edge_cost, end_cost, IsSameRow, AreSameRows}
 use Rattle.parikh_flow.specs.Building.{numbered, AreTermsAdded}
 use Rattle.parikh_flow.proofs.FormLemmas.{added-join, numbered-map, numbered-ones}
@@ -63,6 +66,44 @@ length-ones each n e = ap length e ∙ sizes n
     sizes : (n : ℕ) → length (replicate n (pos 1)) ≡ n
     sizes zero = refl
     sizes (suc n) = ap suc (sizes n)
+
+room-before : (base n edges ends : ℕ) → n ≡ edges → base + (edges + ends) < 2 ^ 32 → base + n < 2 ^ 32
+room-before base n edges ends e room = omega arith
+
+size-behind : (base mid n edges ends : ℕ) → mid ≡ base + edges → n ≡ ends → mid + n ≡ base + (edges + ends)
+size-behind base mid n edges ends em e = omega arith
+
+-- the unknowns of a machine with what they cost at a register: those of its edges, and then those of its ends
+module _ (m : Graph) (register base : ℕ) where
+  module _ (edges : List Edge) (ee : edges ≡ m.edges) where
+    pub edges-wide : register < m.registers → All (λ e. register < length e.cost) edges
+    edges-wide lt = λ k d below.
+        subst (λ n. register < n) (sym (m.formed.edge (get_or edges k d) (subst (λ l. Contains l (get_or edges k d)) ee (Contains-get_or edges k d below))).cost) lt
+
+    module _ (costs : List ℤ) (ec : costs ≡ map (edge_cost register) edges) where
+      edges-size : length costs ≡ length m.edges
+      edges-size = ap length ec ∙ length-map edges (edge_cost register) ∙ ap length ee
+
+      pub edges-room : base + size_of m < 2 ^ 32 → base + length costs < 2 ^ 32
+      edges-room room = room-before base (length costs) (length m.edges) (length m.ends) edges-size room
+
+      pub edges-ascend : (mid : ℕ) (f : Form) → mid ≡ base + length m.edges → AscendsWithin 0 (base + length costs) f.coefficients → AscendsWithin 0 mid f.coefficients
+      edges-ascend mid f em h = subst (λ n. AscendsWithin 0 n f.coefficients) (ap (λ n. base + n) edges-size ∙ sym em) h
+
+  module _ (ends : List End) (ee : ends ≡ m.ends) where
+    pub ends-wide : register < m.registers → All (λ e. register < length e.cost) ends
+    ends-wide lt = λ k d below.
+        subst (λ n. register < n) (sym (m.formed.ending (get_or ends k d) (subst (λ l. Contains l (get_or ends k d)) ee (Contains-get_or ends k d below))).cost) lt
+
+    module _ (costs : List ℤ) (ec : costs ≡ map (end_cost register) ends) (mid : ℕ) (em : mid ≡ base + length m.edges) where
+      ends-size : mid + length costs ≡ base + size_of m
+      ends-size = size-behind base mid (length costs) (length m.edges) (length m.ends) em (ap length ec ∙ length-map ends (end_cost register) ∙ ap length ee)
+
+      pub ends-room : base + size_of m < 2 ^ 32 → mid + length costs < 2 ^ 32
+      ends-room room = subst (λ n. n < 2 ^ 32) (sym ends-size) room
+
+      pub ends-ascend : (f : Form) → AscendsWithin 0 (mid + length costs) f.coefficients → AscendsWithin 0 (base + size_of m) f.coefficients
+      ends-ascend f h = subst (λ n. AscendsWithin 0 n f.coefficients) ends-size h
 
 -- the end row
 pub ends-added : (m : Graph) (base mid : ℕ) (ends : List End) (each : List ℤ) (f g : Form) → ends ≡ m.ends → each ≡ replicate (length ends) (pos 1) → mid ≡ base + length m.edges → f.coefficients ≡ [] → AreTermsAdded (numbered mid each) f g

@@ -1,9 +1,10 @@
 -- What leaves a state, by the places of a row.
-use Rattle.std.proofs.Common.{◌≡◌, ℕ, ◌+◌, ◌<◌, ◌↔◌, ◌⊎◌, inl, inr, nat_eq, cond, Bool, true, false, List, [], ◌∷◌, ◌++◌, length, slice_get, get_or, Some, take, Any, refl, sym, ap, ◌∙◌, subst, arith}
+use Rattle.std.proofs.Common.{◌≡◌, ℕ, ◌+◌, ◌<◌, ◌↔◌, ◌⊎◌, inl, inr, nat_eq, cond, Bool, true, false, List, [], ◌∷◌, ◌++◌, length, slice_get, get_or, Some, take, Any, Contains, refl, sym, ap, ◌∙◌, subst, arith}
 use Rattle.std.specs.List.{filter}
 use Rattle.std.proofs.lemmas.Bool.Decides.{nat_tests}
 use Rattle.std.proofs.lemmas.List.{length-take}
-use Rattle.sv_list.specs.Lists.{Any-here, Any-there, Any-cases, take-read}
+use Rattle.std.proofs.lemmas.Option.{slice_get-get_or}
+use Rattle.sv_list.specs.Lists.{Any-none, Any-here, Any-there, Any-cases, take-read}
 use Rattle.machine_core.specs.PlaceLaws.{pick-more, pick-places, places-within, index-add}
 use Rattle.machine_core.specs.Places.{places, pick, add_to, IsIndex}
 use Rattle.pre_image.proofs.MoreLemmas.{any-more}
@@ -45,6 +46,17 @@ module _ {X : Type 0} (key : X → ℕ) (s : ℕ) (P : X → Type 0) (keyed : (x
 -- the places of a row are those of elements
 pub row-within : {X : Type 0} (key : X → ℕ) (s : ℕ) (xs : List X) (row : List ℕ) → row ≡ places key s xs → (j p : ℕ) → slice_get row j ≡ Some p → p < length xs
 row-within key s xs row is j p e = places-within key s xs j p (subst (λ r. slice_get r j ≡ Some p) is e)
+
+-- no place was looked at
+pub row-none : {X Y : Type 0} (P : X → Type 0) (Q : Y → Type 0) (all : List Y) → all ≡ [] → Any Q all ↔ Any P []
+row-none P Q all none = (λ a. absurd (Any-none Q (subst (Any Q) none a)), λ a. absurd (Any-none P a))
+
+-- an element at a place of the row
+pub row-place : {X : Type 0} (xs : List X) (row : List ℕ) (i : ℕ) → ((j p : ℕ) → slice_get row j ≡ Some p → p < length xs) → i < length row → get_or row i 0 < length xs
+row-place xs row i within lt = within i (get_or row i 0) (slice_get-get_or row i 0 lt)
+
+pub row-listed : {X : Type 0} (xs : List X) (row : List ℕ) (i : ℕ) (x : X) → ((j p : ℕ) → slice_get row j ≡ Some p → p < length xs) → i < length row → x ≡ get_or xs (get_or row i 0) x → Contains xs x
+row-listed xs row i x within lt is = (get_or row i 0, row-place xs row i within lt, sym is)
 
 -- one place more was looked at
 pub row-step : {X : Type 0} (P : X → Type 0) (xs : List X) (row : List ℕ) (i : ℕ) (x : X) → ((j p : ℕ) → slice_get row j ≡ Some p → p < length xs) → i < length row

@@ -3,6 +3,7 @@ use Rattle.std.proofs.Common.{◌≡◌, ℕ, zero, suc, ◌+◌, ◌*◌, ◌^�
 use Rattle.std.proofs.lemmas.List.{append_assoc, append-nil, take_more, take_all}
 use Rattle.std.proofs.lemmas.List.Elements.{Contains-append_cases}
 use Rattle.std.proofs.Math.Nat.{mul_assoc, mul-le-mul}
+use Rattle.sv_list.specs.Lists.{Contains-none, Contains-cases}
 use Rattle.sv_word.specs.Words.{IsWord}
 use Rattle.machine_core.specs.declared.graph.Graph.{Graph}
 use Rattle.machine_meet.specs.Products.{summed, multiplied}
@@ -11,7 +12,7 @@ use Rattle.sv_terms.specs.declared.regex.Regex.TheVariants as v
 use Rattle.sv_terms.specs.Language.{Word, Language, In, InOneOf, InEachInTurn, InAllOf}
 use Rattle.sv_terms.specs.Opened.{In-Concat, In-Union, In-Inter}
 use Rattle.sv_terms.specs.Bounds.{size, from_left, fold_left, in_turn_size, choice_size, both_size, without_size}
-use Rattle.regex_machine.specs.Joined.{WordsOf, HaveNoRegisters, AreMade}
+use Rattle.regex_machine.specs.Joined.{WordsOf, HasWords, HaveNoRegisters, AreMade}
 use Rattle.regex_machine.specs.Kinds.{Together, weight, most_states, states_of}
 use Rattle.regex_machine.specs.Parts.{AddsParts}
 use Rattle.regex_machine.specs.declared.kind.JoinKind.{JoinKind}
@@ -176,6 +177,16 @@ adds-none k old = record {
   plain = λ m i. (let j = i.1 in absurd (omega arith));
   words = λ w. (within-none WordsOf In k w, within-none In WordsOf k w);
   light = weight-none k states_of size;
+}
+
+-- the machine of one expression more
+pub adds-one : (r : Regex) (old new : List Graph) (m : Graph) → HasWords (In r) m → m.states ≤ size r → new ≡ old ++ m ∷ [] → AddsParts kind.All (r ∷ []) old new
+adds-one r old new m has few grown = record {
+  more = m ∷ [];
+  grown = grown;
+  plain = λ n i. elim (Contains-cases m [] n i) [ inl e ↦ subst (λ (x : Graph). x.registers ≡ 0) e has.plain | inr j ↦ absurd (Contains-none n j) ];
+  words = λ w. (λ h. ((has.words w).0 h.0, h.1), λ h. ((has.words w).1 h.0, h.1));
+  light = omega arith;
 }
 
 pub adds-more : (k : JoinKind) (rs qs : List Regex) (old mid new : List Graph) → AddsParts k rs old mid → AddsParts k qs mid new → AddsParts k (rs ++ qs) old new

@@ -83,6 +83,13 @@ module _ (found : Name → Option Term) where
   pub put-Opaque : (s : Sort) → put_in found (term.Opaque s) ≡ term.Opaque s
   put-Opaque s = put-at found _ (Term-F.Opaque s) (term.rolls-Opaque s)
 
+  -- what a term is with the arguments put in, by its form
+  pub put-as : (t u v : Term) → t ≡ u → put_in found u ≡ v → v ≡ put_in found t
+  put-as t u v e f = sym (ap (put_in found) e ∙ f)
+
+  pub same-put : (t u : Term) → t ≡ u → put_in found u ≡ u → t ≡ put_in found t
+  same-put t u e f = e ∙ put-as t u u e f
+
 pub one-more : {A B : Type 0} (f : A → B) (as_ : List A) (i : ℕ) (d : A) (all next : List B) (r : B) → i < length as_ → d ≡ get_or as_ i d → all ≡ map f (take i as_) → r ≡ f d → next ≡ all ++ r ∷ [] → next ≡ map f (take (i + 1) as_)
 one-more f as_ i d all next r h e g k l =
     l ∙ (λ j. g j ++ (k ∙ ap f e) j ∷ []) ∙ sym (map_push f (take i as_) (get_or as_ i d)) ∙ ap (map f) (sym (take_more as_ i d h))

@@ -4,7 +4,7 @@ use Rattle.std.specs.Prelude.{slice_get}
 use Rattle.std.proofs.Math.ListN.{length-append, get_or-append}
 use Rattle.std.proofs.Math.Seq.{get_or-append_seam}
 use Rattle.std.proofs.lemmas.Bool.Decides.{nat_tests}
-use Rattle.std.proofs.lemmas.List.{map_push}
+use Rattle.std.proofs.lemmas.List.{map_push, take_more}
 use Rattle.sv_list.specs.Lists.{slice_get-none}
 use Rattle.sv_terms.specs.declared.entry.Body.{Body}
 use Rattle.sv_terms.specs.declared.sort.Sort.TheVariants as sort
@@ -65,6 +65,12 @@ pub fits-so : (b : Body) → weight_fits (weight_of b) ≡ fits b
 fits-so b = λ i. cap-le (nodes b) 1048576 (omega arith) i && cap-le (nesting b) 1000 (omega arith) i
 
 pub ruleset fitting = (fits-so)
+
+-- one more of what two functions make of a list
+pub mapped-more : {A B C : Type 0} (f : B → C) (g : A → B) (as_ : List A) (i : ℕ) (d : A) (all next : List C) (r : C) → i < length as_ → all ≡ map f (map g (take i as_)) → r ≡ f (g (get_or as_ i d)) → next ≡ all ++ r ∷ [] → next ≡ map f (map g (take (i + 1) as_))
+mapped-more f g as_ i d all next r h e k l =
+    l ∙ (λ j. e j ++ k j ∷ []) ∙ sym (map_push f (map g (take i as_)) (g (get_or as_ i d)))
+    ∙ ap (map f) (sym (map_push g (take i as_) (get_or as_ i d))) ∙ ap (λ z. map f (map g z)) (sym (take_more as_ i d h))
 
 pub ruleset drafting = (map_push, length-senses, put-senses, put-weights, part-weight, no-part-weight)
 

@@ -55,6 +55,19 @@ module _ (symbols : Names) (s : Scope) (old mid new : Walk) (fs : Forms) (n : �
       (then-reads Each Here (λ t. meant_all t symbols s fs) (λ t. applied_head h) old mid new places r first
       (alike Here (λ t. applied_head h (at_places mid.draft places)) (λ t. applied_head h first.what) mid new r (λ t. ap (applied_head h) (each-are mid.draft places first.what first.there)) a))
 
+-- arguments of a wrong number, and a fault among them
+module _ (r : Result Head CheckFault) (h : Head) (n : ℕ) (e : r ≡ Ok h) where
+  pub application-none : (a : Result (List Body) CheckFault) → nat_le 1 n ≡ false → in_parentheses r n a ≡ Err fault.Arity
+  application-none a f = ap (λ z. in_parentheses z n a) e ∙ ap (λ z. need z fault.Arity >> application h n a) f
+
+  pub application-count : (a : Result (List Body) CheckFault) → nat_le 1 n ≡ true → head_count h n ≡ false → in_parentheses r n a ≡ Err fault.Arity
+  application-count a f g = ap (λ z. in_parentheses z n a) e ∙ ap (λ z. need z fault.Arity >> application h n a) f ∙ ap (λ z. need z fault.Arity >> and_then (applied_head h) a) g
+
+  pub application-fault : (m : Meaning (List Body)) (old new : Walk) (f : CheckFault) → nat_le 1 n ≡ true → head_count h n ≡ true → ReadsMeaning Each m old new (Err f) → ReadsMeaning Here (λ t. in_parentheses r n (m t)) old new (Err f)
+  application-fault m old new f g k a = fault-first Each Here m (λ t. in_parentheses r n (m t)) old new new f (λ x j.
+      ap (λ z. in_parentheses z n (m any_size)) e ∙ ap (λ z. need z fault.Arity >> application h n (m any_size)) g
+      ∙ ap (λ z. need z fault.Arity >> and_then (applied_head h) (m any_size)) k ∙ ap (and_then (applied_head h)) j) a
+
 -- the part of a walk that follows, in the scope and draft that it begins with
 pub go-on : {X Y : Type 0} {stands : List Body → X → Y → Type 0} {m : Meaning Y} (s : Scope) (old mid : Walk) (x : X) → Read stands m old mid x → Bound old.draft old.scope s → Bound mid.draft mid.scope s
 go-on s old mid x a b = subst (λ (z : List (Name × ℕ)). Bound mid.draft z s) (sym a.back) (bound-grow old.draft a.added mid.draft old.scope s a.more b)
@@ -187,6 +200,9 @@ pub let-fault : (symbols : Names) (s : Scope) (old new : Walk) (bs : List Sexpr)
 let-fault symbols s old new bs y fs f e g a = fault-first Bound Here (λ t. meant_values t symbols s (forms (map seen bs))) (λ t. meant_let t symbols s fs) old new new f (λ k j.
     ap (meant_let any_size symbols s) e ∙ ap (λ z. need z fault.Shape >> and_then (λ q. meant any_size symbols (s ++ q) y) (meant_values any_size symbols s (forms (map seen bs)))) g ∙ ap (and_then (λ q. meant any_size symbols (s ++ q) y)) j) a
 
+pub let-unbound : (t : Body → Bool) (symbols : Names) (s : Scope) (bs : List Sexpr) (y : Form) (fs : Forms) → fs ≡ group (forms (map seen bs)) ⨾ y ⨾ end → are_some is_binding (forms (map seen bs)) ≡ false → meant_let t symbols s fs ≡ Err fault.Shape
+let-unbound t symbols s bs y fs e f = ap (meant_let t symbols s) e ∙ ap (λ z. need z fault.Shape >> and_then (λ q. meant t symbols (s ++ q) y) (meant_values t symbols s (forms (map seen bs)))) f
+
 pub let-few : (t : Body → Bool) (symbols : Names) (s : Scope) (xs : List Sexpr) → length xs < 2 → meant_let t symbols s (forms (map seen xs)) ≡ Err fault.Shape
 let-few t symbols s [] h = refl
 let-few t symbols s (x ∷ []) h = go (seen x)
@@ -264,6 +280,9 @@ module _ (symbols : Names) (s : Scope) (vs : List Sexpr) (y : Form) (fs : Forms)
       ∙ ap (λ z. and_then quantified (within any_size (as_constants (renamed false) z))) (sym g)
       ∙ ap (λ z. and_then quantified (within any_size z)) (okay first.means) ∙ ap (and_then quantified) j) a
 
+pub quantifier-unbound : (t : Body → Bool) (symbols : Names) (s : Scope) (vs : List Sexpr) (y : Form) (fs : Forms) → fs ≡ group (forms (map seen vs)) ⨾ y ⨾ end → are_some is_variable (forms (map seen vs)) ≡ false → meant_quantifier t symbols s fs ≡ Err fault.Shape
+quantifier-unbound t symbols s vs y fs e f = ap (meant_quantifier t symbols s) e ∙ ap (λ z. need z fault.Shape >> and_then quantified (meant t symbols (s ++ quantified_over (forms (map seen vs))) y)) f
+
 pub quantifier-few : (t : Body → Bool) (symbols : Names) (s : Scope) (xs : List Sexpr) → length xs < 2 → meant_quantifier t symbols s (forms (map seen xs)) ≡ Err fault.Shape
 quantifier-few t symbols s [] h = refl
 quantifier-few t symbols s (x ∷ []) h = go (seen x)
@@ -296,6 +315,9 @@ settled-fault symbols s fs f e = ap (and_then (λ bs. and_then (λ _. fitting bs
 pub at-least : {A : Type 0} (xs : List A) → (length xs == 0) ≡ false → nat_le 1 (length xs) ≡ true
 at-least [] h = absurd (cc)
 at-least (x ∷ xs) h = grind (arith, nat_tests)
+
+pub at-most-none : (n : ℕ) → (n == 0) ≡ true → nat_le 1 n ≡ false
+at-most-none n h = grind (arith, nat_tests)
 
 pub rest-of : {A : Type 0} (x : A) (xs : List A) → take (length (x ∷ xs) - 1) (drop 1 (x ∷ xs)) ≡ xs
 rest-of x xs = grind (arith, common_steps)

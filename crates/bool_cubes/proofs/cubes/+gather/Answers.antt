@@ -1,7 +1,8 @@
-use Rattle.std.proofs.Common.{ap, append_assoc, arith, get_or, sym, ◌++◌, ◌∙◌, ◌%◌}
+use Rattle.std.proofs.Common.{ap, append_assoc, arith, get_or, sym, ◌++◌, ◌∷◌, [], ◌∙◌, ◌%◌}
+use Rattle.std.proofs.lemmas.Result.{on_ok_weaker}
 use Rattle.bool_cubes.specs.Nodes.{tree_at}
 use Rattle.bool_cubes.specs.Picking.{cube_at}
-use Rattle.bool_cubes.proofs.Gathered.{both_parts, either_parts}
+use Rattle.bool_cubes.proofs.Gathered.{always_part, both_parts, either_parts, never_part, one_part}
 use Rattle.bool_cubes.proofs.cubes.+gather.Goals as goal
 
 pub gather-requires : goal.gather-requires
@@ -35,3 +36,14 @@ loop-at-preserved t c =
       number = parts.second c.if-left-cubes.false;
       whole = ap (λ x. c.loop-at.literals ++ x) (sym (parts.second_is c.if-left-cubes.false)) ∙ c.loop-at.invariant.whole;
     }
+
+pub returns-in-Always : goal.returns-in-Always
+returns-in-Always t c = always_part c.args.nodes.now c.loop-at.at (get_or c.args.nodes.now c.loop-at.at c.index-nodes-at.result) c.loop-at.left c.requires.plan c.loop-at.invariant.number (ap (get_or c.args.nodes.now c.loop-at.at) c.index-nodes-at.is) c.in-Always.is c.loop-at.literals ∙ c.loop-at.invariant.whole
+
+pub returns-in-Never : goal.returns-in-Never
+returns-in-Never t c = never_part c.args.nodes.now c.loop-at.at (get_or c.args.nodes.now c.loop-at.at c.index-nodes-at.result) c.loop-at.left c.requires.plan c.loop-at.invariant.number (ap (get_or c.args.nodes.now c.loop-at.at) c.index-nodes-at.is) c.in-Never.is
+
+pub returns-in-One : goal.returns-in-One
+returns-in-One t c =
+    let one = one_part c.args.nodes.now c.loop-at.at (get_or c.args.nodes.now c.loop-at.at c.index-nodes-at.result) c.loop-at.left c.requires.plan c.loop-at.invariant.number (ap (get_or c.args.nodes.now c.loop-at.at) c.index-nodes-at.is) c.in-One.literal c.in-One.is in
+    on_ok_weaker c.push.result (λ pushed. pushed ∙ (λ i. c.loop-at.literals ++ c.in_ok-copy-in-One.ensures i ∷ []) ∙ ap (λ ls. c.loop-at.literals ++ ls) (sym one) ∙ c.loop-at.invariant.whole) c.push.ensures.ok

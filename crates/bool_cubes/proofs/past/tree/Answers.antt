@@ -4,7 +4,7 @@ use Rattle.bool_cubes.specs.Nodes.{tree_at}
 use Rattle.bool_cubes.specs.Past.{tree_steps}
 use Rattle.literal_forms.specs.Past.{IsPlainExactly}
 use Rattle.literal_forms.specs.PastLaws.{err_kept}
-use Rattle.bool_cubes.proofs.Walked.{walk_end, walk_past, walk_skip, walk_step}
+use Rattle.bool_cubes.proofs.Walked.{earlier, walk_end, walk_init, walk_past, walk_skip, walk_step}
 use Rattle.bool_cubes.proofs.past.tree.Goals as goal
 
 pub returns-in_err-node : goal.returns-in_err-node
@@ -26,3 +26,11 @@ loop-i-preserved c =
 
 pub returns : goal.returns
 returns c = walk_end c.args.nodes.now c.args.root c.loop-i.marks c.loop-i.i (omega arith) c.loop-i.invariant.walked
+
+pub loop-i-init : goal.loop-i-init
+loop-i-init c = record { bound = omega arith; walked = walk_init c.args.nodes.now c.args.root c.in_ok-marks.marks c.in_ok-marks.ensures }
+
+pub mark-requires : goal.mark-requires
+mark-requires c =
+    earlier c.args.nodes.now c.args.root c.loop-i.marks c.loop-i.i (c.loop-i.i - 1) (get_or c.args.nodes.now (c.loop-i.i - 1) c.index-nodes-i.result) c.requires.plan c.requires.root c.loop-i.invariant.bound (omega arith) refl
+    (ap (get_or c.args.nodes.now (c.loop-i.i - 1)) c.index-nodes-i.is) c.loop-i.invariant.walked

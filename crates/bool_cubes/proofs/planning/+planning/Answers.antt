@@ -1,13 +1,14 @@
-use Rattle.std.proofs.Common.{◌≡◌, ◌∙◌, ◌-◌, ap, arith, drop, length, subst, sym, zero}
+use Rattle.std.proofs.Common.{◌==◌, ◌≡◌, ◌∙◌, ◌<◌, ◌+◌, ◌-◌, List, [], ◌∷◌, ap, arith, drop, false, length, subst, sym, take, zero}
 use Rattle.std.proofs.lemmas.Bool.Decides.{Decides-eqb}
 use Rattle.sv_terms.specs.declared.op.Op.TheVariants as op
 use Rattle.sv_terms.specs.declared.term.Term.TheVariants as term
 use Rattle.bool_cubes.specs.Arguments.{formulas_of, parts_of}
 use Rattle.bool_cubes.specs.Nodes.{IsPlanned}
-use Rattle.bool_cubes.specs.Trees.{applied, atom, conjunction, disjunction, equal, exclusive, fixed, formula, implied, negated, neighbours, pairs}
+use Rattle.bool_cubes.specs.Planned.{AreBooleanSides, AreNodePairs}
+use Rattle.bool_cubes.specs.Trees.{applied, atom, chain, conjunction, disjunction, equal, exclusive, fixed, formula, implied, negated, neighbours, pairs}
 use Rattle.literal_forms.specs.Shapes.{seen}
-use Rattle.bool_cubes.proofs.Plans.{longer_trans, within_longer}
-use Rattle.bool_cubes.proofs.Steps.{all_none, all_step, answered_as, any_none, any_step, boolean_longer, choice_other, choice_three, equal_step, exclusive_all, exclusive_none, exclusive_step, formula_apply, formula_other, formula_truth, implied_none, implied_step, not_one, not_other, pairs_step, side_left, side_right}
+use Rattle.bool_cubes.proofs.Plans.{longer_trans, planned_trans, within_longer}
+use Rattle.bool_cubes.proofs.Steps.{all_none, all_step, answered_as, any_none, any_step, atomic_atom, boolean_longer, choice_other, choice_three, equal_none, equal_step, exclusive_all, exclusive_first, exclusive_none, exclusive_step, formula_apply, formula_other, formula_truth, implied_last_one, implied_none, implied_step, not_one, not_other, order_chain, pairs_none, pairs_step, sides_step, side_left, side_right}
 use Rattle.bool_cubes.proofs.Lists.{parts_formulas}
 use Rattle.bool_cubes.proofs.planning.+planning.Goals as goal
 
@@ -271,3 +272,54 @@ pub term_sides-returns-in_default : goal.term_sides-returns-in_default
 term_sides-returns-in_default t c =
     answered_as c.args.plan.now.nodes c.atom.new.self.nodes c.atom.result (atom c.args.term.now) (formula (seen c.args.term.now))
     (formula_other c.args.term.now c.in_default.not-Truth c.in_default.not-Apply) c.atom.ensures
+
+pub applied_sides-returns-in-LessEqual : goal.applied_sides-returns-in-LessEqual
+applied_sides-returns-in-LessEqual t c =
+    answered_as c.args.plan.now.nodes c.chain_sides.new.plan.nodes c.chain_sides.result (chain c.args.op (parts_of c.args.terms.now)) (applied c.args.op (parts_of c.args.terms.now) c.args.term.now)
+    (order_chain c.args.op (parts_of c.args.terms.now) c.args.term.now c.in-LessEqual.is) c.chain_sides.ensures
+
+pub applied_sides-returns-in-Add : goal.applied_sides-returns-in-Add
+applied_sides-returns-in-Add t c =
+    answered_as c.args.plan.now.nodes c.atom.new.self.nodes c.atom.result (atom c.args.term.now) (applied c.args.op (parts_of c.args.terms.now) c.args.term.now)
+    (atomic_atom c.args.op (parts_of c.args.terms.now) c.args.term.now c.in-Add.is) c.atom.ensures
+
+some_there : {X : Type 0} (xs : List X) → (length xs == 0) ≡ false → 0 < length xs
+some_there [] h = absurd (cc)
+some_there (x ∷ xs) h = omega arith
+
+pub exclusive_sides-loop-i-init : goal.exclusive_sides-loop-i-init
+exclusive_sides-loop-i-init t c =
+    exclusive_first c.args.plan.now.nodes c.term_sides.new.plan.nodes c.in_ok-odd.odd c.args.terms.now c.index-terms-0.result (some_there c.args.terms.now (sym c.is_empty.ensures ∙ c.if-is_empty.false)) c.index-terms-0.is c.in_ok-odd.ensures
+
+pub implied_sides-loop-i-init : goal.implied_sides-loop-i-init
+implied_sides-loop-i-init t c =
+    let some : 0 < length c.args.terms.now = some_there c.args.terms.now (sym c.is_empty.ensures ∙ c.if-is_empty.false) in
+    record {
+      bound = omega arith;
+      planned = implied_last_one c.args.plan.now.nodes c.term_sides.new.plan.nodes c.in_ok-any.any c.args.terms.now (length c.args.terms.now - 1) c.index-terms-last.result (omega arith) c.index-terms-last.is c.in_ok-any.ensures;
+    }
+
+pub equal_sides-loop-i-init : goal.equal_sides-loop-i-init
+equal_sides-loop-i-init t c = record {
+  planned =
+      planned_trans c.args.plan.now.nodes c.boolean_sides.new.plan.nodes c.settle.new.self.nodes c.in_ok-all.all _ c.in_ok-known.ensures.longer
+      (equal_none c.boolean_sides.new.plan.nodes c.settle.new.self.nodes c.in_ok-all.all c.args.terms.now (length c.args.terms.now) (omega arith) c.in_ok-all.ensures);
+  sides = boolean_longer c.boolean_sides.new.plan.nodes c.settle.new.self.nodes c.args.terms.now c.as_slice-sides.result.now c.in_ok-all.ensures.longer (subst (AreBooleanSides c.boolean_sides.new.plan.nodes c.args.terms.now) (sym c.as_slice-sides.ensures) c.in_ok-known.ensures.sides);
+}
+
+pub distinct_sides-loop-i-init : goal.distinct_sides-loop-i-init
+distinct_sides-loop-i-init t c = record {
+  planned =
+      planned_trans c.args.plan.now.nodes c.boolean_sides.new.plan.nodes c.settle.new.self.nodes c.in_ok-all.all _ c.in_ok-known.ensures.longer
+      (pairs_none c.boolean_sides.new.plan.nodes c.settle.new.self.nodes c.in_ok-all.all c.args.terms.now (length c.args.terms.now) (omega arith) c.in_ok-all.ensures);
+  sides = boolean_longer c.boolean_sides.new.plan.nodes c.settle.new.self.nodes c.args.terms.now c.as_slice-sides.result.now c.in_ok-all.ensures.longer (subst (AreBooleanSides c.boolean_sides.new.plan.nodes c.args.terms.now) (sym c.as_slice-sides.ensures) c.in_ok-known.ensures.sides);
+}
+
+pub boolean_sides-loop-term-preserved : goal.boolean_sides-loop-term-preserved
+boolean_sides-loop-term-preserved t c = record {
+  longer = longer_trans c.args.plan.now.nodes c.loop-term.plan.nodes c.term_sides.new.plan.nodes c.loop-term.invariant.longer c.in_ok-term_sides.ensures.longer;
+  sides =
+      subst (AreNodePairs c.term_sides.new.plan.nodes (take (c.loop-term.term-index + 1) c.args.terms.now)) (sym c.in_ok-push.ensures.ok)
+      (sides_step c.loop-term.plan.nodes c.term_sides.new.plan.nodes c.args.terms.now c.loop-term.all c.in_ok-term_sides.field-0 c.loop-term.term-index c.term-item.result c.in_ok-term_sides.ensures.longer c.loop-term-test.true c.term-item.is
+      c.loop-term.invariant.sides c.in_ok-term_sides.ensures.stands);
+}

@@ -24,7 +24,7 @@ pub find-requires : goal.find-requires
 find-requires t c =
     let fl : FitsSigned w128 c.side_at-low.result.0 = search rules in
     let fh : FitsSigned w128 c.side_at-low.result.1 = search rules in
-    let fm : FitsSigned w128 c.middle-half.result = search rules in
+    let fm : FitsSigned w128 c.middle-half.result = record { sfits = c.middle-half.type_inv } in
     let a = rw (to_z-of_z w128 c.side_at-low.result.0 fl) at c.middle-half.ensures.low in
     let b = rw (to_z-of_z w128 c.side_at-low.result.1 fh) at c.middle-half.ensures.high in
     let e : c.as_slice.result.now ≡ slice_set c.args.sides.now c.in-Some.at (c.side_at-low.result.0, c.middle-half.result) = c.as_slice.ensures ∙ (rw (to_z-of_z w128 c.side_at-low.result.0 fl, to_z-of_z w128 c.middle-half.result fm) at c.in_ok-below.ensures) in
@@ -35,7 +35,7 @@ pub returns-in-Some-2 : goal.returns-in-Some-2
 returns-in-Some-2 t c =
     let fl : FitsSigned w128 c.side_at-low.result.0 = search rules in
     let fh : FitsSigned w128 c.side_at-low.result.1 = search rules in
-    let fm : FitsSigned w128 c.middle-half.result = search rules in
+    let fm : FitsSigned w128 c.middle-half.result = record { sfits = c.middle-half.type_inv } in
     let a = rw (to_z-of_z w128 c.side_at-low.result.0 fl) at c.middle-half.ensures.low in
     let b = rw (to_z-of_z w128 c.side_at-low.result.1 fh) at c.middle-half.ensures.high in
     let e : c.as_slice.result.now ≡ slice_set c.args.sides.now c.in-Some.at (c.side_at-low.result.0, c.middle-half.result) = c.as_slice.ensures ∙ (rw (to_z-of_z w128 c.side_at-low.result.0 fl, to_z-of_z w128 c.middle-half.result fm) at c.in_ok-below.ensures) in
@@ -49,7 +49,7 @@ pub find-requires-2 : goal.find-requires-2
 find-requires-2 t c =
     let fl : FitsSigned w128 c.side_at-low.result.0 = search rules in
     let fh : FitsSigned w128 c.side_at-low.result.1 = search rules in
-    let fm : FitsSigned w128 c.middle-half.result = search rules in
+    let fm : FitsSigned w128 c.middle-half.result = record { sfits = c.middle-half.type_inv } in
     let a = rw (to_z-of_z w128 c.side_at-low.result.0 fl) at c.middle-half.ensures.low in
     let b = rw (to_z-of_z w128 c.side_at-low.result.1 fh) at c.middle-half.ensures.high in
     let fn : FitsSigned w128 (c.middle-half.result +ℤ pos 1) = search rules in
@@ -61,7 +61,7 @@ pub returns : goal.returns
 returns t c =
     let fl : FitsSigned w128 c.side_at-low.result.0 = search rules in
     let fh : FitsSigned w128 c.side_at-low.result.1 = search rules in
-    let fm : FitsSigned w128 c.middle-half.result = search rules in
+    let fm : FitsSigned w128 c.middle-half.result = record { sfits = c.middle-half.type_inv } in
     let a = rw (to_z-of_z w128 c.side_at-low.result.0 fl) at c.middle-half.ensures.low in
     let b = rw (to_z-of_z w128 c.side_at-low.result.1 fh) at c.middle-half.ensures.high in
     let e : c.as_slice.result.now ≡ slice_set c.args.sides.now c.in-Some.at (c.side_at-low.result.0, c.middle-half.result) = c.as_slice.ensures ∙ (rw (to_z-of_z w128 c.side_at-low.result.0 fl, to_z-of_z w128 c.middle-half.result fm) at c.in_ok-below.ensures) in

@@ -1,6 +1,7 @@
-use Rattle.std.proofs.Common.{suc, ◌*ℤ◌, ap, sym, subst, arith}
+use Rattle.std.proofs.Common.{suc, ◌+ℤ◌, ◌*ℤ◌, ap, sym, ◌∙◌, subst, arith}
 use Rattle.std.specs.Int.{w128}
 use Rattle.std.proofs.lemmas.Int.{ints, to_z-of_z}
+use Rattle.sv_linear.specs.Forms.{form_value}
 use Rattle.sv_linear.specs.Terms.{AscendsWithin, terms_value}
 use Rattle.lia_reduce.specs.RowTerms.{wider, pushed_ascends, pushed_value}
 use Rattle.lia_branch.proofs.EdgeRows.{pushed_small, added_small}
@@ -28,3 +29,11 @@ returns-then-next-unknown-clause-ascends c = λ h.
 
 pub returns-in-Ok-clause-small : goal.returns-in-Ok-clause-small
 returns-in-Ok-clause-small c = added_small c.args.form c.in_ok-one.one c.in-Ok.sum c.in-Ok.ensures.value c.in_ok-one.ensures.small
+
+pub returns-in-Ok-clause-value : goal.returns-in-Ok-clause-value
+returns-in-Ok-clause-value c = λ x d.
+    let one = rw (to_z-of_z w128 c.args.by c.ranges.by) at (c.in_ok-one.ensures.value x d) in
+    c.in-Ok.ensures.value x d ∙ ap (λ z. form_value x d c.args.form +ℤ z) one
+
+pub returns-in-Ok-clause-ascends : goal.returns-in-Ok-clause-ascends
+returns-in-Ok-clause-ascends c = λ le. absurd (let above = c.if-next-unknown.false in omega arith)

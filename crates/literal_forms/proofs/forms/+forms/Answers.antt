@@ -1,15 +1,15 @@
-use Rattle.std.proofs.Common.{Err, Ok, arith, rules, subst, sym, ◌≡◌, ◌∙◌, ◌++◌, length, get_or}
+use Rattle.std.proofs.Common.{Err, Ok, inl, inr, arith, rules, subst, sym, ◌≡◌, ◌∙◌, ◌++◌, length, get_or}
 use Rattle.std.proofs.lemmas.Bool.Decides.{Decides-eqb}
 use Rattle.std.proofs.lemmas.Int.{to_z-of_z}
 use Rattle.std.specs.Int.{w128}
 use mir.Val.{SFits}
 use Rattle.literal_forms.specs.Formed.{linears_of, steps_of}
-use Rattle.literal_forms.specs.Linear.{joined_of, joined_steps, linear, of_number, steps}
+use Rattle.literal_forms.specs.Linear.{integer, joined_of, joined_steps, linear, of_number, other, steps}
 use Rattle.literal_forms.specs.Numbered.{IsFormOrPast, IsNumbered}
 use Rattle.literal_forms.specs.Shapes.{seen}
 use Rattle.literal_forms.specs.declared.roles.Joint.TheVariants as joint
-use Rattle.literal_forms.proofs.Combined.{all_combined, argument_past, at_any, err_made, first_combined, joined_as, joined_read, joint_err, length_other, length_read, next_combined, none_joined, number_read, one_negated, one_product, one_sum}
-use Rattle.literal_forms.proofs.Numbers.{more_trans}
+use Rattle.literal_forms.proofs.Combined.{all_combined, argument_past, at_any, constant_read, err_made, first_combined, joined_as, joined_read, joint_err, length_other, length_read, member_read, next_combined, none_joined, number_read, one_negated, one_product, one_sum, opaque_read, related_read, text_read, truth_read, unknown_more, whole_read}
+use Rattle.literal_forms.proofs.Numbers.{more_trans, none_more}
 use Rattle.literal_forms.proofs.forms.+forms.Goals as goal
 
 pub joined_form-returns-then-is_empty-clause-form : goal.joined_form-returns-then-is_empty-clause-form
@@ -110,3 +110,54 @@ term_form-returns-then-len-eq1-clause-more t c = c.length_form.ensures.more
 pub term_form-returns-in_ok-whole_form-in-Length-clause-form : goal.term_form-returns-in_ok-whole_form-in-Length-clause-form
 term_form-returns-in_ok-whole_form-in-Length-clause-form t c =
     length_other c.args.unknowns.now.codes c.whole_form.new.unknowns.codes c.args.term.now c.in-Apply.op c.in-Apply.terms c.read.result c.in_ok-whole_form-in-Length.field-0 c.in-Apply.is c.read.ensures c.in-Length.is (λ z. c.if-len-eq1.false (c.len.ensures ∙ z)) c.in_ok-whole_form-in-Length.ensures
+
+pub term_form-returns-in_ok-integer_form-in-Constant-clause-form : goal.term_form-returns-in_ok-integer_form-in-Constant-clause-form
+term_form-returns-in_ok-integer_form-in-Constant-clause-form t c = constant_read c.args.unknowns.now.codes c.integer_form.new.unknowns.codes c.args.term.now c.in-Constant.name c.in-Constant.field-1 c.in_ok-integer_form-in-Constant.field-0 c.in-Constant.is c.in_ok-integer_form-in-Constant.ensures
+
+pub term_form-returns-in_ok-integer_form-in-Constant-clause-more : goal.term_form-returns-in_ok-integer_form-in-Constant-clause-more
+term_form-returns-in_ok-integer_form-in-Constant-clause-more t c = unknown_more c.args.unknowns.now.codes c.integer_form.new.unknowns.codes (integer c.in-Constant.name) c.in_ok-integer_form-in-Constant.field-0 c.in_ok-integer_form-in-Constant.ensures
+
+pub term_form-returns-in_ok-whole_form-in-Length-clause-more : goal.term_form-returns-in_ok-whole_form-in-Length-clause-more
+term_form-returns-in_ok-whole_form-in-Length-clause-more t c = unknown_more c.args.unknowns.now.codes c.whole_form.new.unknowns.codes (other (seen c.args.term.now)) c.in_ok-whole_form-in-Length.field-0 c.in_ok-whole_form-in-Length.ensures
+
+pub term_form-returns-in_ok-whole_form-in-Whole-clause-form : goal.term_form-returns-in_ok-whole_form-in-Whole-clause-form
+term_form-returns-in_ok-whole_form-in-Whole-clause-form t c = whole_read c.args.unknowns.now.codes c.whole_form-in-Whole.new.unknowns.codes c.args.term.now c.in-Apply.op c.in-Apply.terms c.read.result c.in_ok-whole_form-in-Whole.field-0 c.in-Apply.is c.read.ensures c.in-Whole.is c.in_ok-whole_form-in-Whole.ensures
+
+pub term_form-returns-in_ok-whole_form-in-Whole-clause-more : goal.term_form-returns-in_ok-whole_form-in-Whole-clause-more
+term_form-returns-in_ok-whole_form-in-Whole-clause-more t c = unknown_more c.args.unknowns.now.codes c.whole_form-in-Whole.new.unknowns.codes (other (seen c.args.term.now)) c.in_ok-whole_form-in-Whole.field-0 c.in_ok-whole_form-in-Whole.ensures
+
+pub term_form-returns-in_ok-whole_form-in-Truth-clause-form : goal.term_form-returns-in_ok-whole_form-in-Truth-clause-form
+term_form-returns-in_ok-whole_form-in-Truth-clause-form t c = elim c.in-Truth.is [
+  | inl h ↦ truth_read c.args.unknowns.now.codes c.whole_form-in-Truth.new.unknowns.codes c.args.term.now h.0 c.in_ok-whole_form-in-Truth.field-0 h.1 c.in_ok-whole_form-in-Truth.ensures
+  | inr k ↦ elim k [
+    | inl h ↦ text_read c.args.unknowns.now.codes c.whole_form-in-Truth.new.unknowns.codes c.args.term.now h.0 c.in_ok-whole_form-in-Truth.field-0 h.1 c.in_ok-whole_form-in-Truth.ensures
+    | inr k ↦ elim k [
+      | inl h ↦ member_read c.args.unknowns.now.codes c.whole_form-in-Truth.new.unknowns.codes c.args.term.now h.0 h.1 c.in_ok-whole_form-in-Truth.field-0 h.2 c.in_ok-whole_form-in-Truth.ensures
+      | inr h ↦ related_read c.args.unknowns.now.codes c.whole_form-in-Truth.new.unknowns.codes c.args.term.now h.1 h.2 h.0 c.in_ok-whole_form-in-Truth.field-0 h.3 c.in_ok-whole_form-in-Truth.ensures
+    ]
+  ]
+]
+
+pub term_form-returns-in_ok-whole_form-in-Truth-clause-more : goal.term_form-returns-in_ok-whole_form-in-Truth-clause-more
+term_form-returns-in_ok-whole_form-in-Truth-clause-more t c = unknown_more c.args.unknowns.now.codes c.whole_form-in-Truth.new.unknowns.codes (other (seen c.args.term.now)) c.in_ok-whole_form-in-Truth.field-0 c.in_ok-whole_form-in-Truth.ensures
+
+pub term_form-returns-in_ok-whole_form-in-Opaque-clause-form : goal.term_form-returns-in_ok-whole_form-in-Opaque-clause-form
+term_form-returns-in_ok-whole_form-in-Opaque-clause-form t c = opaque_read c.args.unknowns.now.codes c.whole_form-in-Opaque.new.unknowns.codes c.args.term.now c.in-Opaque.field-0 c.in_ok-whole_form-in-Opaque.field-0 c.in-Opaque.is c.in_ok-whole_form-in-Opaque.ensures
+
+pub term_form-returns-in_ok-whole_form-in-Opaque-clause-more : goal.term_form-returns-in_ok-whole_form-in-Opaque-clause-more
+term_form-returns-in_ok-whole_form-in-Opaque-clause-more t c = unknown_more c.args.unknowns.now.codes c.whole_form-in-Opaque.new.unknowns.codes (other (seen c.args.term.now)) c.in_ok-whole_form-in-Opaque.field-0 c.in_ok-whole_form-in-Opaque.ensures
+
+pub single_form-returns-in-Sum-clause-more : goal.single_form-returns-in-Sum-clause-more
+single_form-returns-in-Sum-clause-more t c = c.in_ok-form.ensures.more
+
+pub single_form-returns-in-Product-clause-more : goal.single_form-returns-in-Product-clause-more
+single_form-returns-in-Product-clause-more t c = c.in_ok-form.ensures.more
+
+pub several_form-returns-clause-more : goal.several_form-returns-clause-more
+several_form-returns-clause-more t c = c.loop-i.invariant.more
+
+pub term_form-returns-in-Number-clause-more : goal.term_form-returns-in-Number-clause-more
+term_form-returns-in-Number-clause-more t c = none_more c.args.unknowns.now.codes c.requires
+
+pub joined_form-returns-then-is_empty-clause-more : goal.joined_form-returns-then-is_empty-clause-more
+joined_form-returns-then-is_empty-clause-more t c = none_more c.args.unknowns.now.codes c.requires

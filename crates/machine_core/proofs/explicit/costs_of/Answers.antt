@@ -1,4 +1,4 @@
-use Rattle.std.proofs.Common.{◌∙◌, ap, sym, length, map}
+use Rattle.std.proofs.Common.{◌∙◌, ap, sym, length, map, arith}
 use Rattle.std.proofs.lemmas.List.{take_all}
 use Rattle.machine_core.specs.Places.{pick}
 use Rattle.machine_core.specs.declared.end.End.{End}
@@ -15,3 +15,14 @@ bounds-ends-place c = place-below (length c.args.ends.now) c.args.places.now c.l
 
 pub returns : goal.returns
 returns c = c.loop-place.invariant ∙ ap (λ l. map (λ (e : End). e.cost) (pick c.args.ends.now l)) (take_all c.loop-place.place-index c.args.places.now c.loop-place-test.false)
+
+pub bounds-places-place-index : goal.bounds-places-place-index
+bounds-places-place-index c = c.loop-place-test.true
+
+pub offset_bounds-places-place-index : goal.offset_bounds-places-place-index
+offset_bounds-places-place-index c = let test = c.loop-place-test.true in omega arith
+
+pub offset_bounds-ends-place : goal.offset_bounds-ends-place
+offset_bounds-ends-place c =
+    let below = place-below (length c.args.ends.now) c.args.places.now c.loop-place.place-index c.requires c.loop-place-test.true in
+    omega arith

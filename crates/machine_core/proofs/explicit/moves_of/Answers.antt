@@ -1,4 +1,4 @@
-use Rattle.std.proofs.Common.{◌∙◌, ap, refl, length, map}
+use Rattle.std.proofs.Common.{◌∙◌, ap, refl, length, map, arith}
 use Rattle.std.proofs.lemmas.List.{take_all}
 use Rattle.machine_core.specs.Places.{pick}
 use Rattle.machine_core.specs.Edges.{move_of}
@@ -16,3 +16,14 @@ bounds-edges-place c = place-below (length c.args.edges.now) c.args.places.now c
 
 pub returns : goal.returns
 returns c = c.loop-place.invariant ∙ ap (λ l. map move_of (pick c.args.edges.now l)) (take_all c.loop-place.place-index c.args.places.now c.loop-place-test.false)
+
+pub bounds-places-place-index : goal.bounds-places-place-index
+bounds-places-place-index c = c.loop-place-test.true
+
+pub offset_bounds-places-place-index : goal.offset_bounds-places-place-index
+offset_bounds-places-place-index c = let test = c.loop-place-test.true in omega arith
+
+pub offset_bounds-edges-place : goal.offset_bounds-edges-place
+offset_bounds-edges-place c =
+    let below = place-below (length c.args.edges.now) c.args.places.now c.loop-place.place-index c.requires c.loop-place-test.true in
+    omega arith

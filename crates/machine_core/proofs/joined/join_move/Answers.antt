@@ -1,4 +1,4 @@
-use Rattle.std.proofs.Common.{◌≡◌, ◌<◌, ℕ, List, length, Any, Contains, get_or, slice_set, ◌||◌, ◌⊎◌, ◌↔◌, sym, ap, ◌∙◌, subst}
+use Rattle.std.proofs.Common.{◌≡◌, ◌<◌, ℕ, arith, List, length, Any, Contains, get_or, slice_set, ◌||◌, ◌⊎◌, ◌↔◌, sym, ap, ◌∙◌, subst}
 use Rattle.sv_word.specs.Ranges.{in_ranges}
 use Rattle.sv_list.specs.Lists.{read-at}
 use Rattle.machine_core.specs.declared.machine.Move.{Move}
@@ -30,3 +30,11 @@ returns-clause-inhabited c x i =
 pub bounds-as_slice-at : goal.bounds-as_slice-at
 bounds-as_slice-at c =
     subst (λ (l : List (Move ℕ)). c.args.at < length l) (sym c.as_slice.ensures) (stands-below c.args.moves.now c.args.at c.requires.like.earlier c.requires.like.stands)
+
+pub offset_bounds-as_slice-at : goal.offset_bounds-as_slice-at
+offset_bounds-as_slice-at c =
+    let below = subst (λ (l : List (Move ℕ)). c.args.at < length l) (sym c.as_slice.ensures) (stands-below c.args.moves.now c.args.at c.requires.like.earlier c.requires.like.stands) in
+    omega arith
+
+pub set-requires : goal.set-requires
+set-requires c = stands-below c.args.moves.now c.args.at c.requires.like.earlier c.requires.like.stands

@@ -1,7 +1,8 @@
 use Rattle.std.proofs.Common.{◌≡◌, slice_index, ap, subst}
+use Rattle.sv_list.specs.Lists.{ok-no_err}
 use Rattle.machine_core.specs.Costs.{IsFirstPast}
 use Rattle.machine_core.specs.Runs.{run_total}
-use Rattle.machine_core.proofs.CostLemmas.{total-step, fits-step, total-done, first-past}
+use Rattle.machine_core.proofs.CostLemmas.{total-step, fits-step, total-done, first-past, memory-not-past}
 use Rattle.machine_core.proofs.run.total.Goals as goal
 
 pub returns-in-None-clause-past : goal.returns-in-None-clause-past
@@ -28,3 +29,9 @@ pub returns-clause-sum : goal.returns-clause-sum
 returns-clause-sum g c =
     total-done c.args.run.now.costs c.args.run.now.last c.requires c.loop-register.sum c.loop-register.register
     (rw c.as_slice-last-items.ensures at c.loop-register-test.false) c.loop-register.invariant.so_far
+
+pub returns-clause-past : goal.returns-clause-past
+returns-clause-past g c = λ register e. ok-no_err _ _ e
+
+pub returns-in_err-push-in-Some-clause-past : goal.returns-in_err-push-in-Some-clause-past
+returns-in_err-push-in-Some-clause-past g c = λ register e. memory-not-past register _ (rw e at c.from_residual.ensures.1)

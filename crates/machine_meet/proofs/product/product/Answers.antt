@@ -102,3 +102,42 @@ loop-i-preserved g c =
           lt (states-length g.P.Machine.is_state c.args.parts.now c.args.at.now c.requires.states) c.index-parts-i.is c.index-at-i.is c.in_ok-heads.ensures.exact tail joins;
       inhabited = c.in_ok-all-2.ensures.inhabited;
     }
+
+pub overflow_sub-last : goal.overflow_sub-last
+overflow_sub-last g c =
+    let some = some-tested c.args.parts.now (sym c.is_empty.ensures ∙ c.if-is_empty.false) in
+    omega arith
+
+pub bounds-parts-last : goal.bounds-parts-last
+bounds-parts-last g c =
+    let some = some-tested c.args.parts.now (sym c.is_empty.ensures ∙ c.if-is_empty.false) in
+    omega arith
+
+pub offset_bounds-parts-last : goal.offset_bounds-parts-last
+offset_bounds-parts-last g c =
+    let some = some-tested c.args.parts.now (sym c.is_empty.ensures ∙ c.if-is_empty.false) in
+    omega arith
+
+pub overflow_sub-i : goal.overflow_sub-i
+overflow_sub-i g c = c.loop-i-test.true
+
+pub bounds-parts-i : goal.bounds-parts-i
+bounds-parts-i g c =
+    let room = c.loop-i.invariant.room in
+    let positive = c.loop-i-test.true in
+    omega arith
+
+pub offset_bounds-parts-i : goal.offset_bounds-parts-i
+offset_bounds-parts-i g c =
+    let room = c.loop-i.invariant.room in
+    let positive = c.loop-i-test.true in
+    omega arith
+
+pub returns-then-is_empty-clause-inhabited : goal.returns-then-is_empty-clause-inhabited
+returns-then-is_empty-clause-inhabited g c = c.in_ok-none.ensures.inhabited
+
+pub returns-then-is_empty-2-clause-inhabited : goal.returns-then-is_empty-2-clause-inhabited
+returns-then-is_empty-2-clause-inhabited g c = c.loop-i.invariant.inhabited
+
+pub returns-clause-inhabited : goal.returns-clause-inhabited
+returns-clause-inhabited g c = c.loop-i.invariant.inhabited

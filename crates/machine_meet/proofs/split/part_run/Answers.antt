@@ -1,4 +1,4 @@
-use Rattle.std.proofs.Common.{Some, length, refl, sym, ap, ◌∙◌}
+use Rattle.std.proofs.Common.{Some, length, refl, sym, ap, ◌∙◌, arith}
 use Rattle.std.proofs.lemmas.Option.{slice_get_read}
 use Rattle.machine_meet.proofs.split.part_run.Goals as goal
 
@@ -23,3 +23,6 @@ returns-clause-costs g c = c.in_ok-column-2.ensures
 pub returns-clause-last : goal.returns-clause-last
 returns-clause-last g c =
     slice_get_read c.args.ends.now (length c.args.ends.now) c.args.place c.index-ends-place.result refl c.requires.ends c.index-ends-place.is ∙ ap Some (sym c.in_ok-copy-2.ensures)
+
+pub offset_bounds-ends-place : goal.offset_bounds-ends-place
+offset_bounds-ends-place g c = let ends = c.requires.ends in omega arith

@@ -68,3 +68,23 @@ returns-then-is_empty g c =
     lt (states-length g.P.Machine.is_state c.args.parts.now c.args.at.now c.requires.states) c.index-parts-i.is c.index-at-i.is c.in_ok-heads.ensures tail sums in
     subst (AreEndCosts g.P.Machine.ends_with c.args.width c.args.parts.now c.args.at.now) (sym none) (ends-stuck g.P.Machine.ends_with c.args.width c.args.parts.now c.args.at.now (c.loop-i.i - 1)
     (subst (AreEndCosts g.P.Machine.ends_with c.args.width (drop (c.loop-i.i - 1) c.args.parts.now) (drop (c.loop-i.i - 1) c.args.at.now)) none here))
+
+pub overflow_sub-i : goal.overflow_sub-i
+overflow_sub-i g c = c.loop-i-test.true
+
+pub bounds-parts-i : goal.bounds-parts-i
+bounds-parts-i g c =
+    let room = c.loop-i.invariant.room in
+    let positive = c.loop-i-test.true in
+    omega arith
+
+pub offset_bounds-parts-i : goal.offset_bounds-parts-i
+offset_bounds-parts-i g c =
+    let room = c.loop-i.invariant.room in
+    let positive = c.loop-i-test.true in
+    omega arith
+
+pub returns : goal.returns
+returns g c =
+    let zero : c.loop-i.i ≡ 0 = omega arith in
+    subst (λ n. AreEndCosts g.P.Machine.ends_with c.args.width (drop n c.args.parts.now) (drop n c.args.at.now) c.loop-i.all) zero c.loop-i.invariant.exact

@@ -77,3 +77,33 @@ loop-cost-preserved c =
       ends = pushed-more (ending 0) c.as_slice-cost-items.result.now c.as_slice-cost-items.result.now c.leave.new.whole.ends c.loop-cost.whole.ends c.add_end.new.self.ends
           c.loop-cost.cost-index c.cost-item.result refl c.loop-cost-test.true c.cost-item.is inv.ends (rw c.in_ok-copy.ensures at added.ok);
     }
+
+pub place_edges-requires-clause-fits : goal.place_edges-requires-clause-fits
+place_edges-requires-clause-fits c = c.requires.fits
+
+pub place_edges-requires-clause-room : goal.place_edges-requires-clause-room
+place_edges-requires-clause-room c = c.requires.room
+
+pub place_edges-requires-clause-registers : goal.place_edges-requires-clause-registers
+place_edges-requires-clause-registers c = c.requires.registers
+
+pub place_ends-requires-clause-fits : goal.place_ends-requires-clause-fits
+place_ends-requires-clause-fits c = rw c.in_ok-place_edges.ensures.states c.requires.fits
+
+pub place_ends-requires-clause-room : goal.place_ends-requires-clause-room
+place_ends-requires-clause-room c = rw c.in_ok-place_edges.ensures.states c.requires.room
+
+pub place_ends-requires-clause-registers : goal.place_ends-requires-clause-registers
+place_ends-requires-clause-registers c = c.requires.registers ∙ sym c.in_ok-place_edges.ensures.registers
+
+pub moves-requires : goal.moves-requires
+moves-requires c = c.args.part.now.started
+
+pub ends-requires : goal.ends-requires
+ends-requires c = c.args.part.now.started
+
+pub bounds-cost-items-cost-index : goal.bounds-cost-items-cost-index
+bounds-cost-items-cost-index c = c.loop-cost-test.true
+
+pub offset_bounds-cost-items-cost-index : goal.offset_bounds-cost-items-cost-index
+offset_bounds-cost-items-cost-index c = let test = c.loop-cost-test.true in omega arith

@@ -2,7 +2,7 @@ use Rattle.std.proofs.Common.{[], ap, arith}
 use Rattle.machine_core.specs.declared.edge.Edge.{Edge}
 use Rattle.parikh_flow.specs.Rows.{edge_balance}
 use Rattle.parikh_flow.proofs.FormLemmas.{added-none}
-use Rattle.parikh_flow.proofs.BalanceLemmas.{added-nothing, added-more}
+use Rattle.parikh_flow.proofs.BalanceLemmas.{added-nothing, added-more, added-all}
 use Rattle.parikh_flow.proofs.balances.push_edges.Goals as goal
 
 pub loop-edge-preserved : goal.loop-edge-preserved
@@ -34,3 +34,8 @@ push_edge-requires-clause-to c =
 
 pub push_edge-requires-clause-ascend : goal.push_edge-requires-clause-ascend
 push_edge-requires-clause-ascend c = c.loop-edge.invariant.added.ascend
+
+pub returns : goal.returns
+returns c =
+    added-all edge_balance c.args.base c.loop-edge.edge-index c.loop-edge.unknown c.args.edges.now c.args.forms.now.items c.loop-edge.forms.items
+    c.loop-edge-test.false c.loop-edge.auto.edge-index-end c.loop-edge.invariant.next c.loop-edge.invariant.added

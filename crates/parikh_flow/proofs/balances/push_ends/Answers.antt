@@ -2,7 +2,7 @@ use Rattle.std.proofs.Common.{[], ap, arith}
 use Rattle.machine_core.specs.declared.end.End.{End}
 use Rattle.parikh_flow.specs.Rows.{end_balance}
 use Rattle.parikh_flow.proofs.FormLemmas.{added-none}
-use Rattle.parikh_flow.proofs.BalanceLemmas.{added-nothing, added-more, added-end}
+use Rattle.parikh_flow.proofs.BalanceLemmas.{added-nothing, added-more, added-all, added-end}
 use Rattle.parikh_flow.proofs.balances.push_ends.Goals as goal
 
 pub loop-end-preserved : goal.loop-end-preserved
@@ -28,3 +28,8 @@ push_at-requires-clause-at c =
 
 pub push_at-requires-clause-last : goal.push_at-requires-clause-last
 push_at-requires-clause-last c = λ f e. c.loop-end.invariant.added.ascend c.end-item.result.at f e
+
+pub returns : goal.returns
+returns c =
+    added-all end_balance c.args.base c.loop-end.end-index c.loop-end.unknown c.args.ends.now c.args.forms.now.items c.loop-end.forms.items
+    c.loop-end-test.false c.loop-end.auto.end-index-end c.loop-end.invariant.next c.loop-end.invariant.added

@@ -1,18 +1,11 @@
-use Rattle.std.proofs.Common.{◌≡◌, ◌∙◌, ◌+◌, ◌<◌, ◌<ℤ◌, inl, inr, pos, rules, false, ℕ, List, Some, true, ap, arith, subst, sym}
+use Rattle.std.proofs.Common.{◌≡◌, ◌∙◌, ◌<ℤ◌, pos, rules, false, Some, true, ap, arith, sym}
 use Rattle.std.specs.Prelude.{slice_get}
-use Rattle.std.proofs.lemmas.Bool.{cases_lt}
-use Rattle.std.proofs.lemmas.Option.{slice_get-get_or, slice_get_within, same_Some}
+use Rattle.std.proofs.lemmas.Option.{slice_get-get_or, slice_get_within}
 use Rattle.farkas_check.specs.Cuts.{values_of}
 use Rattle.farkas_check.specs.declared.net.NetEdge.{NetEdge}
+use Rattle.parikh_flow.proofs.ReachLemmas.{one-more}
 use Rattle.parikh_flow.proofs.reaching.is_joined.Goals as goal
 use Rattle.parikh_flow.proofs.reaching.is_joined.Goals.{else-point-edge-gt0-via-then-point-edge-gt0+else-not-seen-edge, else-point-edge-gt0-via-else-point-edge-gt0}
-
--- what holds of those before a place and of the one there holds of all before the next place
-one-more : {X : Type 0} (P : X → Type 0) (xs : List X) (i : ℕ) (x : X) → slice_get xs i ≡ Some x → P x → ((p : ℕ) (e : X) → p < i → slice_get xs p ≡ Some e → P e) → (p : ℕ) (e : X) → p < i + 1 → slice_get xs p ≡ Some e → P e
-one-more P xs i x at here before p e l h = elim (cases_lt p i) [
-  | inl less ↦ before p e less h
-  | inr more ↦ let same : i ≡ p = omega arith in subst P (same_Some x e (sym at ∙ ap (slice_get xs) same ∙ h)) here
-]
 
 pub loop-at-preserved : goal.loop-at-preserved
 loop-at-preserved c p e l h = one-more (λ (d : NetEdge). pos 0 <ℤ values_of c.args.point.now d.unknown → slice_get c.args.seen.now d.from ≡ Some true) c.args.edges.now c.loop-at.at c.item_at-edge.result.now c.item_at-edge.ensures (elim c.else-point-edge-gt0.branch [ else-point-edge-gt0-via-then-point-edge-gt0+else-not-seen-edge w ↦ λ g. slice_get-get_or c.args.seen.now c.item_at-edge.result.now.from false (c.requires.states c.loop-at.at c.item_at-edge.result.now c.item_at-edge.ensures) ∙ ap Some w.if-not-seen-edge.false | else-point-edge-gt0-via-else-point-edge-gt0 w ↦ λ g. search (rules, w.if-point-edge-gt0.false, g) ]) (λ q d. c.loop-at.invariant q d) p e l h
@@ -40,3 +33,13 @@ returns-clause-joined c = λ _ p e g.
     let below = slice_get_within c.args.edges.now p e g in
     let test = c.loop-at-test.false in
     c.loop-at.invariant p e (omega arith) g
+
+pub loop-at-init : goal.loop-at-init
+loop-at-init c = λ p e lt. absurd (omega arith)
+
+pub returns-then-not-seen-edge-clause-left : goal.returns-then-not-seen-edge-clause-left
+returns-then-not-seen-edge-clause-left c = λ _.
+    let e = c.item_at-edge.result.now in
+    let above : pos 0 <ℤ values_of c.args.point.now e.unknown = search rules in
+    let seen = slice_get-get_or c.args.seen.now e.from false (c.requires.states c.loop-at.at e c.item_at-edge.ensures) in
+    (c.loop-at.at, e, c.item_at-edge.ensures, above, seen ∙ ap Some c.if-not-seen-edge.true)

@@ -1,4 +1,4 @@
-use Rattle.std.proofs.Common.{◌≡◌, ℕ, length, get_or, List, ◌∷◌, sym, ap, ap₂, ◌∙◌, subst, arith}
+use Rattle.std.proofs.Common.{◌≡◌, ℕ, ◌<◌, length, get_or, List, ◌∷◌, sym, ap, ap₂, ◌∙◌, subst, arith}
 use Rattle.machine_core.specs.Costs.{zeros, total_of}
 use Rattle.machine_core.specs.RunLaws.{path_lengths}
 use Rattle.sv_terms.specs.Transduction.{Pairs}
@@ -74,3 +74,21 @@ last_part-requires-clause-end c =
     let same : get_or c.as_slice.result.now (length c.as_slice-2.result.now) (0, 0) ≡ c.requires.stop =
     ap₂ (λ (l : List (ℕ × ℕ)) (n : ℕ). get_or l n (0, 0)) (c.as_slice.ensures ∙ c.requires.states) (ap length c.as_slice-2.ensures) ∙ stop in
     subst (λ q. PreEnds t m q run.last) (sym same) c.requires.last
+
+pub last_part-requires-clause-width : goal.last_part-requires-clause-width
+last_part-requires-clause-width c = (c.runs_are_formed.ensures.costs c.args.run.now c.requires).1
+
+pub returns-clause-word : goal.returns-clause-word
+returns-clause-word c = c.in_ok-whole_run.ensures.word ∙ sym c.in_ok-whole_run.ensures.pair
+
+pub last_part-requires-clause-at : goal.last_part-requires-clause-at
+last_part-requires-clause-at c =
+    let t = c.args.pre.now.through.now in
+    let m = c.args.pre.now.target.now in
+    let run = c.args.run.now in
+    let lens = path_lengths (PreSteps t m) (t.start, 0) c.requires.after run.word run.costs c.requires.stop c.requires.path in
+    let states = ap length c.requires.states in
+    let word = lens.0 in
+    let at : ℕ × ℕ = get_or run.states (length run.word) (0, 0) in
+    let same : get_or c.as_slice.result.now (length c.as_slice-2.result.now) (0, 0) ≡ at = ap₂ (λ (l : List (ℕ × ℕ)) (n : ℕ). get_or l n (0, 0)) c.as_slice.ensures (ap length c.as_slice-2.ensures) in
+    subst (λ (q : ℕ × ℕ). q.1 < m.states) (sym same) (c.runs_are_formed.ensures.states run c.requires (length run.word) (0, 0) (omega arith)).1

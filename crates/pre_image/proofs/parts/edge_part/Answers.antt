@@ -1,4 +1,6 @@
 use Rattle.std.proofs.Common.{None, subst, ◌≡◌, ◌*◌, Some, length, ap, sym, ◌∙◌, arith}
+use Rattle.std.proofs.lemmas.Bool.{false≢true}
+use Rattle.std.proofs.lemmas.Option.{none-some}
 use Rattle.machine_core.specs.Edges.{edges_top}
 use Rattle.sv_terms.specs.Transduction.{written_at}
 use Rattle.sv_terms.specs.TransducerSizes.{items_size}
@@ -29,8 +31,7 @@ returns-in-None c p =
     let m = c.args.target.now in
     let items = c.args.edge.now.items in
     let is : written_at c.args.c items ≡ None = ap (written_at c.args.c) (sym c.as_slice.ensures) ∙ sym c.in_ok-text_at.ensures ∙ c.in-None.is in
-    let some : written_at c.args.c items ≡ Some (spelling c.args.c items) = path_written m c.args.c items c.args.from.now.1 c.args.to.now.1 c.args.cost.now p.4 in
-    cc
+    none-some (spelling c.args.c items) (sym is ∙ path_written m c.args.c items c.args.from.now.1 c.args.to.now.1 c.args.cost.now p.4)
 
 pub returns-then-not-may : goal.returns-then-not-may
 returns-then-not-may c p =
@@ -39,5 +40,17 @@ returns-then-not-may c p =
     let is : written_at c.args.c items ≡ Some c.in-Some.word = ap (written_at c.args.c) (sym c.as_slice.ensures) ∙ sym c.in_ok-text_at.ensures ∙ c.in-Some.is in
     let same = sym (spelling-written c.args.c items c.in-Some.word is) ∙ sym c.as_slice-2.ensures in
     let may = c.in_ok-may.ensures.1 (subst (λ w. Goes m c.args.from.now.1 w c.args.cost.now c.args.to.now.1) same p.4) in
-    let not_so = c.if-not-may.true in
-    cc
+    false≢true (sym c.if-not-may.true ∙ may)
+
+pub goes-requires-clause-from : goal.goes-requires-clause-from
+goes-requires-clause-from c = c.requires.from
+
+pub way_on-requires-clause-from : goal.way_on-requires-clause-from
+way_on-requires-clause-from c = c.requires.from
+
+pub way_on-requires-clause-width : goal.way_on-requires-clause-width
+way_on-requires-clause-width c = c.requires.width
+
+pub way_on-requires-clause-goes : goal.way_on-requires-clause-goes
+way_on-requires-clause-goes c =
+    subst (λ w. Goes c.args.target.now c.args.from.now.1 w c.args.cost.now c.args.to.now.1) (c.as_slice-2.ensures ∙ sym c.as_slice-3.ensures) (c.in_ok-may.ensures.0 c.if-not-may.false)

@@ -1,4 +1,6 @@
 use Rattle.std.proofs.Common.{rules, None, ℕ, Any, ◌≡◌, List, Contains, MatchOption, sym, ◌∙◌, subst}
+use Rattle.std.proofs.lemmas.Bool.{false≢true}
+use Rattle.sv_list.specs.Lists.{Any-none}
 use Rattle.pre_image.specs.Lifts.{GoesOnAt, IsTried, Works}
 use Rattle.pre_image.proofs.MoreLemmas.{more-none, all-alone}
 use Rattle.pre_image.proofs.WayLemmas.{move-steps, some-works, tried-next}
@@ -34,3 +36,17 @@ unreachable-requires c =
     let m = c.args.target.now in
     let steps = subst (Any (Works m c.args.c c.args.rest.now c.args.to c.args.cost.now)) (sym c.as_slice-step-items.ensures) (some-works m c.args.at c.args.c c.args.rest.now c.args.to c.args.cost.now c.in_ok-steps.steps c.in_ok-steps.ensures.exact c.requires.goes) in
     (all-alone (Works m c.args.c c.args.rest.now c.args.to c.args.cost.now) c.as_slice-step-items.result.now c.loop-step.step-index c.loop-step-test.false ⊥ c.loop-step.invariant).1 steps
+
+pub try_step-requires-clause-whole : goal.try_step-requires-clause-whole
+try_step-requires-clause-whole c = c.requires.width
+
+pub try_step-requires-clause-fits : goal.try_step-requires-clause-fits
+try_step-requires-clause-fits c = c.requires.fits
+
+pub loop-step-init : goal.loop-step-init
+loop-step-init c = (λ none. absurd none, λ a. Any-none (Works c.args.target.now c.args.c c.args.rest.now c.args.to c.args.cost.now) a)
+
+pub loop-step-preserved-then-not-holds : goal.loop-step-preserved-then-not-holds
+loop-step-preserved-then-not-holds c =
+    more-none (Works c.args.target.now c.args.c c.args.rest.now c.args.to c.args.cost.now) c.as_slice-step-items.result.now c.loop-step.step-index c.step-item.result c.loop-step-test.true c.step-item.is ⊥ c.loop-step.invariant
+    (λ w. false≢true (sym c.if-not-holds.true ∙ c.holds.ensures ∙ w.0))

@@ -1,9 +1,17 @@
-use Rattle.std.proofs.Common.{◌≡◌, ℕ, ◌-◌, ◌+◌, [], ◌∷◌, ◌++◌, List, length, take, drop, get_or, refl, sym, ap, ◌∙◌, subst}
-use Rattle.std.proofs.lemmas.List.{take_rest, drop_more}
+use Rattle.std.proofs.Common.{◌≡◌, ℕ, ◌-◌, ◌+◌, ◌*◌, ◌<◌, ◌^◌, [], ◌∷◌, ◌++◌, List, length, take, drop, get_or, refl, sym, ap, ◌∙◌, subst, arith}
+use Rattle.std.proofs.lemmas.List.{take_rest, drop_more, length-drop}
+use Rattle.std.proofs.lemmas.Nat.{mul-le}
+use Rattle.machine_core.specs.Edges.{edges_top}
 use Rattle.pre_image.specs.Leading.{Goes}
 use Rattle.pre_image.specs.Lifts.{IsUnderway}
 use Rattle.pre_image.proofs.WayLemmas.{way-first, way-next, way-last}
 use Rattle.pre_image.proofs.ways.way_on.Goals as goal
+
+rest-fits : (top i : ℕ) (word : List ℕ) → top * length word < 2 ^ 64 → top * length (take (length word - i) (drop i word)) < 2 ^ 64
+rest-fits top i word room =
+    let size = ap length (take_rest word i) ∙ length-drop i word in
+    let less = mul-le top (length (take (length word - i) (drop i word))) top (length word) (omega arith) (omega arith) in
+    omega arith
 
 pub loop-i-init : goal.loop-i-init
 loop-i-init c =
@@ -33,3 +41,12 @@ next_step-requires-clause-goes c =
     let i = c.loop-i.i in
     let from : drop i word ≡ get_or word i 0 ∷ take (length word - (i + 1)) (drop (i + 1) word) = drop_more word i 0 c.loop-i-test.true ∙ ap (λ (l : List ℕ). get_or word i 0 ∷ l) (sym (take_rest word (i + 1))) in
     subst (λ w. Goes c.args.target.now c.loop-i.at w c.loop-i.left c.args.to) from c.loop-i.invariant.goes
+
+pub next_step-requires-clause-at : goal.next_step-requires-clause-at
+next_step-requires-clause-at c = c.loop-i.invariant.inside
+
+pub next_step-requires-clause-width : goal.next_step-requires-clause-width
+next_step-requires-clause-width c = c.loop-i.invariant.width
+
+pub next_step-requires-clause-fits : goal.next_step-requires-clause-fits
+next_step-requires-clause-fits c = rest-fits (edges_top c.args.target.now.edges) (c.loop-i.i + 1) c.args.word.now c.requires.fits

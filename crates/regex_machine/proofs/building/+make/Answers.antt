@@ -5,19 +5,20 @@ use Rattle.sv_terms.specs.Opened.{In-Empty, In-All, In-AnyChar, In-Text, In-Rang
 use Rattle.sv_terms.specs.Language.{In, InOneOf}
 use Rattle.sv_terms.specs.Bounds.{size}
 use Rattle.regex_machine.specs.Copied.{InCopies, copies_size}
-use Rattle.regex_machine.specs.Joined.{HaveNoRegisters, AreMade}
+use Rattle.regex_machine.specs.Joined.{HaveNoRegisters, AreMade, WordsOf}
 use Rattle.regex_machine.specs.declared.kind.JoinKind.TheVariants as kind
 use Rattle.regex_machine.proofs.BuiltLemmas.{builds-as, builds-form, builds-err, builds-more, built-beyond, onok-as}
 use Rattle.regex_machine.proofs.FormLemmas.{builds-list, builds-Diff, builds-Star, builds-Plus, builds-Opt, builds-Comp, builds-Loop, complement-made, copies-made, difference-made, loop-made, list-made, copies-least}
-use Rattle.regex_machine.proofs.KindLemmas.{formed, power-above, first-size, part-size, inner-size, adds-none, adds-next, adds-all, adds-inner, adds-plain}
+use Rattle.regex_machine.proofs.KindLemmas.{power-above, first-size, part-size, inner-size, adds-none, adds-next, adds-all, adds-one, adds-inner, adds-plain}
 use Rattle.regex_machine.proofs.LanguageLemmas.{range-all, made-plain, made-more, made-all, no-order, no-copy}
 use Rattle.sv_terms.specs.BoundLaws.{size-Empty, size-All, size-AnyChar, size-Text, size-Range}
 use Rattle.regex_machine.proofs.WeaveLemmas.{begun-end, finished, before-form, before-letter, before-inner, IsWritten, IsChosen, each-last, each-step, each-all, one-none, one-step, one-all}
-use Rattle.regex_machine.proofs.OnwardLemmas.{unmade-most}
+use Rattle.regex_machine.proofs.OnwardLemmas.{unmade-most, precedes-as}
 use Rattle.regex_machine.proofs.LetterLemmas.{range-words}
 use Rattle.regex_machine.specs.Onwards.{PrecedesRest, unmade}
-use Rattle.std.proofs.lemmas.Result.{IfOk-weaker, err_from_is_err_and}
-use Rattle.sv_list.specs.Lists.{some-tested}
+use Rattle.std.proofs.lemmas.Result.{IfOk-from_err, IfOk-weaker, err_from_is_err_and}
+use Rattle.sv_list.specs.Lists.{some-tested, ok-no_err}
+use Rattle.trim_search.proofs.FullLemmas.{memory-no-states}
 use Rattle.machine_meet.specs.Products.{summed}
 use Rattle.regex_machine.proofs.building.+make.Goals as goal
 use Rattle.regex_machine.proofs.building.+make.Goals.{before_one-then-may_end, before_one-else-may_end}
@@ -333,3 +334,101 @@ pub before_one-returns-clause-ok : goal.before_one-returns-clause-ok
 before_one-returns-clause-ok t c begun =
     subst (PrecedesRest (InOneOf In c.args.rs.now) (length c.args.states.now + max 1 (summed (λ q. size q + 1) c.args.rs.now - 1)) c.args.states.now c.args.rest.now c.loop-r.states c.loop-r.rest) (sym c.rest_of.ensures.whole)
     (one-all c.args.rs.now c.args.states.now c.args.rest.now begun c.loop-r.r-index c.loop-r.states c.loop-r.rest c.loop-r.moves c.loop-r.may_end c.loop-r-test.false c.if-rs-eq1.false (c.loop-r.invariant begun))
+
+pub before-returns-in_err-on-in-AnyChar-clause-beyond : goal.before-returns-in_err-on-in-AnyChar-clause-beyond
+before-returns-in_err-on-in-AnyChar-clause-beyond t c = λ n e. memory-no-states n _ (rw e at c.from_residual.ensures.1)
+
+pub before-returns-in_err-front-in-AnyChar-clause-beyond : goal.before-returns-in_err-front-in-AnyChar-clause-beyond
+before-returns-in_err-front-in-AnyChar-clause-beyond t c = λ n e. memory-no-states n _ (rw e at c.from_residual-in_err-front-in-AnyChar.ensures.1)
+
+pub before-returns-in_err-on-in-Range-clause-beyond : goal.before-returns-in_err-on-in-Range-clause-beyond
+before-returns-in_err-on-in-Range-clause-beyond t c = λ n e. memory-no-states n _ (rw e at c.from_residual-in_err-on-in-Range.ensures.1)
+
+pub before-returns-in_err-front-in-Range-clause-beyond : goal.before-returns-in_err-front-in-Range-clause-beyond
+before-returns-in_err-front-in-Range-clause-beyond t c = λ n e. memory-no-states n _ (rw e at c.from_residual-in_err-front-in-Range.ensures.1)
+
+pub before-returns-in_err-front-in-Text-clause-beyond : goal.before-returns-in_err-front-in-Text-clause-beyond
+before-returns-in_err-front-in-Text-clause-beyond t c = λ n e. memory-no-states n _ (rw e at c.from_residual-in_err-front-in-Text.ensures.1)
+
+pub before_each-returns-in_err-copy-clause-beyond : goal.before_each-returns-in_err-copy-clause-beyond
+before_each-returns-in_err-copy-clause-beyond t c = λ n e. memory-no-states n _ (rw e at c.from_residual.ensures.1)
+
+pub before_one-returns-in_err-append-clause-beyond : goal.before_one-returns-in_err-append-clause-beyond
+before_one-returns-in_err-append-clause-beyond t c = λ n e. memory-no-states n _ (rw e at c.from_residual-in_err-append.ensures.1)
+
+pub make_all-returns-in_err-push-clause-beyond : goal.make_all-returns-in_err-push-clause-beyond
+make_all-returns-in_err-push-clause-beyond t c = λ n e. memory-no-states n _ (rw e at c.from_residual-in_err-push.ensures.1)
+
+pub before-returns-in_ok-front-in-AnyChar-clause-beyond : goal.before-returns-in_ok-front-in-AnyChar-clause-beyond
+before-returns-in_ok-front-in-AnyChar-clause-beyond t c = λ n e. ok-no_err _ _ e
+
+pub before-returns-in_ok-front-in-Range-clause-beyond : goal.before-returns-in_ok-front-in-Range-clause-beyond
+before-returns-in_ok-front-in-Range-clause-beyond t c = λ n e. ok-no_err _ _ e
+
+pub before-returns-in_ok-front-in-Text-clause-beyond : goal.before-returns-in_ok-front-in-Text-clause-beyond
+before-returns-in_ok-front-in-Text-clause-beyond t c = λ n e. ok-no_err _ _ e
+
+pub before_each-returns-then-is_empty-clause-beyond : goal.before_each-returns-then-is_empty-clause-beyond
+before_each-returns-then-is_empty-clause-beyond t c = λ n e. ok-no_err _ _ e
+
+pub before_each-returns-clause-beyond : goal.before_each-returns-clause-beyond
+before_each-returns-clause-beyond t c = λ n e. ok-no_err _ _ e
+
+pub before_one-returns-clause-beyond : goal.before_one-returns-clause-beyond
+before_one-returns-clause-beyond t c = λ n e. ok-no_err _ _ e
+
+pub make_all-returns-clause-beyond : goal.make_all-returns-clause-beyond
+make_all-returns-clause-beyond t c = λ n e. ok-no_err _ _ e
+
+pub add_parts-returns-clause-beyond : goal.add_parts-returns-clause-beyond
+add_parts-returns-clause-beyond t c = λ n e. ok-no_err _ _ e
+
+pub before_one-returns-then-rs-eq1-clause-beyond : goal.before_one-returns-then-rs-eq1-clause-beyond
+before_one-returns-then-rs-eq1-clause-beyond t c = λ n e.
+    let b = c.before-then-rs-eq1.ensures.beyond n e in
+    let one = c.if-rs-eq1.true in
+    let more = part-size kind.One c.args.rs.now c.index-rs-0.result (0, omega arith, sym c.index-rs-0.is) in
+    let low = b.0 in
+    (omega arith, b.1)
+
+pub before-returns-in_ok-front-in_default : goal.before-returns-in_ok-front-in_default
+before-returns-in_ok-front-in_default t c = record {
+  ok = λ begun. precedes-as (WordsOf c.in_ok-part-in_default.part) (In c.args.regex.now) (length c.args.states.now + c.in_ok-part-in_default.part.states) (length c.args.states.now + size c.args.regex.now)
+      c.args.states.now c.embed.new.states c.args.rest.now c.args.rest.now c.in_ok-front-in_default.front c.in_ok-part-in_default.ensures.0.words (let few = c.in_ok-part-in_default.ensures.1 in omega arith)
+      (c.in_ok-front-in_default.ensures begun);
+  beyond = λ n e. ok-no_err _ _ e;
+}
+
+pub before-returns-in_err-part-in_default : goal.before-returns-in_err-part-in_default
+before-returns-in_err-part-in_default t c = record {
+  ok = IfOk-from_err c.from_residual-in_err-part-in_default.result _ c.from_residual-in_err-part-in_default.ensures.0;
+  beyond = λ n e.
+      let d = rw e at c.from_residual-in_err-part-in_default.ensures.1 in
+      built-beyond (In c.args.regex.now) (size c.args.regex.now) c.args.limit _ c.in_err-part-in_default.ensures n (ap Err (sym d));
+}
+
+pub before-returns-in_err-front-in_default : goal.before-returns-in_err-front-in_default
+before-returns-in_err-front-in_default t c = record {
+  ok = IfOk-from_err c.from_residual-in_err-front-in_default.result _ c.from_residual-in_err-front-in_default.ensures.0;
+  beyond = λ n e. memory-no-states n _ (rw e at c.from_residual-in_err-front-in_default.ensures.1);
+}
+
+pub add_part-returns-in_ok-push-in_default : goal.add_part-returns-in_ok-push-in_default
+add_part-returns-in_ok-push-in_default t c = record {
+  ok = adds-one c.args.r.now c.args.parts.now c.push.new.self c.in_ok-part-in_default.part c.in_ok-part-in_default.ensures.0 c.in_ok-part-in_default.ensures.1 c.in_ok-push-in_default.ensures.ok;
+  beyond = λ n e. ok-no_err _ _ e;
+}
+
+pub add_part-returns-in_err-part-in_default : goal.add_part-returns-in_err-part-in_default
+add_part-returns-in_err-part-in_default t c = record {
+  ok = IfOk-from_err c.from_residual.result _ c.from_residual.ensures.0;
+  beyond = λ n e.
+      let d = rw e at c.from_residual.ensures.1 in
+      built-beyond (In c.args.r.now) (size c.args.r.now) c.args.limit _ c.in_err-part-in_default.ensures n (ap Err (sym d));
+}
+
+pub add_part-returns-in_err-push-in_default : goal.add_part-returns-in_err-push-in_default
+add_part-returns-in_err-push-in_default t c = record {
+  ok = IfOk-from_err c.from_residual-in_err-push-in_default.result _ c.from_residual-in_err-push-in_default.ensures.0;
+  beyond = λ n e. memory-no-states n _ (rw e at c.from_residual-in_err-push-in_default.ensures.1);
+}

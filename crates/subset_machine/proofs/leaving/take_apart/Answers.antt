@@ -1,4 +1,4 @@
-use Rattle.std.proofs.Common.{[], ◌++◌, Contains, inl, inr, take, ap, sym, ◌∙◌, subst}
+use Rattle.std.proofs.Common.{[], ◌++◌, Contains, inl, inr, take, ap, sym, ◌∙◌, subst, arith}
 use Rattle.std.specs.List.{flat_map}
 use Rattle.std.proofs.lemmas.List.{flat_map_more, take_all}
 use Rattle.std.proofs.lemmas.List.Elements.{Contains-append_cases}
@@ -42,3 +42,11 @@ bounds-places-place-index c = c.loop-place-test.true
 
 pub bounds-edges-place : goal.bounds-edges-place
 bounds-edges-place c = c.requires c.loop-place.place-index _ (slice_get-get_or c.args.places.now c.loop-place.place-index 0 c.loop-place-test.true)
+
+pub offset_bounds-places-place-index : goal.offset_bounds-places-place-index
+offset_bounds-places-place-index c = let test = c.loop-place-test.true in omega arith
+
+pub offset_bounds-edges-place : goal.offset_bounds-edges-place
+offset_bounds-edges-place c =
+    let below = c.requires c.loop-place.place-index _ (slice_get-get_or c.args.places.now c.loop-place.place-index 0 c.loop-place-test.true) in
+    omega arith

@@ -1,5 +1,6 @@
 use Rattle.std.proofs.Common.{◌≡◌, ◌∙◌, ◌-◌, ◌<◌, ◌≤◌, ap, subst, sym, refl, false, drop, get_or, length, List, map, take, ℕ, Err, Result}
 use Rattle.std.specs.Prelude.{if◌then◌else◌}
+use Rattle.std.proofs.lemmas.Result.{err_from_is_err_and}
 use Rattle.sexpr_reader.specs.declared.kind.TokenKind.{TokenKind}
 use Rattle.sexpr_reader.specs.declared.sexpr.Sexpr.{Sexpr}
 use Rattle.sexpr_reader.specs.declared.sexpr.Sexpr.TheVariants as v
@@ -7,6 +8,7 @@ use Rattle.smt_names.specs.declared.check_fault.CheckFault.{CheckFault}
 use Rattle.smt_names.specs.declared.check_fault.CheckFault.TheVariants as fault
 use Rattle.smt_names.specs.declared.opening.Opening.{Opening}
 use Rattle.smt_names.specs.declared.opening.Opening.TheVariants as o
+use Rattle.smt_names.specs.Answering.{fault-passes}
 use Rattle.smt_names.specs.Faults.{Answers, made_of}
 use Rattle.smt_names.specs.Form.{Forms, forms, group, seen}
 use Rattle.smt_names.specs.Shapes.{none-seen, seen-Atom, seen-List}
@@ -63,6 +65,14 @@ pub returns-in_ok-find_function-in-Identifier : goal.returns-in_ok-find_function
 returns-in_ok-find_function-in-Identifier c =
     head_identifier c.args.symbols.now c.args.first.now c.in-List.items c.as_slice.result.now c.in-List.is c.as_slice.ensures c.under-item.result c.in-len1-up.len_at_least c.under-item.is c.opening.result c.opening.ensures c.in-Identifier.is
     ∙ ap of_theory c.in_ok-find_function-in-Identifier.ensures
+
+pub returns-in_err-find_function-in-Identifier : goal.returns-in_err-find_function-in-Identifier
+returns-in_err-find_function-in-Identifier c =
+    let exit = err_from_is_err_and c.from_residual.result c.from_residual.ensures.1 in
+    let behind = forms (map seen (take (length c.as_slice.result.now - 1) (drop 1 c.as_slice.result.now))) in
+    rw (exit.1, exit.2) (fault-passes (identified c.args.symbols.now behind) (head c.args.symbols.now (seen c.args.first.now)) c.in_err-find_function-in-Identifier.field-0.0 (λ e.
+    head_identifier c.args.symbols.now c.args.first.now c.in-List.items c.as_slice.result.now c.in-List.is c.as_slice.ensures c.under-item.result c.in-len1-up.len_at_least c.under-item.is c.opening.result c.opening.ensures c.in-Identifier.is
+    ∙ ap of_theory e) c.in_err-find_function-in-Identifier.ensures)
 
 pub returns-in_default : goal.returns-in_default
 returns-in_default c = head_other c.args.symbols.now c.args.first.now c.in-List.items c.as_slice.result.now c.in-List.is c.as_slice.ensures c.under-item.result c.in-len1-up.len_at_least c.under-item.is c.opening.result c.opening.ensures c.in_default.not-Identifier

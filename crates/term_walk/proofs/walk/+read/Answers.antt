@@ -1,17 +1,19 @@
-use Rattle.std.proofs.Common.{◌≡◌, refl, sym, ap, subst, ◌∙◌, ◌-◌, ◌+◌, ◌∷◌, [], ◌++◌, take, drop, map, length, Ok, Err, List, ℕ, Result, arith}
+use Rattle.std.proofs.Common.{◌≡◌, refl, sym, ap, subst, ◌∙◌, false, ◌-◌, ◌+◌, ◌∷◌, [], ◌++◌, take, drop, map, length, Ok, Err, List, ℕ, Result, arith}
 use Rattle.std.proofs.lemmas.Grind.{common_steps}
 use Rattle.std.proofs.lemmas.Result.{err_from_is_err_and}
 use Rattle.sexpr_reader.specs.declared.sexpr.Sexpr.TheVariants as v
 use Rattle.smt_names.specs.declared.opening.Opening.TheVariants as o
 use Rattle.smt_names.specs.Form.{forms, seen, end, ◌⨾◌}
-use Rattle.term_walk.specs.Meant.{Head, any_size, head, in_parentheses, meant, meant_all, meant_annotated, meant_let, meant_quantifier, meant_value}
+use Rattle.term_walk.specs.Meant.{Head, any_size, as_constants, head, in_parentheses, meant, meant_all, meant_annotated, meant_let, meant_quantifier, meant_value, renamed}
 use Rattle.term_walk.specs.Heads.{kept}
 use Rattle.smt_names.specs.declared.check_fault.CheckFault.{CheckFault}
 use Rattle.smt_names.specs.Signature.{Name}
+use Rattle.sv_list.specs.Lists.{ok-no_err}
 use Rattle.term_walk.specs.Walks.{Each, Bound, Read, Here, ReadsMeaning}
 use Rattle.term_walk.proofs.Reading.{fault-first, gathered, single, each-grow, each-append, bound-grow, bound-append}
 use Rattle.smt_names.specs.Shapes.{none-seen, two-seen, seen-List, seen-Atom, count-seen}
-use Rattle.term_walk.proofs.Termwise.{atom-read, list-read, arm-read, annotated-read, application-read, go-on, gather-none, gather-next, gather-fault, gather-end, single-read, single-fault, all-read, values-read, rest-seen, within-read, quantifier-read, quantifier-fault, let-few, let-many, quantifier-few, quantifier-many, empty-shape, binding-seen, value-read, value-fault, value-few, value-many, let-read, let-fault, at-least}
+use Rattle.term_walk.proofs.Termwise.{atom-read, list-read, arm-read, annotated-read, application-read, application-none, application-count, application-fault, go-on, gather-none, gather-next, gather-fault, gather-end, single-read, single-fault, all-read, values-read, rest-seen, within-read, quantifier-read, quantifier-fault, quantifier-unbound, let-unbound, let-few, let-many, quantifier-few, quantifier-many, empty-shape, binding-seen, value-read, value-fault, value-few, value-many, let-read, let-fault, at-least, at-most-none}
+use Rattle.term_walk.proofs.Walking.{answered}
 use Rattle.term_walk.proofs.walk.+read.Goals as goal
 
 pub read-returns-in-Atom : goal.read-returns-in-Atom
@@ -173,3 +175,47 @@ read_quantifier-returns-in_err-place-in-List t c =
     let first = c.in_ok-constants-in-List.ensures in
     let exit = err_from_is_err_and c.from_residual-in_err-place-in-List.result c.from_residual-in_err-place-in-List.ensures.1 in
     rw (exit.1, exit.2) (quantifier-fault c.args.symbols.now s c.as_slice-bound.result.now (seen c.body-item.result) (forms (map seen c.args.parts.now)) (two-seen c.args.parts.now c.bound-item.result c.body-item.result c.in-len2.len_at_least c.in-len2.len_below c.bound-item.is c.body-item.is ∙ ap (λ z. z ⨾ seen c.body-item.result ⨾ end) (ap seen (c.in-List.is ∙ ap v.List (sym c.as_slice-bound.ensures)) ∙ seen-List c.as_slice-bound.result.now)) c.args.walk.now c.constants.new.walk c.read_within.new.walk c.as_slice.result.now c.in_ok-constants-in-List.constants c.in_err-place-in-List.field-0.0 (sym c.if-not-are_variables.ensures) (c.as_slice.ensures ∙ c.in_ok-variables-in-List.ensures) first (c.in_err-place-in-List.ensures s first.what (go-on s c.args.walk.now c.constants.new.walk c.in_ok-constants-in-List.constants first b) first.there))
+
+pub read_application-returns-in_err-head : goal.read_application-returns-in_err-head
+read_application-returns-in_err-head t c =
+    λ s b.
+    let exit = err_from_is_err_and c.from_residual.result c.from_residual.ensures.1 in
+    rw (exit.1, exit.2) (answered Here (head c.args.symbols.now (seen c.args.first.now)) (λ t. in_parentheses (head c.args.symbols.now (seen c.args.first.now)) (length c.args.rest.now) (meant_all t c.args.symbols.now s (forms (map seen c.args.rest.now)))) c.args.walk.now c.args.walk.now c.in_err-head.field-0.0 (λ e h. ap (λ z. in_parentheses z (length c.args.rest.now) (meant_all any_size c.args.symbols.now s (forms (map seen c.args.rest.now)))) h) c.in_err-head.ensures)
+
+pub read_application-returns-then-is_empty : goal.read_application-returns-then-is_empty
+read_application-returns-then-is_empty t c = λ s b. application-none (head c.args.symbols.now (seen c.args.first.now)) (kept c.in_ok-head.head) (length c.args.rest.now) c.in_ok-head.ensures (meant_all any_size c.args.symbols.now s (forms (map seen c.args.rest.now))) (at-most-none (length c.args.rest.now) (sym c.is_empty.ensures ∙ c.if-is_empty.true))
+
+pub read_application-returns-then-not-takes_count : goal.read_application-returns-then-not-takes_count
+read_application-returns-then-not-takes_count t c = λ s b. application-count (head c.args.symbols.now (seen c.args.first.now)) (kept c.in_ok-head.head) (length c.args.rest.now) c.in_ok-head.ensures (meant_all any_size c.args.symbols.now s (forms (map seen c.args.rest.now))) (at-least c.args.rest.now (sym c.is_empty.ensures ∙ c.if-is_empty.false)) (sym c.takes_count.ensures ∙ c.if-not-takes_count.true)
+
+pub read_application-returns-in_err-places : goal.read_application-returns-in_err-places
+read_application-returns-in_err-places t c =
+    λ s b.
+    let exit = err_from_is_err_and c.from_residual-in_err-places.result c.from_residual-in_err-places.ensures.1 in
+    rw (exit.1, exit.2) (application-fault (head c.args.symbols.now (seen c.args.first.now)) (kept c.in_ok-head.head) (length c.args.rest.now) c.in_ok-head.ensures (λ t. meant_all t c.args.symbols.now s (forms (map seen c.args.rest.now))) c.args.walk.now c.read_all.new.walk c.in_err-places.field-0.0 (at-least c.args.rest.now (sym c.is_empty.ensures ∙ c.if-is_empty.false)) (sym c.takes_count.ensures ∙ c.if-not-takes_count.false) (c.in_err-places.ensures s b))
+
+pub read_let-returns-then-not-are_bindings : goal.read_let-returns-then-not-are_bindings
+read_let-returns-then-not-are_bindings t c =
+    λ s b. let-unbound any_size c.args.symbols.now s c.as_slice-bindings.result.now (seen c.body-item.result) (forms (map seen c.args.parts.now)) (two-seen c.args.parts.now c.bindings-item.result c.body-item.result c.in-len2.len_at_least c.in-len2.len_below c.bindings-item.is c.body-item.is ∙ ap (λ z. z ⨾ seen c.body-item.result ⨾ end) (ap seen (c.in-List.is ∙ ap v.List (sym c.as_slice-bindings.ensures)) ∙ seen-List c.as_slice-bindings.result.now)) (sym c.if-not-are_bindings.ensures)
+
+pub read_quantifier-returns-then-not-are_variables : goal.read_quantifier-returns-then-not-are_variables
+read_quantifier-returns-then-not-are_variables t c =
+    λ s b. quantifier-unbound any_size c.args.symbols.now s c.as_slice-bound.result.now (seen c.body-item.result) (forms (map seen c.args.parts.now)) (two-seen c.args.parts.now c.bound-item.result c.body-item.result c.in-len2.len_at_least c.in-len2.len_below c.bound-item.is c.body-item.is ∙ ap (λ z. z ⨾ seen c.body-item.result ⨾ end) (ap seen (c.in-List.is ∙ ap v.List (sym c.as_slice-bound.ensures)) ∙ seen-List c.as_slice-bound.result.now)) (sym c.if-not-are_variables.ensures)
+
+pub read_quantifier-returns-in_err-constants-in-List : goal.read_quantifier-returns-in_err-constants-in-List
+read_quantifier-returns-in_err-constants-in-List t c =
+    λ s b.
+    let exit = err_from_is_err_and c.from_residual-in_err-constants-in-List.result c.from_residual-in_err-constants-in-List.ensures.1 in
+    rw (exit.1, exit.2) (fault-first Bound Here (λ t. Ok (as_constants (renamed false) c.as_slice.result.now)) (λ t. meant_quantifier t c.args.symbols.now s (forms (map seen c.args.parts.now))) c.args.walk.now c.constants.new.walk c.constants.new.walk c.in_err-constants-in-List.field-0.0 (λ e h. ok-no_err (as_constants (renamed false) c.as_slice.result.now) e h) c.in_err-constants-in-List.ensures)
+
+pub read_quantifier-returns-in_err-variables-in-List : goal.read_quantifier-returns-in_err-variables-in-List
+read_quantifier-returns-in_err-variables-in-List t c = λ s b. let exit = err_from_is_err_and c.from_residual.result c.from_residual.ensures.1 in rw (exit.1, exit.2) tt
+
+pub read_all-returns-in_err-push : goal.read_all-returns-in_err-push
+read_all-returns-in_err-push t c = λ s b. let exit = err_from_is_err_and c.from_residual-in_err-push.result c.from_residual-in_err-push.ensures.1 in rw (exit.1, exit.2) tt
+
+pub read_values-returns-in_err-append : goal.read_values-returns-in_err-append
+read_values-returns-in_err-append t c = λ s b. let exit = err_from_is_err_and c.from_residual-in_err-append.result c.from_residual-in_err-append.ensures.1 in rw (exit.1, exit.2) tt
+
+pub read_within-returns-in_err-bind : goal.read_within-returns-in_err-bind
+read_within-returns-in_err-bind t c = λ s q b d. let exit = err_from_is_err_and c.from_residual.result c.from_residual.ensures.1 in rw (exit.1, exit.2) tt

@@ -1,8 +1,11 @@
-use Rattle.std.proofs.Common.{◌≡◌, ◌<◌, ◌≤◌, ◌+◌, ◌∷◌, ◌++◌, [], length, take, ap, sym, ◌∙◌, subst, refl, arith}
+use Rattle.std.proofs.Common.{◌≡◌, ℕ, ◌<◌, ◌≤◌, ◌+◌, ◌∷◌, ◌++◌, [], length, take, ap, sym, ◌∙◌, subst, refl, arith}
 use Rattle.std.proofs.lemmas.List.{length-take, take_all, take_more}
 use Rattle.transducer_core.specs.Built.{IsBuilt}
 use Rattle.transducer_core.proofs.BuiltLemmas.{built_none, built_one, item_there}
 use Rattle.transducer_core.proofs.output_words.machine_of.Goals as goal
+
+some-states : (n states : ℕ) → states ≡ n + 1 → 0 < states
+some-states n states e = omega arith
 
 pub add_state-requires-clause-firsts : goal.add_state-requires-clause-firsts
 add_state-requires-clause-firsts c d to has =
@@ -46,3 +49,15 @@ pub returns-clause-built : goal.returns-clause-built
 returns-clause-built c n at =
     let past : length c.args.nodes.now ≤ c.loop-place.place = omega arith in
     subst (λ xs. IsBuilt c.loop-place.machine (n ∷ xs)) (take_all c.loop-place.place c.args.nodes.now past) (c.loop-place.invariant.2 n at)
+
+pub add_state-requires-clause-state : goal.add_state-requires-clause-state
+add_state-requires-clause-state c = some-states _ c.in_ok-machine.machine.states c.in_ok-machine.ensures.states
+
+pub add_state-requires-clause-free : goal.add_state-requires-clause-free
+add_state-requires-clause-free c = c.in_ok-machine.ensures.registers
+
+pub add_state-requires-in-loop-place-clause-free : goal.add_state-requires-in-loop-place-clause-free
+add_state-requires-in-loop-place-clause-free c = c.loop-place.invariant.1
+
+pub returns-clause-registers : goal.returns-clause-registers
+returns-clause-registers c = c.loop-place.invariant.1

@@ -153,3 +153,10 @@ returns-in_err-ends-clause-full g c = λ n e. memory-no-states n _ (rw e at c.fr
 
 pub returns-in_err-moves-clause-full : goal.returns-in_err-moves-clause-full
 returns-in_err-moves-clause-full g c = λ n e. memory-no-states n _ (rw e at c.from_residual-in_err-moves.ensures.1)
+
+pub offset_bounds-names-at : goal.offset_bounds-names-at
+offset_bounds-names-at g c =
+    let same : length c.names.result.now ≡ length (g.N.StateNumbering.named c.args.numbers.now) = ap length c.names.ensures.items in
+    let at = c.requires.at in
+    let counted = c.requires.counted in
+    omega arith

@@ -1,6 +1,6 @@
 use Rattle.std.proofs.Common.{◌≡◌, ◌<◌, ◌∙◌, length, slice_set, Some, refl, subst}
 use Rattle.box_search.specs.Places.{place_of}
-use Rattle.box_search.proofs.TableLemmas.{index-more, index-place, index-other, layer-itself}
+use Rattle.box_search.proofs.TableLemmas.{index-kept, index-more, index-place, index-other, layer-itself}
 use Rattle.box_search.proofs.layer_table.LayerTableStateNumberingLayer.add.Goals as goal
 
 pub invariant_of-self-in_default : goal.invariant_of-self-in_default
@@ -27,3 +27,12 @@ invariant_of-self-2 c =
     rw (c.push_reserved-2.ensures.items, c.reserve.ensures.items, at)
     (index-place place.uppers place.states place.machines c.self.inside.names.items c.args.layer (rw c.self.view_is c.requires.new) c.widen.new.table c.self.inside.others longer p.0
     (subst (λ n. n < length c.widen.new.table) p.1 c.in_ok-widen.ensures.ok))
+
+pub invariant_of-self : goal.invariant_of-self
+invariant_of-self c = rw c.reserve.ensures.items c.self.invariant
+
+pub invariant_of-self-in_err-insert_copy : goal.invariant_of-self-in_err-insert_copy
+invariant_of-self-in_err-insert_copy c =
+    let place = c.self.inside.places in
+    rw c.reserve.ensures.items
+    (index-kept place.uppers place.states place.machines c.self.inside.names.items c.self.inside.table c.self.inside.others c.insert_copy.new.others c.in_err-insert_copy.ensures.err c.self.invariant)
