@@ -234,6 +234,6 @@ chain-decides ranges longer holds rows states m made size is table = by holds re
         table-decides holds (next (chain_rows longer (length ranges + 1) 0 ranges)) (length ranges) (length ranges + (if holds then 1 else 2)) (follows longer ranges) m t
         (λ s c h. let g = beyond ranges longer s c (omega (arith, h, low)) in omega (arith, h, g))
         (λ w. tells ranges longer w ranges 0 refl (omega arith))
-        (omega (arith, low))
-        (λ f w. let g = stays-after ranges longer w 0 (omega arith) in let k = n.1 (sym e ∙ f) in omega (arith, g, k))
+        (λ f. omega (arith, low))
+        (λ f w past. let g = stays-after ranges longer w 0 (omega arith) in let k = n.1 (sym e ∙ f) in omega (arith, g, k))
         (let k = count in omega (arith, k))

@@ -4,3 +4,4 @@ pub mod PatternLemmas
 pub mod PartLemmas
 pub mod PriceLemmas
 pub mod SideLemmas
+pub mod PairLemmas

@@ -15,7 +15,7 @@ use Rattle.sv_terms.specs.Bounds.{size}
 use Rattle.sv_terms.specs.BoundLaws.{size-some, size-Comp}
 use Rattle.sv_terms.specs.Opened.{In-Comp}
 use Rattle.sv_terms.specs.declared.regex.Regex.TheVariants as v
-use Rattle.sv_terms.specs.CutOff.{below-power}
+use Rattle.sv_terms.specs.CutOff.{below-power, power-more}
 use Rattle.sv_terms.specs.declared.regex.Regex.{Regex}
 use Rattle.machine_core.specs.declared.graph.Graph.{Graph}
 use Rattle.machine_meet.specs.Products.{multiplied}
@@ -31,6 +31,7 @@ use Rattle.flat_cubes.specs.declared.variable.Own.TheVariants as own
 use Rattle.part_machines.specs.Chains.{follows, ranges_of}
 use Rattle.part_machines.specs.Patterns.{finds}
 use Rattle.part_machines.specs.Parts.{AreOfParts, Decides, IsOfPart, ReadsParts}
+use Rattle.part_machines.specs.Sides.{ReadsOthers}
 
 -- the tests
 within-one : (a c : ℕ) → in_pair (a, a) c ≡ nat_eq a c
@@ -158,6 +159,18 @@ others-kept r m only is = record {
     );
   };
   few = (let x = is.few in let e = size-Comp r in omega (arith, x, e));
+}
+
+pub others-made : (r : Regex) (m n : Graph) → IsOfPart (own.InRe r, true) m → ReadsOthers m n → IsOfPart (own.InRe r, false) n
+others-made r m n is others = record {
+  reads = record {
+    plain = others.0.plain;
+    words = λ w. (
+      λ h. let g = (others.0.words w).0 h in (g.0, λ i. g.1 ((is.reads.words w).1 (g.0, i))),
+      λ h. (others.0.words w).1 (h.0, λ o. h.1 ((is.reads.words w).0 o).1),
+    );
+  };
+  few = (let x = others.1 in let y = power-more m.states (size r) is.few in omega (arith, x, y));
 }
 
 -- bounds

@@ -17,7 +17,7 @@ use Rattle.replace_machines.proofs.RowLemmas.{less_or_not, target-below}
 use Rattle.part_machines.specs.declared.table.TableLeg.{TableLeg}
 use Rattle.part_machines.specs.declared.table.TableRow.{TableRow}
 use Rattle.part_machines.specs.Parts.{Decides}
-use Rattle.part_machines.specs.Patterns.{ArePatternRows, NextOfWhole, finds, spread, spread_row}
+use Rattle.part_machines.specs.Patterns.{ArePatternRows, AreStatesNeeded, NextOfWhole, finds, spread, spread_row}
 use Rattle.part_machines.specs.Tables.{IsOfTable, IsRow, after, lead, lead_by, leg, next}
 use Rattle.part_machines.proofs.TableLemmas.{lead-here, lead-later, table-decides}
 
@@ -323,20 +323,45 @@ past-rows rows s c h = ap (λ o. lead_by o s c) (past rows s h)
     past (x ∷ xs) zero h = absurd (omega (arith, h))
     past (x ∷ xs) (suc i) h = past xs i (omega (arith, h))
 
--- the machine of a pattern
-pub pattern-decides : (stays : Bool) (p : Word) (holds : Bool) (rows : List TableRow) (m : Graph) → ArePatternRows stays p rows → m.states ≡ length p + 1 → IsOfTable (next rows) (length p) holds m → Decides (finds stays p) holds (length p + 1) m
-pattern-decides true p holds rows m are size table =
+-- the machine of a pattern, with a state for the whole of it
+whole-decides : (stays : Bool) (p : Word) (holds : Bool) (rows : List TableRow) (m : Graph) → ArePatternRows stays p rows → m.states ≡ length p + 1 → IsOfTable (next rows) (length p) holds m → Decides (finds stays p) holds (length p + 1) m
+whole-decides true p holds rows m are size table =
     table-decides holds (next rows) (length p) (length p + 1) (occurs p) m table
     (λ s c h. let n = are.size in let e = past-rows rows s c (omega (arith, h, n, size)) in omega (arith, e, h))
-    (found-tells p rows are) (omega (arith, size))
-    (λ f w. let x = found-within p rows are w [] 0 (λ lt. first-longest p) (omega arith) in omega (arith, x, size))
+    (found-tells p rows are) (λ t. omega (arith, size))
+    (λ f w past. let x = found-within p rows are w [] 0 (λ lt. first-longest p) (omega arith) in omega (arith, x, size))
     (omega (arith, size))
-pattern-decides false p holds rows m are size table =
+whole-decides false p holds rows m are size table =
     table-decides holds (next rows) (length p) (length p + 1) (λ w. begins (reverse p) (reverse w)) m table
     (λ s c h. let n = are.size in let e = past-rows rows s c (omega (arith, h, n, size)) in omega (arith, e, h))
-    (end-tells p rows are) (omega (arith, size))
-    (λ f w. let x = end-within p rows are w [] 0 (first-longest p) in omega (arith, x, size))
+    (end-tells p rows are) (λ t. omega (arith, size))
+    (λ f w past. let x = end-within p rows are w [] 0 (first-longest p) in omega (arith, x, size))
     (omega (arith, size))
+
+-- without that state, which no way leaves
+pub found-stuck : (p : Word) (rows : List TableRow) → ArePatternRows true p rows → (s c : ℕ) → length p ≤ s → length p ≤ next rows s c
+found-stuck p rows are s c h = ⊎_elim
+    (λ a. let x = a.0 in let here : length p ≡ s = omega (arith, x, h) in let e = ap (λ k. next rows k c) (sym here) ∙ are.whole c in omega (arith, e))
+    (λ b. let x = b.0 in let n = are.size in let e = past-rows rows s c (omega (arith, x, n)) in omega (arith, e, h))
+    (less_or_not s (length p + 1))
+
+barred-decides : (p : Word) (rows : List TableRow) (m : Graph) → ArePatternRows true p rows → m.states ≡ length p → IsOfTable (next rows) (length p) false m → Decides (finds true p) false (length p + 1) m
+barred-decides p rows m are size table =
+    table-decides false (next rows) (length p) (length p + 1) (occurs p) m table
+    (λ s c h. let x = found-stuck p rows are s c (omega (arith, h, size)) in omega (arith, x, size))
+    (found-tells p rows are) (λ t. cc)
+    (λ f w past. let x = found-within p rows are w [] 0 (λ lt. first-longest p) (omega arith) in below (after (next rows) 0 w) past x)
+    (omega (arith, size))
+  where
+    below : (s : ℕ) → (s ≡ length p → ⊥) → s ≤ length p → s < m.states
+    below s past h = ⊎_elim (λ a. let x = a.0 in omega (arith, x, size)) (λ b. let x = b.0 in absurd (past (omega (arith, x, h)))) (less_or_not s (length p))
+
+pub pattern-decides : (stays : Bool) (p : Word) (holds : Bool) (states : ℕ) (rows : List TableRow) (m : Graph) → ArePatternRows stays p rows → AreStatesNeeded stays holds (length p) states → m.states ≡ states → IsOfTable (next rows) (length p) holds m
+    → Decides (finds stays p) holds (length p + 1) m
+pattern-decides stays p holds states rows m are (inl whole) size table = whole-decides stays p holds rows m are (size ∙ whole) table
+pattern-decides true p false states rows m are (inr barred) size table = barred-decides p rows m are (size ∙ barred.3) table
+pattern-decides true p true states rows m are (inr barred) size table = let e = barred.1 in cc
+pattern-decides false p holds states rows m are (inr barred) size table = let e = barred.0 in cc
 
 no-row : (rows : List (List (ℕ × ℕ))) (m : ℕ) (back : List (ℕ × ℕ)) → length rows ≡ 0 → slice_get rows m ≡ Some back → ⊥
 no-row [] m back e got = cc

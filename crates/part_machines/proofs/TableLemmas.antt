@@ -298,13 +298,13 @@ module _ (step : ℕ → ℕ → ℕ) (last : ℕ) (holds : Bool) (m : Graph) (t
 
 -- a table whose last state is that of the words that pass a test
 pub table-decides : (holds : Bool) (step : ℕ → ℕ → ℕ) (last most : ℕ) (test : Word → Bool) (m : Graph) → IsOfTable step last holds m → ((s c : ℕ) → m.states ≤ s → m.states ≤ step s c)
-    → ((w : Word) → (after step 0 w ≡ last) ↔ (test w ≡ true)) → last < m.states → (holds ≡ false → (w : Word) → after step 0 w < m.states) → m.states ≤ most → Decides test holds most m
+    → ((w : Word) → (after step 0 w ≡ last) ↔ (test w ≡ true)) → (holds ≡ true → last < m.states) → (holds ≡ false → (w : Word) → (after step 0 w ≡ last → ⊥) → after step 0 w < m.states) → m.states ≤ most → Decides test holds most m
 table-decides true step last most test m table stuck tells among all few = record {
   reads = record {
     plain = table.plain;
     words = λ w. (
       λ r. let o = read-out step last true m table w 0 [] r in (o.0, (tells w).0 o.2),
-      λ h. let e = (tells w).1 h.1 in read-in step last true m table stuck w 0 h.0 m.started (subst (λ n. n < m.states) (sym e) among) e,
+      λ h. let e = (tells w).1 h.1 in read-in step last true m table stuck w 0 h.0 m.started (subst (λ n. n < m.states) (sym e) (among refl)) e,
     );
   };
   few = few;
@@ -314,7 +314,9 @@ table-decides false step last most test m table stuck tells among all few = reco
     plain = table.plain;
     words = λ w. (
       λ r. let o = read-out step last false m table w 0 [] r in (o.0, false_from_ne_true (test w) (λ t. o.2 ((tells w).1 t))),
-      λ h. read-in step last false m table stuck w 0 h.0 m.started (all refl w) (λ e. let t = (tells w).0 e in let f = h.1 in cc),
+      λ h.
+          let past : after step 0 w ≡ last → ⊥ = λ e. (let t = (tells w).0 e in let f = h.1 in cc) in
+          read-in step last false m table stuck w 0 h.0 m.started (all refl w past) past,
     );
   };
   few = few;

@@ -4,3 +4,4 @@ pub mod Patterns
 pub mod Parts
 pub mod Kept
 pub mod Sides
+pub mod Pairs

@@ -26,6 +26,10 @@ abbrev pub NextOfWhole : Bool → Word → ℕ → ℕ → Type 0
 NextOfWhole true p c t = t ≡ length p
 NextOfWhole false p c t = ((length p ≡ 0) × (t ≡ 0)) ⊎ ((m : ℕ) × IsFailure (at p) (length p) m × IsNext (at p) m c t)
 
+-- one state for each beginning of the pattern, or all but the last, the whole pattern, where that must not occur
+abbrev pub AreStatesNeeded : Bool → Bool → ℕ → ℕ → Type 0
+AreStatesNeeded stays holds count states = (states ≡ count + 1) ⊎ ((stays ≡ true) × (holds ≡ false) × (0 < count) × (states ≡ count))
+
 -- one row for each beginning of the pattern, by its length
 pub record ArePatternRows (stays : Bool) (p : Word) (rows : List TableRow) : Type 0 where
   pub size : length rows ≡ length p + 1

@@ -5,12 +5,17 @@ use Rattle.sv_word.specs.Words.{IsWord}
 use Rattle.sv_terms.specs.Language.{Word}
 use Rattle.sv_terms.specs.declared.regex.Regex.{Regex}
 use Rattle.machine_core.specs.declared.graph.Graph.{Graph}
+use Rattle.regex_machine.specs.Joined.{HasWords, WordsOf}
 use Rattle.cube_bounds.specs.Bounds.{part_bound, product_by}
 use Rattle.flat_cubes.specs.Satisfying.{MeetsPart}
 use Rattle.flat_cubes.specs.declared.variable.Own.{Own}
 use Rattle.flat_cubes.specs.declared.variable.Own.TheVariants.{InRe}
 use Rattle.part_machines.specs.Kept.{IsMachineOf}
 use Rattle.part_machines.specs.Parts.{AreOfParts, IsOfPart}
+
+-- it reads the words that the machine doesn't read, and has at most one state for each set of its states
+abbrev pub ReadsOthers : Graph → Graph → Type 0
+ReadsOthers m n = HasWords (λ w. IsWord w × (WordsOf m w → ⊥)) n × (n.states ≤ 2 ^ m.states)
 
 -- the word meets none of the parts
 abbrev pub MeetsNone : Word → List (Own × Bool) → Type 0

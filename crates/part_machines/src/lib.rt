@@ -7,7 +7,8 @@
 //!
 //! A regular expression is built once for all threads that share [`Machines`], and so is its complement, by the subset
 //! construction; that one takes too many states is found once too. Beside other parts an expression that no word may
-//! be in isn't complemented: its sets of states are made as the other parts lead to them. All other parts come
+//! be in isn't complemented where that takes many states: its sets of states are made as the other parts lead to them.
+//! All other parts come
 //! by a table that says where each state leads on each character: a word, a prefix and a digit by a chain
 //! along their characters, what occurs and what ends a word by the failure automaton of Knuth, Morris and
 //! Pratt (Fast pattern matching in strings, 1977). A table is complete, so that a part that isn't to hold has
@@ -28,6 +29,7 @@ mod keep;
 mod laws;
 mod machines;
 mod own;
+mod pairs;
 mod part;
 mod pattern;
 mod pricing;

@@ -9,21 +9,25 @@ ghost use Rattle.cube_bounds.specs.Bounds.{part_bound, product_by};
 ghost use Rattle.flat_cubes.specs.declared.variable.Own.TheVariants.{InRe};
 ghost use Rattle.trim_search.specs.declared.build_fault.BuildFault.TheVariants.{States};
 ghost use Rattle.part_machines.specs.Parts.{IsOfParts, ReadsParts};
-ghost use Rattle.part_machines.specs.Sides.{AddsSide, AreSides};
+ghost use Rattle.part_machines.specs.Sides.{AddsSide, AreSides, ReadsOthers};
 
 use crate::machines::Machines;
+use crate::pairs::meet_pairs;
 use crate::part::{MOST_STATES, kept_machine, part_machine};
 use crate::pricing::price;
 use flat_cubes::Own;
 use machine_core::{Cost, Explicit};
-use regex_machine::{all_of, difference};
-use std::alloc::Global;
+use regex_machine::{all_of, complement, difference};
+use std::alloc::{AllocError, Global};
 use sv_list::Items;
 use sv_terms::Regex;
 use trim_search::BuildFault;
 
-// The machines of some parts: one for each part that is met as it stands, and for each expression that no word may
-// be in that of the expression.
+// A complement is made ahead of the product where it takes at most so many times the states of what it is of.
+const COMPLEMENT_GROWTH: u64 = 4;
+
+// The machines of some parts: one for each part that is met as it stands, and for each other expression that no word
+// may be in that of the expression.
 #[derive(Drop)]
 struct PartSides {
     within: Items<Explicit>,
@@ -43,6 +47,20 @@ fn barred_regex(part: &(Own, bool)) -> Option<&Regex>
     }
 }
 
+// The words that the machine doesn't read, unless that takes many states. Unlike the sets of states of which it is made
+// it has none that leads to no end, so that a product of many doesn't tell which of them went astray.
+fn complement_of(alloc: Global, machine: &Explicit) -> Result<Option<Explicit>, AllocError>
+    requires { machine.now.registers ≡ 0 }
+    ensures { IfOk result (λ o. IfSome o (ReadsOthers machine.now)) }
+{
+    let limit = u64::from(machine.states()) * COMPLEMENT_GROWTH;
+    match complement(alloc, machine, limit.min(MOST_STATES)) {
+        Ok(others) => Ok(Some(others)),
+        Err(BuildFault::States(_)) => Ok(None),
+        Err(BuildFault::Memory(e)) => Err(e),
+    }
+}
+
 // One part more.
 fn add_side(
     alloc: Global,
@@ -56,7 +74,10 @@ fn add_side(
 {
     if let Some(regex) = barred_regex(part) {
         let machine = kept_machine(alloc, regex, kept)?;
-        outside.push(machine)?;
+        match complement_of(alloc, &machine)? {
+            Some(others) => within.push(others)?,
+            None => outside.push(machine)?,
+        }
         return Ok(());
     }
     let machine = part_machine(alloc, part, kept)?;
@@ -93,8 +114,7 @@ fn exclude(
     difference(alloc, all.as_slice(), MOST_STATES)
 }
 
-// The words that meet all parts. An expression that no word may be in has no machine of the others by itself where
-// there are further parts.
+// The words that meet all parts.
 fn joint_machine(
     alloc: Global,
     parts: &[(Own, bool)],
@@ -107,7 +127,8 @@ fn joint_machine(
         return part_machine(alloc, &parts[0], kept);
     }
     let PartSides { within, outside } = sides_of(alloc, parts, kept)?;
-    let met = all_of(alloc, within.as_slice(), MOST_STATES)?;
+    let few = meet_pairs(alloc, within)?;
+    let met = all_of(alloc, few.as_slice(), MOST_STATES)?;
     if outside.is_empty() {
         return Ok(met);
     }
@@ -121,9 +142,9 @@ fn joint_machine(
 /// `States` comes only where that is above [`MOST_STATES`](crate::MOST_STATES), and not always then: what isn't
 /// reached takes no state.
 ///
-/// A single part takes no product. An expression that no word may be in is met with the other parts by the subset
-/// construction as far as these lead alone, and has its own complement only where it is the single part. Machines of
-/// regular expressions are asked of `kept`.
+/// A single part takes no product. An expression that no word may be in has its own complement where it is the single
+/// part or where that has few states, and is else met with the other parts by the subset construction as far as these
+/// lead alone. Machines of regular expressions are asked of `kept`.
 pub fn own_machine(
     alloc: Global,
     parts: &[(Own, bool)],

@@ -2,7 +2,7 @@
 ghost use Rattle.std.specs.Prelude.{◌≡◌, ℕ, ◌+◌, ◌<◌, ◌^◌, length, IfOk, slice_get, Some};
 ghost use Rattle.replace_machines.specs.Rows.{AreMatchRows, Ascends, IsBorderOf};
 ghost use Rattle.part_machines.specs.Parts.{Decides};
-ghost use Rattle.part_machines.specs.Patterns.{ArePatternRows, NextOfWhole, finds, spread, spread_row};
+ghost use Rattle.part_machines.specs.Patterns.{ArePatternRows, AreStatesNeeded, NextOfWhole, finds, spread, spread_row};
 ghost use Rattle.part_machines.specs.Tables.{IsRow, lead};
 ghost use Rattle.part_machines.specs.declared.table.TableRow.{TableRow as AnyRow};
 
@@ -74,6 +74,21 @@ fn pattern_rows(alloc: Global, pattern: &Word, stays: bool) -> Result<Items<Tabl
     Ok(rows)
 }
 
+// How many states of the table of a pattern of so many characters its machine has. Where the pattern may not occur,
+// no word ends behind it: without that state a product of many such machines doesn't tell which of them went astray.
+fn states_needed(count: u32, stays: bool, holds: bool) -> u32
+    requires { count + 1 < 2 ^ 32 }
+    ensures { AreStatesNeeded stays holds count result }
+{
+    if holds {
+        return count + 1;
+    }
+    if !stays {
+        return count + 1;
+    }
+    count.max(1)
+}
+
 /// The words in which the pattern occurs where it `stays` found, and else the words that end with it;
 /// without `holds`, all other words. The table is made in one pass over the pattern.
 pub fn pattern_machine(
@@ -87,5 +102,6 @@ pub fn pattern_machine(
 {
     let rows = pattern_rows(alloc, pattern, stays)?;
     let count = pattern.len() as u32;
-    table_machine(alloc, rows.as_slice(), count + 1, count, holds)
+    let states = states_needed(count, stays, holds);
+    table_machine(alloc, rows.as_slice(), states, count, holds)
 }

@@ -31,4 +31,4 @@ mod woven;
 mod written;
 
 pub use building::build;
-pub use joining::{all_of, difference};
+pub use joining::{all_of, complement, difference};
