@@ -19,6 +19,7 @@ use std::alloc::Global;
 use trim_search::BuildFault;
 
 /// Answers the leaf, and puts the answer to the tally unless it is a hit. Only memory may be wanting.
+#[inline(never)]
 pub fn answer_leaf(
     search: &Search,
     alloc: Global,

@@ -130,6 +130,7 @@ fn carry_definition(
 }
 
 /// The family with the definition at this place carried, counted as [`spend`] says.
+#[inline(never)]
 fn next_family(
     search: &Search,
     alloc: Global,

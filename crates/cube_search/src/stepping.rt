@@ -88,6 +88,7 @@ pub fn step(
 }
 
 /// What was found in the family after a step, in the one before it. The family after the step goes.
+#[inline(never)]
 pub fn leave(
     alloc: Global,
     flat: &Flat,
