@@ -195,6 +195,10 @@ def rows():
         term = nested(f"({name} ", "p", count)
         yield f"{count} `{name}` in one another, checked, within {most:,} KB of stack", declare("Bool", "p") + claim(term) + check(), None, most
     yield "990 `distinct true` in one another, checked", declare("Bool", "p") + claim(nested("(distinct true ", "p", 990)) + check(), "sat\n", None
+    barred = lambda form, count: declare("String", "x") + "".join(claim(f"(not {form.replace('#', str(n))})") for n in range(count))
+    yield "300 words that may not occur", barred('(str.contains x "q#")', 300) + check(), "sat\n", None
+    yield "40 expressions with such words, that no word may be in", barred('(str.in_re x (re.++ re.all (str.to_re "q#") re.all))', 40) + check(), "sat\n", None
+    yield "5,000 words that a variable isn't", barred('(= x "a#")', 5_000) + check(), "sat\n", None
     for count, most in ((200, 2048), (800, 8192)):
         yield f"{count} definitions in one cube, checked, within {most:,} KB of stack", definitions(count) + check(), "sat\n", most
     for name, most in (("re.*", 820), ("re.opt", 820), ("re.comp", 820), ('re.union (str.to_re "b")', 1093), ('re.++ (str.to_re "b")', 1093), ('re.diff (str.to_re "b")', 1093)):
