@@ -2,6 +2,7 @@
 use Rattle.std.specs.Prelude.{ℕ, ◌+◌, ◌*◌, ◌/◌, max, ℤ, pos, ◌-ℤ◌, List, [], ◌∷◌, map, length, get_or, slice_set}
 use Rattle.std.specs.List.{sum_by}
 use Rattle.sv_terms.specs.TransducerSizes.{edges_most, ends_most}
+use Rattle.sv_terms.specs.declared.limits.TheConstants.{MOST_CHARACTERS}
 use Rattle.cube_bounds.specs.Bounds.{greatest}
 use Rattle.flat_cubes.specs.declared.definition.By.{By}
 use Rattle.flat_cubes.specs.declared.definition.By.TheVariants as by
@@ -35,7 +36,7 @@ growth flat = greatest 1 (growth_of flat)
 
 -- the most characters of a word of a model
 abbrev pub longest_word : ℕ
-longest_word = 4194304
+longest_word = MOST_CHARACTERS
 
 -- the most characters of all source words for which no word is longer than that, -1 where there is none
 abbrev pub reach : Flat → ℤ

@@ -10,7 +10,9 @@ use Rattle.sv_linear.specs.declared.row.RowKind.TheVariants.{Le, Eq}
 use Rattle.cube_bounds.specs.Bounds.{states, sources}
 use Rattle.cube_bounds.specs.Growth.{reach}
 use Rattle.cube_bounds.specs.declared.bounding.ValueRange.{ValueRange}
+use Rattle.cube_bounds.specs.declared.work.TheConstants.{MOST_WORK}
 use Rattle.flat_cubes.specs.declared.flat.Flat.{Flat}
+use Rattle.sv_terms.specs.declared.limits.TheConstants.{MOST_POINTS}
 
 -- z over a number above 0, rounded down and up
 abbrev pub rounded_down : ℤ → ℤ → ℤ
@@ -120,15 +122,15 @@ abbrev pub amount_of : Flat → ℕ → ℕ
 amount_of flat u = amount_among (integer_sides flat ++ register_sides flat) u
 
 -- a region of so many points may be searched: the states times the points times the sources are at most
--- 1,048,576, and at most reach
+-- MOST_WORK, and at most reach
 pub record CanSearch (flat : Flat) (n : ℕ) : Type 0 where
-  pub work : states flat * n * sources flat ≤ 1048576
+  pub work : states flat * n * sources flat ≤ MOST_WORK
   pub reached : pos (states flat * n * sources flat) ≤ℤ reach flat
 
--- the box is small: it has at most 4,096 points, it may be searched, and every row fits it
+-- the box is small: it has at most MOST_POINTS points, it may be searched, and every row fits it
 pub record IsSmall (flat : Flat) : Type 0 where
   pub count : ℕ
   pub are : points flat ≡ Some count
-  pub few : count ≤ 4096
+  pub few : count ≤ MOST_POINTS
   pub can : CanSearch flat count
   pub rows : AllByRecursion (RowFits (amount_of flat)) flat.rows

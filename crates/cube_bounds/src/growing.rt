@@ -10,7 +10,7 @@ use crate::counting::number_at;
 use flat_cubes::{By, Definition, Flat};
 use std::alloc::{AllocError, Global};
 use sv_list::Items;
-use sv_terms::{Item, TransEdge};
+use sv_terms::{Item, MOST_CHARACTERS, TransEdge};
 use sv_word::Word;
 
 // How many characters an item writes.
@@ -129,5 +129,5 @@ pub fn reach_of(growth: u64) -> i64
     requires { 1 ≤ growth }
     ensures { (g : ℕ) → growth ≡ cut_off g → result ≡ pos (longest_word / g) -ℤ pos 1 }
 {
-    (4_194_304 / growth) as i64 - 1
+    (MOST_CHARACTERS / growth) as i64 - 1
 }

@@ -23,9 +23,11 @@ mod measuring;
 mod number_laws;
 mod smallness;
 mod splitting;
+mod work;
 
 pub use measures::Numbers;
 pub use measuring::numbers;
 pub use number_laws::{
     growth_goes_along, growth_is_solved, sources_stand, states_are_solved, words_are_short,
 };
+pub use work::{MOST_WORK, is_little};

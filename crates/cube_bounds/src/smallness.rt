@@ -9,6 +9,7 @@ ghost use Rattle.flat_cubes.specs.declared.flat.Flat.{Flat as AnyFlat};
 ghost use Rattle.sv_linear.specs.Rows.{RowFits, terms_weight};
 ghost use Rattle.sv_terms.specs.CutOff.{cut_off};
 
+use crate::work::is_little;
 use flat_cubes::Flat;
 use sv_linear::Row;
 use sv_terms::MOST_POINTS;
@@ -17,8 +18,10 @@ use sv_terms::MOST_POINTS;
 fn can_search(most_states: u64, points: u64, free: u64, limit: i64) -> bool
     ensures { (flat : AnyFlat) (n : ℕ) → most_states ≡ cut_off (states flat) → points ≡ cut_off n → free ≡ cut_off (sources flat) → limit ≡ reach flat → (IsTrue result ↔ CanSearch flat n) }
 {
-    let work = most_states.saturating_mul(points).saturating_mul(free);
-    work <= 1_048_576 && work as i64 <= limit
+    is_little(
+        most_states.saturating_mul(points).saturating_mul(free),
+        limit,
+    )
 }
 
 // The greatest amount of a value of this side, 0 where there is none.

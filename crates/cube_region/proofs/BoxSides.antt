@@ -20,6 +20,7 @@ use Rattle.cube_region.specs.Bounding.{box_of, integer_bounds, register_bounds}
 use Rattle.cube_region.specs.Regions.{IsRegionFor}
 use Rattle.cube_region.proofs.RowBounds.{greatest-of, least-of, lower-holds, upper-holds}
 use Rattle.cube_region.proofs.Sides.{IsFew, IsFromZero, from-zero, integer-amount, integer-points, integer-within, register-amount, register-points, register-within}
+use Rattle.sv_terms.specs.declared.limits.TheConstants.{MOST_POINTS}
 
 registers-long : (flat : Flat) → length (register_sides flat) ≡ length flat.registers
 registers-long flat = length-map-range_with_len (λ u. register_side (span_in flat.rows u)) (length flat.integers) (length flat.registers)
@@ -67,18 +68,18 @@ some-points (s ∷ ss) n e = by_side s (points_of ss) e (some-points ss)
         let k = mul-le-mul (value-some b) (h m refl) in
         omega arith
 
-factors-few : (a m n : ℕ) → 1 ≤ a → 1 ≤ m → a * m ≡ n → n ≤ 4096 → (a ≤ 4096) × (m ≤ 4096)
+factors-few : (a m n : ℕ) → 1 ≤ a → 1 ≤ m → a * m ≡ n → n ≤ MOST_POINTS → (a ≤ MOST_POINTS) × (m ≤ MOST_POINTS)
 factors-few a m n h k e l =
     let p : a * 1 ≤ a * m = mul-le-mul_left a k in
     let q : 1 * m ≤ a * m = mul-le-mul_right m h in
     (omega arith, omega arith)
 
 -- where the box has few points, each side has few values
-few-all : (ss : List Side) (n : ℕ) → points_of ss ≡ Some n → n ≤ 4096 → AllByRecursion IsFew ss
+few-all : (ss : List Side) (n : ℕ) → points_of ss ≡ Some n → n ≤ MOST_POINTS → AllByRecursion IsFew ss
 few-all [] n e l = tt
 few-all (s ∷ ss) n e l = by_side s (points_of ss) e (few-all ss) (some-points ss)
   where
-    by_side : (s : Side) (o : Option ℕ) → times s o ≡ Some n → ((m : ℕ) → o ≡ Some m → m ≤ 4096 → AllByRecursion IsFew ss) → ((m : ℕ) → o ≡ Some m → 1 ≤ m) → IsFew s × AllByRecursion IsFew ss
+    by_side : (s : Side) (o : Option ℕ) → times s o ≡ Some n → ((m : ℕ) → o ≡ Some m → m ≤ MOST_POINTS → AllByRecursion IsFew ss) → ((m : ℕ) → o ≡ Some m → 1 ≤ m) → IsFew s × AllByRecursion IsFew ss
     by_side None o e h k = absurd (cc)
     by_side (Some b) None e h k = absurd (cc)
     by_side (Some b) (Some m) e h k =

@@ -2,7 +2,6 @@ mod Quotients
 mod RowBounds
 mod NearNumbers
 mod Powers
-mod Works
 mod Sides
 mod BoxSides
 mod NearWorks

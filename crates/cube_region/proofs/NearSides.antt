@@ -23,6 +23,7 @@ use Rattle.cube_region.specs.Regions.{IsNearNumber, IsNearOwed, IsNearSide, IsRe
 use Rattle.cube_region.proofs.BoxSides.{fits-all}
 use Rattle.cube_region.proofs.NearNumbers.{near-amount, near-points, near-side-one, near-within}
 use Rattle.cube_region.proofs.Sides.{zero-le}
+use Rattle.cube_bounds.specs.declared.work.TheConstants.{MOST_WORK}
 
 -- near values lie within the sides
 numbers-within : (s n : ℕ) (numbers : List ℤ) → length numbers ≡ n → All (IsNearNumber s) numbers → AllZip IsWithin (replicate n (near_bounds s)) numbers
@@ -106,7 +107,7 @@ module _ (flat : Flat) (straight : IsStraight flat) (s : ℕ) (some : 1 ≤ s) w
       let p : t ^ quantities flat ≡ s ^ quantities flat = ap (λ n. t ^ n) e ∙ pow-zero t ∙ sym (pow-zero s) ∙ ap (λ n. s ^ n) (sym e) in
       let none : length flat.integers + length flat.registers ≡ 0 = omega arith in
       record {
-        few = subst (λ n. states flat * n * sources flat ≤ 1048576) p h.few;
+        few = subst (λ n. states flat * n * sources flat ≤ MOST_WORK) p h.few;
         within = subst (λ n. pos (states flat * n * sources flat) ≤ℤ reach flat) p h.within;
         fits = fits-any (near_amount flat t) (near_amount flat s) flat.rows (subst (λ n. AllByRecursion (IsRowBelow n) flat.rows) none straight.rows) h.fits;
       }

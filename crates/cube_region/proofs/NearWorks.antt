@@ -8,10 +8,11 @@ use Rattle.cube_bounds.specs.Bounds.{sources, states}
 use Rattle.cube_bounds.specs.Growth.{reach}
 use Rattle.flat_cubes.specs.declared.flat.Flat.{Flat}
 use Rattle.cube_region.specs.Regions.{IsNearOwed, near_amount, quantities}
+use Rattle.cube_bounds.specs.declared.work.TheConstants.{MOST_WORK}
 
 module _ (flat : Flat) (s w : ℕ) (r : ℤ) (is : w ≡ cut_off (states flat * s ^ quantities flat * sources flat)) (same : r ≡ reach flat) where
   abbrev Little : Type 0
-  Little = (w ≤ 1048576) × (pos w ≤ℤ r)
+  Little = (w ≤ MOST_WORK) × (pos w ≤ℤ r)
 
   pub owed-by : (b : Bool) → Little → (IsTrue b ↔ AllByRecursion (RowFits (near_amount flat s)) flat.rows) → (IsTrue b → IsNearOwed flat s) × (IsNearOwed flat s → IsTrue b)
   owed-by b l f =

@@ -7,18 +7,19 @@ use Rattle.sv_terms.specs.CutOff.{cut_off}
 use Rattle.search_hits.specs.Regions.{IsWithin, greatest_amount, side_points, whole_side}
 use Rattle.cube_bounds.specs.Sides.{Side, amount, both_sides, side_amount, values_between}
 use Rattle.cube_region.specs.Bounding.{integer_bounds, no_total, register_bounds}
+use Rattle.sv_terms.specs.declared.limits.TheConstants.{MOST_POINTS}
 
 -- a side with few values
 pub record IsFew (side : Side) : Type 0 where
   pub bounds : ℤ × ℤ
   pub is : side ≡ Some bounds
-  pub few : values_between bounds ≤ 4096
+  pub few : values_between bounds ≤ MOST_POINTS
 
 -- a side of a register, from 0 on
 pub record IsFromZero (side : Side) : Type 0 where
   pub most : ℤ
   pub is : side ≡ Some (pos 0, most)
-  pub few : values_between (pos 0, most) ≤ 4096
+  pub few : values_between (pos 0, most) ≤ MOST_POINTS
 
 not-few : IsFew None → ⊥
 not-few h = let e = h.is in cc
@@ -41,16 +42,16 @@ amount-up-to m = ap (λ (b : Bool). if b then 0 else max (unsigned_abs (pos 0)) 
 
 pub from-zero : (o : Option ℤ) → IsFew (option_map (λ z. (pos 0, z)) o) → IsFromZero (option_map (λ z. (pos 0, z)) o)
 from-zero None h = absurd (not-few h)
-from-zero (Some z) h = record { most = z; is = refl; few = subst (λ b. values_between b ≤ 4096) (sym (same (pos 0, z) h.bounds h.is)) h.few }
+from-zero (Some z) h = record { most = z; is = refl; few = subst (λ b. values_between b ≤ MOST_POINTS) (sym (same (pos 0, z) h.bounds h.is)) h.few }
   where
     same : (a b : ℤ × ℤ) → Some a ≡ Some b → a ≡ b
     same a b e = cc
 
 -- how far a side from 0 reaches
-reach-of : (m : ℕ) → values_between (pos 0, pos m) ≤ 4096 → (m < 4096) × (cut_off m ≡ m)
+reach-of : (m : ℕ) → values_between (pos 0, pos m) ≤ MOST_POINTS → (m < MOST_POINTS) × (cut_off m ≡ m)
 reach-of m h = let e = values-up-to m in (omega arith, omega arith)
 
-within-up-to : (m n : ℕ) → n ≤ m → values_between (pos 0, pos m) ≤ 4096 → IsWithin (whole_side (register_bounds (Some (pos 0, pos m)))) (pos n)
+within-up-to : (m n : ℕ) → n ≤ m → values_between (pos 0, pos m) ≤ MOST_POINTS → IsWithin (whole_side (register_bounds (Some (pos 0, pos m)))) (pos n)
 within-up-to m n h f =
     let r = (reach-of m f).1 in
     subst (λ (s : ℕ × ℕ). IsWithin (whole_side s) (pos n)) (sym (bounds-up-to m)) (omega (arith, ints), omega (arith, ints))
@@ -64,7 +65,7 @@ pub register-within : (o : Option ℤ) (n : ℕ) → ((z : ℤ) → o ≡ Some z
 register-within None n h f = absurd (not-few f)
 register-within (Some (pos m)) n h f =
     let l = h (pos m) refl in
-    let k : values_between (pos 0, pos m) ≤ 4096 = subst (λ (s : Side). side_values s ≤ 4096) (sym f.is) f.few in
+    let k : values_between (pos 0, pos m) ≤ MOST_POINTS = subst (λ (s : Side). side_values s ≤ MOST_POINTS) (sym f.is) f.few in
     within-up-to m n (omega (arith, ints)) k
 register-within (Some (negsuc m)) n h f = absurd (let k = h (negsuc m) refl in omega (arith, ints))
 
@@ -74,7 +75,7 @@ integer-within (Some l) None x g h f = absurd (not-few f)
 integer-within (Some l) (Some u) x g h f = (g l refl, h u refl)
 
 -- how many values the bounds count
-most-points : (z : ℤ) → values_between (pos 0, z) ≤ 4096 → (register_bounds (Some (pos 0, z))).1 + 1 ≡ values_between (pos 0, z)
+most-points : (z : ℤ) → values_between (pos 0, z) ≤ MOST_POINTS → (register_bounds (Some (pos 0, z))).1 + 1 ≡ values_between (pos 0, z)
 most-points (pos m) h = ap (λ (s : ℕ × ℕ). s.1 + 1) (bounds-up-to m) ∙ ap (λ n. n + 1) (reach-of m h).1 ∙ sym (values-up-to m)
 most-points (negsuc m) h = refl
 

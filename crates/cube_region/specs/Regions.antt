@@ -7,16 +7,18 @@ use Rattle.search_hits.specs.declared.region.Region.{Region}
 use Rattle.cube_bounds.specs.Bounds.{states, sources}
 use Rattle.cube_bounds.specs.Growth.{reach}
 use Rattle.cube_bounds.specs.Sides.{IsSmall}
+use Rattle.cube_bounds.specs.declared.work.TheConstants.{MOST_WORK}
 use Rattle.flat_cubes.specs.declared.flat.Flat.{Flat}
+use Rattle.sv_terms.specs.declared.limits.TheConstants.{MOST_POINTS}
 
 -- how many registers and integer constants there are
 abbrev pub quantities : Flat → ℕ
 quantities flat = length flat.registers + length flat.integers
 
--- s is the greatest number such that so many factors s come to at most 4,096
+-- s is the greatest number such that so many factors s come to at most MOST_POINTS
 pub record IsNearSide (count s : ℕ) : Type 0 where
-  pub within : s ^ count ≤ 4096
-  pub greatest : 4096 < (s + 1) ^ count
+  pub within : s ^ count ≤ MOST_POINTS
+  pub greatest : MOST_POINTS < (s + 1) ^ count
 
 -- the numbers near 0, in the order 0, 1, -1, 2, -2 and so on
 abbrev pub near_number : ℕ → ℤ
@@ -32,12 +34,12 @@ near_amount flat s u = if nat_le (length flat.integers) u then s - 1 else s / 2
 
 -- the near values with so many for each quantity are searched: that is little work, within the reach, and every row fits them
 pub record IsNearOwed (flat : Flat) (s : ℕ) : Type 0 where
-  pub few : states flat * s ^ quantities flat * sources flat ≤ 1048576
+  pub few : states flat * s ^ quantities flat * sources flat ≤ MOST_WORK
   pub within : pos (states flat * s ^ quantities flat * sources flat) ≤ℤ reach flat
   pub fits : AllByRecursion (RowFits (near_amount flat s)) flat.rows
 
 -- near values: each register's total is below s, and each integer constant has one of the first s numbers near 0, where s is the greatest number such that
--- s values of each quantity make at most 4,096 points. Where there is no quantity, nothing is restricted. There are none where they aren't searched
+-- s values of each quantity make at most MOST_POINTS points. Where there is no quantity, nothing is restricted. There are none where they aren't searched
 pub record Near (flat : Flat) (numbers : List ℤ) (totals : List ℕ) : Type 0 where
   pub side : ℕ
   pub greatest : 0 < quantities flat → IsNearSide (quantities flat) side

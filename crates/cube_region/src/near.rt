@@ -10,7 +10,7 @@ ghost use Rattle.flat_cubes.specs.declared.flat.Flat.{Flat as AnyFlat};
 ghost use Rattle.cube_region.specs.Bounding.{IsNearRegion, near_bounds};
 ghost use Rattle.cube_region.specs.Regions.{IsNearOwed, IsNearSide, near_amount, quantities};
 
-use cube_bounds::Numbers;
+use cube_bounds::{Numbers, is_little};
 use flat_cubes::Flat;
 use search_hits::Region;
 use std::alloc::{AllocError, Global};
@@ -18,31 +18,31 @@ use sv_linear::Row;
 use sv_list::Items;
 use sv_terms::MOST_POINTS;
 
-// So many factors `base`, or 4,097 where they come to more.
+// So many factors `base`, or `MOST_POINTS + 1` where they come to more.
 fn power(base: u64, count: usize) -> u64
-    requires { base ≤ 4097 }
-    ensures { result ≡ min (base ^ count) 4097 }
+    requires { base ≤ MOST_POINTS + 1 }
+    ensures { result ≡ min (base ^ count) (MOST_POINTS + 1) }
 {
     let mut power = 1u64;
     for i in 0..count {
-        power = (power * base).min(4097);
+        power = (power * base).min(MOST_POINTS + 1);
     }
     power
 }
 
-// The greatest number of which so many factors come to at most 4,096; without a factor the last one tried.
+// The greatest number of which so many factors come to at most `MOST_POINTS`; without a factor the last one tried.
 fn near_side(count: usize) -> u64
     ensures greatest { 0 < count → IsNearSide count result }
-    ensures within { result ^ count ≤ 4096 }
+    ensures within { result ^ count ≤ MOST_POINTS }
     ensures some { 1 ≤ result }
-    ensures few { result ≤ 4096 }
+    ensures few { result ≤ MOST_POINTS }
 {
-    for side in 1..4096u64 {
+    for side in 1..MOST_POINTS {
         if power(side + 1, count) > MOST_POINTS {
             return side;
         }
     }
-    4096
+    MOST_POINTS
 }
 
 // The greatest amount of a near value of the unknown.
@@ -90,17 +90,10 @@ fn all_fit(flat: &Flat, side: u64, rows: &[Row]) -> bool
     rows.iter().all(|row| row_fits(flat, side, row))
 }
 
-// Whether so much work is little, and within the reach.
-fn is_little(work: u64, limit: i64) -> bool
-    ensures { IsTrue result ↔ (work ≤ 1048576) × (pos work ≤ℤ limit) }
-{
-    work <= 1_048_576 && work as i64 <= limit
-}
-
 // The states times the points of the near values times the sources, 2^64 - 1 where that is more.
 fn near_work(numbers: &Numbers, side: u64, count: usize) -> u64
-    requires within { side ^ count ≤ 4096 }
-    requires few { side ≤ 4096 }
+    requires within { side ^ count ≤ MOST_POINTS }
+    requires few { side ≤ MOST_POINTS }
     ensures { (flat : AnyFlat) → AreNumbersOf flat numbers.now → count ≡ quantities flat → result ≡ cut_off (states flat * side ^ quantities flat * sources flat) }
 {
     numbers
@@ -113,9 +106,9 @@ fn near_work(numbers: &Numbers, side: u64, count: usize) -> u64
 fn is_near_owed(flat: &Flat, numbers: &Numbers, side: u64, count: usize) -> bool
     requires numbers { AreNumbersOf flat.now numbers.now }
     requires count { count ≡ quantities flat.now }
-    requires within { side ^ count ≤ 4096 }
+    requires within { side ^ count ≤ MOST_POINTS }
     requires some { 1 ≤ side }
-    requires few { side ≤ 4096 }
+    requires few { side ≤ MOST_POINTS }
     ensures { IsTrue result ↔ IsNearOwed flat.now side }
 {
     let work = near_work(numbers, side, count);
