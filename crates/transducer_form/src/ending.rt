@@ -2,6 +2,7 @@
 ghost use Rattle.std.specs.Prelude.{◌≤◌, length, map};
 ghost use Rattle.smt_names.specs.Faults.{Answers};
 ghost use Rattle.smt_names.specs.Form.{forms, seen};
+ghost use Rattle.sv_terms.specs.declared.limits.TheConstants.{MOST_TRANSDUCER_STATES};
 ghost use Rattle.transducer_form.specs.Descriptions as d;
 
 use crate::state::state;
@@ -30,7 +31,7 @@ fn join_words(alloc: Global, parts: &[Sexpr]) -> Result<Word, CheckFault>
 
 /// A state, and what is written there at the end.
 fn end(alloc: Global, states: &IndexSet<Name>, part: &Sexpr) -> Result<(u32, Word), CheckFault>
-    requires { length states.now.keys ≤ 256 }
+    requires { length states.now.keys ≤ MOST_TRANSDUCER_STATES }
     ensures { Answers (d.end_of states.now.keys (seen part.now)) result }
 {
     match pair(part) {
@@ -52,7 +53,7 @@ pub(crate) fn ends(
     states: &IndexSet<Name>,
     parts: &[Sexpr],
 ) -> Result<Items<(u32, Word)>, CheckFault>
-    requires { length states.now.keys ≤ 256 }
+    requires { length states.now.keys ≤ MOST_TRANSDUCER_STATES }
     ensures { Answers (d.each (d.end_of states.now.keys) (forms (map seen parts.now))) result }
 {
     let mut all = Items::new(alloc);

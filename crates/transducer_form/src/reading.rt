@@ -22,7 +22,7 @@ use sv_terms::{
 
 /// An edge between the states of these names. Linear.
 fn edge(alloc: Global, states: &IndexSet<Name>, part: &Sexpr) -> Result<TransEdge, CheckFault>
-    requires { length states.now.keys ≤ 256 }
+    requires { length states.now.keys ≤ MOST_TRANSDUCER_STATES }
     ensures { Answers (d.edge_of states.now.keys (seen part.now)) result }
 {
     match edge_parts(part) {
@@ -54,7 +54,7 @@ fn edges(
     states: &IndexSet<Name>,
     parts: &[Sexpr],
 ) -> Result<Items<TransEdge>, CheckFault>
-    requires { length states.now.keys ≤ 256 }
+    requires { length states.now.keys ≤ MOST_TRANSDUCER_STATES }
     ensures { Answers (d.each (d.edge_of states.now.keys) (forms (map seen parts.now))) result }
 {
     let mut all = Items::new(alloc);
@@ -70,8 +70,8 @@ fn build_over(
     description: &Description<'_>,
     states: &IndexSet<Name>,
 ) -> Result<Transducer, CheckFault>
-    requires names { length states.now.keys ≤ 256 }
-    requires few { length description.now.states.now ≤ 256 }
+    requires names { length states.now.keys ≤ MOST_TRANSDUCER_STATES }
+    requires few { length description.now.states.now ≤ MOST_TRANSDUCER_STATES }
     ensures { Answers (d.described_over (w.description_seen description.now) states.now.keys) result }
 {
     let start = state(alloc, states, description.start)?;

@@ -4,6 +4,7 @@ ghost use Rattle.smt_names.specs.Faults.{Answers, made_of};
 ghost use Rattle.smt_names.specs.Form.{forms, seen};
 ghost use Rattle.smt_names.specs.Signature.{stands_in};
 ghost use Rattle.smt_names.specs.Tokens as t;
+ghost use Rattle.sv_terms.specs.declared.limits.TheConstants.{MOST_TRANSDUCER_STATES};
 ghost use Rattle.transducer_form.specs.Descriptions as d;
 
 use indexmap::IndexSet;
@@ -44,7 +45,7 @@ pub(crate) fn state_names(alloc: Global, states: &[Sexpr]) -> Result<IndexSet<Na
 
 /// The number of a state: its place among those listed. Time is linear in its name, by its hash.
 pub(crate) fn state(alloc: Global, states: &IndexSet<Name>, part: &Sexpr) -> Result<u32, CheckFault>
-    requires { length states.now.keys ≤ 256 }
+    requires { length states.now.keys ≤ MOST_TRANSDUCER_STATES }
     ensures { Answers (d.state_at states.now.keys (t.symbol (seen part.now))) result }
 {
     match symbol(part) {
