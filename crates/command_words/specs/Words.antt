@@ -4,6 +4,7 @@ use Rattle.std.specs.Str.Parse.{digits_value, without_leading_plus}
 use Rattle.clap.specs.ValueTests.{is_unsigned_in}
 use Rattle.clap.specs.Words.{App, Rule, Text, new_app, new_rule, with_rule, first_of, matches_of, fault_of}
 use Rattle.clap.specs.Simple.{on_top}
+use Rattle.command_words.specs.declared.options.TheConstants.{GREATEST_SIZE, MOST_WORKERS}
 
 abbrev pub option_rule : Text → Rule
 option_rule name = record (new_rule name) { long = Some name }
@@ -27,13 +28,13 @@ abbrev pub number_given : Text → ℕ → ℕ → List Text → Option ℕ
 number_given name least most words = option_and_then (number_in least most) (given name words)
 
 abbrev pub workers_given : List Text → Option ℕ
-workers_given words = number_given (codes "workers") 1 64 words
+workers_given words = number_given (codes "workers") 1 MOST_WORKERS words
 
 abbrev pub seed_given : List Text → Option ℕ
 seed_given words = number_given (codes "generate") 0 18446744073709551615 words
 
 abbrev pub size_given : List Text → Option ℕ
-size_given words = number_given (codes "size") 1 100000 words
+size_given words = number_given (codes "size") 1 GREATEST_SIZE words
 
 abbrev pub file_given : List Text → Option Text
 file_given words = given (codes "file") words
@@ -47,7 +48,7 @@ is_right name least most words = is_right_text (given name words) (number_given 
 
 -- the words are those of the simple command, with numbers within their bounds
 abbrev pub are_options : List Text → Bool
-are_options words = length (fault_of form_app words) == 0 && (is_right (codes "workers") 1 64 words && (is_right (codes "generate") 0 18446744073709551615 words && is_right (codes "size") 1 100000 words))
+are_options words = length (fault_of form_app words) == 0 && (is_right (codes "workers") 1 MOST_WORKERS words && (is_right (codes "generate") 0 18446744073709551615 words && is_right (codes "size") 1 GREATEST_SIZE words))
 
 -- a seed and a size stand together, and without a file
 abbrev pub are_together : {A : Type 0} → Option ℕ → Option ℕ → Option A → Bool

@@ -1,5 +1,6 @@
 //! What the words ask for.
 ghost use Rattle.std.specs.Prelude.{◌≡◌, ◌≤◌, false, true, IfOk, IfErr, IsErrOf, map, option_map, string_bytes};
+ghost use Rattle.command_words.specs.declared.options.TheConstants.{MOST_WORKERS};
 ghost use Rattle.command_words.specs.Words.{is_in_form, are_together};
 ghost use Rattle.command_words.specs.Asked.{IsAskedLine, IsTaskOf, named};
 
@@ -12,14 +13,14 @@ use std::alloc::Global;
 pub enum Task<'a> {
     /// To answer the script of this file, or where there is none that of standard input.
     Answer(Option<&'a str>),
-    /// To answer the generated script of a seed, with 1 to 100,000 blocks.
+    /// To answer the generated script of a seed, with 1 to [`GREATEST_SIZE`] blocks.
     Generate { seed: u64, size: u64 },
 }
 
 /// A command line: what is asked for, and by how many workers.
 #[derive(Clone, Copy)]
 pub struct CommandLine<'a> {
-    /// From 1 to 64; 1 where the words don't say.
+    /// From 1 to [`MOST_WORKERS`]; 1 where the words don't say.
     pub workers: u64,
     pub task: Task<'a>,
 }
@@ -43,7 +44,7 @@ fn task_of<'a>(options: &Options<'a>) -> Result<Task<'a>, WordsFault>
 /// `Outside` exactly where the words aren't of the form.
 pub fn read<'a>(alloc: Global, words: &'a [String]) -> Result<CommandLine<'a>, WordsFault>
     ensures ok { IfOk result (λ line. IsAskedLine (map string_bytes words.entry.now) line) }
-    ensures workers { IfOk result (λ line. (1 ≤ line.workers) × (line.workers ≤ 64)) }
+    ensures workers { IfOk result (λ line. (1 ≤ line.workers) × (line.workers ≤ MOST_WORKERS)) }
     ensures outside { IsErrOf result WordsFault.Outside → is_in_form (map string_bytes words.entry.now) ≡ false }
     ensures unnamed { IsErrOf result WordsFault.Outside → named (map string_bytes words.entry.now) ≡ None }
 {

@@ -21,4 +21,5 @@ mod options;
 mod words_fault;
 
 pub use command_line::{CommandLine, Task, read};
+pub use options::{GREATEST_SIZE, MOST_WORKERS};
 pub use words_fault::WordsFault;

@@ -8,6 +8,12 @@ use clap::error::ErrorKind;
 use clap::{Arg, ArgMatches, Command, Error};
 use std::alloc::{AllocError, Global};
 
+/// The most workers that the words may ask for.
+pub const MOST_WORKERS: u64 = 64;
+
+/// The most blocks of a generated script that the words may ask for.
+pub const GREATEST_SIZE: u64 = 100_000;
+
 /// The values of the options, and the file.
 #[derive(Drop)]
 pub struct Options<'a> {
@@ -106,10 +112,10 @@ pub(crate) fn read_options<'a>(
     words: &'a [String],
 ) -> Result<Options<'a>, WordsFault>
     ensures form { IfOk result (λ options. are_options (map string_bytes words.entry.now) ≡ true) }
-    ensures workers { IfOk result (λ options. options.workers ≡ number_given (codes "workers") 1 64 (map string_bytes words.entry.now)) }
-    ensures few { IfOk result (λ options. IfSome options.workers (λ n. (1 ≤ n) × (n ≤ 64))) }
+    ensures workers { IfOk result (λ options. options.workers ≡ number_given (codes "workers") 1 MOST_WORKERS (map string_bytes words.entry.now)) }
+    ensures few { IfOk result (λ options. IfSome options.workers (λ n. (1 ≤ n) × (n ≤ MOST_WORKERS))) }
     ensures seed { IfOk result (λ options. options.seed ≡ number_given (codes "generate") 0 18446744073709551615 (map string_bytes words.entry.now)) }
-    ensures size { IfOk result (λ options. options.size ≡ number_given (codes "size") 1 100000 (map string_bytes words.entry.now)) }
+    ensures size { IfOk result (λ options. options.size ≡ number_given (codes "size") 1 GREATEST_SIZE (map string_bytes words.entry.now)) }
     ensures file { IfOk result (λ options. option_map (λ text. text.now) options.file ≡ given (codes "file") (map string_bytes words.entry.now)) }
     ensures outside { IsErrOf result WordsFault.Outside → are_options (map string_bytes words.entry.now) ≡ false }
 {
@@ -127,9 +133,9 @@ pub(crate) fn read_options<'a>(
     let size = text_of(&found, "size");
     let file = text_of(&found, "file");
     drop(found);
-    let workers = number_of(workers, 1, 64)?;
+    let workers = number_of(workers, 1, MOST_WORKERS)?;
     let seed = number_of(seed, 0, u64::MAX)?;
-    let size = number_of(size, 1, 100_000)?;
+    let size = number_of(size, 1, GREATEST_SIZE)?;
     Ok(Options {
         workers,
         seed,
