@@ -10,6 +10,7 @@ use Rattle.box_layers.specs.declared.layer.Layer.{Layer}
 use Rattle.box_layers.specs.Layers.{AreWithinGreatest}
 use Rattle.box_search.specs.Places.{number_of, numbers_below, HasPlace, place_of}
 use Rattle.box_search.proofs.DigitLemmas.{digit-below, digit-same, number-below, number-same}
+use Rattle.box_search.specs.declared.places.TheConstants.{MOST_PLACES}
 
 pub numbers-some : (us : List ℕ) → 1 ≤ numbers_below us
 numbers-some [] = omega arith
@@ -111,12 +112,12 @@ module _ (uppers : List ℕ) (states machines : ℕ) where
       ∙ ap (λ (l : List ℕ). record { machine = t.machine; state = t.state; spent = l }) spent
 
   -- the table is small, and so is what a place is made of
-  pub place-small : (points : ℕ) (s : Layer) → points ≡ numbers_below uppers → points * (states * machines) ≤ 4194304 → HasPlace uppers states machines s
-      → (s.state + states * s.machine < 4194304) × (place_of uppers states s < 4194304)
+  pub place-small : (points : ℕ) (s : Layer) → points ≡ numbers_below uppers → points * (states * machines) ≤ MOST_PLACES → HasPlace uppers states machines s
+      → (s.state + states * s.machine < MOST_PLACES) × (place_of uppers states s < MOST_PLACES)
   place-small points s counted few h =
       let row = row-below s h in
       let place = place-below s h in
-      let small = subst (λ n. n * (states * machines) ≤ 4194304) counted few in
+      let small = subst (λ n. n * (states * machines) ≤ MOST_PLACES) counted few in
       let more = mul-le 1 (states * machines) (numbers_below uppers) (states * machines) (numbers-some uppers) (omega arith) in
       (omega arith, omega arith)
 

@@ -2,6 +2,7 @@
 ghost use Rattle.std.specs.Prelude.{◌≡◌, ◌+◌, ◌*◌, ◌<◌, ◌≤◌, ◌^◌, true, false, length, map, IfOk, MatchOption};
 ghost use Rattle.search_hits.specs.Regions.{greatest_states};
 ghost use Rattle.box_layers.specs.Layers.{AreWithinGreatest};
+ghost use Rattle.box_search.specs.declared.places.TheConstants.{MOST_PLACES};
 ghost use Rattle.box_search.specs.Places.{number_of, numbers_below, HasPlace, place_of};
 
 use box_layers::Layer;
@@ -23,7 +24,7 @@ pub struct TotalPlaces {
     pub states: u64,
     pub machines: u64,
     pub ghost counted: { points ≡ numbers_below uppers },
-    pub ghost few: { points * (states * machines) ≤ 4194304 },
+    pub ghost few: { points * (states * machines) ≤ MOST_PLACES },
 }
 
 impl TotalPlaces {
@@ -33,9 +34,9 @@ impl TotalPlaces {
         machines: &[Explicit],
         sides: &[(u64, u64)],
     ) -> Result<TotalPlaces, AllocError>
-        ensures all { IfOk result (λ places. 0 < greatest_states machines.now → numbers_below (map (λ s. s.1) sides.now) * (greatest_states machines.now * (length machines.now + 1)) ≤ 4194304
+        ensures all { IfOk result (λ places. 0 < greatest_states machines.now → numbers_below (map (λ s. s.1) sides.now) * (greatest_states machines.now * (length machines.now + 1)) ≤ MOST_PLACES
             → (places.uppers ≡ map (λ s. s.1) sides.now) × (places.states ≡ greatest_states machines.now) × (places.machines ≡ length machines.now + 1)) }
-        ensures none { IfOk result (λ places. 4194304 < numbers_below (map (λ s. s.1) sides.now) * (greatest_states machines.now * (length machines.now + 1)) → places.states ≡ 0) }
+        ensures none { IfOk result (λ places. MOST_PLACES < numbers_below (map (λ s. s.1) sides.now) * (greatest_states machines.now * (length machines.now + 1)) → places.states ≡ 0) }
     {
         let uppers = greatest_totals(alloc, sides)?;
         let states = greatest_states(machines);
@@ -46,7 +47,7 @@ impl TotalPlaces {
     pub fn place(&self, layer: &Layer) -> Option<usize>
         ensures { MatchOption result
             (HasPlace self.now.uppers self.now.states self.now.machines layer.now → ⊥)
-            (λ p. HasPlace self.now.uppers self.now.states self.now.machines layer.now × (p ≡ place_of self.now.uppers self.now.states layer.now) × (p < 4194304)) }
+            (λ p. HasPlace self.now.uppers self.now.states self.now.machines layer.now × (p ≡ place_of self.now.uppers self.now.states layer.now) × (p < MOST_PLACES)) }
     {
         let state = u64::from(layer.state);
         if state >= self.states {
@@ -76,8 +77,8 @@ fn greatest_totals(alloc: Global, sides: &[(u64, u64)]) -> Result<Items<u64>, Al
 
 // The places of all layers, of so many blocks; none where there are too many.
 fn places_of(alloc: Global, uppers: Items<u64>, states: u64, machines: u64) -> TotalPlaces
-    ensures all { 0 < states * machines → numbers_below uppers * (states * machines) ≤ 4194304 → (result.uppers ≡ uppers) × (result.states ≡ states) × (result.machines ≡ machines) }
-    ensures none { 4194304 < numbers_below uppers * (states * machines) → result.states ≡ 0 }
+    ensures all { 0 < states * machines → numbers_below uppers * (states * machines) ≤ MOST_PLACES → (result.uppers ≡ uppers) × (result.states ≡ states) × (result.machines ≡ machines) }
+    ensures none { MOST_PLACES < numbers_below uppers * (states * machines) → result.states ≡ 0 }
 {
     let Some(points) = points_of(uppers.as_slice()) else {
         return no_places(alloc);
@@ -107,8 +108,8 @@ fn no_places(alloc: Global) -> TotalPlaces
 
 // Whether a table may have so many places.
 fn are_few(points: u64, states: u64, machines: u64) -> bool
-    ensures few { result ≡ true → points * (states * machines) ≤ 4194304 }
-    ensures many { result ≡ false → 0 < points → 4194304 < points * (states * machines) }
+    ensures few { result ≡ true → points * (states * machines) ≤ MOST_PLACES }
+    ensures many { result ≡ false → 0 < points → MOST_PLACES < points * (states * machines) }
 {
     let Some(rows) = states.checked_mul(machines) else {
         return false;

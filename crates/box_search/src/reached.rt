@@ -21,7 +21,7 @@ pub struct Size {
 /// The size of marks for totals up to the greatest one; `None` where they take too much room.
 pub fn size_of(machines: &[Explicit], most: u64) -> Option<Size>
     ensures rows { IfSome result (λ size. size.rows ≡ length machines.now * size.states + 1) }
-    ensures few { IfSome result (λ size. size.rows ≤ 16777216) }
+    ensures few { IfSome result (λ size. size.rows ≤ MOST_WORDS) }
     ensures most { IfSome result (λ _. most < 2 ^ 31) }
 {
     let states = greatest_states(machines) as usize;
