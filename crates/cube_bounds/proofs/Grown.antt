@@ -1,6 +1,5 @@
 -- Growths, cut off at each step or in the end.
-use Rattle.std.proofs.Common.{◌≡◌, refl, sym, ap, ◌∙◌, ℕ, zero, suc, ◌+◌, ◌-◌, ◌*◌, ◌/◌, ◌<◌, ◌≤◌, max, inl, inr, List, [], ◌∷◌, ◌++◌, map, length, get_or, set, take, drop, drop-cons, arith}
-use Rattle.std.specs.List.{range_with_len}
+use Rattle.std.proofs.Common.{◌≡◌, refl, sym, ap, ◌∙◌, ℕ, zero, suc, ◌+◌, ◌-◌, ◌*◌, ◌/◌, ◌<◌, ◌≤◌, max, inl, inr, List, [], ◌∷◌, ◌++◌, map, length, replicate, get_or, set, take, drop, drop-cons, arith}
 use Rattle.std.proofs.lemmas.List.{take_more}
 use Rattle.sv_terms.specs.CutOff.{cut_off, cut-sum, cut-product}
 use Rattle.std.proofs.Math.Nat.{div-eq_of_lt}
@@ -48,13 +47,9 @@ grown_more ds d i ns new ms h e p f =
 abbrev pub one_each : {X : Type 0} → X → ℕ
 one_each x = 1
 
-pub all_ones : {X : Type 0} (xs : List X) (k : ℕ) → map (λ (n : ℕ). one_each n) (range_with_len k (length xs)) ≡ map cut_off (map (λ (x : X). one_each x) xs)
-all_ones [] k = refl
-all_ones (x ∷ xs) k = let e : one_each k ≡ cut_off 1 = omega arith in λ i. e i ∷ all_ones xs (k + 1) i
-
-pub ones_push : (k n : ℕ) → map (λ (m : ℕ). one_each m) (range_with_len k (n + 1)) ≡ map (λ (m : ℕ). one_each m) (range_with_len k n) ++ 1 ∷ []
-ones_push k zero = refl
-ones_push k (suc n) = let e : suc n + 1 ≡ suc (n + 1) = omega arith in ap (λ m. map one_each (range_with_len k m)) e ∙ ap (λ l. one_each k ∷ l) (ones_push (k + 1) n)
+pub all_ones : {X : Type 0} (xs : List X) → replicate (length xs) 1 ≡ map cut_off (map (λ (x : X). one_each x) xs)
+all_ones [] = refl
+all_ones (x ∷ xs) = let e : 1 ≡ cut_off 1 = omega arith in λ i. e i ∷ all_ones xs i
 
 -- a growth above the greatest number of 64 bits leaves nothing, as the greatest does
 pub reach_cut : (n g : ℕ) → n ≡ cut_off g → longest_word / n ≡ longest_word / g

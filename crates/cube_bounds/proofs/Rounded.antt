@@ -1,11 +1,11 @@
 -- Bounds of unknowns by the rows.
-use Rattle.std.proofs.Common.{◌≡◌, ◌≢◌, refl, sym, ap, ◌∙◌, subst, Bool, true, false, ℕ, ◌+◌, ◌^◌, ◌<◌, ◌≤◌, ℤ, pos, negsuc, List, [], ◌∷◌, ◌++◌, length, get_or, set, None, arith}
+use Rattle.std.proofs.Common.{◌≡◌, ◌≢◌, refl, sym, ap, ◌∙◌, subst, Bool, true, false, ℕ, zero, suc, ◌+◌, ◌^◌, ◌<◌, ◌≤◌, ℤ, pos, negsuc, List, [], ◌∷◌, map, replicate, length, get_or, set, None, arith}
 use Rattle.std.specs.Prelude.{int_lt, unsigned_abs, nat_eq, if◌then◌else◌}
 use Rattle.std.specs.Int.{int_min, int_max}
-use Rattle.std.specs.List.{AllByRecursion}
+use Rattle.std.specs.List.{AllByRecursion, range_with_len}
 use Rattle.std.proofs.lemmas.Bool.{eq-eqb, eqb-true, ne_eqb}
 use Rattle.std.proofs.lemmas.List.{get_or-set_other, get_or-set_same}
-use Rattle.std.proofs.lemmas.List.FromFn.{fill_by_all, get_or-map-range_with_len, length-map-range_with_len, map-range_with_len_more}
+use Rattle.std.proofs.lemmas.List.FromFn.{fill_by_all, get_or-map-range_with_len, length-map-range_with_len}
 use Rattle.std.proofs.Math.ListN.{length-set}
 use Rattle.std.proofs.Math.Nat.{div-le_self}
 use Rattle.sv_linear.specs.Terms.{AscendsWithin}
@@ -109,8 +109,10 @@ narrow_past r rs ss n v d h e p l =
     let far : k ≢ (first r.form.coefficients).0 = λ g. (let f = g ∙ sym e in omega (arith, f, b, long, l)) in
     ap (λ x. get_or x k d) p ∙ get_or-map-range_with_len (span_in rs) 0 n k k d b (omega arith) ∙ sym (other_kept r rs k h far))
 
-pub open_more : (n : ℕ) → spans_in [] (n + 1) ≡ spans_in [] n ++ span_in [] n ∷ []
-open_more n = map-range_with_len_more (span_in []) 0 n n (omega arith)
+-- the spans of unknowns that stand in no row, from the one with the number k on
+pub all_open : (n k : ℕ) → replicate n (span_in [] k) ≡ map (span_in []) (range_with_len k n)
+all_open zero k = refl
+all_open (suc n) k = ap (λ ss. span_in [] k ∷ ss) (all_open n (k + 1))
 
 pub spans_long : (rs : List Row) (ss : List ValueRange) (n : ℕ) → ss ≡ spans_in rs n → length ss ≡ n
 spans_long rs ss n e = ap length e ∙ length-map-range_with_len (span_in rs) 0 n

@@ -138,14 +138,11 @@ fn narrow(spans: &mut Items<ValueRange>, row: &Row)
 fn open_spans(alloc: Global, count: usize) -> Result<Items<ValueRange>, AllocError>
     ensures { IfOk result (λ ss. ss ≡ spans_in [] count) }
 {
-    let mut spans = Items::new(alloc);
-    for i in 0..count {
-        spans.push(ValueRange {
-            least: None,
-            most: None,
-        })?;
-    }
-    Ok(spans)
+    let open = ValueRange {
+        least: None,
+        most: None,
+    };
+    Ok(Items::from_vec(vec![in alloc; open; count]?))
 }
 
 /// The bounds of each unknown of the rows that stand in a row without another, the integer constants

@@ -1,6 +1,6 @@
 //! How long the words of the variables may become.
 ghost use Rattle.std.specs.Prelude.{◌≡◌, ◌≤◌, ◌+◌, ◌/◌, ◌∷◌, ◌-ℤ◌, pos, ℕ, List, map, get_or, slice_set, IfOk};
-ghost use Rattle.std.specs.List.{range_with_len, sum_by};
+ghost use Rattle.std.specs.List.{sum_by};
 ghost use Rattle.cube_bounds.specs.Growth.{growth_by, growth_of, grown, longest_word};
 ghost use Rattle.sv_terms.specs.CutOff.{cut_off};
 ghost use Rattle.sv_terms.specs.TransducerSizes.{edges_most, ends_most, items_size};
@@ -103,21 +103,11 @@ fn grow_all(numbers: &mut Items<u64>, definitions: &[Definition])
     }
 }
 
-fn ones(alloc: Global, n: usize) -> Result<Items<u64>, AllocError>
-    ensures { IfOk result (λ ns. ns ≡ map (λ k. 1) (range_with_len 0 n)) }
-{
-    let mut numbers = Items::new(alloc);
-    for i in 0..n {
-        numbers.push(1)?;
-    }
-    Ok(numbers)
-}
-
 /// The growths of all variables: one pass over the definitions, the first one first.
 pub fn all_growths(alloc: Global, flat: &Flat) -> Result<Items<u64>, AllocError>
     ensures { IfOk result (λ ns. ns ≡ map cut_off (growth_of flat.now)) }
 {
-    let mut numbers = ones(alloc, flat.variables.len())?;
+    let mut numbers = Items::from_vec(vec![in alloc; 1; flat.variables.len()]?);
     grow_all(&mut numbers, flat.definitions.as_slice());
     Ok(numbers)
 }

@@ -119,11 +119,7 @@ fn totals_below(alloc: Global, side: u64, count: usize) -> Result<Items<(u64, u6
     requires { 1 ≤ side }
     ensures { IfOk result (λ all. all ≡ replicate count (0, side - 1)) }
 {
-    let mut all = Items::new(alloc);
-    for i in 0..count {
-        all.push((0, side - 1))?;
-    }
-    Ok(all)
+    Ok(Items::from_vec(vec![in alloc; (0, side - 1); count]?))
 }
 
 fn numbers_near(alloc: Global, side: u64, count: usize) -> Result<Items<(i128, i128)>, AllocError>
@@ -132,11 +128,7 @@ fn numbers_near(alloc: Global, side: u64, count: usize) -> Result<Items<(i128, i
 {
     let least = -i128::from((side - 1) / 2);
     let most = i128::from(side / 2);
-    let mut all = Items::new(alloc);
-    for i in 0..count {
-        all.push((least, most))?;
-    }
-    Ok(all)
+    Ok(Items::from_vec(vec![in alloc; (least, most); count]?))
 }
 
 /// The values near 0, or none where their search is too much work or a row doesn't fit them.

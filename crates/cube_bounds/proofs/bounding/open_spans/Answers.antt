@@ -1,7 +1,6 @@
-use Rattle.std.proofs.Common.{◌∷◌, [], ◌++◌, sym, ap, ◌∙◌}
-use Rattle.cube_bounds.specs.Sides.{span_in}
-use Rattle.cube_bounds.proofs.Rounded.{open_more}
+use Rattle.std.proofs.Common.{◌∙◌}
+use Rattle.cube_bounds.proofs.Rounded.{all_open}
 use Rattle.cube_bounds.proofs.bounding.open_spans.Goals as goal
 
-pub loop-i-preserved : goal.loop-i-preserved
-loop-i-preserved c = c.in_ok-push.ensures.ok ∙ ap (λ ss. ss ++ span_in [] c.loop-i.i ∷ []) c.loop-i.invariant ∙ sym (open_more c.loop-i.i)
+pub returns : goal.returns
+returns c = c.from_vec.ensures ∙ c.in_ok-vec.ensures.items_if_clones_equal (λ y h. h) ∙ all_open c.args.count 0
