@@ -35,11 +35,7 @@ fn are_within(runs: &[Run<u32>], reach: u64) -> bool
 fn zeros(alloc: Global, count: u32) -> Result<Items<i128>, AllocError>
     ensures { IfOk result (λ list. length list ≡ count) }
 {
-    let mut list = Items::new(alloc);
-    for _zero in 0..count {
-        list.push(0)?;
-    }
-    Ok(list)
+    Ok(Items::from_vec(vec![in alloc; 0; count as usize]?))
 }
 
 fn words_of(alloc: Global, runs: &[Run<u32>]) -> Result<Items<Word>, AllocError>
