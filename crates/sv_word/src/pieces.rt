@@ -1,10 +1,11 @@
-ghost use Rattle.std.specs.Prelude.{◌≡◌, ℕ, ◌<◌, ◌≤◌, ◌⊎◌, ◌∷◌, [], ◌++◌, All, AllPairs, IsPermutation, IfOk, OnOk, flat_map};
+ghost use Rattle.std.specs.Prelude.{◌≡◌, ℕ, ◌<◌, ◌≤◌, ◌+◌, ◌⊎◌, ◌∷◌, [], ◌++◌, All, AllPairs, IsPermutation, IfOk, OnOk, flat_map};
 ghost use Rattle.std.specs.List.Sorted.{IsNonDecreasingBy};
 ghost use Rattle.sv_word.specs.Ranges.{IsInhabited, IsApartFrom};
 ghost use Rattle.sv_word.specs.Cuts.{IsHeld, AreDisjoint, IsUniformOn, IsParted, IsPaired, borders_of};
 ghost use Rattle.sv_word.specs.Words.{greatest_character};
 
 use crate::ranges::Ranges;
+use crate::word::GREATEST_CHARACTER;
 use std::alloc::{AllocError, Global};
 
 /// Cuts the characters into pieces such that each set of `list` is a union of some of them.
@@ -38,8 +39,8 @@ pub fn cuts(alloc: Global, list: &[Ranges]) -> Result<Vec<Ranges>, AllocError>
 
 // Where sets of the list begin and stop, in order, and the end of the characters.
 fn sorted_borders(alloc: Global, list: &[Ranges]) -> Result<Vec<u32>, AllocError>
-    ensures borders { IfOk result (λ v. IsPermutation (flat_map borders_of list.now ++ 0x30000 ∷ []) v.items) }
-    ensures top { IfOk result (λ v. All (λ b. b ≤ 0x30000) v.items) }
+    ensures borders { IfOk result (λ v. IsPermutation (flat_map borders_of list.now ++ (greatest_character + 1) ∷ []) v.items) }
+    ensures top { IfOk result (λ v. All (λ b. b ≤ greatest_character + 1) v.items) }
     ensures order { IfOk result (λ v. IsNonDecreasingBy (λ b. b) v.items) }
     ensures apart { IfOk result (λ _. All (IsApartFrom 0) list.now) }
 {
@@ -47,7 +48,7 @@ fn sorted_borders(alloc: Global, list: &[Ranges]) -> Result<Vec<u32>, AllocError
     for ranges in list {
         push_borders(&mut borders, ranges)?;
     }
-    borders.push(0x30000)?;
+    borders.push(GREATEST_CHARACTER + 1)?;
     borders.sort_unstable();
     Ok(borders)
 }
