@@ -1,10 +1,11 @@
 -- Marks of nodes, from a root down.
-use Rattle.std.proofs.Common.{◌≡◌, refl, sym, ap, ◌∙◌, subst, ℕ, zero, suc, ◌+◌, ◌-◌, ◌<◌, ◌≤◌, ℤ, Bool, true, false, List, [], ◌∷◌, ◌++◌, length, get_or, length-append, arith, ⊎_elim, ◌⊎◌, inl, inr, length-set}
+use Rattle.std.proofs.Common.{◌≡◌, refl, sym, ap, ◌∙◌, subst, ℕ, zero, suc, ◌+◌, ◌-◌, ◌<◌, ◌≤◌, ℤ, Bool, true, false, List, [], ◌∷◌, ◌++◌, length, get_or, replicate, arith, ⊎_elim, ◌⊎◌, inl, inr, length-set}
 use Rattle.std.specs.Prelude.{slice_set}
 use Rattle.std.proofs.lemmas.Bool.{cases_lt}
+use Rattle.std.proofs.lemmas.List.{length-replicate}
 use Rattle.literal_forms.specs.Literals.{SomeOf}
 use Rattle.literal_forms.specs.Linear.{Step}
-use Rattle.bool_cubes.specs.Marked.{HasStep, IsLastMarked, IsMarked, IsWalked, marked, own_steps}
+use Rattle.bool_cubes.specs.Marked.{HasStep, IsMarked, IsWalked, marked, own_steps}
 use Rattle.bool_cubes.specs.Nodes.{IsMade, IsOfEarlier, IsPlan, made, tree_at, trees_of}
 use Rattle.bool_cubes.specs.Past.{tree_steps}
 use Rattle.literal_forms.specs.Past.{ArePlain, IsPast}
@@ -12,7 +13,6 @@ use Rattle.bool_cubes.specs.declared.node.CubeNode.{CubeNode}
 use Rattle.bool_cubes.specs.declared.node.NodeKind.{NodeKind}
 use Rattle.bool_cubes.specs.declared.node.NodeKind.TheVariants as kind
 use Rattle.literal_forms.specs.PastLaws.{some_left, some_right, some_cases}
-use Rattle.bool_cubes.proofs.Plans.{got_last}
 
 set_same : (m : List Bool) (i : ℕ) → i < length m → IsMarked (slice_set m i true) i
 set_same [] i l = absurd (omega arith)
@@ -33,44 +33,20 @@ set_only (b ∷ m) zero (suc j) h = inr h
 set_only (b ∷ m) (suc i) zero h = inr h
 set_only (b ∷ m) (suc i) (suc j) h = ⊎_elim (λ e. inl (ap suc e)) (λ q. inr q) (set_only m i j h)
 
--- the last mark
-pub record AreNotMarked (m : List Bool) (n : ℕ) : Type 0 where
-  pub size : length m ≡ n
-  pub none : (k : ℕ) → IsMarked m k → ⊥
-
-pub none_marked : (m n : List Bool) (i : ℕ) → AreNotMarked m i → n ≡ m ++ false ∷ [] → AreNotMarked n (i + 1)
-none_marked m n i h e = subst (λ x. AreNotMarked x (i + 1)) (sym e) (record {
-  size = length-append m (false ∷ []) ∙ ap (λ x. x + 1) h.size;
-  none = λ k q. at m k h.none q;
-})
-  where
-    at : (m : List Bool) (k : ℕ) → ((k : ℕ) → IsMarked m k → ⊥) → IsMarked (m ++ false ∷ []) k → ⊥
-    at [] zero g q = absurd (cc)
-    at [] (suc k) g q = absurd (cc)
-    at (b ∷ m) zero g q = g zero q
-    at (b ∷ m) (suc k) g q = at m k (λ j p. g (suc j) p) q
-
-pub one_marked : (m n : List Bool) (i root : ℕ) → AreNotMarked m i → i ≡ root → n ≡ m ++ true ∷ [] → IsLastMarked n root
-one_marked m n i root h r e = subst (λ x. IsLastMarked x root) (sym e) (record {
-  size = length-append m (true ∷ []) ∙ ap (λ x. x + 1) (h.size ∙ r);
-  last = got_last m true root false (sym (h.size ∙ r));
-  alone = λ k q. at m k root h.none (h.size ∙ r) q;
-})
-  where
-    at : (m : List Bool) (k root : ℕ) → ((k : ℕ) → IsMarked m k → ⊥) → length m ≡ root → IsMarked (m ++ true ∷ []) k → k ≡ root
-    at [] zero root g l q = l
-    at [] (suc k) root g l q = absurd (cc)
-    at (b ∷ m) zero root g l q = absurd (g zero q)
-    at (b ∷ m) (suc k) zero g l q = absurd (omega arith)
-    at (b ∷ m) (suc k) (suc root) g l q = ap suc (at m k root (λ j p. g (suc j) p) (omega arith) q)
+none_marked : (n k : ℕ) → IsMarked (replicate n false) k → ⊥
+none_marked zero k q = absurd (cc)
+none_marked (suc n) zero q = absurd (cc)
+none_marked (suc n) (suc k) q = none_marked n k q
 
 module _ (ns : List CubeNode) (root : ℕ) where
-  pub walk_init : (m : List Bool) → IsLastMarked m root → IsWalked ns root m (root + 1)
-  walk_init m h = record {
-    size = h.size;
-    inside = λ j q l r s. subst (λ k. HasStep ns k l r) (h.alone j q) s;
-    left = λ l r s. (root, omega arith, h.last, s);
-  }
+  pub walk_init : (m n : List Bool) → m ≡ replicate (root + 1) false → n ≡ slice_set m root true → IsWalked ns root n (root + 1)
+  walk_init m n none set =
+      let size : length m ≡ root + 1 = ap length none ∙ length-replicate (root + 1) false in
+      subst (λ x. IsWalked ns root x (root + 1)) (sym set) (record {
+        size = length-set m root true ∙ size;
+        inside = λ j q l r s. ⊎_elim (λ same. subst (λ k. HasStep ns k l r) same s) (λ h. absurd (none_marked (root + 1) j (subst (λ x. IsMarked x j) none h))) (set_only m root j q);
+        left = λ l r s. (root, omega arith, set_same m root (omega arith), s);
+      })
 
   pub walk_skip : (m : List Bool) (k i : ℕ) → 0 < k → i ≡ k - 1 → IsWalked ns root m k → get_or m i false ≡ false → IsWalked ns root m i
   walk_skip m k i o e h f = record {

@@ -21,12 +21,6 @@ marked (kind.One l) marks = marks
 marked (kind.Both i j) marks = slice_set (slice_set marks i true) j true
 marked (kind.Either i j) marks = slice_set (slice_set marks i true) j true
 
--- so many marks, of which the last alone is set
-pub record IsLastMarked (marks : List Bool) (root : ℕ) : Type 0 where
-  pub size : length marks ≡ root + 1
-  pub last : IsMarked marks root
-  pub alone : (k : ℕ) → IsMarked marks k → k ≡ root
-
 -- the steps of a node itself
 abbrev pub own_steps : NodeKind → List Step
 own_steps kind.Always = []

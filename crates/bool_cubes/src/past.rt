@@ -1,6 +1,6 @@
 //! Whether the forms of atoms stay within 128 bits.
-ghost use Rattle.std.specs.Prelude.{◌≡◌, ◌<◌, IfOk, length};
-ghost use Rattle.bool_cubes.specs.Marked.{IsLastMarked, marked, own_steps};
+ghost use Rattle.std.specs.Prelude.{◌≡◌, ◌<◌, IfOk, false, length, replicate};
+ghost use Rattle.bool_cubes.specs.Marked.{marked, own_steps};
 ghost use Rattle.bool_cubes.specs.Nodes.{IsOfEarlier, IsPlan, tree_at};
 ghost use Rattle.bool_cubes.specs.Past.{tree_steps};
 ghost use Rattle.literal_forms.specs.Past.{IsPlainExactly};
@@ -18,8 +18,9 @@ pub fn tree(alloc: Global, nodes: &[CubeNode], root: usize) -> Result<(), FormFa
     requires root { root < length nodes.now }
     ensures { IsPlainExactly (tree_steps (tree_at nodes.now root)) result }
 {
-    let mut marks = last_marked(alloc, root)?;
     let mut i = root + 1;
+    let mut marks = no_marks(alloc, i)?;
+    marks.set(root, true);
     while i > 0 {
         i -= 1;
         if marks.as_slice()[i] {
@@ -31,17 +32,11 @@ pub fn tree(alloc: Global, nodes: &[CubeNode], root: usize) -> Result<(), FormFa
     Ok(())
 }
 
-/// Marks for the nodes up to a root, of which the root's alone is set.
-#[tactic(auto, using(crate::proofs::Walked::none_marked, crate::proofs::Walked::one_marked))]
-fn last_marked(alloc: Global, root: usize) -> Result<Items<bool>, AllocError>
-    ensures { IfOk result (λ m. IsLastMarked m root) }
+/// Marks of so many nodes, of which none is set.
+fn no_marks(alloc: Global, count: usize) -> Result<Items<bool>, AllocError>
+    ensures { IfOk result (λ m. m ≡ replicate count false) }
 {
-    let mut marks = Items::new(alloc);
-    for _i in 0..root {
-        marks.push(false)?;
-    }
-    marks.push(true)?;
-    Ok(marks)
+    Ok(Items::from_vec(vec![in alloc; false; count]?))
 }
 
 /// Whether no step of a node's own atom leaves 128 bits.

@@ -28,7 +28,7 @@ pub returns : goal.returns
 returns c = walk_end c.args.nodes.now c.args.root c.loop-i.marks c.loop-i.i (omega arith) c.loop-i.invariant.walked
 
 pub loop-i-init : goal.loop-i-init
-loop-i-init c = record { bound = omega arith; walked = walk_init c.args.nodes.now c.args.root c.in_ok-marks.marks c.in_ok-marks.ensures }
+loop-i-init c = record { bound = omega arith; walked = walk_init c.args.nodes.now c.args.root c.in_ok-marks.marks c.set.new.self c.in_ok-marks.ensures c.set.ensures }
 
 pub mark-requires : goal.mark-requires
 mark-requires c =
