@@ -180,10 +180,7 @@ impl<'a> Machine for Layers<'a> {
     }
 
     fn start(&self, alloc: Global) -> Result<Layer, AllocError> {
-        let mut spent = Items::new(alloc);
-        for _side in self.region.registers.as_slice() {
-            spent.push(0)?;
-        }
+        let spent = Items::from_vec(vec![in alloc; 0; self.region.registers.len()]?);
         Ok(Layer {
             machine: 0,
             state: 0,
