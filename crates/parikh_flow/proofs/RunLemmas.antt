@@ -1,5 +1,5 @@
 -- The run of a tour, and states that a tour doesn't meet.
-use Rattle.std.proofs.Common.{◌≡◌, ℕ, zero, suc, ◌+◌, ◌-◌, ◌<◌, ◌↔◌, inl, inr, pos, ◌<ℤ◌, List, [], ◌∷◌, length, take, drop, reverse, Contains, slice_get, slice_index, Some, refl, ap, sym, ◌∙◌, subst, arith}
+use Rattle.std.proofs.Common.{◌≡◌, ℕ, zero, suc, ◌+◌, ◌<◌, ◌↔◌, inl, inr, pos, ◌<ℤ◌, List, [], ◌∷◌, length, take, drop, reverse, Contains, slice_get, slice_index, Some, refl, ap, sym, ◌∙◌, subst, arith}
 use Rattle.std.proofs.lemmas.Option.{slice_get_within}
 use Rattle.std.proofs.lemmas.Int.{ints}
 use Rattle.std.specs.List.Sorted.{IsStrictlyIncreasing}

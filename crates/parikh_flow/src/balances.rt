@@ -126,6 +126,5 @@ pub fn state_rows(alloc: Global, machine: &Explicit, base: u32) -> Result<Items<
     ensures { IfOk result (λ rows. AreSameRows rows (map (state_row base machine.now) (range_with_len 0 machine.now.states))) }
 {
     let forms = state_forms(alloc, machine, base)?;
-    let rows = equation_rows(alloc, forms)?;
-    Ok(rows)
+    equation_rows(alloc, forms)
 }

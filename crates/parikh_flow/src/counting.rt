@@ -21,7 +21,7 @@ pub fn flow_of(alloc: Global, machine: &Explicit, run: &Run<u32>) -> Result<Item
     ensures { IfOk result (IsFlow machine.now run.now) }
 {
     let edges = machine.edges().len();
-    let mut counts = nothings(alloc, edges, machine.finals().len())?;
+    let mut counts = nothings(alloc, edges + machine.finals().len())?;
     let states = run.states.as_slice();
     let costs = run.costs.as_slice();
     let mut k = run.word.len();
@@ -40,18 +40,11 @@ pub fn flow_of(alloc: Global, machine: &Explicit, run: &Run<u32>) -> Result<Item
     Ok(counts)
 }
 
-// A count of 0 for each edge and each end.
-fn nothings(alloc: Global, edges: usize, ends: usize) -> Result<Items<u64>, AllocError>
-    ensures { IfOk result (λ counts. counts ≡ replicate (edges + ends) 0) }
+// So many counts of 0.
+fn nothings(alloc: Global, size: usize) -> Result<Items<u64>, AllocError>
+    ensures { IfOk result (λ counts. counts ≡ replicate size 0) }
 {
-    let mut counts = Items::new(alloc);
-    for _edge in 0..edges {
-        counts.push(0)?;
-    }
-    for _end in 0..ends {
-        counts.push(0)?;
-    }
-    Ok(counts)
+    Ok(Items::from_vec(vec![in alloc; 0; size]?))
 }
 
 fn character(word: &Word, at: usize) -> u32

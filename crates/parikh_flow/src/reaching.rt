@@ -85,10 +85,7 @@ fn reached_states(alloc: Global, net: &Net, point: &[i128]) -> Result<Items<bool
     ensures exact { IfOk result (λ seen. (s : ℕ) → s < net.now.states → (slice_get seen s ≡ Some true) ↔ Reached (values_of point.now) net.now s) }
 {
     let index = by_source(alloc, net.edges.as_slice(), net.states)?;
-    let mut seen = Items::new(alloc);
-    for _state in 0..net.states {
-        seen.push(false)?;
-    }
+    let mut seen = Items::from_vec(vec![in alloc; false; net.states as usize]?);
     seen.set(net.start as usize, true);
     let mut found = Items::new(alloc);
     found.push(net.start)?;

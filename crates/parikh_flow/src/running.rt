@@ -81,10 +81,7 @@ fn marks(alloc: Global, machine: &Explicit, back: &[usize]) -> Result<Items<bool
     ensures size { IfOk result (λ met. length met ≡ machine.now.states) }
     ensures met { IfOk result (λ met. (s : ℕ) → s < machine.now.states → (slice_get met s ≡ Some true) ↔ IsMet machine.now.edges back.now s) }
 {
-    let mut met = Items::new(alloc);
-    for _state in 0..machine.states() {
-        met.push(false)?;
-    }
+    let mut met = Items::from_vec(vec![in alloc; false; machine.states() as usize]?);
     met.set(0, true);
     let edges = machine.edges();
     for place in back {

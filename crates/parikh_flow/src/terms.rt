@@ -76,9 +76,5 @@ pub fn end_costs(alloc: Global, ends: &[End], register: usize) -> Result<Items<i
 pub fn ones(alloc: Global, count: usize) -> Result<Items<i128>, AllocError>
     ensures { IfOk result (λ list. list ≡ replicate count (pos 1)) }
 {
-    let mut list = Items::new(alloc);
-    for _one in 0..count {
-        list.push(1)?;
-    }
-    Ok(list)
+    Ok(Items::from_vec(vec![in alloc; 1; count]?))
 }

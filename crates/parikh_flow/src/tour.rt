@@ -127,11 +127,7 @@ fn step(machine: &Explicit, tour: &mut Tour) -> Result<bool, AllocError>
 fn noughts(alloc: Global, count: u32) -> Result<Items<usize>, AllocError>
     ensures { IfOk result (λ next. next ≡ replicate count 0) }
 {
-    let mut next = Items::new(alloc);
-    for _state in 0..count {
-        next.push(0)?;
-    }
-    Ok(next)
+    Ok(Items::from_vec(vec![in alloc; 0; count as usize]?))
 }
 
 /// The tour of the edges, each as often as the counts say: it leads from the start to the state `stop`,

@@ -1,15 +1,13 @@
-use Rattle.std.proofs.Common.{◌≡◌, ap, ◌∙◌, ◌++◌, ◌∷◌, [], slice_set, replicate, false, true, add-one, arith}
-use Rattle.std.proofs.lemmas.List.{replicate_more}
+use Rattle.std.proofs.Common.{ap, ◌∙◌, ◌++◌, ◌∷◌, [], slice_set, true, add-one}
 use Rattle.farkas_check.specs.Cuts.{values_of}
 use Rattle.parikh_flow.proofs.ReachLemmas.{reach-start, reach-done, listed-below, row-found}
 use Rattle.parikh_flow.proofs.reaching.reached_states.Goals as goal
 
 pub loop-at-init : goal.loop-at-init
 loop-at-init c =
-    let size : c.loop-state._state ≡ c.args.net.now.states = (let t = c.loop-state-test.false in let e = c.loop-state.auto._state-end in omega arith) in
-    reach-start (values_of c.args.point.now) c.args.net.now c.requires.start c.push-2.new.self c.set.new.self
-    (c.in_ok-push-2.ensures.ok ∙ ap (λ l. l ++ c.args.net.now.start ∷ []) c.new-found.ensures)
-    (c.set.ensures ∙ ap (λ l. slice_set l c.args.net.now.start true) (c.loop-state.invariant ∙ ap (λ n. replicate n false) size))
+    reach-start (values_of c.args.point.now) c.args.net.now c.requires.start c.push.new.self c.set.new.self
+    (c.in_ok-push.ensures.ok ∙ ap (λ l. l ++ c.args.net.now.start ∷ []) c.new-found.ensures)
+    (c.set.ensures ∙ ap (λ l. slice_set l c.args.net.now.start true) (c.from_vec-seen.ensures ∙ c.in_ok-vec.ensures.items_if_clones_equal (λ _ e. e)))
 
 pub row-row-requires : goal.row-row-requires
 row-row-requires c =
@@ -38,6 +36,3 @@ returns-clause-size c = c.loop-at.invariant.size
 
 pub bounds-as_slice-at : goal.bounds-as_slice-at
 bounds-as_slice-at c = rw c.as_slice-in-loop-at.ensures (rw c.len.ensures at c.loop-at-test.true)
-
-pub loop-state-preserved : goal.loop-state-preserved
-loop-state-preserved c = c.in_ok-push.ensures.ok ∙ ap (λ l. l ++ false ∷ []) c.loop-state.invariant ∙ replicate_more c.loop-state._state false

@@ -1,10 +1,7 @@
-use Rattle.std.proofs.Common.{◌≡◌, ◌-◌, [], replicate, false}
+use Rattle.std.proofs.Common.{◌-◌, []}
 use Rattle.farkas_check.specs.Cuts.{values_of}
 use Rattle.parikh_flow.specs.Reaching.{IsReaching}
 use Rattle.parikh_flow.proofs.reaching.reached_states.Given as goal
-
-abbrev pub invariant-loop-state : goal.invariant-loop-state
-invariant-loop-state l = l.seen ≡ replicate l._state false
 
 abbrev pub invariant-loop-at : goal.invariant-loop-at
 invariant-loop-at l = IsReaching (values_of l.point) l.net l.found l.seen l.at []
