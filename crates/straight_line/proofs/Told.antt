@@ -1,5 +1,5 @@
 -- The literals of a cube are true exactly where all that was met holds, at words that fit the terms.
-use Rattle.std.proofs.Common.{◌≡◌, refl, sym, ap, ◌∙◌, subst, true, false, IsTrue, ◌↔◌, ℕ, suc, List, [], ◌∷◌, ◌++◌, length, get_or, length-append, add-one, None}
+use Rattle.std.proofs.Common.{◌≡◌, refl, sym, ap, ◌∙◌, subst, false, IsTrue, ◌↔◌, ℕ, suc, List, [], ◌∷◌, ◌++◌, length, get_or, length-append, add-one, None}
 use Rattle.std.specs.List.{AllByRecursion}
 use Rattle.cube_draft.proofs.Proper.{inside_first, IsFormedSaid}
 use Rattle.sv_terms.specs.declared.regex.Regex.{Regex}

@@ -24,11 +24,7 @@ pub fn columns_of(alloc: Global, unknowns: usize, rows: &[Row]) -> Result<Items<
 fn mark_unused(alloc: Global, unknowns: usize) -> Result<Items<bool>, AllocError>
     ensures { IfOk result (λ used. used ≡ replicate unknowns false) }
 {
-    let mut used = Items::new(alloc);
-    for _unknown in 0..unknowns {
-        used.push(false)?;
-    }
-    Ok(used)
+    Ok(Items::from_vec(vec![in alloc; false; unknowns]?))
 }
 
 /// Marks the unknowns of terms.

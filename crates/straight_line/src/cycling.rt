@@ -35,11 +35,7 @@ pub fn places(
 fn no_places(alloc: Global, count: usize) -> Result<Items<Option<usize>>, AllocError>
     ensures { IfOk result (λ places. places ≡ replicate count None) }
 {
-    let mut places = Items::new(alloc);
-    for _place in 0..count {
-        places.push(None)?;
-    }
-    Ok(places)
+    Ok(Items::from_vec(vec![in alloc; None; count]?))
 }
 
 /// A cycle, found from a variable that is ahead by going to what its definition uses, until a variable comes

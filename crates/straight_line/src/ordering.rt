@@ -159,11 +159,7 @@ fn mark(
 fn no_marks(alloc: Global, variables: u32) -> Result<Items<bool>, AllocError>
     ensures { IfOk result (λ ahead. ahead ≡ replicate variables false) }
 {
-    let mut ahead = Items::new(alloc);
-    for _variable in 0..variables {
-        ahead.push(false)?;
-    }
-    Ok(ahead)
+    Ok(Items::from_vec(vec![in alloc; false; variables as usize]?))
 }
 
 fn rows(alloc: Global, variables: u32) -> Result<Vec<Items<Waiter>>, AllocError>
