@@ -10,7 +10,7 @@ use Rattle.farkas_check.specs.Systems.{Reached, reached_start, reached_edge}
 use Rattle.farkas_check.specs.Cuts.{IsNetWithin, IsUnreached}
 use Rattle.farkas_check.specs.declared.net.Net.{Net}
 use Rattle.farkas_check.specs.declared.net.NetEdge.{NetEdge}
-use Rattle.parikh_flow.specs.Reaching.{source_of, unmarked_count, Traverses, IsReaching}
+use Rattle.parikh_flow.specs.Reaching.{source_of, unmarked_count, Traverses, Visits, IsReaching}
 use Rattle.machine_core.specs.PlaceLaws.{index-add, length-add_to, places-in, places-all}
 
 -- what holds of those before a place and of the one there holds of all before the next place
@@ -94,10 +94,6 @@ module _ (x : ℕ → ℤ) (net : Net) (found : List ℕ) (seen : List Bool) (at
   step-here new now (inl r) = rw r.1 here
   step-here new now (inr (used, inl r)) = rw r.1 here
   step-here new now (inr (used, inr r)) = rw r.1 (slice_get-append found (d.to ∷ []) at s here)
-
--- the state that is visited, and its row
-abbrev pub Visits : Net → List ℕ → List ℕ → ℕ → Type 0
-Visits net found row at = (s : ℕ) × (slice_get found at ≡ Some s) × (row ≡ places source_of s net.edges)
 
 -- the edge at a place of the row
 pub row-edge : (net : Net) (found row : List ℕ) (at i : ℕ) (v : Visits net found row at) → i < length row

@@ -1,10 +1,10 @@
 //! The states of a net that are reached from its start over used edges.
 ghost use Rattle.std.specs.Prelude.{◌≡◌, ℕ, suc, pos, ◌<◌, ◌≤ℤ◌, ◌<ℤ◌, ◌↔◌, [], length, true, false, slice_get, Some, All, OnOk, IfOk, MatchOption};
-ghost use Rattle.machine_core.specs.Places.{IsIndex, places};
+ghost use Rattle.machine_core.specs.Places.{IsIndex};
 ghost use Rattle.farkas_check.specs.Systems.{Reached, Joined};
 ghost use Rattle.farkas_check.specs.Cuts.{values_of, IsNetWithin, IsUnreached};
 ghost use Rattle.farkas_check.specs.declared.net.NetEdge.{NetEdge};
-ghost use Rattle.parikh_flow.specs.Reaching.{source_of, Marks, Traverses, IsReaching};
+ghost use Rattle.parikh_flow.specs.Reaching.{source_of, Marks, Traverses, Visits, IsReaching};
 
 use crate::items::item_at;
 use crate::running::unmarked_states;
@@ -57,19 +57,17 @@ fn traverse(
     Ok(())
 }
 
-// Traverses the edges at these places, which leave the state listed at `_at`.
+// Traverses the edges at these places, which leave a listed state.
 fn visit(
     net: &Net,
     row: &[usize],
     point: &[i128],
     found: &mut Items<u32>,
     seen: &mut Items<bool>,
-    _at: usize,
 ) -> Result<(), AllocError>
     requires within { IsNetWithin (length point.now) net.now }
-    requires row { (s : ℕ) × (slice_get found.old _at ≡ Some s) × (row.now ≡ places source_of s net.now.edges) }
-    requires search { IsReaching (values_of point.now) net.now found.old seen.old _at [] }
-    ensures { OnOk result (IsReaching (values_of point.now) net.now found.new seen.new (suc _at) []) }
+    requires search { (at : ℕ) × Visits net.now found.old row.now at × IsReaching (values_of point.now) net.now found.old seen.old at [] }
+    ensures { OnOk result ((at : ℕ) → Visits net.now found.old row.now at → IsReaching (values_of point.now) net.now found.old seen.old at [] → IsReaching (values_of point.now) net.now found.new seen.new (suc at) []) }
 {
     for place in row {
         let edge = *item_at(net.edges.as_slice(), *place);
@@ -92,7 +90,7 @@ fn reached_states(alloc: Global, net: &Net, point: &[i128]) -> Result<Items<bool
     let mut at = 0;
     while at < found.len() {
         let row = index.row(found.as_slice()[at]);
-        visit(net, row, point, &mut found, &mut seen, at)?;
+        visit(net, row, point, &mut found, &mut seen)?;
         at += 1;
     }
     Ok(seen)

@@ -14,10 +14,11 @@ row-row-requires c =
     rw c.in_ok-index.ensures.rows
     (listed-below (values_of c.args.point.now) c.args.net.now c.loop-at.found c.as_slice-in-loop-at.result.now c.loop-at.seen c.loop-at.at c.as_slice-in-loop-at.ensures (rw c.len.ensures at c.loop-at-test.true) c.loop-at.invariant)
 
-pub visit-requires-clause-row : goal.visit-requires-clause-row
-visit-requires-clause-row c =
-    row-found c.args.net.now c.loop-at.found c.as_slice-in-loop-at.result.now c.row-row.result.now c.in_ok-index.index c.as_slice.result.now c.loop-at.at c.as_slice-in-loop-at.ensures c.as_slice.ensures
-    (rw c.len.ensures at c.loop-at-test.true) c.in_ok-index.ensures.found c.row-row.ensures
+pub visit-requires-clause-search : goal.visit-requires-clause-search
+visit-requires-clause-search c =
+    let here = row-found c.args.net.now c.loop-at.found c.as_slice-in-loop-at.result.now c.row-row.result.now c.in_ok-index.index c.as_slice.result.now c.loop-at.at c.as_slice-in-loop-at.ensures c.as_slice.ensures
+    (rw c.len.ensures at c.loop-at-test.true) c.in_ok-index.ensures.found c.row-row.ensures in
+    (c.loop-at.at, here, c.loop-at.invariant)
 
 pub returns-clause-exact : goal.returns-clause-exact
 returns-clause-exact c = λ s lt. reach-done (values_of c.args.point.now) c.args.net.now c.loop-at.found c.loop-at.seen c.loop-at.at c.loop-at.invariant (rw c.len.ensures at c.loop-at-test.false) s
@@ -25,11 +26,11 @@ returns-clause-exact c = λ s lt. reach-done (values_of c.args.point.now) c.args
 pub visit-requires-clause-within : goal.visit-requires-clause-within
 visit-requires-clause-within c = c.requires
 
-pub visit-requires-clause-search : goal.visit-requires-clause-search
-visit-requires-clause-search c = c.loop-at.invariant
-
 pub loop-at-preserved : goal.loop-at-preserved
-loop-at-preserved c = rw add-one c.in_ok-visit.ensures
+loop-at-preserved c =
+    let here = row-found c.args.net.now c.loop-at.found c.as_slice-in-loop-at.result.now c.row-row.result.now c.in_ok-index.index c.as_slice.result.now c.loop-at.at c.as_slice-in-loop-at.ensures c.as_slice.ensures
+    (rw c.len.ensures at c.loop-at-test.true) c.in_ok-index.ensures.found c.row-row.ensures in
+    rw add-one (c.in_ok-visit.ensures c.loop-at.at here c.loop-at.invariant)
 
 pub returns-clause-size : goal.returns-clause-size
 returns-clause-size c = c.loop-at.invariant.size
