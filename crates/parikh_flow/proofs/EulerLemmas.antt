@@ -15,13 +15,17 @@ use Rattle.parikh_flow.specs.Balance.{one_at, AreBalanced}
 use Rattle.parikh_flow.specs.Flows.{IsFlow}
 use Rattle.parikh_flow.specs.Nets.{AreJoined}
 use Rattle.parikh_flow.specs.Solutions.{HaveFlowsAt, HaveJoinedCounts}
-use Rattle.parikh_flow.specs.Tours.{IsDrained, IsTour, IsToured}
+use Rattle.parikh_flow.specs.Tours.{Balances, IsDrained, IsTour, IsToured}
 use Rattle.machine_core.specs.Edges.{IsWalk}
-use Rattle.parikh_flow.proofs.CountLemmas.{rest-length, total-fall}
+use Rattle.parikh_flow.proofs.CountLemmas.{one_at-is, one_at-same, rest-length, total-fall}
 use Rattle.parikh_flow.proofs.MarkLemmas.{used-found}
 use Rattle.parikh_flow.proofs.TourLemmas.{advance-tour, retreat-tour, tour-done, tour-start, walk-pop}
 use Rattle.parikh_flow.proofs.RunLemmas.{joined-spent, index-take}
 use Rattle.parikh_flow.proofs.WholeLemmas.{start-balances, front-size, whole-flow}
+
+-- counts end at one state
+only-stop : (edges : List Edge) (f : List ℕ) (s t : ℕ) → Balances edges f 0 s → Balances edges f 0 t → t ≡ s
+only-stop edges f s t a b = let x = a s in let y = b s in let one = one_at-same s in one_at-is s t (omega arith)
 
 -- an edge that leaves the state and is left
 abbrev IsLeftAt : List Edge → List ℕ → ℕ → Type 0
@@ -139,19 +143,22 @@ module _ (m : Graph) (f : List ℕ) (balanced : AreBalanced m f) (joined : AreJo
   used : (k : ℕ) → slice_index (drop (length m.edges) f) k ≡ one_at k last
   used k = used-found (drop (length m.edges) f) last k u.before u.rest u.used
 
+  starts : Balances m.edges (take (length m.edges) f) 0 e.at
+  starts = start-balances m f (take (length m.edges) f) (drop (length m.edges) f) last e m.ends m.edges balanced refl refl refl u.within used refl read
+
   whole-tour : Ends m (take (length m.edges) f) e.at
   whole-tour =
       tour-ends m (take (length m.edges) f) e.at (suc (total_count (take (length m.edges) f) + total_count (take (length m.edges) f) + 0)) (take (length m.edges) f) (replicate m.states 0) [] [] 0 (omega arith)
       (tour-start m.edges m.states (take (length m.edges) f) e.at (take (length m.edges) f) (replicate m.states 0) [] [] m.started
       (front-size m f (take (length m.edges) f) (drop (length m.edges) f) last e m.ends m.edges balanced refl refl refl u.within used refl read)
-      (start-balances m f (take (length m.edges) f) (drop (length m.edges) f) last e m.ends m.edges balanced refl refl refl u.within used refl read) refl refl refl refl)
+      starts refl refl refl refl)
 
   run-of-tour : Ends m (take (length m.edges) f) e.at → (run : Run ℕ) × IsFlow m run f
   run-of-tour t =
       let walk = walk-leads m 0 (reverse t.1) e.at t.2.home in
       let run : Run ℕ = record { word = walk.1; states = 0 ∷ walk.0; costs = walk.2; last = e.cost } in (
         run,
-        whole-flow m f (take (length m.edges) f) (drop (length m.edges) f) last e m.ends m.edges balanced refl refl refl u.within used refl read t.0 t.1 t.1 t.2 refl run spent
+        whole-flow m f (take (length m.edges) f) (drop (length m.edges) f) last e m.ends m.edges balanced refl refl refl u.within used refl read t.0 t.1 t.1 toured refl run spent
             (record { after = walk.0; stop = e.at; states = refl; leads = walk.3 }) refl,
       )
     where
@@ -159,6 +166,9 @@ module _ (m : Graph) (f : List ℕ) (balanced : AreBalanced m f) (joined : AreJo
       by_less a zero f g = g (omega arith)
       by_less zero (suc b) f g = f (omega arith)
       by_less (suc a) (suc b) f g = by_less a b (λ lt. f (omega arith)) (λ le. g (omega arith))
+
+      toured : (stop : ℕ) → Balances m.edges (take (length m.edges) f) 0 stop → IsToured m.edges (take (length m.edges) f) stop t.0 t.1
+      toured stop balances = subst (λ n. IsToured m.edges (take (length m.edges) f) n t.0 t.1) (only-stop m.edges (take (length m.edges) f) stop e.at balances starts) t.2
 
       spent : (p : ℕ) → slice_index t.0 p ≡ 0
       spent p = by_less p (length m.edges)

@@ -30,7 +30,7 @@ pub fn run_of(alloc: Global, machine: &Explicit, counts: &[u64]) -> Result<Run<u
     let (of_edges, of_ends) = counts.split_at(edges.len());
     let last = count_used(of_ends);
     let end = &machine.finals()[last];
-    let walked = tour_of(alloc, machine, of_edges, end.at)?;
+    let walked = tour_of(alloc, machine, of_edges)?;
     if is_spent(walked.left.as_slice()) {
         Ok(Run::along(alloc, machine, walked.back.as_slice(), &end.cost)?)
     } else {

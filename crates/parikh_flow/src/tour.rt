@@ -130,18 +130,13 @@ fn noughts(alloc: Global, count: u32) -> Result<Items<usize>, AllocError>
     Ok(Items::from_vec(vec![in alloc; 0; count as usize]?))
 }
 
-/// The tour of the edges, each as often as the counts say: it leads from the start to the state `stop`,
-/// at which the counts end. What it leaves over lies apart from the start. Linear in the sum of the counts
-/// and in the machine.
-pub fn tour_of(
-    alloc: Global,
-    machine: &Explicit,
-    counts: &[u64],
-    stop: u32,
-) -> Result<Tour, AllocError>
+/// The tour of the edges, each as often as the counts say: it leads from the start to the state at which
+/// the counts end. What it leaves over lies apart from the start. Linear in the sum of the counts and in
+/// the machine.
+pub fn tour_of(alloc: Global, machine: &Explicit, counts: &[u64]) -> Result<Tour, AllocError>
     requires size { length counts.now ≡ length machine.now.edges }
-    requires balanced { Balances machine.now.edges counts.now 0 stop }
-    ensures { IfOk result (λ t. IsToured machine.now.edges counts.now stop t.left t.back) }
+    requires balanced { (stop : ℕ) × Balances machine.now.edges counts.now 0 stop }
+    ensures { IfOk result (λ t. (stop : ℕ) → Balances machine.now.edges counts.now 0 stop → IsToured machine.now.edges counts.now stop t.left t.back) }
 {
     let left = Items::from_slice(alloc, counts)?;
     let next = noughts(alloc, machine.states())?;
