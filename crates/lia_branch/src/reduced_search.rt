@@ -1,4 +1,5 @@
 ghost use Rattle.std.specs.Prelude.{◌≡◌, [], IfOk, IfSome};
+ghost use Rattle.farkas_check.specs.declared.system.System.{System as AnySystem};
 ghost use Rattle.lia_branch.specs.Outcomes.{IfSolution, IfClosed, IsSearchable, IsFound};
 ghost use Rattle.lia_reduce.specs.Points.{IsPointOf};
 ghost use Rattle.sv_linear.specs.Rows.{NameUnknowns};
@@ -49,7 +50,7 @@ fn solve_left<C: Cutter>(
     ensures { IfOk result (λ o. IfSome o (IsFound system.now)) }
 {
     match solve_by_bounds(alloc, system, elimination, reduced)? {
-        Some(QuickAnswer::Point(point)) => joining_point(alloc, system, cutter, point),
+        Some(QuickAnswer::Point(point)) => joining_point(alloc, cutter, point),
         Some(QuickAnswer::Closed(tree)) => Ok(Some(Outcome::Closed(tree))),
         None => search_left(alloc, system, cutter, elimination, reduced),
     }
@@ -74,7 +75,7 @@ fn search_left<C: Cutter>(
     }
     match search_tree(alloc, &reduced.system, &NoCut)? {
         Outcome::Solution(point) => match restore_point(system, elimination, point) {
-            Some(point) => joining_point(alloc, system, cutter, point),
+            Some(point) => joining_point(alloc, cutter, point),
             None => Ok(None),
         },
         Outcome::Closed(tree) => lifted_tree(alloc, system, elimination, reduced, &tree),
@@ -103,14 +104,11 @@ fn lifted_tree(
 /// The point, where it joins the nets.
 fn joining_point<C: Cutter>(
     alloc: Global,
-    system: &System,
     cutter: &C,
     point: Items<i128>,
 ) -> Result<Option<Outcome>, AllocError>
-    requires point { IsPointOf system.now point }
-    requires searchable { IsSearchable system.now }
-    requires cutter { C.nets cutter.now ≡ system.now.nets }
-    ensures found { IfOk result (λ o. IfSome o (IsFound system.now)) }
+    requires { (s : AnySystem) × IsSearchable s × (C.nets cutter.now ≡ s.nets) × IsPointOf s point }
+    ensures found { (s : AnySystem) → IsSearchable s → C.nets cutter.now ≡ s.nets → IsPointOf s point → IfOk result (λ o. IfSome o (IsFound s)) }
     ensures no_tree { IfOk result (λ o. IfSome o (λ a. IfClosed a (λ _. ⊥))) }
 {
     match cutter.cut(alloc, point.as_slice())? {
