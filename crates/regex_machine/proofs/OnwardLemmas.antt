@@ -241,40 +241,47 @@ drop-at [] n d lt = absurd (omega arith)
 drop-at (x ∷ xs) zero d lt = refl
 drop-at (x ∷ xs) (suc n) d lt = drop-at xs n d (omega arith)
 
-pub text-none : (l : Word) (n k : ℕ) (old new : List Onward) (rest now front : Rest) → length l ≡ n → front ≡ now → PrecedesRest (λ u. u ≡ []) k old rest new now now
-    → PrecedesRest (λ w. w ≡ drop n l) (k + (length l - n)) old rest new now front
-text-none l n k old new rest now front all copied p =
-    let none = drop_all n l (omega arith) in
-    subst (PrecedesRest (λ w. w ≡ drop n l) (k + (length l - n)) old rest new now) (sym copied)
-    (precedes-as (λ u. u ≡ []) (λ w. w ≡ drop n l) k (k + (length l - n)) old new rest now now (λ w. (λ h. h ∙ sym none, λ h. h ∙ none)) (omega arith) p)
+-- a set of one character
+pub character-alone : (x k : ℕ) (on : List (ℕ × ℕ)) (old new : List Onward) (rest now front : Rest) → ((c : ℕ) → in_ranges on c ≡ (nat_le x c && nat_le c x))
+    → PrecedesRest (OneOf on) k old rest new now front → PrecedesRest (λ w. w ≡ x ∷ []) k old rest new now front
+character-alone x k on old new rest now front set p = precedes-as (OneOf on) (λ w. w ≡ x ∷ []) k k old new rest now front same (omega arith) p
+  where
+    only : (c : ℕ) → IsTrue (in_ranges on c) → c ≡ x
+    only c h = let e = set c in grind (arith, nat_tests)
 
-pub text-step : (l : Word) (n k d : ℕ) (on : List (ℕ × ℕ)) (old mid new : List Onward) (rest now front between first : Rest) → n < length l
-    → ((c : ℕ) → in_ranges on c ≡ (nat_le (get_or l n d) c && nat_le c (get_or l n d)))
-    → PrecedesRest (λ w. w ≡ drop (suc n) l) (k + (length l - suc n)) old rest mid now front
-    → (AreBegun mid front → PrecedesRest (OneOf on) (length mid + unmade front.state + 1) mid front new between first)
+    held : IsTrue (in_ranges on x)
+    held = let e = set x in grind (arith, nat_tests)
+
+    same : (w : Word) → OneOf on w ↔ (w ≡ x ∷ [])
+    same w = (λ h. h.2 ∙ ap (λ c. c ∷ []) (only h.0 h.1), λ e. (x, held, e))
+
+pub text-none : (l word : Word) (k : ℕ) (old new : List Onward) (rest now front : Rest) → l ≡ word → l ≡ [] → front ≡ now → PrecedesRest (λ u. u ≡ []) k old rest new now now
+    → PrecedesRest (λ w. (w ≡ word) × IsWord w) (k + length word) old rest new now front
+text-none l word k old new rest now front is none copied p =
+    let empty : [] ≡ word = sym none ∙ is in
+    subst (PrecedesRest (λ w. (w ≡ word) × IsWord w) (k + length word) old rest new now) (sym copied)
+    (precedes-as (λ u. u ≡ []) (λ w. (w ≡ word) × IsWord w) k (k + length word) old new rest now now
+    (λ w. (λ h. (h ∙ empty, subst IsWord (sym h) tt), λ h. h.0 ∙ sym empty)) (omega arith) p)
+
+pub text-last : (l : Word) (n k d : ℕ) (old new : List Onward) (rest now front : Rest) → suc n ≡ length l → PrecedesRest (λ w. w ≡ get_or l n d ∷ []) (k + 1) old rest new now front
+    → PrecedesRest (λ w. w ≡ drop n l) (k + (length l - n)) old rest new now front
+text-last l n k d old new rest now front all p =
+    let one : drop n l ≡ get_or l n d ∷ [] = drop-at l n d (omega arith) ∙ ap (λ v. get_or l n d ∷ v) (drop_all (suc n) l (omega arith)) in
+    precedes-as (λ w. w ≡ get_or l n d ∷ []) (λ w. w ≡ drop n l) (k + 1) (k + (length l - n)) old new rest now front (λ w. (λ h. h ∙ sym one, λ h. h ∙ one)) (omega arith) p
+
+pub text-step : (l : Word) (n k d : ℕ) (old mid new : List Onward) (rest now front between first : Rest) → n < length l → PrecedesRest (λ w. w ≡ drop (suc n) l) (k + (length l - suc n)) old rest mid now front
+    → (AreBegun mid front → PrecedesRest (λ w. w ≡ get_or l n d ∷ []) (length mid + unmade front.state + 1) mid front new between first)
     → PrecedesRest (λ w. w ≡ drop n l) (k + (length l - n)) old rest new now first
-text-step l n k d on old mid new rest now front between first lt set p q =
+text-step l n k d old mid new rest now front between first lt p q =
     let few = p.few in
-    precedes-as (Then (OneOf on) (λ w. w ≡ drop (suc n) l)) (λ w. w ≡ drop n l) (length mid + unmade front.state + 1) (k + (length l - n)) old new rest now first same (omega arith)
-    (before-both (λ w. w ≡ drop (suc n) l) (OneOf on) (k + (length l - suc n)) (length mid + unmade front.state + 1) old mid new rest now front between first p
+    precedes-as (Then (λ w. w ≡ get_or l n d ∷ []) (λ w. w ≡ drop (suc n) l)) (λ w. w ≡ drop n l) (length mid + unmade front.state + 1) (k + (length l - n)) old new rest now first same (omega arith)
+    (before-both (λ w. w ≡ drop (suc n) l) (λ w. w ≡ get_or l n d ∷ []) (k + (length l - suc n)) (length mid + unmade front.state + 1) old mid new rest now front between first p
     (q (record { closed = p.begun.closed; formed = p.formed })))
   where
-    only : (c : ℕ) → IsTrue (in_ranges on c) → get_or l n d ≡ c
-    only c h = one (get_or l n d) c (sym (set c) ∙ h)
-      where
-        one : (x c : ℕ) → (nat_le x c && nat_le c x) ≡ true → x ≡ c
-        one x c e = grind (arith, nat_tests)
-
-    held : IsTrue (in_ranges on (get_or l n d))
-    held = set (get_or l n d) ∙ one (get_or l n d)
-      where
-        one : (x : ℕ) → (nat_le x x && nat_le x x) ≡ true
-        one x = grind (arith, nat_tests)
-
-    same : (w : Word) → Then (OneOf on) (λ v. v ≡ drop (suc n) l) w ↔ (w ≡ drop n l)
+    same : (w : Word) → Then (λ v. v ≡ get_or l n d ∷ []) (λ v. v ≡ drop (suc n) l) w ↔ (w ≡ drop n l)
     same w = (
-      λ h. h.2 ∙ ap (λ u. u ++ h.1) h.3.2 ∙ ap (λ v. h.3.0 ∷ v) h.4 ∙ ap (λ x. x ∷ drop (suc n) l) (sym (only h.3.0 h.3.1)) ∙ sym (drop-at l n d lt),
-      λ e. (get_or l n d ∷ [], drop (suc n) l, e ∙ drop-at l n d lt, (get_or l n d, held, refl), refl),
+      λ h. h.2 ∙ ap (λ u. u ++ h.1) h.3 ∙ ap (λ v. get_or l n d ∷ v) h.4 ∙ sym (drop-at l n d lt),
+      λ e. (get_or l n d ∷ [], drop (suc n) l, e ∙ drop-at l n d lt, refl, refl),
     )
 
 pub text-all : (l word : Word) (n k : ℕ) (old new : List Onward) (rest now front : Rest) → l ≡ word → n ≡ 0 → IsWord word

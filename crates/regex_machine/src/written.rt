@@ -1,7 +1,7 @@
 //! Parts of an expression, written before what follows them.
-ghost use Rattle.std.specs.Prelude.{◌≡◌, ℕ, ◌<◌, ◌^◌, ◌+◌, [], length, map, true, IfOk, OnOk, Contains, None};
+ghost use Rattle.std.specs.Prelude.{◌≡◌, ℕ, ◌<◌, ◌≤◌, ◌^◌, ◌+◌, [], ◌∷◌, length, map, true, IfOk, OnOk, Contains, None};
 ghost use Rattle.machine_core.specs.declared.machine.Move.{Move};
-ghost use Rattle.sv_word.specs.Words.{IsWord};
+ghost use Rattle.sv_word.specs.Words.{IsWord, greatest_character};
 ghost use Rattle.regex_machine.specs.Built.{Builds};
 ghost use Rattle.regex_machine.specs.Joined.{WordsOf};
 ghost use Rattle.regex_machine.specs.Letters.{OneOf};
@@ -75,7 +75,23 @@ pub fn rest_of(moves: Items<Move<u32>>, may_end: bool) -> Rest
     }
 }
 
-/// This word, and then what follows. Linear in the word.
+// This character, and then what follows.
+fn character(
+    alloc: Global,
+    states: &mut Items<Onward>,
+    one: u32,
+    rest: &mut Rest,
+) -> Result<Rest, AllocError>
+    requires { one ≤ greatest_character }
+    ensures { IfOk result (λ front. AreBegun states.old rest.old
+        → PrecedesRest (λ w. w ≡ one ∷ []) (length states.old + unmade rest.old.state + 1) states.old rest.old states.new rest.new front) }
+{
+    let on = Ranges::of(alloc, one, one)?;
+    letter(alloc, states, on, rest)
+}
+
+/// This word, and then what follows. Linear in the word, and also in what follows where that has no
+/// state yet or the word is empty.
 #[inline(never)]
 pub fn text(
     alloc: Global,
@@ -88,13 +104,15 @@ pub fn text(
 {
     let characters = word.as_slice();
     word.is_word();
-    state_of(alloc, states, rest)?;
-    let mut front = rest.copy(alloc)?;
-    let mut at = characters.len();
+    if characters.is_empty() {
+        state_of(alloc, states, rest)?;
+        return rest.copy(alloc);
+    }
+    let mut at = characters.len() - 1;
+    let mut front = character(alloc, states, characters[at], rest)?;
     while at > 0 {
         at -= 1;
-        let on = Ranges::of(alloc, characters[at], characters[at])?;
-        let before = letter(alloc, states, on, &mut front)?;
+        let before = character(alloc, states, characters[at], &mut front)?;
         front = before;
     }
     Ok(front)
