@@ -5,7 +5,7 @@ use Rattle.std.proofs.lemmas.List.Elements.{All-map}
 use Rattle.std.proofs.Math.Nat.{mul_left_comm}
 use Rattle.sv_word.specs.Words.{IsWord}
 use Rattle.sv_word.specs.Ranges.{IsInhabited}
-use Rattle.machine_meet.specs.Joins.{AreInhabited}
+use Rattle.machine_meet.specs.Joins.{AreInhabited, listed}
 use Rattle.machine_core.specs.declared.graph.Graph.{Graph}
 use Rattle.machine_core.specs.declared.machine.Move.{Move}
 use Rattle.machine_core.specs.Costs.{add_costs}
@@ -20,7 +20,7 @@ use Rattle.regex_machine.specs.Joined.{WordsOf}
 use Rattle.sv_terms.specs.Bounds.{from_left, without_size}
 use Rattle.regex_machine.specs.Kinds.{states_of}
 use Rattle.regex_machine.specs.Stepped.{AreEndsIf}
-use Rattle.regex_machine.specs.Sided.{IsSideState, SideEnds, SideSteps, SideWords, SideReads, listed, IsMeetSide}
+use Rattle.regex_machine.specs.Sided.{IsSideState, SideEnds, SideSteps, SideWords, SideReads, IsMeetSide}
 use Rattle.regex_machine.specs.OtherSides.{ends_of_side, steps_of_side, first_of_side, size_of_side, AreOtherSides}
 use Rattle.regex_machine.specs.declared.sides.MeetSide.{MeetSide}
 use Rattle.regex_machine.proofs.WordLemmas.{From, from-step, step-from, step-free}

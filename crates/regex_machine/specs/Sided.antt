@@ -3,7 +3,6 @@ use Rattle.std.specs.Prelude.{◌≡◌, ℕ, ◌^◌, ◌<◌, ◌≤◌, ◌�
 use Rattle.std.proofs.Common.{refl, sym}
 use Rattle.sv_word.specs.Words.{IsWord, greatest_character}
 use Rattle.machine_core.specs.declared.graph.Graph.{Graph}
-use Rattle.machine_core.specs.declared.machine.Move.{Move}
 use Rattle.machine_core.specs.Costs.{IsCost}
 use Rattle.machine_core.specs.Counts.{AreAtMost, at_most-made, at_most-below}
 use Rattle.machine_core.specs.Edges.{EndsAt, StepsBy}
@@ -40,10 +39,6 @@ SideReads others m w cost = RunsFrom (SideEnds others m) (SideSteps others m) (0
 abbrev pub side_size : Bool → Graph → ℕ
 side_size false m = m.states
 side_size true m = 2 ^ m.states
-
--- a move as one to the list of its state
-abbrev pub listed : Move ℕ → Move (List ℕ)
-listed m = record { on = m.on; cost = m.cost; to = m.to ∷ [] }
 
 -- side `o` of machine n reads, at no cost, the words of machine m, or all others, and has as many states
 pub record IsMeetSide (others : Bool) (m : Graph) (o : Bool) (n : Graph) : Type 0 where

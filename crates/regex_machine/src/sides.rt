@@ -1,8 +1,9 @@
-ghost use Rattle.std.specs.Prelude.{◌≡◌, [], ◌∷◌, true, false, map, IfOk};
-ghost use Rattle.regex_machine.specs.Sided.{IsSideState, SideEnds, SideSteps, side_size, IsMeetSide, listed, side-first, side-state, side-character, side-cost, side-end, side-states};
+ghost use Rattle.std.specs.Prelude.{◌≡◌, [], ◌∷◌, true, false};
+ghost use Rattle.regex_machine.specs.Sided.{IsSideState, SideEnds, SideSteps, side_size, IsMeetSide, side-first, side-state, side-character, side-cost, side-end, side-states};
 
 use crate::stepping::{ends_if, may_end};
 use machine_core::{Cost, Explicit, Machine, Move};
+use machine_meet::to_lists;
 use std::alloc::{AllocError, Global};
 use subset_machine::Subset;
 use sv_list::Items;
@@ -40,21 +41,6 @@ impl<'a> MeetSide<'a> {
         let _others = Subset::of(part, true);
         MeetSide { part, others: true }
     }
-}
-
-// The moves, to lists of one state.
-fn to_lists(alloc: Global, moves: Items<Move<u32>>) -> Result<Items<Move<Items<u32>>>, AllocError>
-    ensures { IfOk result (λ all. all ≡ map listed moves) }
-{
-    let mut all = Items::new(alloc);
-    for step in moves.into_vec() {
-        all.push(Move {
-            on: step.on,
-            cost: step.cost,
-            to: Items::from_slice(alloc, &[step.to])?,
-        })?;
-    }
-    Ok(all)
 }
 
 impl<'a> Machine for MeetSide<'a> {
