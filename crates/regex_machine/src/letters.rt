@@ -32,8 +32,7 @@ pub fn nothing(alloc: Global) -> Result<Explicit, AllocError>
     ensures reads { IfOk result (HasWords (λ w. ⊥)) }
     ensures states { IfOk result (λ m. m.states ≤ 1) }
 {
-    let machine = Explicit::new(alloc, 1, 0)?;
-    Ok(machine)
+    Explicit::new(alloc, 1, 0)
 }
 
 /// Every word.
@@ -57,8 +56,7 @@ pub fn one_of(alloc: Global, on: Ranges) -> Result<Explicit, AllocError>
     ensures states { IfOk result (λ m. m.states ≤ 2) }
 {
     if on.is_empty() {
-        let none = nothing(alloc)?;
-        return Ok(none);
+        return nothing(alloc);
     }
     let mut machine = Explicit::new(alloc, 2, 0)?;
     let cost = Cost::new(alloc);
@@ -91,7 +89,7 @@ pub fn between(alloc: Global, lo: u32, hi: u32) -> Result<Ranges, AllocError>
     ensures { IfOk result (λ on. (c : ℕ) → in_ranges on c ≡ (nat_le lo c && nat_le c (min hi greatest_character))) }
 {
     let top = cut_off_at_last(hi);
-    Ok(Ranges::of(alloc, lo, top)?)
+    Ranges::of(alloc, lo, top)
 }
 
 /// The words of one character between two.
@@ -112,8 +110,7 @@ pub fn empty_word(alloc: Global) -> Result<Explicit, AllocError>
     ensures states { IfOk result (λ m. m.states ≤ 1) }
 {
     let none = Word::new(alloc);
-    let machine = text(alloc, &none)?;
-    Ok(machine)
+    text(alloc, &none)
 }
 
 /// This word alone. Linear in its length.

@@ -1,4 +1,5 @@
 use Rattle.std.proofs.Common.{◌≡◌, [], length, ap, sym, ◌∙◌, subst}
+use Rattle.std.proofs.lemmas.Result.{IfOk-weaker}
 use Rattle.std.specs.Bool.{OnTrue}
 use Rattle.regex_machine.proofs.LetterLemmas.{at-most, has-second, one_of-reads, none_of-reads, only-edge, only-end}
 use Rattle.regex_machine.proofs.letters.one_of.Goals as goal
@@ -17,7 +18,7 @@ returns-clause-reads c =
 pub returns-then-is_empty-clause-reads : goal.returns-then-is_empty-clause-reads
 returns-then-is_empty-clause-reads c =
     let empty = subst (λ b. OnTrue b (c.args.on ≡ [])) c.if-is_empty.true c.is_empty.ensures.empty in
-    none_of-reads c.args.on empty c.in_ok-none.none c.in_ok-none.ensures.reads
+    IfOk-weaker c.nothing.result _ _ (none_of-reads c.args.on empty) c.nothing.ensures.reads
 
 pub add_edge-requires-clause-from : goal.add_edge-requires-clause-from
 add_edge-requires-clause-from c = c.in_ok-machine.machine.started
