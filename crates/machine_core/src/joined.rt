@@ -1,5 +1,7 @@
 //! The moves of one state, those to one target at one cost as one.
-ghost use Rattle.std.specs.Prelude.{ℕ, ◌↔◌, ◌⊎◌, Any, Contains, List, IfOk, OnOk, IfSome};
+ghost use Rattle.std.specs.Prelude.{◌≡◌, ℕ, ◌↔◌, ◌⊎◌, Any, Contains, List, IfOk, OnOk, IfSome};
+ghost use Rattle.std.specs.Ordering.{nat_cmp, ordering_then};
+ghost use Rattle.std.specs.Cmp.Lexicographic.{slice_cmp};
 ghost use Rattle.sv_word.specs.Ranges.{IsInhabited};
 ghost use Rattle.machine_core.specs.Moves.{Moves};
 ghost use Rattle.machine_core.specs.declared.machine.Move.{Move};
@@ -7,10 +9,12 @@ ghost use Rattle.machine_core.specs.Joined.{IsLike, AreJoinedMoves};
 
 use crate::machine::Move;
 use std::alloc::{AllocError, Global};
+use std::cmp::Ordering;
 use sv_list::Items;
 
 /// The same moves, with the characters of those to one state at one cost in one set, in the order of
-/// the states. One sort of the moves, and one merge of two sets for each move that goes.
+/// the states, and of the costs for one state. One sort of the moves, and one merge of two sets for each
+/// move that goes.
 pub fn join_moves(alloc: Global, moves: Items<Move<u32>>) -> Result<Items<Move<u32>>, AllocError>
     requires { (m : Move ℕ) → Contains moves m → IsInhabited m.on }
     ensures { IfOk result (AreJoinedMoves moves) }
@@ -19,11 +23,19 @@ pub fn join_moves(alloc: Global, moves: Items<Move<u32>>) -> Result<Items<Move<u
         return Ok(moves);
     }
     let mut sorted = moves.into_vec();
-    sorted.sort_unstable_by_key(|step| step.to);
+    sorted.sort_unstable_by(compare);
     join_sorted(alloc, Items::from_vec(sorted))
 }
 
-// The same where the moves to one state stand together.
+// The order of the states, and of the costs for one state.
+fn compare(a: &Move<u32>, b: &Move<u32>) -> Ordering
+    ensures { result ≡ ordering_then (nat_cmp a.now.to b.now.to) (slice_cmp nat_cmp a.now.cost b.now.cost) }
+{
+    a.to.cmp(&b.to)
+        .then_with(|| a.cost.as_slice().cmp(b.cost.as_slice()))
+}
+
+// The same where the moves to one state at one cost stand together.
 fn join_sorted(alloc: Global, moves: Items<Move<u32>>) -> Result<Items<Move<u32>>, AllocError>
     requires { (m : Move ℕ) → Contains moves m → IsInhabited m.on }
     ensures { IfOk result (AreJoinedMoves moves) }
@@ -35,8 +47,8 @@ fn join_sorted(alloc: Global, moves: Items<Move<u32>>) -> Result<Items<Move<u32>
     Ok(joined)
 }
 
-// Adds a move; one to the same state at the same cost becomes one with it, for the characters of both,
-// where it is among the last ones, which lead to that state.
+// Adds a move; the last one becomes one with it, for the characters of both, where it leads to the same
+// state at the same cost.
 fn add_move(
     alloc: Global,
     moves: &mut Items<Move<u32>>,
@@ -55,20 +67,20 @@ fn add_move(
     Ok(())
 }
 
-// The place of a move to the same state at the same cost, among the last ones, which lead to that state.
+// The last place, where the move there leads to the same state at the same cost.
 fn place_of(moves: &[Move<u32>], further: &Move<u32>) -> Option<usize>
     ensures { IfSome result (λ at. IsLike moves.now further.now at) }
 {
-    let mut at = moves.len();
-    while at > 0 {
-        at -= 1;
-        let earlier = &moves[at];
-        if earlier.to != further.to {
-            return None;
-        }
-        if earlier.cost.as_slice() == further.cost.as_slice() {
-            return Some(at);
-        }
+    if moves.is_empty() {
+        return None;
+    }
+    let at = moves.len() - 1;
+    let last = &moves[at];
+    if last.to != further.to {
+        return None;
+    }
+    if last.cost.as_slice() == further.cost.as_slice() {
+        return Some(at);
     }
     None
 }
