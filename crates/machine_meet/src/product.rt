@@ -68,8 +68,7 @@ pub fn product<P: Machine>(
     ensures inhabited { IfOk result AreInhabited }
 {
     if parts.is_empty() {
-        let none = nothing(alloc, width)?;
-        return Ok(none);
+        return nothing(alloc, width);
     }
     let last = parts.len() - 1;
     let own = parts[last].moves(alloc, &at[last])?;

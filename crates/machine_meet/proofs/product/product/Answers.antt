@@ -1,4 +1,5 @@
 use Rattle.std.proofs.Common.{◌≡◌, [], ◌<◌, ◌-◌, suc, drop, length, subst, sym, ◌∙◌, arith}
+use Rattle.std.proofs.lemmas.Result.{IfOk-weaker}
 use Rattle.sv_list.specs.Lists.{some-tested, empty-tested}
 use Rattle.machine_meet.specs.Products.{AreProduct}
 use Rattle.machine_meet.proofs.ProductLemmas.{product-none, product-last, product-at, product-stuck, states-length, states-at, can-add-at, listed-inhabited}
@@ -7,7 +8,8 @@ use Rattle.machine_meet.proofs.product.product.Goals as goal
 pub returns-then-is_empty-clause-exact : goal.returns-then-is_empty-clause-exact
 returns-then-is_empty-clause-exact g c =
     let none = empty-tested c.args.parts.now (sym c.is_empty.ensures ∙ c.if-is_empty.true) in
-    product-none g.P.Machine.steps_to c.args.width c.args.parts.now c.args.at.now c.in_ok-none.none none (states-length g.P.Machine.is_state c.args.parts.now c.args.at.now c.requires.states) c.in_ok-none.ensures.exact
+    let same = states-length g.P.Machine.is_state c.args.parts.now c.args.at.now c.requires.states in
+    IfOk-weaker c.nothing.result _ _ (λ all. product-none g.P.Machine.steps_to c.args.width c.args.parts.now c.args.at.now all none same) c.nothing.ensures.exact
 
 pub bounds-at-last : goal.bounds-at-last
 bounds-at-last g c =
@@ -134,7 +136,7 @@ offset_bounds-parts-i g c =
     omega arith
 
 pub returns-then-is_empty-clause-inhabited : goal.returns-then-is_empty-clause-inhabited
-returns-then-is_empty-clause-inhabited g c = c.in_ok-none.ensures.inhabited
+returns-then-is_empty-clause-inhabited g c = c.nothing.ensures.inhabited
 
 pub returns-then-is_empty-2-clause-inhabited : goal.returns-then-is_empty-2-clause-inhabited
 returns-then-is_empty-2-clause-inhabited g c = c.loop-i.invariant.inhabited
