@@ -19,16 +19,10 @@ value_next n (d ∷ ds) (suc i) e h = value_next n ds i e (omega arith)
 pub value-more : (n : ℕ) (ds : List ℕ) (i : ℕ) (e : ℕ) → i < length ds → value_from n (drop i ds) ≡ value_from (10 * n + (get_or ds i e - 48)) (drop (i + 1) ds)
 value-more n ds i e h = rw add-one (value_next n ds i e h)
 
-pub value-least : (n : ℕ) (ds : List ℕ) (i : ℕ) → n ≤ value_from n (drop i ds)
-value-least n ds i = value_above n (drop i ds)
-
-pub value-tenfold : (n : ℕ) (ds : List ℕ) (i : ℕ) → i < length ds → 10 * n ≤ value_from n (drop i ds)
-value-tenfold n ds i h = rw (value_next n ds i 0 h) (le_trans (omega arith) (value_above (10 * n + (get_or ds i 0 - 48)) (drop (suc i) ds)))
-
 pub value-over : (n : ℕ) (ds : List ℕ) (i e v limit : ℕ) → i < length ds → limit ≤ 10 * n + (get_or ds i e - 48) → value_from n (drop i ds) ≡ v → limit ≤ v
 value-over n ds i e v limit h g f = let k = value_above (10 * n + (get_or ds i e - 48)) (drop (suc i) ds) in rw (← f, value_next n ds i e h) (le_trans g k)
 
-pub ruleset values = (value-more, value-least, value-tenfold, value-over, drop_all)
+pub ruleset values = (value-more, value-over, drop_all)
 
 -- five hexadecimal digits write less than 2^20
 pub hex-next : (n d i : ℕ) → n < 16 ^ i → d < 16 → 16 * n + d < 16 ^ (i + 1)

@@ -106,33 +106,20 @@ pub fn pair(item: &Sexpr) -> Option<(&Sexpr, &Sexpr)>
 pub fn number(digits: &[u8]) -> Option<i128>
     ensures { MatchOption result (2 ^ 127 ≤ t.value digits.now) (λ n. (t.value digits.now < 2 ^ 127) × (n ≡ pos (t.value digits.now))) }
 {
-    let mut n: u128 = 0;
+    let mut n: i128 = 0;
     for digit in digits {
-        if n > 17014118346046923173168730371588410572 {
-            return None;
-        }
-        n = 10 * n + (digit.saturating_sub(b'0') as u128);
-        if n >= 170141183460469231731687303715884105728 {
-            return None;
-        }
+        let digit = digit.saturating_sub(b'0');
+        n = n.checked_mul(10)?.checked_add(i128::from(digit))?;
     }
-    Some(n as i128)
+    Some(n)
 }
 
 /// A number of levels, which is 4,294,967,295 from there on; nothing above 2^127 - 1.
 pub fn level(digits: &[u8]) -> Option<u32>
     ensures { MatchOption result (2 ^ 127 ≤ t.value digits.now) (λ n. (t.value digits.now < 2 ^ 127) × (n ≡ t.level digits.now)) }
 {
-    match number(digits) {
-        Some(n) => {
-            if n > 4294967295 {
-                Some(4294967295)
-            } else {
-                Some(n as u32)
-            }
-        }
-        None => None,
-    }
+    let n = number(digits)?;
+    Some(n.min(i128::from(u32::MAX)) as u32)
 }
 
 /// The word between a literal's quotes.
@@ -153,12 +140,7 @@ pub fn literal_word(alloc: Global, text: &[u8]) -> Result<Option<Word>, AllocErr
 fn hexadecimal(byte: u8) -> Option<u32>
     ensures { MatchOption result (is_ascii_hexdigit byte ≡ false) (λ d. IsTrue (is_ascii_hexdigit byte) × (d ≡ digit_value byte) × (d < 16)) }
 {
-    match byte {
-        b'0'..=b'9' => Some((byte - b'0') as u32),
-        b'a'..=b'f' => Some((byte - b'a') as u32 + 10),
-        b'A'..=b'F' => Some((byte - b'A') as u32 + 10),
-        _ => None,
-    }
+    char::from(byte).to_digit(16)
 }
 
 /// The number that hexadecimal digits write, five at most.
@@ -169,10 +151,7 @@ fn hexadecimals(digits: &[u8]) -> Option<u32>
 {
     let mut n: u32 = 0;
     for digit in digits {
-        match hexadecimal(*digit) {
-            Some(d) => n = 16 * n + d,
-            None => return None,
-        }
+        n = 16 * n + hexadecimal(*digit)?;
     }
     Some(n)
 }
@@ -184,15 +163,11 @@ fn character_of(digits: &[u8]) -> Option<u32>
     if digits.is_empty() || digits.len() > 5 {
         return None;
     }
-    match hexadecimals(digits) {
-        Some(c) => {
-            if c <= GREATEST_CHARACTER {
-                Some(c)
-            } else {
-                None
-            }
-        }
-        None => None,
+    let c = hexadecimals(digits)?;
+    if c <= GREATEST_CHARACTER {
+        Some(c)
+    } else {
+        None
     }
 }
 
