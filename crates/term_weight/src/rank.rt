@@ -11,24 +11,7 @@ use sv_terms::{Name, Sort};
 pub fn same_sort(a: Sort, b: Sort) -> bool
     ensures { result ≡ is_same_sort a b }
 {
-    match a {
-        Sort::Bool => match b {
-            Sort::Bool => true,
-            _ => false,
-        },
-        Sort::Int => match b {
-            Sort::Int => true,
-            _ => false,
-        },
-        Sort::String => match b {
-            Sort::String => true,
-            _ => false,
-        },
-        Sort::RegLan => match b {
-            Sort::RegLan => true,
-            _ => false,
-        },
-    }
+    a == b
 }
 
 /// Whether so many arguments are taken.
