@@ -1,5 +1,5 @@
 -- Codes of terms as lists of numbers that are made from the front.
-use Rattle.std.proofs.Common.{◌≡◌, refl, sym, ap, ◌∙◌, ℕ, suc, ◌+◌, ◌<◌, ◌≤◌, ℤ, pos, Bool, true, false, List, [], ◌∷◌, ◌++◌, ◌⊎◌, inl, inr, map, length, take, drop, get_or, drop-cons, append_assoc, arith, append-nil, take_all}
+use Rattle.std.proofs.Common.{◌≡◌, refl, sym, ap, ◌∙◌, ℕ, suc, ◌+◌, ◌<◌, ◌≤◌, ℤ, pos, Bool, true, false, List, [], ◌∷◌, ◌++◌, inl, inr, map, length, take, drop, get_or, drop-cons, append_assoc, arith, append-nil, take_all}
 use Rattle.std.proofs.lemmas.List.{drop_all, take_more, map-append}
 use Rattle.sv_terms.specs.declared.op.Op.{Op}
 use Rattle.sv_terms.specs.declared.op.Op.TheVariants as op
@@ -112,23 +112,6 @@ module _ (a b c d e : List ℤ) (t : Term) where
       ∙ ap (λ j. a ++ (numbered 4 j ++ flat (codes (pieces (shapes (map seen ts)))))) k ∙ ap (λ z. a ++ flat (code (written z))) (sym (ap seen i ∙ seen-Apply op.Concat ts))
 
 pub ruleset arms = (truth_arm, number_arm, text_arm, constant_arm, apply_arm, member_arm, related_arm, opaque_arm)
-
-pub concat_number : (o : Op) → o ≡ op.Concat → op_number o ≡ 16
-concat_number o e = ap op_number e
-
-pub concat_is : (o : Op) → op_number o ≡ 16 → o ≡ op.Concat
-concat_is op.Concat e = refl
-concat_is _ e = absurd (omega arith)
-
-pub replacement_number : (o : Op) → IsReplacement o → (op_number o ≡ 17) ⊎ (op_number o ≡ 18)
-replacement_number o (inl e) = inl (ap op_number e)
-replacement_number o (inr e) = inr (ap op_number e)
-
-pub replacement_is : (o : Op) → (op_number o ≡ 17) ⊎ (op_number o ≡ 18) → IsReplacement o
-replacement_is op.Replace e = inl refl
-replacement_is op.ReplaceAll e = inr refl
-replacement_is _ (inl e) = absurd (omega arith)
-replacement_is _ (inr e) = absurd (omega arith)
 
 -- a function that isn't made of pieces stays as it is
 written_other : (o : Op) (ss : Shapes) → (o ≡ op.Concat → ⊥) → (IsReplacement o → ⊥) → written (apply o ss) ≡ apply o ss

@@ -235,19 +235,16 @@ impl Written {
     }
 }
 
-#[tactic(auto, using(crate::proofs::Spelled::concat_number, crate::proofs::Spelled::concat_is))]
 fn is_concat(op: Op) -> bool
     ensures { IsTrue result ↔ (op ≡ any_op.Concat) }
 {
-    op_number(op) == 16
+    matches!(op, Op::Concat)
 }
 
-#[tactic(auto, using(crate::proofs::Spelled::replacement_number, crate::proofs::Spelled::replacement_is))]
 fn is_replacement(op: Op) -> bool
     ensures { IsTrue result ↔ IsReplacement op }
 {
-    let number = op_number(op);
-    number == 17 || number == 18
+    matches!(op, Op::Replace | Op::ReplaceAll)
 }
 
 fn truth_number(value: bool) -> u32
