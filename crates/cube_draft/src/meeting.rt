@@ -1,7 +1,5 @@
 //! What the literals of a cube say, as it is gathered.
 ghost use Rattle.std.specs.Prelude.{◌≡◌, ◌||◌, ◌++◌, ◌∷◌, [], false, not, length, None, IfOk, OnOk};
-ghost use Rattle.literal_forms.specs.Flats.{flat};
-ghost use Rattle.literal_forms.specs.Codes.{code};
 ghost use Rattle.literal_forms.specs.Linear.{written};
 ghost use Rattle.literal_forms.specs.Shapes.{seen, text};
 ghost use Rattle.flat_cubes.specs.Drafted.{HoldsDraft};
@@ -14,7 +12,7 @@ use crate::code::Code;
 use crate::places::CodeNumbers;
 use crate::truths::Truths;
 use flat_cubes::{By, FlatDraft, Own, Quantity};
-use literal_forms::Written;
+use literal_forms::string_code;
 use std::alloc::{AllocError, Global};
 use sv_linear::Row;
 use sv_list::Items;
@@ -164,7 +162,7 @@ impl DraftBuilder {
         ensures sought { IfOk result (λ p. IsSought self.old self.new (written (seen term.now)) p) }
         ensures numbers { OnOk result (self.new.numbers ≡ self.old.numbers) }
     {
-        let code = string_code(alloc, term)?;
+        let code = Code::new(string_code(alloc, term)?);
         match self.places.get(&code) {
             Some(place) => Ok(TermPlace::Known(place)),
             None => {
@@ -226,15 +224,4 @@ impl DraftBuilder {
     {
         self.broken = self.broken || !holds;
     }
-}
-
-/// The code of a string term with nested concatenations written as one. Linear in the term.
-fn string_code(alloc: Global, term: &Term) -> Result<Code, AllocError>
-    ensures { IfOk result (λ c. c ≡ flat (code (written (seen term.now)))) }
-{
-    let mut code = Written {
-        numbers: Items::new(alloc),
-    };
-    code.string(term)?;
-    Ok(Code::new(code.numbers))
 }

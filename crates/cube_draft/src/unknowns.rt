@@ -1,7 +1,5 @@
 //! The integer constants and the lengths in terms of sort Int.
-ghost use Rattle.std.specs.Prelude.{◌≡◌, map, IfOk, OnOk};
-ghost use Rattle.literal_forms.specs.Flats.{flat};
-ghost use Rattle.literal_forms.specs.Linear.{integer, length_of, unknown_code, written};
+ghost use Rattle.std.specs.Prelude.{◌≡◌, map, OnOk};
 ghost use Rattle.literal_forms.specs.Shapes.{apply, end, seen, shapes, ◌⨾◌};
 ghost use Rattle.sv_terms.specs.declared.op.Op.TheVariants as any_op;
 ghost use Rattle.cube_draft.specs.Gathered.{AreCounted, IsCounted, IsIntegerCounted};
@@ -11,9 +9,8 @@ use crate::meeting::DraftBuilder;
 use crate::number_terms::{Joining, joining_of};
 use crate::string_terms::is_text;
 use flat_cubes::Quantity;
-use literal_forms::Written;
+use literal_forms::{integer_code, length_code};
 use std::alloc::{AllocError, Global};
-use sv_list::Items;
 use sv_terms::{Name, Op, Term};
 
 impl DraftBuilder {
@@ -74,7 +71,7 @@ impl DraftBuilder {
     fn count_integer(&mut self, alloc: Global, name: &Name) -> Result<(), AllocError>
         ensures { OnOk result (IsIntegerCounted self.old self.new name.now) }
     {
-        let code = integer_code(alloc, name)?;
+        let code = Code::new(integer_code(alloc, name)?);
         match self.numbers.get(&code) {
             Some(_) => Ok(()),
             None => {
@@ -93,7 +90,7 @@ impl DraftBuilder {
         if is_text(term) {
             return Ok(());
         }
-        let code = length_code(alloc, term)?;
+        let code = Code::new(length_code(alloc, term)?);
         match self.numbers.get(&code) {
             Some(_) => Ok(()),
             None => {
@@ -103,28 +100,4 @@ impl DraftBuilder {
             }
         }
     }
-}
-
-/// The code of an integer constant as an unknown.
-fn integer_code(alloc: Global, name: &Name) -> Result<Code, AllocError>
-    ensures { IfOk result (λ c. c ≡ flat (unknown_code (integer name.now))) }
-{
-    let mut code = Written {
-        numbers: Items::new(alloc),
-    };
-    code.open(0)?;
-    code.name(name.as_bytes())?;
-    Ok(Code::new(code.numbers))
-}
-
-/// The code of the length of a string term as an unknown. Linear in the term.
-fn length_code(alloc: Global, term: &Term) -> Result<Code, AllocError>
-    ensures { IfOk result (λ c. c ≡ flat (unknown_code (length_of (written (seen term.now))))) }
-{
-    let mut code = Written {
-        numbers: Items::new(alloc),
-    };
-    code.open(1)?;
-    code.string(term)?;
-    Ok(Code::new(code.numbers))
 }

@@ -9,11 +9,9 @@ use Rattle.sv_terms.specs.declared.sort.Sort.{Sort}
 use Rattle.sv_terms.specs.declared.term.Term.{Term}
 use Rattle.sv_terms.specs.declared.term.Term.TheVariants as term
 use Rattle.sv_terms.specs.declared.transducer.Transducer.{Transducer}
-use Rattle.literal_forms.specs.Codes.{code, word}
 use Rattle.literal_forms.specs.Literals.{SomeOf}
-use Rattle.literal_forms.specs.Flats.{flat, opening}
 use Rattle.literal_forms.specs.Formed.{IsUnknownForm, combined_by, combining_steps, linears_of, steps_of}
-use Rattle.literal_forms.specs.Linear.{Linear, Unknown, integer, length_of, other, Step, scaling, from_left, joined_of, joined_steps, length_form, linear, minus_one, of_number, of_unknown, read, read_steps, reading_of, scaled, steps, steps_from, unknown_code, whole, written}
+use Rattle.literal_forms.specs.Linear.{Linear, Unknown, integer, length_of, other, Step, scaling, from_left, joined_of, joined_steps, length_form, linear, minus_one, of_number, of_unknown, read, read_steps, reading_of, scaled, steps, steps_from, whole, written}
 use Rattle.literal_forms.specs.Mirrors.{raw-seen, seen-Truth, seen-Number, seen-Text, seen-Constant, seen-Apply, seen-InRe, seen-Related, seen-Opaque}
 use Rattle.literal_forms.specs.Numbered.{AreNumbered, IsFormOrPast, IsMore, IsNumbered, joint_of, joint_steps}
 use Rattle.literal_forms.specs.Past.{ArePlain, IsPast}
@@ -188,16 +186,6 @@ one_past : (us : List (List ℤ)) (ts : List Term) (t : Term) (f : TermForm) (l 
 one_past us [] t f l r k e m n h = absurd (omega arith)
 one_past us (u ∷ []) t f l r k e m n h = subst (λ x. SomeOf (IsPast l r) (steps_of (x ∷ []) ++ (scaling (linear (seen x)) minus_one ∷ []))) e (some_right (IsPast l r) (steps_of (t ∷ [])) (scaling (linear (seen t)) minus_one ∷ []) (h us (linear (seen t)) m n))
 one_past us (u ∷ v ∷ ts) t f l r k e m n h = absurd (omega arith)
-
--- codes of unknowns
-pub integer_coded : (a b c : List ℤ) (n : List ℕ) → a ≡ [] → b ≡ a ++ opening 0 → c ≡ b ++ flat (word n) → c ≡ flat (unknown_code (integer n))
-integer_coded a b c n e f g = g ∙ ap (λ x. x ++ flat (word n)) (f ∙ ap (λ x. x ++ opening 0) e)
-
-pub length_coded : (a b c : List ℤ) (s : Shape) → a ≡ [] → b ≡ a ++ opening 1 → c ≡ b ++ flat (code s) → c ≡ flat (unknown_code (length_of s))
-length_coded a b c s e f g = g ∙ ap (λ x. x ++ flat (code s)) (f ∙ ap (λ x. x ++ opening 1) e)
-
-pub other_coded : (a b c : List ℤ) (s : Shape) → a ≡ [] → b ≡ a ++ opening 2 → c ≡ b ++ flat (code s) → c ≡ flat (unknown_code (other s))
-other_coded a b c s e f g = g ∙ ap (λ x. x ++ flat (code s)) (f ∙ ap (λ x. x ++ opening 2) e)
 
 -- the form of a term by its head
 pub number_read : (us : List (List ℤ)) (t : Term) (n : ℤ) (f : TermForm) → t ≡ term.Number n → IsNumbered us (of_number n) f → ArePlain (steps (seen t)) × IsNumbered us (linear (seen t)) f

@@ -1,12 +1,12 @@
 //! Codes of terms, as lists of numbers.
-ghost use Rattle.std.specs.Prelude.{◌≡◌, ◌↔◌, ◌∷◌, [], ◌++◌, IsTrue, OnOk, drop, map, pos};
+ghost use Rattle.std.specs.Prelude.{◌≡◌, ◌↔◌, ◌∷◌, [], ◌++◌, IsTrue, IfOk, OnOk, drop, map, pos};
 ghost use Rattle.sv_terms.specs.declared.op.Op.TheVariants as any_op;
 ghost use Rattle.literal_forms.specs.Codes.{code, op_number, sort_number, truth_number, word};
 ghost use Rattle.literal_forms.specs.Flats.{IsReplacement, closing, each_flat, flat, opening, replaced};
 ghost use Rattle.literal_forms.specs.Linear.{before, pieces, written};
 ghost use Rattle.literal_forms.specs.Shapes.{end, seen, shapes};
 
-use std::alloc::AllocError;
+use std::alloc::{AllocError, Global};
 use sv_list::Items;
 use sv_terms::{Op, Sort, Term};
 
@@ -17,6 +17,15 @@ pub struct Written {
 }
 
 impl Written {
+    /// No number.
+    pub fn new(alloc: Global) -> Written
+        ensures { result.numbers ≡ [] }
+    {
+        Written {
+            numbers: Items::new(alloc),
+        }
+    }
+
     /// Puts down the opening of a node with this tag.
     #[tactic(auto, using(crate::proofs::Spelled::four))]
     pub fn open(&mut self, tag: u32) -> Result<(), AllocError>
@@ -233,6 +242,15 @@ impl Written {
             }
         }
     }
+}
+
+/// The code of a term of sort String with nested concatenations written as one. Linear in the term.
+pub fn string_code(alloc: Global, term: &Term) -> Result<Items<i128>, AllocError>
+    ensures { IfOk result (λ c. c ≡ flat (code (written (seen term.now)))) }
+{
+    let mut code = Written::new(alloc);
+    code.string(term)?;
+    Ok(code.numbers)
 }
 
 fn is_concat(op: Op) -> bool

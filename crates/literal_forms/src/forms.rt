@@ -6,11 +6,10 @@ ghost use Rattle.literal_forms.specs.Linear.{Unknown, integer, joined_of, joined
 ghost use Rattle.literal_forms.specs.Numbered.{AreNumbered, IsFormOrPast, IsMore};
 ghost use Rattle.literal_forms.specs.Shapes.{end, seen, ◌⨾◌};
 
-use crate::code::Written;
 use crate::reading::{Reading, read};
 use crate::roles::Joint;
 use crate::term_form::TermForm;
-use crate::unknowns::Unknowns;
+use crate::unknowns::{Unknowns, integer_code, length_code, whole_code};
 use std::alloc::{AllocError, Global};
 use sv_linear::FormFault;
 use sv_list::Items;
@@ -62,24 +61,16 @@ fn integer_form(unknowns: &mut Unknowns, alloc: Global, name: &Name) -> Result<T
     requires { AreNumbered unknowns.old.codes }
     ensures { IfOk result (λ f. IsUnknownForm unknowns.old.codes unknowns.new.codes (integer name.now) f) }
 {
-    let mut code = Written {
-        numbers: Items::new(alloc),
-    };
-    code.open(0)?;
-    code.name(name.as_bytes())?;
-    coded_form(unknowns, alloc, code.numbers)
+    let code = integer_code(alloc, name)?;
+    coded_form(unknowns, alloc, code)
 }
 
 fn whole_form(unknowns: &mut Unknowns, alloc: Global, term: &Term) -> Result<TermForm, AllocError>
     requires { AreNumbered unknowns.old.codes }
     ensures { IfOk result (λ f. IsUnknownForm unknowns.old.codes unknowns.new.codes (other (seen term.now)) f) }
 {
-    let mut code = Written {
-        numbers: Items::new(alloc),
-    };
-    code.open(2)?;
-    code.term(term)?;
-    coded_form(unknowns, alloc, code.numbers)
+    let code = whole_code(alloc, term)?;
+    coded_form(unknowns, alloc, code)
 }
 
 /// The form of the length of a string term; that of a literal is a number.
@@ -92,12 +83,8 @@ fn length_form(unknowns: &mut Unknowns, alloc: Global, term: &Term) -> Result<Te
     if let Term::Text(word) = term {
         return Ok(TermForm::number(alloc, word.len() as i128));
     }
-    let mut code = Written {
-        numbers: Items::new(alloc),
-    };
-    code.open(1)?;
-    code.string(term)?;
-    Ok(coded_form(unknowns, alloc, code.numbers)?)
+    let code = length_code(alloc, term)?;
+    Ok(coded_form(unknowns, alloc, code)?)
 }
 
 /// The form joined of those of terms, from the left.

@@ -5,7 +5,7 @@ use mir.Val.{to_z}
 use Rattle.literal_forms.specs.Linear.{length_of, of_number, written}
 use Rattle.literal_forms.specs.Numbered.{IsNumbered}
 use Rattle.literal_forms.specs.Shapes.{seen}
-use Rattle.literal_forms.proofs.Combined.{length_coded, literal_length, other_length}
+use Rattle.literal_forms.proofs.Combined.{literal_length, other_length}
 use Rattle.literal_forms.proofs.forms.length_form.Goals as goal
 
 pub returns-in-Text-clause-form : goal.returns-in-Text-clause-form
@@ -15,5 +15,5 @@ returns-in-Text-clause-form c =
 
 pub returns : goal.returns
 returns c =
-    let u = c.in_ok-coded_form.ensures (length_of (written (seen c.args.term.now))) (length_coded c.new.result c.open.new.self.numbers c.string.new.self.numbers (written (seen c.args.term.now)) c.new.ensures c.in_ok-open.ensures c.in_ok-string.ensures) in
+    let u = c.in_ok-coded_form.ensures (length_of (written (seen c.args.term.now))) c.in_ok-code.ensures in
     record { more = u.more; form = other_length c.args.unknowns.now.codes c.coded_form.new.unknowns.codes c.args.term.now c.in_ok-coded_form.field-0 c.in_default.not-Text u }
