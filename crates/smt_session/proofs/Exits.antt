@@ -45,7 +45,6 @@ module _ (s t u : State) (r : Reply) where
   same_done : (c : Command) → Does s c r t → Does s c r u → t ≡ u
   same_done command.Inform h k = h.1 ∙ sym k.1
   same_done (command.PrintSuccess b) h k = h.1 ∙ sym k.1
-  same_done (command.Produce p b) h k = h.1 ∙ sym k.1
   same_done (command.Declare name sort) h k = h.1 ∙ sym k.1
   same_done (command.Define name e) h k = h.1 ∙ sym k.1
   same_done (command.Assert term) h k = h.1 ∙ sym k.1

@@ -108,7 +108,6 @@ module _ (s t : State) (r : Reply) (told : is_verdict r ≡ true) where
   does : (c : Command) → Does s c r t → Checks s r t
   does command.Inform h = other _ _ _ h.0 (success _) told
   does (command.PrintSuccess b) h = other _ _ _ h.0 (success _) told
-  does (command.Produce p b) h = other _ _ _ h.0 (success _) told
   does (command.Declare name sort) h = other _ _ _ h.0 (success _) told
   does (command.Define name e) h = other _ _ _ h.0 (success _) told
   does (command.Assert term) h = other _ _ _ h.0 (success _) told

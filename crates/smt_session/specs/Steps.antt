@@ -164,7 +164,6 @@ pub record Checks (s : State) (r : Reply) (t : State) : Type 0 where
 abbrev pub Does : State → Command → Reply → State → Type 0
 Does s command.Inform r t = GivesReply (succeeds s) r t
 Does s (command.PrintSuccess b) r t = GivesReply (succeeds (printing b s)) r t
-Does s (command.Produce what b) r t = GivesReply (succeeds s) r t
 Does s (command.Declare name sort) r t = GivesReply (succeeds (changed (declared name (entry.Constant sort) s.levels) s)) r t
 Does s (command.Define name e) r t = GivesReply (succeeds (changed (declared name e s.levels) s)) r t
 Does s (command.Assert term) r t = GivesReply (succeeds (changed (asserted term s.levels) s)) r t

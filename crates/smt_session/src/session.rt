@@ -137,7 +137,6 @@ impl Session {
         match command {
             Command::Inform => Ok(self.success()),
             Command::PrintSuccess(prints) => Ok(self.print_success(prints)),
-            Command::Produce(_, _) => Ok(self.success()),
             Command::Declare(name, sort) => self.declare(name, Entry::Constant(sort)),
             Command::Define(name, entry) => self.declare(name, entry),
             Command::Assert(term) => self.assert(term),

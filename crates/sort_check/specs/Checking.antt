@@ -13,7 +13,6 @@ use Rattle.smt_names.specs.declared.check_fault.CheckFault.{CheckFault}
 use Rattle.smt_names.specs.declared.check_fault.CheckFault.TheVariants as fault
 use Rattle.sort_check.specs.declared.commands.Command.{Command}
 use Rattle.sort_check.specs.declared.commands.Command.TheVariants as command
-use Rattle.sort_check.specs.declared.commands.ProduceOption.TheVariants as produce_option
 use Rattle.item_passes.specs.declared.pass.Pass.TheVariants as pass
 use Rattle.smt_names.specs.declared.verb.CommandName.{CommandName}
 use Rattle.smt_names.specs.declared.verb.CommandName.TheVariants as verb
@@ -49,9 +48,9 @@ option_set None b = command.Unsupported
 option_set (Some k) None = command.Unsupported
 option_set (Some k) (Some b) =
     if same_name k (codes ":print-success") then command.PrintSuccess b else
-    if same_name k (codes ":produce-models") then command.Produce produce_option.Models b else
-    if same_name k (codes ":produce-unsat-cores") then command.Produce produce_option.UnsatCores b else
-    if same_name k (codes ":produce-proofs") then command.Produce produce_option.Proofs b else command.Unsupported
+    if same_name k (codes ":produce-models") then command.Inform else
+    if same_name k (codes ":produce-unsat-cores") then command.Inform else
+    if same_name k (codes ":produce-proofs") then command.Inform else command.Unsupported
 
 -- an option that is known, with a truth value; any other is unsupported
 abbrev pub set_option : Forms → Result Command CheckFault

@@ -2,26 +2,13 @@ use sexpr_reader::Sexpr;
 use sv_list::Items;
 use sv_terms::{Entry, Name, Sort, Term};
 
-/// What a check is asked to make by an option.
-#[derive(Clone, Copy)]
-pub enum ProduceOption {
-    /// `:produce-models`
-    Models,
-    /// `:produce-unsat-cores`
-    UnsatCores,
-    /// `:produce-proofs`
-    Proofs,
-}
-
 /// A command of SMT-LIB 2.6 with its sorted terms, `let` and macros put in.
 #[derive(Drop)]
 pub enum Command {
-    /// `set-logic` or `set-info`, which have no effect.
+    /// `set-logic`, `set-info`, and `set-option` of what a check is to make, which have no effect.
     Inform,
     /// `(set-option :print-success B)`
     PrintSuccess(bool),
-    /// `set-option` of what a check is asked to make.
-    Produce(ProduceOption, bool),
     /// `declare-const`, or `declare-fun` without parameters.
     Declare(Name, Sort),
     /// `define-fun` or `define-transducer`: the name, and its macro or its transducer. Each parameter `p` of a macro

@@ -26,7 +26,7 @@ mod options;
 
 pub use asking::asked_term;
 pub use checking::command;
-pub use commands::{Command, ProduceOption};
+pub use commands::Command;
 pub use laws::{
     additions_are_well_formed, constants_have_values, entries_are_well_formed,
     fronts_are_well_formed, terms_are_sorted, terms_are_taken_one_by_one,

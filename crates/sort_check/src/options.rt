@@ -4,7 +4,7 @@ ghost use Rattle.sort_check.specs.Checking as commands;
 ghost use Rattle.smt_names.specs.Form.{seen, forms};
 ghost use Rattle.smt_names.specs.Tokens as tokens;
 
-use crate::commands::{Command, ProduceOption};
+use crate::commands::Command;
 use sexpr_reader::Sexpr;
 use smt_names::CheckFault;
 use smt_names::signature::truth;
@@ -48,14 +48,11 @@ fn known_option(keyword: &[u8], value: bool) -> Command
     if keyword == b":print-success".as_slice() {
         return Command::PrintSuccess(value);
     }
-    if keyword == b":produce-models".as_slice() {
-        return Command::Produce(ProduceOption::Models, value);
-    }
-    if keyword == b":produce-unsat-cores".as_slice() {
-        return Command::Produce(ProduceOption::UnsatCores, value);
-    }
-    if keyword == b":produce-proofs".as_slice() {
-        return Command::Produce(ProduceOption::Proofs, value);
+    if keyword == b":produce-models".as_slice()
+        || keyword == b":produce-unsat-cores".as_slice()
+        || keyword == b":produce-proofs".as_slice()
+    {
+        return Command::Inform;
     }
     Command::Unsupported
 }
