@@ -6,6 +6,7 @@ ghost use Rattle.std.specs.declared.option.Option.{Option as Optional};
 ghost use Rattle.sv_io.specs.Counts.{Rose};
 ghost use Rattle.sv_io.specs.Names.{IsOwn};
 ghost use Rattle.smt_session.specs.declared.reply.Reply.{Reply as AnyReply};
+ghost use Rattle.command_words.specs.declared.options.TheConstants.{MOST_WORKERS};
 ghost use Rattle.command_words.specs.Asked.{named};
 ghost use Rattle.command_words.specs.Words.{is_in_form};
 ghost use Rattle.generated_script.specs.Blocks.{script};
@@ -34,7 +35,7 @@ const USAGE: &str =
 // The number of workers that the words ask for.
 fn workers_of(asked: u64) -> u32
     requires least { 1 ≤ asked }
-    requires most { asked ≤ 64 }
+    requires most { asked ≤ MOST_WORKERS }
     ensures { result ≡ asked }
 {
     asked as u32
