@@ -1,5 +1,5 @@
 //! The integer constants and the lengths in terms of sort Int.
-ghost use Rattle.std.specs.Prelude.{◌≡◌, map, OnOk};
+ghost use Rattle.std.specs.Prelude.{map, OnOk};
 ghost use Rattle.literal_forms.specs.Shapes.{apply, end, seen, shapes, ◌⨾◌};
 ghost use Rattle.sv_terms.specs.declared.op.Op.TheVariants as any_op;
 ghost use Rattle.cube_draft.specs.Gathered.{AreCounted, IsCounted, IsIntegerCounted};

@@ -1,5 +1,5 @@
 //! The values near 0, as a region.
-ghost use Rattle.std.specs.Prelude.{◌≡◌, ◌↔◌, ◌<◌, ◌≤◌, ◌+◌, ◌-◌, ◌*◌, ◌^◌, ◌≤ℤ◌, pos, IsTrue, IfOk, min, replicate};
+ghost use Rattle.std.specs.Prelude.{◌≡◌, ◌↔◌, ◌<◌, ◌≤◌, ◌+◌, ◌-◌, ◌*◌, ◌^◌, IsTrue, IfOk, min, replicate};
 ghost use Rattle.std.specs.List.{AllByRecursion};
 ghost use Rattle.sv_linear.specs.Rows.{RowFits, terms_weight};
 ghost use Rattle.sv_terms.specs.CutOff.{cut_off};

@@ -1,5 +1,5 @@
 //! Machines met in pairs ahead of the product of all.
-ghost use Rattle.std.specs.Prelude.{◌≡◌, ◌+◌, ◌≤◌, ◌<◌, drop, length, take, IfOk, IfSome};
+ghost use Rattle.std.specs.Prelude.{◌+◌, ◌≤◌, ◌<◌, drop, length, take, IfOk, IfSome};
 ghost use Rattle.regex_machine.specs.Joined.{HaveNoRegisters};
 ghost use Rattle.part_machines.specs.Pairs.{AreMet, IsMet};
 
