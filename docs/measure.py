@@ -199,8 +199,8 @@ def rows():
     yield "300 words that may not occur", barred('(str.contains x "q#")', 300) + check(), "sat\n", None
     yield "40 expressions with such words, that no word may be in", barred('(str.in_re x (re.++ re.all (str.to_re "q#") re.all))', 40) + check(), "sat\n", None
     yield "5,000 words that a variable isn't", barred('(= x "a#")', 5_000) + check(), "sat\n", None
-    for count, most in ((200, 2048), (800, 8192)):
-        yield f"{count} definitions in one cube, checked, within {most:,} KB of stack", definitions(count) + check(), "sat\n", most
+    for count, most in ((700, 2048), (3_000, 8192)):
+        yield f"{count:,} definitions in one cube, checked, within {most:,} KB of stack", definitions(count) + check(), "sat\n", most
     for name, most in (("re.*", 820), ("re.opt", 820), ("re.comp", 820), ('re.union (str.to_re "b")', 1093), ('re.++ (str.to_re "b")', 1093), ('re.diff (str.to_re "b")', 1093)):
         term = nested(f"({name} ", '(str.to_re "a")', 990)
         yield f"990 `{name}` in one another, checked, within {most:,} KB of stack", declare("String", "x") + claim(f"(str.in_re x {term})") + check(), None, most
