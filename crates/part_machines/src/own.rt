@@ -8,6 +8,7 @@ ghost use Rattle.sv_terms.specs.Language.{InFirstOnly};
 ghost use Rattle.cube_bounds.specs.Bounds.{part_bound, product_by};
 ghost use Rattle.flat_cubes.specs.declared.variable.Own.TheVariants.{InRe};
 ghost use Rattle.trim_search.specs.declared.build_fault.BuildFault.TheVariants.{States};
+ghost use Rattle.part_machines.specs.Pairs.{AreMet};
 ghost use Rattle.part_machines.specs.Parts.{IsOfParts, ReadsParts};
 ghost use Rattle.part_machines.specs.Sides.{AddsSide, AreSides, ReadsOthers};
 
@@ -34,6 +35,11 @@ struct PartSides {
     outside: Items<Explicit>,
 }
 
+// Whether a part is a word that is to be: then a product reaches few states, and nothing is made ahead of it.
+fn is_word(part: &(Own, bool)) -> bool {
+    part.1 && matches!(part.0, Own::Word(_))
+}
+
 // The expression that no word may be in, if the part is of that kind.
 fn barred_regex(part: &(Own, bool)) -> Option<&Regex>
     ensures { IfSome result (λ regex. part.now ≡ (InRe regex.now, false)) }
@@ -47,12 +53,19 @@ fn barred_regex(part: &(Own, bool)) -> Option<&Regex>
     }
 }
 
-// The words that the machine doesn't read, unless that takes many states. Unlike the sets of states of which it is made
+// The words that the machine doesn't read, where that is asked for and doesn't take many states. Unlike the sets of states of which it is made
 // it has none that leads to no end, so that a product of many doesn't tell which of them went astray.
-fn complement_of(alloc: Global, machine: &Explicit) -> Result<Option<Explicit>, AllocError>
+fn complement_of(
+    alloc: Global,
+    machine: &Explicit,
+    ahead: bool,
+) -> Result<Option<Explicit>, AllocError>
     requires { machine.now.registers ≡ 0 }
     ensures { IfOk result (λ o. IfSome o (ReadsOthers machine.now)) }
 {
+    if !ahead {
+        return Ok(None);
+    }
     let limit = u64::from(machine.states()) * COMPLEMENT_GROWTH;
     match complement(alloc, machine, limit.min(MOST_STATES)) {
         Ok(others) => Ok(Some(others)),
@@ -61,20 +74,31 @@ fn complement_of(alloc: Global, machine: &Explicit) -> Result<Option<Explicit>, 
     }
 }
 
-// One part more.
+// Whether complements are made ahead of the product: where several expressions bar words, and none of the parts is a
+// word that is to be.
+fn makes_complements(parts: &[(Own, bool)]) -> bool {
+    let barred = parts
+        .iter()
+        .filter(|part| barred_regex(part).is_some())
+        .count();
+    barred > 1 && !parts.iter().any(is_word)
+}
+
+// One part more, with its complement where these are made ahead.
 fn add_side(
     alloc: Global,
     within: &mut Items<Explicit>,
     outside: &mut Items<Explicit>,
     part: &(Own, bool),
     kept: &Machines,
+    ahead: bool,
 ) -> Result<(), BuildFault>
     ensures added { OnOk result (AddsSide part.now within.old within.new outside.old outside.new) }
     ensures refused { (n : ℕ) → result ≡ Err (States n) → MOST_STATES < part_bound part.now }
 {
     if let Some(regex) = barred_regex(part) {
         let machine = kept_machine(alloc, regex, kept)?;
-        match complement_of(alloc, &machine)? {
+        match complement_of(alloc, &machine, ahead)? {
             Some(others) => within.push(others)?,
             None => outside.push(machine)?,
         }
@@ -92,8 +116,9 @@ fn sides_of(alloc: Global, parts: &[(Own, bool)], kept: &Machines) -> Result<Par
 {
     let mut within = Items::new(alloc);
     let mut outside = Items::new(alloc);
+    let ahead = makes_complements(parts);
     for part in parts {
-        add_side(alloc, &mut within, &mut outside, part, kept)?;
+        add_side(alloc, &mut within, &mut outside, part, kept, ahead)?;
     }
     Ok(PartSides { within, outside })
 }
@@ -114,6 +139,21 @@ fn exclude(
     difference(alloc, all.as_slice(), MOST_STATES)
 }
 
+// Machines that read the same words together, met in pairs unless a part is a word that is to be.
+fn meet_ahead(
+    alloc: Global,
+    parts: &[(Own, bool)],
+    machines: Items<Explicit>,
+) -> Result<Items<Explicit>, AllocError>
+    requires { HaveNoRegisters machines }
+    ensures { IfOk result (AreMet machines) }
+{
+    if parts.iter().any(is_word) {
+        return Ok(machines);
+    }
+    meet_pairs(alloc, machines)
+}
+
 // The words that meet all parts.
 fn joint_machine(
     alloc: Global,
@@ -127,7 +167,7 @@ fn joint_machine(
         return part_machine(alloc, &parts[0], kept);
     }
     let PartSides { within, outside } = sides_of(alloc, parts, kept)?;
-    let few = meet_pairs(alloc, within)?;
+    let few = meet_ahead(alloc, parts, within)?;
     let met = all_of(alloc, few.as_slice(), MOST_STATES)?;
     if outside.is_empty() {
         return Ok(met);
@@ -143,8 +183,9 @@ fn joint_machine(
 /// reached takes no state.
 ///
 /// A single part takes no product. An expression that no word may be in has its own complement where it is the single
-/// part or where that has few states, and is else met with the other parts by the subset construction as far as these
-/// lead alone. Machines of regular expressions are asked of `kept`.
+/// part, or one of several such whose complement has few states, and is else met with the other parts by the subset
+/// construction as far as these lead alone. Where a part is a word that is to be, a product reaches few states, and
+/// neither complements nor pairs are made ahead of it. Machines of regular expressions are asked of `kept`.
 pub fn own_machine(
     alloc: Global,
     parts: &[(Own, bool)],

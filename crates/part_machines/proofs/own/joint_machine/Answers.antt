@@ -10,8 +10,8 @@ use Rattle.part_machines.proofs.PartLemmas.{item-below, made-as, of-plain, refus
 use Rattle.part_machines.proofs.SideLemmas.{met-below, sides-few, sides-met, sides-read}
 use Rattle.part_machines.proofs.own.joint_machine.Goals as goal
 
-pub meet_pairs-requires : goal.meet_pairs-requires
-meet_pairs-requires c = of-plain c.in_ok-within.ensures.sides.met c.in_ok-within.field-0.within c.in_ok-within.ensures.sides.of_met
+pub meet_ahead-requires : goal.meet_ahead-requires
+meet_ahead-requires c = of-plain c.in_ok-within.ensures.sides.met c.in_ok-within.field-0.within c.in_ok-within.ensures.sides.of_met
 
 pub all_of-requires : goal.all_of-requires
 all_of-requires c = subst HaveNoRegisters (sym c.as_slice.ensures) (plain-each c.in_ok-few.few c.in_ok-few.ensures.plain)
