@@ -54,8 +54,8 @@ fn barred_regex(part: &(Own, bool)) -> Option<&Regex>
 }
 
 // The words that the machine doesn't read, where that is asked for and doesn't take many states. Unlike the sets of
-// states of which it is made it has none that leads to no end, so that a product of many doesn't tell which of them
-// went astray.
+// states of which it is made it has no state that leads to no end, of which a product of many would have one for each
+// choice.
 fn complement_of(
     alloc: Global,
     machine: &Explicit,

@@ -75,7 +75,8 @@ fn pattern_rows(alloc: Global, pattern: &Word, stays: bool) -> Result<Items<Tabl
 }
 
 // How many states of the table of a pattern of so many characters its machine has. Where the pattern may not occur,
-// no word ends behind it: without that state a product of many such machines doesn't tell which of them went astray.
+// no word ends behind it: with that state a product of many such machines would have one for each set of patterns that
+// have occurred.
 fn states_needed(count: u32, stays: bool, holds: bool) -> u32
     requires { count + 1 < 2 ^ 32 }
     ensures { AreStatesNeeded stays holds count result }
