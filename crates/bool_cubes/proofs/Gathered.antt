@@ -86,17 +86,17 @@ pub record AreEither (ns : List CubeNode) (at left i j : ℕ) (m : CubeNode) : T
   pub first_is : left < m.cubes → cube_at (tree_at ns at) left ≡ cube_at (tree_at ns i) left
   pub second_is : m.cubes ≤ left → cube_at (tree_at ns at) left ≡ cube_at (tree_at ns j) (left - m.cubes)
 
-abbrev choose : Bool → List Literal → List Literal → List Literal
+abbrev pub choose : Bool → List Literal → List Literal → List Literal
 choose b x y = if b then x else y
 
-chosen_first : (k c : ℕ) (x y : List Literal) → k < c → choose (nat_lt k c) x y ≡ x
+pub chosen_first : (k c : ℕ) (x y : List Literal) → k < c → choose (nat_lt k c) x y ≡ x
 chosen_first k c x y h = by_test (nat_lt k c) refl
   where
     by_test : (b : Bool) → nat_lt k c ≡ b → choose (nat_lt k c) x y ≡ x
     by_test true e = ap (λ b. choose b x y) e
     by_test false e = absurd (let l = ltb-false k c e in omega arith)
 
-chosen_second : (k c : ℕ) (x y : List Literal) → c ≤ k → choose (nat_lt k c) x y ≡ y
+pub chosen_second : (k c : ℕ) (x y : List Literal) → c ≤ k → choose (nat_lt k c) x y ≡ y
 chosen_second k c x y h = by_test (nat_lt k c) refl
   where
     by_test : (b : Bool) → nat_lt k c ≡ b → choose (nat_lt k c) x y ≡ y

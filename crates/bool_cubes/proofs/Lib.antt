@@ -12,3 +12,4 @@ pub mod Plans
 pub mod Steps
 pub mod Walked
 pub mod Gathered
+pub mod Jumped

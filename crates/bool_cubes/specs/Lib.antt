@@ -8,4 +8,5 @@ pub mod Picking
 pub mod Nodes
 pub mod Planned
 pub mod Marked
+pub mod Jumps
 pub mod Given

@@ -1,12 +1,14 @@
 ghost use Rattle.std.specs.Prelude.{◌≡◌, ◌∷◌, [], ◌++◌, ◌<◌, ◌≤◌, IfOk, OnOk, OnErr, MatchOption, drop, length};
 ghost use Rattle.std.specs.List.{AllByRecursion};
 ghost use Rattle.bool_cubes.specs.Cubes.{count, cubes_of};
+ghost use Rattle.bool_cubes.specs.Jumps.{HasJumps};
 ghost use Rattle.bool_cubes.specs.Laws.{IsClearBool};
 ghost use Rattle.bool_cubes.specs.Nodes.{IsPlan, tree_at};
 ghost use Rattle.bool_cubes.specs.Picking.{cube_at};
 ghost use Rattle.bool_cubes.specs.Refusing.{IsRefusedExactly, most_cubes};
 
 use crate::fault::{CubeFault, cube_fault};
+use crate::jumps::{self, Jump};
 use crate::node::{CubeNode, NodeKind};
 use crate::past;
 use crate::plan::Plan;
@@ -24,6 +26,8 @@ use sv_terms::{MOST_CUBES, Term};
 #[derive(Drop)]
 pub struct Cubes {
     nodes: Items<CubeNode>,
+    /// A jump from each node.
+    jumps: Items<Jump>,
     root: usize,
     count: u64,
     given: u64,
@@ -39,6 +43,7 @@ impl Model for Cubes {
     ghost use Rattle.literal_forms.specs.declared.literal.Cube.{Cube as AnyCube};
     ghost use Rattle.bool_cubes.specs.Cubes.{cube, cubes};
     ghost use Rattle.bool_cubes.specs.Given.{IsGiving};
+    ghost use Rattle.bool_cubes.specs.Jumps.{HasJumps};
     ghost use Rattle.bool_cubes.specs.Nodes.{tree_at};
 
     ghost Value = { List AnyCube };
@@ -47,12 +52,14 @@ impl Model for Cubes {
 
     ghost view = { λ c. drop c.given (map cube (cubes (tree_at c.nodes c.root))) };
 
-    ghost invariant = { λ c. IsGiving c.nodes c.root c.count c.given };
+    ghost invariant = { λ c. IsGiving c.nodes c.root c.count c.given × HasJumps c.nodes c.jumps };
 }
 
 impl Cubes {
     /// The cubes of assertions without opaque parts, each of sort Bool. Takes time and memory linear in the
-    /// terms, but for `distinct`, which has a part for each pair.
+    /// terms, but for `distinct`, which has a part for each pair, and the forms of atoms: their terms are added
+    /// up from the left, and each unknown is sought among the atom's others, so a sum of many unknowns takes
+    /// time their number squared.
     pub fn new(alloc: Global, terms: &[Term]) -> Result<Cubes, CubeFault>
         requires { AllByRecursion IsClearBool terms.now }
         ensures cubes { IfOk result (λ c. c ≡ cubes_of terms.now) }
@@ -79,8 +86,13 @@ impl Cubes {
         if cubes > MOST_CUBES {
             return Err(CubeFault::TooMany(cubes));
         }
+        let jumps = match jumps::all(alloc, plan.nodes.as_slice()) {
+            Ok(jumps) => jumps,
+            Err(error) => return Err(CubeFault::Memory(error)),
+        };
         Ok(Cubes {
             nodes: plan.nodes,
+            jumps,
             root: sides.holding,
             count: cubes,
             given: 0,
@@ -88,8 +100,8 @@ impl Cubes {
         })
     }
 
-    /// The next cube, in their order; `None` exactly where all were given. Costs the literals of the cube
-    /// and the depth of the tree.
+    /// The next cube, in their order; `None` exactly where all were given. Costs the literals of the cube, each
+    /// `true` counted as one, and of each `or` on the way to them the logarithm of its arguments' number.
     pub fn next(&mut self, alloc: Global) -> Result<Option<Cube>, AllocError>
         ensures next { IfOk result (λ o. MatchOption o ((self.old ≡ []) × (self.new ≡ [])) (λ c. self.old ≡ c ∷ self.new)) }
         ensures err { OnErr result (self.new ≡ self.old) }
@@ -100,6 +112,7 @@ impl Cubes {
         let literals = pick(
             alloc,
             self.nodes.as_slice(),
+            self.jumps.as_slice(),
             self.root,
             self.given,
             self.room,
@@ -118,15 +131,17 @@ impl Cubes {
     }
 }
 
-/// The literals of the cube of this number of a node's tree, with room for so many.
+/// The literals of the cube of this number of a node's tree, with room for so many. Costs what `Cubes::next` does.
 fn pick(
     alloc: Global,
     nodes: &[CubeNode],
+    jumps: &[Jump],
     root: usize,
     number: u64,
     room: usize,
 ) -> Result<Items<Literal>, AllocError>
     requires plan { IsPlan nodes.now }
+    requires jumps { HasJumps nodes.now jumps.now }
     requires root { root < length nodes.now }
     requires number { number < count (tree_at nodes.now root) }
     requires most { count (tree_at nodes.now root) ≤ most_cubes }
@@ -134,20 +149,22 @@ fn pick(
 {
     let mut literals = Items::new(alloc);
     literals.reserve(room)?;
-    gather(alloc, nodes, root, number, &mut literals)?;
+    gather(alloc, nodes, jumps, root, number, &mut literals)?;
     Ok(literals)
 }
 
 /// Appends the literals of a cube. Of a node of both trees the number is cut into one for each, of a node of
-/// either it tells which.
+/// either it tells which; a jump is taken wherever it doesn't lead past the cube.
 fn gather(
     alloc: Global,
     nodes: &[CubeNode],
+    jumps: &[Jump],
     root: usize,
     number: u64,
     literals: &mut Items<Literal>,
 ) -> Result<(), AllocError>
     requires plan { IsPlan nodes.now }
+    requires jumps { HasJumps nodes.now jumps.now }
     requires root { root < length nodes.now }
     requires number { number < count (tree_at nodes.now root) }
     requires most { count (tree_at nodes.now root) ≤ most_cubes }
@@ -162,13 +179,17 @@ fn gather(
             NodeKind::One(literal) => return literals.push(literal.copy(alloc)?),
             NodeKind::Both(first, second) => {
                 let cubes = nodes[*second].cubes;
-                gather(alloc, nodes, *first, left / cubes, literals)?;
+                gather(alloc, nodes, jumps, *first, left / cubes, literals)?;
                 left %= cubes;
                 at = *second;
             }
             NodeKind::Either(first, second) => {
+                let jump = jumps[at];
                 let cubes = nodes[*first].cubes;
-                if left < cubes {
+                if jump.steps > 0 && jump.cubes <= left {
+                    left -= jump.cubes;
+                    at = jump.to;
+                } else if left < cubes {
                     at = *first;
                 } else {
                     left -= cubes;

@@ -9,7 +9,8 @@
 //!
 //! Costs: `count` and `Cubes::new` take time and memory linear in the terms, but for `distinct`, which has a
 //! part for each pair of its arguments, and `Cubes::new` for the forms, which are added up from the left. A
-//! cube costs its own literals and the depth of the tree.
+//! cube costs its own literals and of each `or` on the way to them the logarithm of its arguments' number:
+//! jumps lead past many alternatives at once.
 //!
 //! ```text
 //! let mut cubes = Cubes::new(alloc, terms)?;     // (or p q), (or r s)
@@ -20,6 +21,7 @@
 mod counts;
 mod cubes;
 mod fault;
+mod jumps;
 mod laws;
 mod node;
 mod past;

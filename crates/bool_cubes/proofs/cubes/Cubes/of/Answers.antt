@@ -1,6 +1,7 @@
 use Rattle.std.proofs.Common.{Err, List, ap, arith, map, subst, ◌∙◌}
 use Rattle.bool_cubes.specs.Cubes.{cube, cubes}
 use Rattle.literal_forms.specs.declared.literal.Cube.{Cube}
+use Rattle.bool_cubes.specs.Jumps.{HasJumps}
 use Rattle.bool_cubes.specs.Nodes.{tree_at}
 use Rattle.bool_cubes.specs.Past.{tree_steps}
 use Rattle.literal_forms.specs.Past.{ArePlain, IsPlainExactly}
@@ -19,8 +20,11 @@ returns-then-cubes-gt-MOST_CUBES-clause-refused c =
     (subst (λ t. ArePlain (tree_steps t)) tree c.in-Ok-tree.ensures, many c.args.terms.now c.count_at-cubes.result cubes (omega arith), cubes)
 
 pub invariant_of-result : goal.invariant_of-result
-invariant_of-result c = giving_all c.args.terms.now c.new-plan.result.nodes c.all_sides.new.plan.nodes c.in-Ok.sides c.count_at-cubes.result c.in-Ok.ensures
-    (counted c.args.terms.now c.new-plan.result.nodes c.all_sides.new.plan.nodes c.in-Ok.sides c.count_at-cubes.result c.in-Ok.ensures c.count_at-cubes.ensures) (omega arith)
+invariant_of-result c = (
+  giving_all c.args.terms.now c.new-plan.result.nodes c.all_sides.new.plan.nodes c.in-Ok.sides c.count_at-cubes.result c.in-Ok.ensures
+      (counted c.args.terms.now c.new-plan.result.nodes c.all_sides.new.plan.nodes c.in-Ok.sides c.count_at-cubes.result c.in-Ok.ensures c.count_at-cubes.ensures) (omega arith),
+  subst (λ ns. HasJumps ns c.in-Ok-all.jumps) c.as_slice-2.ensures c.in-Ok-all.ensures,
+)
 
 pub returns-clause-cubes : goal.returns-clause-cubes
 returns-clause-cubes c = ap (λ t. map cube (cubes t)) (planned_tree c.args.terms.now c.new-plan.result.nodes c.all_sides.new.plan.nodes c.in-Ok.sides c.in-Ok.ensures)
