@@ -1,6 +1,7 @@
 -- Steps of the passes over forms.
 use Rattle.std.proofs.Common.{◌≡◌, refl, sym, ap, ◌∙◌, ℕ, zero, suc, ◌+◌, ◌<◌, ◌≤◌, Bool, false, List, [], ◌∷◌, length, map, get_or, take, drop, ◌-◌, Result, Ok, Err, arith, add-one}
 use Rattle.std.proofs.lemmas.List.{take_all}
+use Rattle.std.specs.List.{list_all}
 use Rattle.sexpr_reader.specs.declared.kind.TokenKind.{TokenKind}
 use Rattle.sexpr_reader.specs.declared.sexpr.Sexpr.{Sexpr}
 use Rattle.sexpr_reader.specs.declared.sexpr.Sexpr.TheVariants as v
@@ -8,14 +9,14 @@ use Rattle.smt_names.specs.declared.check_fault.CheckFault.{CheckFault}
 use Rattle.smt_names.specs.declared.opening.Opening.{Opening}
 use Rattle.smt_names.specs.declared.opening.Opening.TheVariants.{Let, Quantifier, Annotation, Identifier, Application}
 use Rattle.item_passes.specs.declared.pass.Pass.{Pass}
-use Rattle.item_passes.specs.Binders.{are_some, each}
+use Rattle.item_passes.specs.Binders.{are_some, each, is_binding}
 use Rattle.smt_names.specs.Form.{are_all}
 use Rattle.smt_names.specs.Faults.{Answers, ◌>>◌}
 use Rattle.smt_names.specs.Form.{Form, Forms, forms, seen, token, group, end, ◌⨾◌}
 use Rattle.smt_names.specs.Tokens.{chosen}
 use Rattle.item_passes.specs.Passes.{at_identifier, at_numeral, in_list, looked, looked_all, looked_let, looked_values, looked_value, looked_quantifier, looked_annotated}
 use Rattle.smt_names.specs.Tokens.{opening}
-use Rattle.smt_names.specs.Shapes.{seen-Atom, seen-List, none-seen, are-on, are-stop, are-end}
+use Rattle.smt_names.specs.Shapes.{seen-Atom, seen-List, none-seen, are-listed}
 use Rattle.smt_names.specs.Answering.{answers-same, exact-answers}
 
 -- what is looked for in forms from the left, each by `one`, goes on with the next item
@@ -79,7 +80,10 @@ module _ (test : Form → Bool) where
   some-none [] h = refl
   some-none (x ∷ xs) h = absurd (omega arith)
 
-pub ruleset testing = (are-on, are-stop, are-end, some-is, some-none)
+pub bindings-listed : (xs : List Sexpr) → are_all is_binding (forms (map seen xs)) ≡ list_all (λ x. is_binding (seen x)) xs
+bindings-listed = are-listed is_binding
+
+pub ruleset testing = (bindings-listed, some-is, some-none)
 
 -- an atom, and a list of nothing
 module _ (pass : Pass) (b : Sexpr) where

@@ -1,6 +1,7 @@
 // What `let`, quantifiers and macros bind.
 ghost use Rattle.std.specs.Prelude.{◌≡◌, true, not, [], ◌∷◌, ◌++◌, map, IfOk};
 ghost use Rattle.smt_names.specs.Signature.{stands_in};
+ghost use Rattle.std.specs.List.{list_all};
 ghost use Rattle.std.specs.Option.{option_map, option_to_list};
 ghost use Rattle.sv_terms.specs.Names.{symbol_name};
 ghost use Rattle.smt_names.specs.Form.{seen, forms, are_all};
@@ -42,16 +43,10 @@ pub(crate) fn bound_name(item: &Sexpr) -> Option<&[u8]>
     }
 }
 
-#[tactic(auto, using(crate::proofs::Looking::testing))]
 fn all_bindings(items: &[Sexpr]) -> bool
-    ensures { result ≡ are_all binders.is_binding (forms (map seen items.now)) }
+    ensures { result ≡ list_all (λ item. binders.is_binding (seen item)) items.now }
 {
-    for item in items {
-        if !is_binding(item) {
-            return false;
-        }
-    }
-    true
+    items.iter().all(is_binding)
 }
 
 /// Whether they are one or more bindings of `let`.
@@ -63,16 +58,10 @@ pub fn are_bindings(items: &[Sexpr]) -> bool
 }
 
 /// Whether each is a symbol and its sort: the parameters of a macro.
-#[tactic(auto, using(crate::proofs::Looking::testing))]
 pub fn are_parameters(items: &[Sexpr]) -> bool
     ensures { result ≡ are_all binders.is_variable (forms (map seen items.now)) }
 {
-    for item in items {
-        if !is_variable(item) {
-            return false;
-        }
-    }
-    true
+    items.iter().all(is_variable)
 }
 
 /// Whether they are one or more variables of a quantifier.

@@ -1,5 +1,6 @@
 -- What is seen of an s-expression.
-use Rattle.std.proofs.Common.{◌≡◌, refl, sym, ap, ◌∙◌, ℕ, zero, suc, ◌+◌, ◌<◌, ◌≤◌, Bool, true, false, ◌&&◌, List, [], ◌∷◌, length, map, get_or, drop, Some, None, arith, add-one}
+use Rattle.std.proofs.Common.{◌≡◌, refl, sym, ap, ◌∙◌, ℕ, suc, ◌<◌, ◌≤◌, Bool, ◌&&◌, List, [], ◌∷◌, length, map, get_or, drop, Some, None, arith}
+use Rattle.std.specs.List.{list_all}
 use Rattle.sexpr_reader.specs.declared.kind.TokenKind.{TokenKind}
 use Rattle.sexpr_reader.specs.declared.sexpr.Sexpr.{Sexpr}
 use Rattle.sexpr_reader.specs.declared.sexpr.Sexpr.TheVariants as v
@@ -64,25 +65,9 @@ first-seen [] x ys h e f = absurd (omega arith)
 first-seen (a ∷ xs) x ys h e f = λ i. seen (sym e i) ⨾ forms (map seen (sym f i))
 
 -- whether each form passes a test
-module _ (test : Form → Bool) where
-  are-next : (xs : List Sexpr) (i : ℕ) (d : Sexpr) → i < length xs → are_all test (forms (map seen (drop i xs))) ≡ (test (seen (get_or xs i d)) && are_all test (forms (map seen (drop (suc i) xs))))
-  are-next [] i d h = absurd (omega arith)
-  are-next (x ∷ xs) zero d h = refl
-  are-next (x ∷ xs) (suc i) d h = are-next xs i d (omega arith)
-
-  pub are-on : (xs : List Sexpr) (i : ℕ) (d : Sexpr) (w : Bool) → i < length xs → test (seen (get_or xs i d)) ≡ true → are_all test (forms (map seen (drop i xs))) ≡ w → are_all test (forms (map seen (drop (i + 1) xs))) ≡ w
-  are-on xs i d w h e g = rw add-one (sym (ap (λ r. r && are_all test (forms (map seen (drop (suc i) xs)))) e) ∙ sym (are-next xs i d h) ∙ g)
-
-  pub are-stop : (xs : List Sexpr) (i : ℕ) (d : Sexpr) (w : Bool) → i < length xs → test (seen (get_or xs i d)) ≡ false → are_all test (forms (map seen (drop i xs))) ≡ w → false ≡ w
-  are-stop xs i d w h e g = sym (ap (λ r. r && are_all test (forms (map seen (drop (suc i) xs)))) e) ∙ sym (are-next xs i d h) ∙ g
-
-  pub are-end : (xs : List Sexpr) (i : ℕ) (w : Bool) → length xs ≤ i → are_all test (forms (map seen (drop i xs))) ≡ w → true ≡ w
-  are-end [] zero w h g = g
-  are-end [] (suc i) w h g = g
-  are-end (x ∷ xs) zero w h g = absurd (omega arith)
-  are-end (x ∷ xs) (suc i) w h g = are-end xs i w (omega arith) g
-
-pub ruleset listing = (are-on, are-stop, are-end)
+pub are-listed : (test : Form → Bool) (xs : List Sexpr) → are_all test (forms (map seen xs)) ≡ list_all (λ x. test (seen x)) xs
+are-listed test [] = refl
+are-listed test (x ∷ xs) = ap (λ b. test (seen x) && b) (are-listed test xs)
 
 pub ruleset shapes = (seen-Atom, seen-List, two-two, two-few, two-many)
 

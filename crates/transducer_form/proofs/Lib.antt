@@ -1,4 +1,5 @@
 mod Five
 mod Joined
 mod Limits
+mod Listed
 mod States

@@ -1,7 +1,8 @@
 // The written form of a transducer's description. Each takes time linear in the s-expression.
+ghost use Rattle.std.specs.List.{list_all};
 ghost use Rattle.std.specs.Option.{option_map};
-ghost use Rattle.std.specs.Prelude.{◌≡◌, map, codes};
-ghost use Rattle.smt_names.specs.Form.{are_all, forms, seen, two};
+ghost use Rattle.std.specs.Prelude.{◌≡◌, codes};
+ghost use Rattle.smt_names.specs.Form.{seen, two};
 ghost use Rattle.smt_names.specs.Tokens as t;
 ghost use Rattle.transducer_form.specs.Written as w;
 
@@ -29,6 +30,7 @@ pub struct EdgeParts<'a> {
 
 impl<'a> Description<'a> {
     /// The description of these parts, if they are in the written form.
+    #[tactic(auto, using(crate::proofs::Listed::listed))]
     pub fn of(
         states: &'a Sexpr,
         start: &'a Sexpr,
@@ -40,7 +42,7 @@ impl<'a> Description<'a> {
         let states = list_items(states)?;
         let edges = list_items(edges)?;
         let ends = list_items(ends)?;
-        if are_symbols(states) && symbol(start).is_some() && are_edges(edges) && are_ends(ends) {
+        if are_symbols(states) && is_symbol(start) && are_edges(edges) && are_ends(ends) {
             Some(Description {
                 states,
                 start,
@@ -74,6 +76,18 @@ pub(crate) fn edge_parts(edge: &Sexpr) -> Option<EdgeParts<'_>>
         },
         Sexpr::Atom(_, _) => None,
     }
+}
+
+fn is_symbol(part: &Sexpr) -> bool
+    ensures { result ≡ w.is_symbol (seen part.now) }
+{
+    symbol(part).is_some()
+}
+
+fn is_text(part: &Sexpr) -> bool
+    ensures { result ≡ w.is_text (seen part.now) }
+{
+    literal_text(part).is_some()
 }
 
 /// Whether it is the symbol `in`.
@@ -119,92 +133,64 @@ fn is_move(part: &Sexpr) -> bool
 fn is_item(part: &Sexpr) -> bool
     ensures { result ≡ w.is_item (seen part.now) }
 {
-    literal_text(part).is_some() || is_in(part) || is_move(part)
+    is_text(part) || is_in(part) || is_move(part)
 }
 
+#[tactic(auto, using(crate::proofs::Listed::listed))]
 fn is_edge(edge: &Sexpr) -> bool
     ensures { result ≡ w.is_edge (seen edge.now) }
 {
     match edge_parts(edge) {
         Some(parts) => {
-            symbol(parts.from).is_some()
-                && literal_text(parts.low).is_some()
-                && literal_text(parts.high).is_some()
+            is_symbol(parts.from)
+                && is_text(parts.low)
+                && is_text(parts.high)
                 && are_items(parts.items)
-                && symbol(parts.to).is_some()
+                && is_symbol(parts.to)
         }
         None => false,
     }
 }
 
+#[tactic(auto, using(crate::proofs::Listed::listed))]
 fn is_end(end: &Sexpr) -> bool
     ensures { result ≡ w.is_end (seen end.now) }
 {
     match pair(end) {
         Some((state, words)) => match list_items(words) {
-            Some(words) => symbol(state).is_some() && are_texts(words),
+            Some(words) => is_symbol(state) && are_texts(words),
             None => false,
         },
         None => false,
     }
 }
 
-#[tactic(auto, using(smt_names::specs::Shapes::listing))]
 fn are_symbols(parts: &[Sexpr]) -> bool
-    ensures { result ≡ are_all w.is_symbol (forms (map seen parts.now)) }
+    ensures { result ≡ list_all (λ part. w.is_symbol (seen part)) parts.now }
 {
-    for part in parts {
-        if symbol(part).is_none() {
-            return false;
-        }
-    }
-    true
+    parts.iter().all(is_symbol)
 }
 
-#[tactic(auto, using(smt_names::specs::Shapes::listing))]
 fn are_texts(parts: &[Sexpr]) -> bool
-    ensures { result ≡ are_all w.is_text (forms (map seen parts.now)) }
+    ensures { result ≡ list_all (λ part. w.is_text (seen part)) parts.now }
 {
-    for part in parts {
-        if literal_text(part).is_none() {
-            return false;
-        }
-    }
-    true
+    parts.iter().all(is_text)
 }
 
-#[tactic(auto, using(smt_names::specs::Shapes::listing))]
 fn are_items(parts: &[Sexpr]) -> bool
-    ensures { result ≡ are_all w.is_item (forms (map seen parts.now)) }
+    ensures { result ≡ list_all (λ part. w.is_item (seen part)) parts.now }
 {
-    for part in parts {
-        if !is_item(part) {
-            return false;
-        }
-    }
-    true
+    parts.iter().all(is_item)
 }
 
-#[tactic(auto, using(smt_names::specs::Shapes::listing))]
 fn are_edges(parts: &[Sexpr]) -> bool
-    ensures { result ≡ are_all w.is_edge (forms (map seen parts.now)) }
+    ensures { result ≡ list_all (λ part. w.is_edge (seen part)) parts.now }
 {
-    for part in parts {
-        if !is_edge(part) {
-            return false;
-        }
-    }
-    true
+    parts.iter().all(is_edge)
 }
 
-#[tactic(auto, using(smt_names::specs::Shapes::listing))]
 fn are_ends(parts: &[Sexpr]) -> bool
-    ensures { result ≡ are_all w.is_end (forms (map seen parts.now)) }
+    ensures { result ≡ list_all (λ part. w.is_end (seen part)) parts.now }
 {
-    for part in parts {
-        if !is_end(part) {
-            return false;
-        }
-    }
-    true
+    parts.iter().all(is_end)
 }
