@@ -1,5 +1,5 @@
 -- Why a flat cube is left open.
-use Rattle.std.specs.Prelude.{◌≡◌, ◌≢◌, ℕ, ℤ, pos, ◌<◌, ◌<ℤ◌, List, [], map}
+use Rattle.std.specs.Prelude.{◌≡◌, ◌≢◌, ℕ, ℤ, pos, ◌<◌, ◌<ℤ◌, List, [], map, ⊤}
 use Rattle.sv_terms.specs.CutOff.{cut_off}
 use Rattle.sv_terms.specs.Language.{Word}
 use Rattle.machine_core.specs.declared.graph.Graph.{Graph}
@@ -17,7 +17,7 @@ use Rattle.flat_cubes.specs.declared.flat.Flat.{Flat}
 use Rattle.backward.specs.Chains.{width}
 use Rattle.backward.specs.Leaves.{IsLeaf, source_words}
 use Rattle.cube_region.specs.Regions.{Near}
-use Rattle.cube_search.specs.Limits.{most_states, most_splits}
+use Rattle.cube_search.specs.Limits.{GrowsLittle, most_states, most_splits}
 use Rattle.cube_search.specs.OpenLeaves.{HasGivenUp, IsLeftOpen, IsLongFor}
 use Rattle.cube_search.specs.declared.reason.OpenReason.{OpenReason}
 use Rattle.cube_search.specs.declared.reason.OpenReason.TheVariants as reason
@@ -72,3 +72,9 @@ abbrev pub past_reason : PastLimit → OpenReason
 past_reason (past.States n) = reason.States n
 past_reason (past.Splits n) = reason.Splits n
 past_reason (past.Growth n) = reason.Growth n
+
+-- growth is the first limit that is told, so words grow little where it is another
+abbrev pub GrowsLittleUnless : Flat → PastLimit → Type 0
+GrowsLittleUnless flat (past.States n) = GrowsLittle flat
+GrowsLittleUnless flat (past.Splits n) = GrowsLittle flat
+GrowsLittleUnless flat (past.Growth n) = ⊤

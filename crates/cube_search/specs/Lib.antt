@@ -1,3 +1,4 @@
+pub mod Answerable
 pub mod Answers
 pub mod Causes
 pub mod Entries

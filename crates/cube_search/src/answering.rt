@@ -3,9 +3,10 @@ ghost use Rattle.trim_search.specs.declared.build_fault.BuildFault.TheVariants.{
 ghost use Rattle.cube_bounds.specs.Bounds.{states};
 ghost use Rattle.cube_bounds.specs.Measuring.{AreNumbersOf};
 ghost use Rattle.flat_cubes.specs.Straight.{AreNamesApart, HasFormed, IsStraight};
+ghost use Rattle.cube_search.specs.Answerable.{IsAnswerable};
 ghost use Rattle.cube_search.specs.Limits.{GrowsLittle, IsWithinLimits, MustDecideFlat};
 ghost use Rattle.cube_search.specs.Answers.{IsCubeAnswer, IsDecidedCube};
-ghost use Rattle.cube_search.specs.Causes.{IsCauseOf, past_reason};
+ghost use Rattle.cube_search.specs.Causes.{GrowsLittleUnless, IsCauseOf, past_reason};
 ghost use Rattle.cube_search.specs.declared.allowance.Allowance.TheVariants.{Part};
 
 use crate::allowance::Allowance;
@@ -21,7 +22,6 @@ use cube_region::region_of;
 use flat_cubes::Flat;
 use part_machines::{MOST_STATES, Machines};
 use std::alloc::{AllocError, Global};
-use sv_terms::MOST_CHARACTERS;
 use trim_search::BuildFault;
 
 /// A model of the cube, or that it has none, or why it is left open.
@@ -69,12 +69,7 @@ fn answer_within(
     numbers: &Numbers,
     kept: &Machines,
 ) -> Result<CubeAnswer, AllocError>
-    requires straight { IsStraight flat.now }
-    requires formed { HasFormed flat.now }
-    requires apart { AreNamesApart flat.now }
-    requires few { length flat.now.variables < 2 ^ 32 }
-    requires bare { flat.now.rows ≡ [] → flat.now.registers ≡ [] }
-    requires numbers { AreNumbersOf flat.now numbers.now }
+    requires answerable { IsAnswerable flat.now numbers.now }
     requires whole { flat.now.broken ≡ false }
     requires limits { IsWithinLimits flat.now }
     ensures right { IfOk result (IsCubeAnswer flat.now) }
@@ -96,17 +91,13 @@ fn answer_beyond(
     kept: &Machines,
     limit: PastLimit,
 ) -> Result<CubeAnswer, AllocError>
-    requires straight { IsStraight flat.now }
-    requires formed { HasFormed flat.now }
-    requires apart { AreNamesApart flat.now }
-    requires few { length flat.now.variables < 2 ^ 32 }
-    requires bare { flat.now.rows ≡ [] → flat.now.registers ≡ [] }
-    requires numbers { AreNumbersOf flat.now numbers.now }
+    requires answerable { IsAnswerable flat.now numbers.now }
     requires whole { flat.now.broken ≡ false }
     requires cause { IsCauseOf flat.now (past_reason limit) }
+    requires little { GrowsLittleUnless flat.now limit }
     ensures right { IfOk result (IsCubeAnswer flat.now) }
 {
-    if numbers.growth > MOST_CHARACTERS && !flat.rows.is_empty() {
+    if let PastLimit::Growth(_) = limit {
         return Ok(CubeAnswer::Open(limit.reason()));
     }
     match answer_by_search(alloc, flat, numbers, kept, Allowance::Part) {
@@ -125,12 +116,7 @@ fn answer_by_search(
     kept: &Machines,
     allowance: Allowance,
 ) -> Result<CubeAnswer, BuildFault>
-    requires straight { IsStraight flat.now }
-    requires formed { HasFormed flat.now }
-    requires apart { AreNamesApart flat.now }
-    requires few { length flat.now.variables < 2 ^ 32 }
-    requires bare { flat.now.rows ≡ [] → flat.now.registers ≡ [] }
-    requires numbers { AreNumbersOf flat.now numbers.now }
+    requires answerable { IsAnswerable flat.now numbers.now }
     requires whole { flat.now.broken ≡ false }
     requires little { GrowsLittle flat.now }
     ensures right { IfOk result (IsCubeAnswer flat.now) }

@@ -2,7 +2,7 @@
 ghost use Rattle.std.specs.Prelude.{◌≡◌, IfSome, MatchOption};
 ghost use Rattle.cube_bounds.specs.Measuring.{AreNumbersOf};
 ghost use Rattle.cube_search.specs.Limits.{IsWithinLimits, MustDecideFlat};
-ghost use Rattle.cube_search.specs.Causes.{IsCauseOf, past_reason};
+ghost use Rattle.cube_search.specs.Causes.{GrowsLittleUnless, IsCauseOf, past_reason};
 
 use crate::reason::OpenReason;
 use cube_bounds::Numbers;
@@ -39,6 +39,7 @@ impl PastLimit {
 pub fn past_limit(flat: &Flat, numbers: &Numbers) -> Option<PastLimit>
     requires { AreNumbersOf flat.now numbers.now }
     ensures cause { MatchOption result (IsWithinLimits flat.now) (λ limit. IsCauseOf flat.now (past_reason limit)) }
+    ensures little { IfSome result (GrowsLittleUnless flat.now) }
     ensures undecided { IfSome result (λ _. MustDecideFlat flat.now → ⊥) }
 {
     if numbers.growth > MOST_CHARACTERS && !flat.rows.is_empty() {
