@@ -1,6 +1,7 @@
 pub mod Answerable
 pub mod Answers
 pub mod Causes
+pub mod DeadEnds
 pub mod Entries
 pub mod LeafAnswers
 pub mod LeafTallies

@@ -144,7 +144,7 @@ try_cuts-returns-in_err-found-clause-refused t c = λ n e.
 
 pub descend-returns-then-reads_nothing-clause-covered : goal.descend-returns-then-reads_nothing-clause-covered
 descend-returns-then-reads_nothing-clause-covered t c = λ none words totals ints conf obey meets.
-    absurd (c.reads_nothing.ensures c.if-reads_nothing.true words totals (subst (λ w. Conf w c.args.state.now.machines words totals) (sym c.requires.state.registers) conf))
+    absurd (c.reads_nothing.ensures.nothing c.if-reads_nothing.true words totals (subst (λ w. Conf w c.args.state.now.machines words totals) (sym c.requires.state.registers) conf))
 
 pub descend-returns-then-reads_nothing-clause-kept : goal.descend-returns-then-reads_nothing-clause-kept
 descend-returns-then-reads_nothing-clause-kept t c = keeps-same c.args.tally.now
