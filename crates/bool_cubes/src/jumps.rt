@@ -3,7 +3,7 @@
 //! Jumps are of 1, 3, 7, 15 .. steps, as the digits of a number in the skew binary system: a node's is one step and
 //! the next two jumps where these are equal, and one step where they aren't. So a node has one jump only, and each
 //! node of a chain is reached by jumps and single steps about as many as twice the logarithm of its length.
-ghost use Rattle.std.specs.Prelude.{◌≡◌, ◌<◌, ◌≤◌, IfOk, length};
+ghost use Rattle.std.specs.Prelude.{◌≡◌, ◌<◌, IfOk, length};
 ghost use Rattle.bool_cubes.specs.Jumps.{AreJumps, HasJumps, IsJump};
 ghost use Rattle.bool_cubes.specs.Nodes.{IsPlan};
 
