@@ -241,6 +241,8 @@ class Script:
         self.known = self.constants
         self.transducer = self.machine() if self.draw.random() < 0.2 else None
         self.assertions = [self.assertion() for _ in range(self.draw.randint(1, 4))]
+        if self.draw.random() < 0.15:
+            self.assertions += self.crowd()
 
     def of_sort(self, sort):
         return [name for name in self.known if name[0] == sort]
@@ -322,6 +324,19 @@ class Script:
         if roll < 0.93:
             return draw.choice([["str.is_digit", self.text(0)], ["str.<", self.text(0), self.text(0)], ["str.<=", self.text(0), self.text(0)]])
         return draw.choice([*self.of_sort("b"), "true", "false"])
+
+    def crowd(self):
+        """Many tests of one constant of sort String, most of them negated."""
+        draw, name = self.draw, self.draw.choice(self.of_sort("s"))
+        tests = [
+            lambda: ["=", name, self.word()],
+            lambda: ["str.contains", name, self.word()],
+            lambda: ["str.prefixof", self.word(), name],
+            lambda: ["str.suffixof", self.word(), name],
+            lambda: ["str.in_re", name, self.regex(2)],
+        ]
+        drawn = [draw.choice(tests)() for _ in range(draw.randint(5, 12))]
+        return [["not", test] if draw.random() < 0.9 else test for test in drawn]
 
     def formula(self, depth):
         draw, roll = self.draw, self.draw.random()
