@@ -34,7 +34,7 @@ fn early_letter(alloc: Global) -> Result<Regex, AllocError> {
     Ok(Regex::Concat(parts))
 }
 
-fn machine_of_many_lists(alloc: Global) -> Result<Explicit, BuildFault>
+pub(crate) fn machine_of_many_lists(alloc: Global) -> Result<Explicit, BuildFault>
     ensures { IfOk result (λ m. m.registers ≡ 0) }
 {
     let regex = early_letter(alloc)?;

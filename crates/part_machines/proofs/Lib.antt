@@ -5,3 +5,4 @@ pub mod PartLemmas
 pub mod PriceLemmas
 pub mod SideLemmas
 pub mod PairLemmas
+pub mod KeptLemmas

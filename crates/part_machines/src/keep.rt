@@ -1,18 +1,19 @@
 ghost use Rattle.std.specs.Prelude.{◌≡◌, ◌<◌, IfOk, MatchOption};
 ghost use Rattle.sv_terms.specs.Bounds.{size};
+ghost use Rattle.regex_machine.specs.Reversed.{ReadsSameWithin};
 ghost use Rattle.part_machines.specs.Kept.{IsMachineOf, IsKept};
 
 use crate::part::MOST_STATES;
 use lang_pool::Keyed;
 use machine_core::Explicit;
-use regex_machine::build;
+use regex_machine::{build, least};
 use std::alloc::{AllocError, Global};
 use std::marker::Model;
 use sv_terms::{Regex, languages_are_words};
 use trim_search::BuildFault;
 
-/// What came of building the machine of a regular expression, kept beside it: the machine, or that it takes more
-/// states than a machine may have.
+/// What came of building the machine of a regular expression, kept beside it: the machine, made least where it is small
+/// (so that products with it stay small), or that it takes more states than a machine may have.
 #[derive(Drop)]
 pub struct Keep {
     key: Regex,
@@ -51,13 +52,30 @@ impl Keyed<Regex> for Keep {
     }
 }
 
+// Of a machine of more states the least isn't sought, which looks at up to five times as many sets of them.
+const MOST_MADE_LEAST: u32 = 4_096;
+
+// The least machine of the same words, where it is sought and has no more states, and else the machine itself.
+fn make_least(alloc: Global, machine: Explicit) -> Result<Explicit, AllocError>
+    requires { machine.registers ≡ 0 }
+    ensures { IfOk result (ReadsSameWithin machine machine.states) }
+{
+    if machine.states() > MOST_MADE_LEAST {
+        return Ok(machine);
+    }
+    match least(alloc, &machine)? {
+        Some(fewest) => Ok(fewest),
+        None => Ok(machine),
+    }
+}
+
 // The machine of the regular expression; `None` only where its size is above that of any machine.
 fn build_within(alloc: Global, key: &Regex) -> Result<Option<Explicit>, AllocError>
     ensures { IfOk result (IsKept key.now) }
 {
     languages_are_words();
     match build(alloc, key, MOST_STATES) {
-        Ok(machine) => Ok(Some(machine)),
+        Ok(machine) => Ok(Some(make_least(alloc, machine)?)),
         Err(BuildFault::States(_)) => Ok(None),
         Err(BuildFault::Memory(e)) => Err(e),
     }

@@ -13,12 +13,12 @@ ghost use Rattle.part_machines.specs.Parts.{IsOfParts, ReadsParts};
 ghost use Rattle.part_machines.specs.Sides.{AddsSide, AreSides, ReadsOthers};
 
 use crate::machines::Machines;
-use crate::pairs::meet_pairs;
+use crate::pairs::{meet_in_turn, meet_pairs};
 use crate::part::{MOST_STATES, kept_machine, part_machine};
 use crate::pricing::price;
 use flat_cubes::Own;
 use machine_core::{Cost, Explicit};
-use regex_machine::{all_of, complement, difference};
+use regex_machine::{all_of, complement, only_first};
 use std::alloc::{AllocError, Global};
 use sv_list::Items;
 use sv_terms::Regex;
@@ -137,10 +137,10 @@ fn exclude(
     let mut all = Items::new(alloc);
     all.push(machine)?;
     all.append(others)?;
-    difference(alloc, all.as_slice(), MOST_STATES)
+    only_first(alloc, all.as_slice(), MOST_STATES)
 }
 
-// Machines that read the same words together, met in pairs unless a part is a word that is to be.
+// Machines that read the same words together, met in pairs and in turn unless a part is a word that is to be.
 fn meet_ahead(
     alloc: Global,
     parts: &[(Own, bool)],
@@ -152,7 +152,8 @@ fn meet_ahead(
     if parts.iter().any(is_word) {
         return Ok(machines);
     }
-    meet_pairs(alloc, machines)
+    let few = meet_pairs(alloc, machines)?;
+    meet_in_turn(alloc, few)
 }
 
 // The words that meet all parts.
@@ -185,8 +186,8 @@ fn joint_machine(
 ///
 /// A single part takes no product. An expression that no word may be in has its own complement where it is the single
 /// part, or one of several such whose complement has few states, and is else met with the other parts by the subset
-/// construction as far as these lead alone. Where a part is a word that is to be, a product reaches few states, and
-/// neither complements nor pairs are made ahead of it. Machines of regular expressions are asked of `kept`.
+/// construction as far as these lead, from the words' beginnings or from their ends on. Where a part is a word that is to
+/// be, a product reaches few states, and neither complements nor pairs are made ahead of it. Machines of regular expressions are asked of `kept`.
 pub fn own_machine(
     alloc: Global,
     parts: &[(Own, bool)],

@@ -1,5 +1,5 @@
 //! Machines met in pairs ahead of the product of all.
-ghost use Rattle.std.specs.Prelude.{◌+◌, ◌≤◌, ◌<◌, drop, length, take, IfOk, IfSome};
+ghost use Rattle.std.specs.Prelude.{◌≡◌, ◌+◌, ◌≤◌, ◌<◌, drop, length, take, IfOk, IfSome};
 ghost use Rattle.regex_machine.specs.Joined.{HaveNoRegisters};
 ghost use Rattle.part_machines.specs.Pairs.{AreMet, IsMet};
 
@@ -13,9 +13,17 @@ use trim_search::BuildFault;
 // So few machines are left to the product of all.
 const FEW_MACHINES: usize = 4;
 
+// Two machines are met ahead of the others where that reaches at most so many times the states that they have together.
+const TURN_GROWTH: u64 = 16;
+
 // The machine of the words of both machines from this place on. None where there are no two, or where it takes more
-// states than they have together.
-fn meet_two(alloc: Global, machines: &[Explicit], at: usize) -> Result<Option<Explicit>, AllocError>
+// than so many times the states that they have together.
+fn meet_two(
+    alloc: Global,
+    machines: &[Explicit],
+    at: usize,
+    times: u64,
+) -> Result<Option<Explicit>, AllocError>
     requires plain { HaveNoRegisters machines.now }
     requires at { at < length machines.now }
     ensures { IfOk result (λ o. IfSome o (λ m. (at + 2 ≤ length machines.now) × IsMet (take 2 (drop at machines.now)) m)) }
@@ -23,7 +31,8 @@ fn meet_two(alloc: Global, machines: &[Explicit], at: usize) -> Result<Option<Ex
     if machines.len() - at < 2 {
         return Ok(None);
     }
-    let limit = u64::from(machines[at].states()) + u64::from(machines[at + 1].states());
+    let together = u64::from(machines[at].states()) + u64::from(machines[at + 1].states());
+    let limit = together.saturating_mul(times);
     match all_of(alloc, &machines[at..at + 2], limit.min(MOST_STATES)) {
         Ok(both) => Ok(Some(both)),
         Err(BuildFault::States(_)) => Ok(None),
@@ -39,7 +48,7 @@ fn meet_neighbours(alloc: Global, machines: &[Explicit]) -> Result<Items<Explici
     let mut met = Items::new(alloc);
     let mut at = 0;
     while at < machines.len() {
-        match meet_two(alloc, machines, at)? {
+        match meet_two(alloc, machines, at, 1)? {
             Some(both) => {
                 met.push(both)?;
                 at += 2;
@@ -67,6 +76,42 @@ pub fn meet_pairs(alloc: Global, machines: Items<Explicit>) -> Result<Items<Expl
         met = meet_neighbours(alloc, met.as_slice())?;
         if met.len() >= count - count / 4 {
             return Ok(met);
+        }
+    }
+    Ok(met)
+}
+
+// The machines with this one in place of the last two, which reads what both read.
+fn replace_last(
+    machines: Items<Explicit>,
+    at: usize,
+    both: Explicit,
+) -> Result<Items<Explicit>, AllocError>
+    requires plain { HaveNoRegisters machines }
+    requires at { at + 2 ≡ length machines }
+    requires met { IsMet (take 2 (drop at machines)) both }
+    ensures met { IfOk result (AreMet machines) }
+    ensures fewer { IfOk result (λ met. length met < length machines) }
+{
+    let mut met = machines;
+    met.truncate(at);
+    met.push(both)?;
+    Ok(met)
+}
+
+/// Machines that read the same words together, fewer of them: the last one is met with the one before it, and what comes
+/// of that with the one before, as long as that reaches few states. What leads to no end is left out between two such
+/// products; in one product of all it is only left out at the end.
+pub fn meet_in_turn(alloc: Global, machines: Items<Explicit>) -> Result<Items<Explicit>, AllocError>
+    requires { HaveNoRegisters machines }
+    ensures { IfOk result (AreMet machines) }
+{
+    let mut met = machines;
+    'turns: while met.len() > 1 {
+        let at = met.len() - 2;
+        match meet_two(alloc, met.as_slice(), at, TURN_GROWTH)? {
+            Some(both) => met = replace_last(met, at, both)?,
+            None => return Ok(met),
         }
     }
     Ok(met)

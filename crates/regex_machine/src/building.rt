@@ -12,7 +12,9 @@ ghost use Rattle.regex_machine.specs.Parts.{AddsParts};
 ghost use Rattle.regex_machine.specs.declared.kind.JoinKind.TheVariants.{Turn, One, All};
 ghost use Rattle.trim_search.specs.declared.build_fault.BuildFault.TheVariants.{States};
 
-use crate::joining::{all_of, complement, difference, repeat};
+use crate::complements::complement;
+use crate::differences::only_first;
+use crate::joining::{all_of, repeat};
 use crate::leaves::{any_word, no_character, no_word, one_between, one_character, one_word};
 use crate::letters::between;
 use crate::onward::{Onward, Rest};
@@ -237,7 +239,7 @@ fn make_difference(alloc: Global, rs: &[Regex], limit: u64) -> Result<Explicit, 
     ensures { Builds (InFirstOnly In rs.now) (from_left without_size (map size rs.now)) limit result }
 {
     let parts = make_all(alloc, rs, limit)?;
-    difference(alloc, parts.as_slice(), limit)
+    only_first(alloc, parts.as_slice(), limit)
 }
 
 // The machine of each expression.

@@ -18,17 +18,25 @@
 #![tactic(auto)]
 
 mod building;
+mod complements;
 mod copies;
+mod differences;
 mod explored;
 mod joining;
 mod kind;
 mod leaves;
 mod letters;
+mod minimal;
 mod onward;
+mod reversal;
 mod sides;
 mod stepping;
 mod woven;
 mod written;
 
 pub use building::build;
-pub use joining::{all_of, complement, difference};
+pub use complements::complement;
+pub use differences::only_first;
+pub use joining::{all_of, difference};
+pub use minimal::least;
+pub use reversal::reversed;

@@ -2,7 +2,7 @@ use Rattle.std.proofs.Common.{◌^◌, ap, arith}
 use Rattle.machine_core.specs.declared.graph.Graph.{Graph}
 use Rattle.regex_machine.proofs.BuiltLemmas.{builds-as}
 use Rattle.regex_machine.proofs.SideLemmas.{other-words}
-use Rattle.regex_machine.proofs.joining.complement.Goals as goal
+use Rattle.regex_machine.proofs.complements.by_sets.Goals as goal
 
 pub returns : goal.returns
 returns c =
