@@ -10,3 +10,4 @@ pub mod Leading
 pub mod Liftings
 pub mod Parts
 pub mod FreeLaws
+pub mod Moved

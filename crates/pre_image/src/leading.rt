@@ -5,6 +5,7 @@ ghost use Rattle.machine_core.specs.declared.machine.Move.{Move};
 ghost use Rattle.machine_core.specs.Moves.{Moves};
 ghost use Rattle.machine_core.specs.Edges.{edges_top};
 ghost use Rattle.pre_image.specs.Spelling.{moved_to, spelling};
+ghost use Rattle.pre_image.specs.Moved.{AreCharacters};
 ghost use Rattle.pre_image.specs.Leading.{next_of, spelled, GoesOn, Led, IsLead, AreLeads};
 ghost use Rattle.machine_core.specs.Costs.{CanAdd};
 ghost use Rattle.sv_word.specs.Words.{greatest_character};
@@ -79,32 +80,32 @@ fn move_back(alloc: Global, pair: (u32, u32), by: i32) -> Result<Ranges, AllocEr
     Ranges::of(alloc, pair.0.saturating_sub(steps), pair.1 - steps)
 }
 
-// Beside these characters, those of a lead that are in the pair once they are moved by this number.
-fn join_moved(
-    alloc: Global,
-    on: &Ranges,
-    lead: &Ranges,
-    pair: (u32, u32),
-    by: i32,
-) -> Result<Ranges, AllocError>
-    requires { pair.1 ≤ greatest_character }
-    ensures { IfOk result (λ r. (c : ℕ) → in_ranges r c ≡ (in_ranges on.now c || (in_ranges lead.now c && in_pair pair (moved_to by c)))) }
+// The characters that some pair has once they are moved by this number. Halves are joined, so that of scattered characters
+// each is copied as often as their number can be halved.
+#[cycle(move_all_back)]
+fn move_all_back(alloc: Global, pairs: &[(u32, u32)], by: i32) -> Result<Ranges, AllocError>
+    requires { AreCharacters pairs.now }
+    ensures { IfOk result (λ r. (c : ℕ) → c ≤ greatest_character → in_ranges r c ≡ in_ranges pairs.now (moved_to by c)) }
 {
-    let _lead = lead.as_slice();
-    let window = move_back(alloc, pair, by)?;
-    let more = lead.meet(alloc, &window)?;
-    on.join(alloc, &more)
+    match pairs {
+        [] => Ok(Ranges::none(alloc)),
+        [pair] => move_back(alloc, *pair, by),
+        _ => {
+            let (front, rest) = pairs.split_at(pairs.len() / 2);
+            let first = move_all_back(alloc, front, by)?;
+            let others = move_all_back(alloc, rest, by)?;
+            first.join(alloc, &others)
+        }
+    }
 }
 
 // The characters of a lead that are read by a move once they are moved by this number.
 fn meet_moved(alloc: Global, lead: &Ranges, step: &Ranges, by: i32) -> Result<Ranges, AllocError>
     ensures { IfOk result (λ r. (c : ℕ) → in_ranges r c ≡ (in_ranges lead.now c && in_ranges step.now (moved_to by c))) }
 {
-    let mut on = Ranges::none(alloc);
-    for pair in step.as_slice() {
-        on = join_moved(alloc, &on, lead, *pair, by)?;
-    }
-    Ok(on)
+    let _lead = lead.as_slice();
+    let moved = move_all_back(alloc, step.as_slice(), by)?;
+    lead.meet(alloc, &moved)
 }
 
 // The characters of a lead for which a move reads what is written next.
