@@ -374,3 +374,13 @@ back-twice m b n limit h r = (
   },
   r.1,
 )
+
+-- where no word is in the first one alone of machines turned round, none is so
+pub none-turned : (ms ts : List Graph) → AreReversed ms ts → ((w : Word) → InFirstOnly WordsOf ts w → ⊥) → (w : Word) → InFirstOnly WordsOf ms w → ⊥
+none-turned ms ts back none w h = none (reverse w) ((first-turned ms ts back (reverse w)).1 (subst (InFirstOnly WordsOf ms) (sym (reverse-reverse w)) h))
+
+pub none-within : (ms : List Graph) (m : Graph) (most : ℕ) → ((w : Word) → InFirstOnly WordsOf ms w → ⊥) → HasWords (λ w. ⊥) m → m.states ≤ 1 → 1 ≤ most → ReadsFirstOnlyWithin ms most m
+none-within ms m most none reads few some = (
+  record { plain = reads.plain; words = λ w. (λ r. absurd ((reads.words w).0 r), λ h. absurd (none w h)) },
+  omega (arith, few, some),
+)

@@ -7,7 +7,9 @@ ghost use Rattle.regex_machine.specs.Joined.{WordsOf, HaveNoRegisters};
 ghost use Rattle.regex_machine.specs.Kinds.{states_of};
 ghost use Rattle.regex_machine.specs.Reversed.{AreReversed, ReadsFirstOnlyWithin};
 
+use crate::emptiness::none_in_first_only;
 use crate::joining::difference;
+use crate::letters::nothing;
 use crate::reversal::reversed;
 use machine_core::Explicit;
 use std::alloc::{AllocError, Global};
@@ -21,6 +23,9 @@ const FIRST_TRY: u64 = 256;
 // Each further one takes so many times the states of the one before it. None takes more than this part of the limit, so
 // that all tries together cost less than the last product.
 const TRY_GROWTH: u64 = 4;
+
+// So many places of a product are looked at for whether it reads any word.
+const FEW_PLACES: usize = 1_024;
 
 // Machines that read the words from their ends on, one for each part.
 fn reversed_all(alloc: Global, parts: &[Explicit]) -> Result<Items<Explicit>, AllocError>
@@ -87,6 +92,27 @@ fn from_either(
     }
 }
 
+// The machine of no word, where few places of the product, of the one or of the other, show that there is none.
+fn from_places(
+    alloc: Global,
+    parts: &[Explicit],
+    turned: &[Explicit],
+    most: u64,
+) -> Result<Option<Explicit>, AllocError>
+    requires plain { HaveNoRegisters parts.now }
+    requires turned { AreReversed parts.now turned.now }
+    requires most { 1 ≤ most }
+    ensures { IfOk result (λ o. IfSome o (ReadsFirstOnlyWithin parts.now most)) }
+{
+    if none_in_first_only(alloc, turned, FEW_PLACES)? {
+        return Ok(Some(nothing(alloc)?));
+    }
+    if none_in_first_only(alloc, parts, FEW_PLACES)? {
+        return Ok(Some(nothing(alloc)?));
+    }
+    Ok(None)
+}
+
 // The one or the other, by tries of more and more states, each below a quarter of `most`.
 fn by_tries(
     alloc: Global,
@@ -123,7 +149,8 @@ fn most_tried(parts: &[Explicit], limit: u64) -> u64
 
 /// The words of the first part that are in no other, and none where there is no part. The sets of states of the others
 /// are made as those of the first part lead to them, from the words' beginnings on or from their ends on, whichever
-/// ends first where both are tried with more and more states.
+/// ends first where both are tried with more and more states; and where few places of either product show that there is no
+/// such word, nothing more is made.
 ///
 /// Takes at most eight times the states of the smaller product, and below three times the limit where neither is within
 /// it.
@@ -141,6 +168,9 @@ pub fn only_first(alloc: Global, parts: &[Explicit], limit: u64) -> Result<Expli
     }
     let turned = reversed_all(alloc, parts)?;
     let list = turned.as_slice();
+    if let Some(machine) = from_places(alloc, parts, list, most)? {
+        return Ok(machine);
+    }
     if let Some(machine) = by_tries(alloc, parts, list, most)? {
         return Ok(machine);
     }
