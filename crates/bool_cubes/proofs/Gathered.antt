@@ -66,7 +66,7 @@ module _ (ns : List CubeNode) (at : ℕ) (n : CubeNode) (left : ℕ) (p : IsPlan
   pub one_part : (l : Literal) → n.kind ≡ kind.One l → cube_at (tree_at ns at) left ≡ l ∷ []
   one_part l e = ap (λ t. cube_at t left) (tree_is (kind.One l) e)
 
-  stored : (k : ℕ) (m : CubeNode) → k < length ns → m ≡ get_or ns k m → count (tree_at ns k) ≤ most_cubes → m.cubes ≡ count (tree_at ns k)
+  pub stored : (k : ℕ) (m : CubeNode) → k < length ns → m ≡ get_or ns k m → count (tree_at ns k) ≤ most_cubes → m.cubes ≡ count (tree_at ns k)
   stored k m l e h = (p.each k m l e).cubes ∙ uncut (count (tree_at ns k)) h
 
 -- a node of both, and one of either

@@ -13,3 +13,5 @@ pub mod Steps
 pub mod Walked
 pub mod Gathered
 pub mod Jumped
+pub mod Holding
+pub mod Leading

@@ -20,13 +20,17 @@
 
 mod counts;
 mod cubes;
+mod digest;
 mod fault;
 mod jumps;
+mod known;
 mod laws;
+mod marks;
 mod node;
 mod past;
 mod plan;
 mod planning;
+mod stretch;
 
 pub use counts::count;
 pub use cubes::Cubes;
