@@ -6,7 +6,11 @@ use Rattle.std.proofs.Math.Bool.{beq}
 use Rattle.std.specs.List.{Contains}
 use Rattle.std.proofs.lemmas.Bool.{cases_lt}
 use Rattle.std.proofs.lemmas.List.Elements.{Contains-append_left, Contains-append_right, Contains-append_cases}
-use Rattle.bool_cubes.specs.Contradictions.{IsContradictory}
+use Rattle.bool_cubes.specs.Contradictions.{ContradictionsAreFalse, IsContradictory}
+use Rattle.literal_forms.specs.Literals.{AreTrueLiterals, IsTrueLiteral}
+use Rattle.sv_terms.specs.Meaning.{Named, val}
+use Rattle.sv_terms.specs.declared.value.Value.{Value}
+use Rattle.sv_terms.specs.declared.value.Value.TheVariants.{Truth}
 use Rattle.bool_cubes.specs.Cubes.{count}
 use Rattle.bool_cubes.specs.Held.{AreDead, AreHeld, AreMust, IsDead, IsForced, IsHeldNode, IsKnown, IsMust, IsOpposed}
 use Rattle.bool_cubes.specs.Nodes.{IsOfEarlier, IsPlan, made, tree_at, trees_of}
@@ -64,18 +68,21 @@ opposite true false h = refl
 opposite false true h = refl
 opposite false false h = absurd (h refl)
 
-pub opposed : (ls : List Literal) (l m : Literal) → Contains ls m → m.atom ≡ l.atom → (m.positive ≡ l.positive → ⊥) → IsContradictory (ls ++ l ∷ [])
-opposed ls l m c e f = by l.positive refl
+pub opposites : (ls : List Literal) (l m : Literal) → Contains ls l → Contains ls m → m.atom ≡ l.atom → (m.positive ≡ l.positive → ⊥) → IsContradictory ls
+opposites ls l m a c e f = by l.positive refl
   where
-    own : (b : Bool) → l.positive ≡ b → Contains (ls ++ l ∷ []) (record { atom = l.atom; positive = b })
-    own b p = subst (λ x. Contains (ls ++ l ∷ []) x) (same_literal l l.atom b refl p) (Contains-append_right ls (l ∷ []) l (own_one l))
+    own : (b : Bool) → l.positive ≡ b → Contains ls (record { atom = l.atom; positive = b })
+    own b p = subst (λ x. Contains ls x) (same_literal l l.atom b refl p) a
 
-    other : (b : Bool) → l.positive ≡ b → Contains (ls ++ l ∷ []) (record { atom = l.atom; positive = not b })
-    other b p = subst (λ x. Contains (ls ++ l ∷ []) x) (same_literal m l.atom (not b) e (opposite l.positive m.positive f ∙ ap not p)) (Contains-append_left ls (l ∷ []) m c)
+    other : (b : Bool) → l.positive ≡ b → Contains ls (record { atom = l.atom; positive = not b })
+    other b p = subst (λ x. Contains ls x) (same_literal m l.atom (not b) e (opposite l.positive m.positive f ∙ ap not p)) c
 
-    by : (b : Bool) → l.positive ≡ b → IsContradictory (ls ++ l ∷ [])
+    by : (b : Bool) → l.positive ≡ b → IsContradictory ls
     by true p = record { atom = l.atom; holds = own true p; fails = other true p }
     by false p = record { atom = l.atom; holds = other false p; fails = own false p }
+
+pub opposed : (ls : List Literal) (l m : Literal) → Contains ls m → m.atom ≡ l.atom → (m.positive ≡ l.positive → ⊥) → IsContradictory (ls ++ l ∷ [])
+opposed ls l m c e f = opposites (ls ++ l ∷ []) l m (Contains-append_right ls (l ∷ []) l (own_one l)) (Contains-append_left ls (l ∷ []) m c) e f
 
 -- a node and its tree
 module _ (ns : List CubeNode) (at : ℕ) (n : CubeNode) (p : IsPlan ns) (w : at < length ns) (g : n ≡ get_or ns at n) where
@@ -273,3 +280,15 @@ unmarked e = cc
 
 pub must_none : (ns : List CubeNode) (root : ℕ) (m : List Bool) (n : ℕ) → m ≡ replicate n false → AreMust ns root m
 must_none ns root m n e = subst (λ x. AreMust ns root x) (sym e) (record { each = λ k g. absurd (unmarked (slice_get-replicate n k false true g)) })
+
+-- what is true of all literals is true of one of them
+true_at : (values : Named) (ls : List Literal) → AreTrueLiterals values ls → (l : Literal) → Contains ls l → IsTrueLiteral values l
+true_at values [] h l (k, b, e) = absurd (omega (arith, b))
+true_at values (m ∷ ls) h l (zero, b, e) = subst (λ x. IsTrueLiteral values x) e h.0
+true_at values (m ∷ ls) h l (suc k, b, e) = true_at values ls h.1 l (k, omega (arith, b), e)
+
+two_values : (v : Option Value) → v ≡ Some (Truth true) → v ≡ Some (Truth false) → ⊥
+two_values v e f = cc
+
+pub contradictions_are_false : ContradictionsAreFalse
+contradictions_are_false values ls h t = two_values (val values h.atom) (true_at values ls t (record { atom = h.atom; positive = true }) h.holds) (true_at values ls t (record { atom = h.atom; positive = false }) h.fails)

@@ -34,18 +34,18 @@ module _ (t : Tree) (n : ℕ) (u v : Tree) (m : ℕ) (gone : List Literal) where
   pub leads_second : count u ≤ m → Leads t n (either u v) m gone → Leads t n v (m - count u) gone
   leads_second b h = record {
     each = λ d l.
-      let p = h.each d (omega (arith, l, b)) in
-      let e : m + d - count u ≡ m - count u + d = omega (arith, b) in
-      (p.0, subst (λ c. AreAmong (gone ++ c) (cube_at t (n + d))) (chosen_second (m + d) (count u) (cube_at u (m + d)) (cube_at v (m + d - count u)) (omega (arith, b)) ∙ ap (cube_at v) e) p.1);
+        let p = h.each d (omega (arith, l, b)) in
+        let e : m + d - count u ≡ m - count u + d = omega (arith, b) in
+        (p.0, subst (λ c. AreAmong (gone ++ c) (cube_at t (n + d))) (chosen_second (m + d) (count u) (cube_at u (m + d)) (cube_at v (m + d - count u)) (omega (arith, b)) ∙ ap (cube_at v) e) p.1);
   }
 
   pub leads_behind : (passed : ℕ) → IsBehind u v passed → passed ≤ m → Leads t n u m gone → Leads t n v (m - passed) gone
   leads_behind passed j b h = record {
     each = λ d l.
-      let w = j.within in
-      let p = h.each d (omega (arith, l, b, w)) in
-      let e : m + d - passed ≡ m - passed + d = omega (arith, b) in
-      (p.0, subst (λ c. AreAmong (gone ++ c) (cube_at t (n + d))) (j.same (m + d) (omega (arith, b)) (omega (arith, l, b, w)) ∙ ap (cube_at v) e) p.1);
+        let w = j.within in
+        let p = h.each d (omega (arith, l, b, w)) in
+        let e : m + d - passed ≡ m - passed + d = omega (arith, b) in
+        (p.0, subst (λ c. AreAmong (gone ++ c) (cube_at t (n + d))) (j.same (m + d) (omega (arith, b)) (omega (arith, l, b, w)) ∙ ap (cube_at v) e) p.1);
   }
 
   digits : (d : ℕ) → m % count v + d < count v → ((m + d) / count v ≡ m / count v) × ((m + d) % count v ≡ m % count v + d)
@@ -72,13 +72,13 @@ module _ (t : Tree) (n : ℕ) (u v : Tree) (m : ℕ) (gone : List Literal) where
   pub leads_both : m < count u * count v → Leads t n (both u v) m gone → Leads t n v (m % count v) (gone ++ cube_at u (m / count v))
   leads_both b h = record {
     each = λ d l.
-      let p = h.each d (inside d b l) in
-      let e = digits d l in
-      let x = cube_at u (m / count v) in
-      let y = cube_at v (m % count v + d) in
-      let whole : cube_at u ((m + d) / count v) ++ cube_at v ((m + d) % count v) ≡ x ++ y = ap (λ k. cube_at u k ++ cube_at v ((m + d) % count v)) e.0 ∙ ap (λ k. x ++ cube_at v k) e.1 in
-      let a : AreAmong (gone ++ (x ++ y)) (cube_at t (n + d)) = subst (λ c. AreAmong (gone ++ c) (cube_at t (n + d))) whole p.1 in
-      (p.0, subst (λ c. AreAmong c (cube_at t (n + d))) (sym (append_assoc gone x y)) a);
+        let p = h.each d (inside d b l) in
+        let e = digits d l in
+        let x = cube_at u (m / count v) in
+        let y = cube_at v (m % count v + d) in
+        let whole : cube_at u ((m + d) / count v) ++ cube_at v ((m + d) % count v) ≡ x ++ y = ap (λ k. cube_at u k ++ cube_at v ((m + d) % count v)) e.0 ∙ ap (λ k. x ++ cube_at v k) e.1 in
+        let a : AreAmong (gone ++ (x ++ y)) (cube_at t (n + d)) = subst (λ c. AreAmong (gone ++ c) (cube_at t (n + d))) whole p.1 in
+        (p.0, subst (λ c. AreAmong c (cube_at t (n + d))) (sym (append_assoc gone x y)) a);
   }
 
 -- a stretch of the first tree's cubes
@@ -100,18 +100,18 @@ quotient_below : (c m d q r ahead : ℕ) (a z : ℕ) → c * a + z ≡ m → c *
 quotient_below c m d q r ahead a z own more some l = ⊎_elim
     (λ k. omega (arith, k, some))
     (λ g.
-  let top : c * (a + ahead) ≤ c * q = mul-le-mul_left c g in
-  let split : c * (a + ahead) ≡ c * a + c * ahead = mul-add c a ahead in
-  let turn : ahead * c ≡ c * ahead = mul_comm ahead c in
-  absurd (omega (arith, top, split, turn, own, more, l)))
+    let top : c * (a + ahead) ≤ c * q = mul-le-mul_left c g in
+    let split : c * (a + ahead) ≡ c * a + c * ahead = mul-add c a ahead in
+    let turn : ahead * c ≡ c * ahead = mul_comm ahead c in
+    absurd (omega (arith, top, split, turn, own, more, l)))
     (cases_lt q (a + ahead))
 
 quotient_least : (c m d q r a z : ℕ) → c * a + z ≡ m → c * q + r ≡ m + d → r < c → a + (q - a) ≡ q
 quotient_least c m d q r a z own more low = ⊎_elim
     (λ g.
-  let top : c * (q + 1) ≤ c * a = mul-le-mul_left c (omega (arith, g)) in
-  let split : c * (q + 1) ≡ c * q + c * 1 = mul-add c q 1 in
-  absurd (omega (arith, top, split, low, own, more)))
+    let top : c * (q + 1) ≤ c * a = mul-le-mul_left c (omega (arith, g)) in
+    let split : c * (q + 1) ≡ c * q + c * 1 = mul-add c q 1 in
+    absurd (omega (arith, top, split, low, own, more)))
     (λ g. omega (arith, g))
     (cases_lt q a)
 

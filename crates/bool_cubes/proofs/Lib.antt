@@ -15,3 +15,4 @@ pub mod Gathered
 pub mod Jumped
 pub mod Holding
 pub mod Leading
+pub mod Ahead

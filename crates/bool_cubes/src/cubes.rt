@@ -139,14 +139,15 @@ impl Cubes {
         ensures within { IfOk result (λ cubes. cubes ≤ length self.now) }
         ensures contradictory { IfOk result (λ cubes. AllByRecursion IsContradictoryCube (take cubes self.now)) }
     {
-        stretches(
+        let cubes = stretches(
             alloc,
             self.nodes.as_slice(),
             self.jumps.as_slice(),
             &self.known,
             self.root,
             self.given,
-        )
+        )?;
+        Ok(cubes)
     }
 
     /// Leaves the next cubes out, so many or all. Takes no memory.

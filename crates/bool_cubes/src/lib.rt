@@ -5,6 +5,9 @@
 //! exactly where they make some cube true. The cubes come one after another, in a fixed order, and a
 //! cube is made from its number alone, so none is kept.
 //!
+//! Stretches of cubes that hold an atom and its negation are found from their number, without making them: those that
+//! share the choices by which they hold both.
+//!
 //! What leaves 128 bits in the linear form of an atom is found before the first cube is given.
 //!
 //! Costs: `count` and `Cubes::new` take time and memory linear in the terms, but for `distinct`, which has a
@@ -18,6 +21,7 @@
 //! ```
 #![tactic(auto)]
 
+mod contradiction;
 mod counts;
 mod cubes;
 mod digest;
@@ -32,6 +36,7 @@ mod plan;
 mod planning;
 mod stretch;
 
+pub use contradiction::{contradictions_are_false, is_contradictory};
 pub use counts::count;
 pub use cubes::Cubes;
 pub use fault::CubeFault;

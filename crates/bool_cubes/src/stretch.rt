@@ -101,6 +101,7 @@ fn stretch(
 }
 
 /// The same of all stretches, one after another.
+#[tactic(auto, using(crate::proofs::Ahead::none_ahead, crate::proofs::Ahead::root_cubes))]
 pub fn stretches(
     alloc: Global,
     nodes: &[CubeNode],
