@@ -1,7 +1,7 @@
 -- What follows from literals that are held.
-use Rattle.std.proofs.Common.{◌≡◌, refl, sym, ap, ◌∙◌, subst, ℕ, zero, suc, ◌+◌, ◌-◌, ◌*◌, ◌/◌, ◌%◌, ◌<◌, ◌≤◌, ◌⊎◌, inl, inr, Bool, true, false, List, [], ◌∷◌, ◌++◌, length, Option, Some, None, replicate, slice_get, get_or, arith, ⊎_elim}
+use Rattle.std.proofs.Common.{◌≡◌, refl, sym, ap, ◌∙◌, subst, ℕ, zero, suc, ◌-◌, ◌/◌, ◌%◌, ◌<◌, ◌≤◌, ◌⊎◌, inl, inr, Bool, true, false, List, [], ◌∷◌, ◌++◌, length, Option, Some, None, replicate, slice_get, get_or, arith, ⊎_elim}
 use Rattle.sv_list.specs.Lists.{slice_get-replicate}
-use Rattle.std.specs.Prelude.{not, slice_set, nat_lt}
+use Rattle.std.specs.Prelude.{not, slice_set}
 use Rattle.std.proofs.Math.Bool.{beq}
 use Rattle.std.specs.List.{Contains}
 use Rattle.std.proofs.lemmas.Bool.{cases_lt}
@@ -12,14 +12,13 @@ use Rattle.sv_terms.specs.Meaning.{Named, val}
 use Rattle.sv_terms.specs.declared.value.Value.{Value}
 use Rattle.sv_terms.specs.declared.value.Value.TheVariants.{Truth}
 use Rattle.bool_cubes.specs.Cubes.{count}
-use Rattle.bool_cubes.specs.Held.{AreDead, AreHeld, AreMust, IsDead, IsForced, IsHeldNode, IsKnown, IsMust, IsOpposed}
+use Rattle.bool_cubes.specs.Held.{AreDead, AreHeld, AreMust, IsDead, IsForced, IsKnown, IsMust, IsOpposed}
 use Rattle.bool_cubes.specs.Nodes.{IsOfEarlier, IsPlan, made, tree_at, trees_of}
 use Rattle.bool_cubes.specs.Picking.{cube_at}
-use Rattle.bool_cubes.specs.Trees.{Tree, always, never, one, both, either}
+use Rattle.bool_cubes.specs.Trees.{Tree, never, one, both, either}
 use Rattle.bool_cubes.specs.declared.known.Known.{Known}
 use Rattle.bool_cubes.specs.declared.node.CubeNode.{CubeNode}
 use Rattle.bool_cubes.specs.declared.node.NodeKind.{NodeKind}
-use Rattle.bool_cubes.specs.declared.node.NodeKind.TheVariants as kind
 use Rattle.literal_forms.specs.declared.literal.Literal.{Literal}
 use Rattle.sv_terms.specs.declared.term.Term.{Term}
 use Rattle.bool_cubes.proofs.Gathered.{chosen_first, chosen_second}

@@ -1,21 +1,20 @@
 -- Cubes of a node within those of a root, on the way down to one number.
-use Rattle.std.proofs.Common.{◌≡◌, refl, sym, ap, ◌∙◌, subst, ℕ, zero, suc, ◌+◌, ◌-◌, ◌*◌, ◌/◌, ◌%◌, ◌<◌, ◌≤◌, Bool, true, List, [], ◌∷◌, ◌++◌, length, Option, get_or, append-nil, append_assoc, arith, ⊎_elim}
-use Rattle.std.specs.List.{Contains}
+use Rattle.std.proofs.Common.{◌≡◌, sym, ap, ◌∙◌, subst, ℕ, zero, suc, ◌+◌, ◌-◌, ◌*◌, ◌/◌, ◌%◌, ◌<◌, ◌≤◌, Bool, List, [], ◌++◌, Option, get_or, append_assoc, arith, ⊎_elim}
 use Rattle.std.proofs.lemmas.Bool.{cases_lt}
 use Rattle.std.proofs.lemmas.Nat.{div-mul-add}
 use Rattle.std.proofs.Math.Nat.{div-add-mod, mul-add, mul_comm, mul-le-mul_left}
 use Rattle.bool_cubes.specs.Contradictions.{IsContradictory}
 use Rattle.bool_cubes.specs.Cubes.{count}
-use Rattle.bool_cubes.specs.Held.{AreDead, AreHeld, IsDead}
+use Rattle.bool_cubes.specs.Held.{AreDead, AreHeld}
 use Rattle.bool_cubes.specs.Jumps.{IsBehind}
 use Rattle.bool_cubes.specs.Nodes.{IsPlan, tree_at}
 use Rattle.bool_cubes.specs.Picking.{cube_at}
-use Rattle.bool_cubes.specs.Trees.{Tree, both, either, one}
+use Rattle.bool_cubes.specs.Trees.{Tree, both, either}
 use Rattle.bool_cubes.specs.declared.node.CubeNode.{CubeNode}
 use Rattle.bool_cubes.specs.declared.node.NodeKind.TheVariants as kind
 use Rattle.literal_forms.specs.declared.literal.Literal.{Literal}
 use Rattle.bool_cubes.proofs.Gathered.{IsNumberIn, both_parts, chosen_first, chosen_second, stored}
-use Rattle.bool_cubes.proofs.Holding.{AreAmong, among_both, among_left, among_more, among_right, contradictory_more, dead_more, held_more, kind_earlier, kind_tree}
+use Rattle.bool_cubes.proofs.Holding.{AreAmong, among_both, among_left, among_right, contradictory_more, dead_more, held_more, kind_earlier, kind_tree}
 use Rattle.bool_cubes.proofs.Picked.{digit_below}
 
 -- the cubes of u from the m-th on are parts of those of t from the n-th on, each with what is gone

@@ -1,4 +1,4 @@
-use Rattle.std.proofs.Common.{ap, arith, false, length, length-set, replicate, true, ◌∙◌}
+use Rattle.std.proofs.Common.{ap, arith, false, length, length-set, true, ◌∙◌}
 use Rattle.std.proofs.lemmas.List.{length-replicate}
 use Rattle.bool_cubes.specs.Nodes.{tree_at}
 use Rattle.bool_cubes.proofs.Holding.{must_itself, must_kept, must_none}

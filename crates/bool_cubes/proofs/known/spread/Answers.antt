@@ -1,4 +1,4 @@
-use Rattle.std.proofs.Common.{ap, get_or, slice_get, subst, sym, true, Some, ◌≡◌}
+use Rattle.std.proofs.Common.{ap, get_or, slice_get, subst, true, Some, ◌≡◌}
 use Rattle.bool_cubes.specs.Held.{IsMust}
 use Rattle.bool_cubes.specs.Nodes.{tree_at}
 use Rattle.bool_cubes.specs.Trees.{both, either, one}

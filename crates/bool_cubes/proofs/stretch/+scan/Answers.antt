@@ -1,7 +1,6 @@
 use Rattle.std.proofs.Common.{ap, arith, get_or, slice_get, subst, sym, true, Some, ◌≡◌, ◌<◌, ◌≤◌, ◌+◌, ◌*◌, ◌-◌, ◌%◌, ◌++◌}
 use Rattle.std.proofs.Math.Nat.{mul_comm, mul-le-mul_left}
 use Rattle.bool_cubes.specs.Contradictions.{IsContradictory}
-use Rattle.bool_cubes.specs.Cubes.{count}
 use Rattle.bool_cubes.specs.Held.{AreHeld}
 use Rattle.bool_cubes.specs.Nodes.{tree_at}
 use Rattle.bool_cubes.specs.Picking.{cube_at}
