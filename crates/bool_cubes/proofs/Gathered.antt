@@ -66,7 +66,7 @@ module _ (ns : List CubeNode) (at : ℕ) (n : CubeNode) (left : ℕ) (p : IsPlan
   pub one_part : (l : Literal) → n.kind ≡ kind.One l → cube_at (tree_at ns at) left ≡ l ∷ []
   one_part l e = ap (λ t. cube_at t left) (tree_is (kind.One l) e)
 
-  stored : (k : ℕ) (m : CubeNode) → k < length ns → m ≡ get_or ns k m → count (tree_at ns k) ≤ most_cubes → m.cubes ≡ count (tree_at ns k)
+  pub stored : (k : ℕ) (m : CubeNode) → k < length ns → m ≡ get_or ns k m → count (tree_at ns k) ≤ most_cubes → m.cubes ≡ count (tree_at ns k)
   stored k m l e h = (p.each k m l e).cubes ∙ uncut (count (tree_at ns k)) h
 
 -- a node of both, and one of either
@@ -167,18 +167,18 @@ planned_tree ts old new s h = h.stands.holds ∙ sym (assertions_tree ts)
 abbrev pub rest_of : List CubeNode → ℕ → ℕ → List Cube
 rest_of ns root given = drop given (map cube (cubes (tree_at ns root)))
 
-all_length : (ns : List CubeNode) (root : ℕ) → length (map cube (cubes (tree_at ns root))) ≡ count (tree_at ns root)
+pub all_length : (ns : List CubeNode) (root : ℕ) → length (map cube (cubes (tree_at ns root))) ≡ count (tree_at ns root)
 all_length ns root = length-map (cubes (tree_at ns root)) cube ∙ cubes_length (tree_at ns root)
 
 pub none_left : (ns : List CubeNode) (root all given : ℕ) → IsGiving ns root all given → all ≤ given → rest_of ns root given ≡ []
 none_left ns root all given h l = let n = h.number in drop_all given (map cube (cubes (tree_at ns root))) (omega (arith, all_length ns root))
 
-get_map : (cs : List (List Literal)) (k : ℕ) (c : List Literal) → slice_get cs k ≡ Some c → slice_get (map cube cs) k ≡ Some (cube c)
+pub get_map : (cs : List (List Literal)) (k : ℕ) (c : List Literal) → slice_get cs k ≡ Some c → slice_get (map cube cs) k ≡ Some (cube c)
 get_map [] k c e = absurd (cc)
 get_map (d ∷ cs) zero c e = let g : d ≡ c = cc in ap (λ z. Some (cube z)) g
 get_map (d ∷ cs) (suc k) c e = get_map cs k c e
 
-drop_get : (xs : List Cube) (k : ℕ) (x : Cube) → slice_get xs k ≡ Some x → drop k xs ≡ x ∷ drop (k + 1) xs
+pub drop_get : (xs : List Cube) (k : ℕ) (x : Cube) → slice_get xs k ≡ Some x → drop k xs ≡ x ∷ drop (k + 1) xs
 drop_get [] k x e = absurd (cc)
 drop_get (y ∷ xs) zero x e = let g : y ≡ x = cc in ap (λ z. z ∷ xs) g ∙ ap (λ zs. x ∷ zs) (sym (drop_none xs))
   where

@@ -17,14 +17,14 @@ use Rattle.bool_cubes.proofs.Plans.{got_last}
 
 from_first : (t : Tree) → IsBehind t t 0
 from_first t = record {
-  fewer = omega arith;
+  within = omega arith;
   below = λ k l b. omega arith;
   same = λ k l b. let e : k ≡ k - 0 = omega arith in ap (cube_at t) e;
 }
 
 from_second : (t u : Tree) → IsBehind (either t u) u (count t)
 from_second t u = record {
-  fewer = omega arith;
+  within = omega arith;
   below = λ k l b. omega arith;
   same = λ k l b. chosen_second k (count t) (cube_at t k) (cube_at u (k - count t)) l;
 }
@@ -32,14 +32,14 @@ from_second t u = record {
 -- of two trees of which the second has no cubes, those of the first
 from_only : (t u : Tree) → count u ≡ 0 → IsBehind (either t u) t 0
 from_only t u z = record {
-  fewer = omega arith;
+  within = omega arith;
   below = λ k l b. omega arith;
   same = λ k l b. let e : k ≡ k - 0 = omega arith in chosen_first k (count t) (cube_at t k) (cube_at u (k - count t)) (omega arith) ∙ ap (cube_at t) e;
 }
 
 behind_trans : (t u v : Tree) (a b : ℕ) → IsBehind t u a → IsBehind u v b → IsBehind t v (a + b)
 behind_trans t u v a b p q = record {
-  fewer = let f = p.fewer in let g = q.fewer in omega arith;
+  within = let f = p.within in let g = q.within in omega arith;
   below = λ k l h. let e : (k - a) - b ≡ k - (a + b) = omega arith in subst (λ n. n < count v) e (q.below (k - a) (omega arith) (p.below k (omega arith) h));
   same = λ k l h. let e : (k - a) - b ≡ k - (a + b) = omega arith in p.same k (omega arith) h ∙ q.same (k - a) (omega arith) (p.below k (omega arith) h) ∙ ap (cube_at v) e;
 }
@@ -110,7 +110,7 @@ jumps_more ns js at j p s q = record {
 -- the cube of this number behind a jump
 module _ (ns : List CubeNode) (at left : ℕ) (j : Jump) (p : IsJump ns at j) (d : IsNumberIn ns at left) (l : j.cubes ≤ left) where
   pub jumped : IsNumberIn ns j.to (left - j.cubes)
-  jumped = let b = p.back in let w = d.within in let f = p.behind.fewer in let m = d.most in record {
+  jumped = let b = p.back in let w = d.within in let f = p.behind.within in let m = d.most in record {
     within = omega arith;
     below = p.behind.below left l d.below;
     most = omega arith;

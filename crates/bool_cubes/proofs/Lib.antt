@@ -13,3 +13,6 @@ pub mod Steps
 pub mod Walked
 pub mod Gathered
 pub mod Jumped
+pub mod Holding
+pub mod Leading
+pub mod Ahead

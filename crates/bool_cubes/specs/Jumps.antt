@@ -10,7 +10,7 @@ use Rattle.bool_cubes.specs.declared.node.CubeNode.{CubeNode}
 
 -- behind so many cubes of the one tree come those of the other, from its first on
 pub record IsBehind (t u : Tree) (passed : ℕ) : Type 0 where
-  pub fewer : count u ≤ count t
+  pub within : passed + count u ≤ count t
   pub below : (k : ℕ) → passed ≤ k → k < count t → k - passed < count u
   pub same : (k : ℕ) → passed ≤ k → k < count t → cube_at t k ≡ cube_at u (k - passed)
 

@@ -10,3 +10,5 @@ pub mod Planned
 pub mod Marked
 pub mod Jumps
 pub mod Given
+pub mod Contradictions
+pub mod Held

@@ -1,5 +1,6 @@
-ghost use Rattle.std.specs.Prelude.{◌≡◌, ◌∷◌, [], ◌++◌, ◌<◌, ◌≤◌, IfOk, OnOk, OnErr, MatchOption, drop, length};
+ghost use Rattle.std.specs.Prelude.{◌≡◌, ◌∷◌, [], ◌++◌, ◌<◌, ◌≤◌, IfOk, OnOk, OnErr, MatchOption, drop, length, take};
 ghost use Rattle.std.specs.List.{AllByRecursion};
+ghost use Rattle.bool_cubes.specs.Contradictions.{IsContradictoryCube};
 ghost use Rattle.bool_cubes.specs.Cubes.{count, cubes_of};
 ghost use Rattle.bool_cubes.specs.Jumps.{HasJumps};
 ghost use Rattle.bool_cubes.specs.Laws.{IsClearBool};
@@ -9,10 +10,12 @@ ghost use Rattle.bool_cubes.specs.Refusing.{IsRefusedExactly, most_cubes};
 
 use crate::fault::{CubeFault, cube_fault};
 use crate::jumps::{self, Jump};
+use crate::known::{Known, known_of};
 use crate::node::{CubeNode, NodeKind};
 use crate::past;
 use crate::plan::Plan;
 use crate::planning::all_sides;
+use crate::stretch::stretches;
 use literal_forms::{Cube, Literal};
 use std::alloc::{AllocError, Global};
 use std::marker::Model;
@@ -28,6 +31,7 @@ pub struct Cubes {
     nodes: Items<CubeNode>,
     /// A jump from each node.
     jumps: Items<Jump>,
+    known: Known,
     root: usize,
     count: u64,
     given: u64,
@@ -43,6 +47,7 @@ impl Model for Cubes {
     ghost use Rattle.literal_forms.specs.declared.literal.Cube.{Cube as AnyCube};
     ghost use Rattle.bool_cubes.specs.Cubes.{cube, cubes};
     ghost use Rattle.bool_cubes.specs.Given.{IsGiving};
+    ghost use Rattle.bool_cubes.specs.Held.{IsKnown};
     ghost use Rattle.bool_cubes.specs.Jumps.{HasJumps};
     ghost use Rattle.bool_cubes.specs.Nodes.{tree_at};
 
@@ -52,7 +57,7 @@ impl Model for Cubes {
 
     ghost view = { λ c. drop c.given (map cube (cubes (tree_at c.nodes c.root))) };
 
-    ghost invariant = { λ c. IsGiving c.nodes c.root c.count c.given × HasJumps c.nodes c.jumps };
+    ghost invariant = { λ c. IsGiving c.nodes c.root c.count c.given × HasJumps c.nodes c.jumps × IsKnown c.nodes c.root c.known };
 }
 
 impl Cubes {
@@ -90,9 +95,14 @@ impl Cubes {
             Ok(jumps) => jumps,
             Err(error) => return Err(CubeFault::Memory(error)),
         };
+        let known = match known_of(alloc, plan.nodes.as_slice(), sides.holding) {
+            Ok(known) => known,
+            Err(error) => return Err(CubeFault::Memory(error)),
+        };
         Ok(Cubes {
             nodes: plan.nodes,
             jumps,
+            known,
             root: sides.holding,
             count: cubes,
             given: 0,
@@ -120,6 +130,24 @@ impl Cubes {
         self.room = literals.len();
         self.given += 1;
         Ok(Some(Cube { literals }))
+    }
+
+    /// How many of the next cubes, one after another, hold an atom and its negation, as far as is found: by literals
+    /// that stand in every cube, by what follows from them, and by choices that a stretch of cubes shares. For each
+    /// stretch time and memory are linear in the terms.
+    pub fn count_contradictory(&self, alloc: Global) -> Result<u64, AllocError>
+        ensures within { IfOk result (λ cubes. cubes ≤ length self.now) }
+        ensures contradictory { IfOk result (λ cubes. AllByRecursion IsContradictoryCube (take cubes self.now)) }
+    {
+        let cubes = stretches(
+            alloc,
+            self.nodes.as_slice(),
+            self.jumps.as_slice(),
+            &self.known,
+            self.root,
+            self.given,
+        )?;
+        Ok(cubes)
     }
 
     /// Leaves the next cubes out, so many or all. Takes no memory.

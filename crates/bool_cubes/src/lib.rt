@@ -5,6 +5,9 @@
 //! exactly where they make some cube true. The cubes come one after another, in a fixed order, and a
 //! cube is made from its number alone, so none is kept.
 //!
+//! Stretches of cubes that hold an atom and its negation are found from their number, without making them: those that
+//! share the choices by which they hold both.
+//!
 //! What leaves 128 bits in the linear form of an atom is found before the first cube is given.
 //!
 //! Costs: `count` and `Cubes::new` take time and memory linear in the terms, but for `distinct`, which has a
@@ -18,16 +21,22 @@
 //! ```
 #![tactic(auto)]
 
+mod contradiction;
 mod counts;
 mod cubes;
+mod digest;
 mod fault;
 mod jumps;
+mod known;
 mod laws;
+mod marks;
 mod node;
 mod past;
 mod plan;
 mod planning;
+mod stretch;
 
+pub use contradiction::{contradictions_are_false, is_contradictory};
 pub use counts::count;
 pub use cubes::Cubes;
 pub use fault::CubeFault;

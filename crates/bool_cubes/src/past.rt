@@ -33,7 +33,7 @@ pub fn tree(alloc: Global, nodes: &[CubeNode], root: usize) -> Result<(), FormFa
 }
 
 /// Marks of so many nodes, of which none is set.
-fn no_marks(alloc: Global, count: usize) -> Result<Items<bool>, AllocError>
+pub fn no_marks(alloc: Global, count: usize) -> Result<Items<bool>, AllocError>
     ensures { IfOk result (λ m. m ≡ replicate count false) }
 {
     Ok(Items::from_vec(vec![in alloc; false; count]?))

@@ -12,6 +12,7 @@ use Rattle.sv_list.specs.Lists.{slice_get-mapped, AllByRecursion-append, slice_g
 use Rattle.sv_terms.specs.CutOff.{cut_off}
 use Rattle.sv_terms.specs.Sorting.{is_valued}
 use Rattle.sv_terms.specs.declared.term.Term.{Term}
+use Rattle.bool_cubes.specs.Contradictions.{ContradictionsAreFalse, IsContradictoryCube}
 use Rattle.bool_cubes.specs.Cubes.{count, cube, cubes, cubes_of}
 use Rattle.literal_forms.specs.Literals.{IsTrueLiteral}
 use Rattle.bool_cubes.specs.Laws.{CubesAreCounted}
@@ -322,3 +323,24 @@ module _ (ts : List Term) (given first block ahead : ℕ) (counted : 0 < block �
 pub none-left : (choice : ℕ) (o : Option Cube) (cubes new : List Cube) → LeftBy (drop choice cubes) new o → o ≡ None → choice < length cubes → ⊥
 none-left choice None cubes new h e lt = let n = length-drop choice cubes in let z = ap length h.0 in omega (arith, n, z, lt)
 none-left choice (Some c) cubes new h e lt = cc
+
+-- cubes that hold an atom and its negation have no values
+fewer-taken : (P Q : Cube → Type 0) → ((c : Cube) → P c → Q c) → (n m : ℕ) (xs : List Cube) → n ≤ m → AllByRecursion P (take m xs) → AllByRecursion Q (take n xs)
+fewer-taken P Q f zero m [] l h = tt
+fewer-taken P Q f zero m (x ∷ xs) l h = tt
+fewer-taken P Q f (suc n) zero xs l h = absurd (omega (arith, l))
+fewer-taken P Q f (suc n) (suc m) [] l h = tt
+fewer-taken P Q f (suc n) (suc m) (x ∷ xs) l h = (f x h.0, fewer-taken P Q f n m xs (omega (arith, l)) h.1)
+
+pub contradictory-none : ContradictionsAreFalse → (c : Cube) → IsContradictoryCube c → CubeHasNoValues c
+contradictory-none law c h values t = law values c.literals h t.holds
+
+pub contradictory-known : ContradictionsAreFalse → (ts : List Term) (given : ℕ) (cubes : List Cube) (found : ℕ) → found ≤ length cubes → AllByRecursion IsContradictoryCube (take found cubes) → cubes ≡ drop given (cubes_of ts) → AreKnown ts given (found / batch * batch)
+contradictory-known law ts given cubes found within all e =
+    let low : found / batch * batch ≤ found = omega arith in
+    record {
+      batches = found / batch;
+      whole = refl;
+      enough = subst (λ xs. found / batch * batch ≤ length xs) e (omega (arith, low, within));
+      none = subst (λ xs. AllByRecursion CubeHasNoValues (take (found / batch * batch) xs)) e (fewer-taken IsContradictoryCube CubeHasNoValues (contradictory-none law) (found / batch * batch) found cubes low all);
+    }

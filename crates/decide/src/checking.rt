@@ -8,7 +8,7 @@ ghost use Rattle.sv_terms.specs.TransducerSizes.{has_formed};
 ghost use Rattle.bool_cubes.specs.Cubes.{cubes_of};
 ghost use Rattle.bool_cubes.specs.Laws.{IsClearBool};
 ghost use Rattle.bool_cubes.specs.Refusing.{most_cubes};
-ghost use Rattle.decide.specs.Passing.{PassesCubes};
+ghost use Rattle.decide.specs.Passing.{AreKnown, PassesCubes};
 ghost use Rattle.decide.specs.Completeness.{MustDecide, IsComplete};
 ghost use Rattle.decide.specs.Jobs.{IsAskedCube, IsFolded, IsFoldOf};
 ghost use Rattle.decide.specs.Verdicts.{HasOnly, RightVerdict, refused_as};
@@ -17,7 +17,7 @@ use crate::batch::{answers, next_batch};
 use crate::blocks::Pace;
 use crate::cube_job::Shared;
 use crate::machines::machines_for;
-use crate::passing::count_refuted_ahead;
+use crate::passing::{count_contradictory_ahead, count_refuted_ahead};
 use crate::tally::{CubeTally, tally_all};
 use crate::verdict::{Open, Verdict};
 use assertion_parts::{clear_terms, first_opaque, string_literals_are_words};
@@ -120,7 +120,33 @@ fn answer_all<R: Threads + Sync, G: Gate + Sync>(
     }
 }
 
-/// Passes over the next cubes that need no work, where it is time to ask for them.
+/// How many of the next cubes need no work: they hold an atom and its negation, or, where it is time to ask for it, they
+/// share literals that have no values.
+fn count_known(
+    shared: &Shared<'_>,
+    clear: &[Term],
+    pace: &mut Pace,
+    cubes: &Cubes,
+    given: u64,
+) -> Result<u64, AllocError>
+    requires sorted { AllByRecursion IsClearBool clear.now }
+    requires asked { AllByRecursion (IsAskedCube shared.now.terms.now) (cubes_of clear.now) }
+    requires left { cubes.now ≡ drop given (cubes_of clear.now) }
+    ensures { IfOk result (AreKnown clear.now given) }
+{
+    let contradictory = count_contradictory_ahead(shared.alloc, cubes)?;
+    if contradictory > 0 {
+        return Ok(contradictory);
+    }
+    if !pace.is_due() {
+        return Ok(0);
+    }
+    let refuted = count_refuted_ahead(shared, clear, given)?;
+    pace.record(refuted);
+    Ok(refuted)
+}
+
+/// Passes over the next cubes that need no work.
 fn pass_over(
     shared: &Shared<'_>,
     clear: &[Term],
@@ -130,15 +156,12 @@ fn pass_over(
 ) -> Result<(), AllocError>
     requires sorted { AllByRecursion IsClearBool clear.now }
     requires asked { AllByRecursion (IsAskedCube shared.now.terms.now) (cubes_of clear.now) }
+    requires left { cubes.old ≡ drop tally.old.count (cubes_of clear.now) }
     requires room { tally.old.count + length (drop tally.old.count (cubes_of clear.now)) < 2 ^ 64 }
     ensures { OnOk result (PassesCubes clear.now cubes.old cubes.new tally.old tally.new) }
 {
-    if !pace.is_due() {
-        return Ok(());
-    }
-    let refuted = count_refuted_ahead(shared, clear, tally.count)?;
-    cubes.skip(refuted);
-    tally.pass(refuted);
-    pace.record(refuted);
+    let known = count_known(shared, clear, pace, cubes, tally.count)?;
+    cubes.skip(known);
+    tally.pass(known);
     Ok(())
 }

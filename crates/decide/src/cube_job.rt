@@ -2,13 +2,15 @@
 ghost use Rattle.std.specs.Prelude.{◌≡◌, ◌<◌, ◌^◌, length, IfOk};
 ghost use Rattle.flat_cubes.specs.Flattening.{IsFlattening};
 ghost use Rattle.flat_cubes.specs.Straight.{AreNamesApart};
-ghost use Rattle.cube_search.specs.declared.answer.CubeAnswer.TheVariants.{Open};
+ghost use Rattle.cube_search.specs.declared.answer.CubeAnswer.TheVariants.{Open, Unsat};
 ghost use Rattle.cube_search.specs.declared.reason.OpenReason.TheVariants.{Fragment};
+ghost use Rattle.decide.specs.Folds.{refutation};
 ghost use Rattle.decide.specs.Jobs.{IsAskedCube, IsOutcome, refused_answer};
 
 use assertion_parts::complete;
+use bool_cubes::{contradictions_are_false, is_contradictory};
 use cube_bounds::numbers;
-use cube_search::{CubeAnswer, OpenReason, Shown, cube_answer, rows_count};
+use cube_search::{CubeAnswer, OpenReason, Refutation, Shown, cube_answer, rows_count};
 use flat_cubes::{Flat, FlatFault};
 use literal_forms::Cube;
 use par_phase::Job;
@@ -70,12 +72,29 @@ impl Job for CubeJob<'_> {
     }
 }
 
-/// The answer for a cube of the terms: of its flat cube, or why it has none.
+/// The answer for a cube that has no values, for which no leaf was closed.
+fn without_leaf() -> CubeAnswer
+    ensures { result ≡ Unsat (refutation 0 0 0) }
+{
+    CubeAnswer::Unsat(Refutation {
+        empty: 0,
+        trees: 0,
+        boxes: 0,
+    })
+}
+
+/// The answer for a cube of the terms: none where it holds an atom and its negation, else of its flat cube, or why it
+/// has none.
 pub fn answer_for(shared: &Shared<'_>, cube: &Cube) -> Result<CubeAnswer, AllocError>
     requires asked { IsAskedCube shared.now.terms.now cube.now }
     ensures { IfOk result (IsOutcome shared.now.terms.now cube.now) }
 {
     refusals_have_no_flat_cube();
+    contradictions_are_false();
+    let found = is_contradictory(shared.alloc, cube.literals.as_slice())?;
+    if found {
+        return Ok(without_leaf());
+    }
     match flatten(shared.alloc, cube) {
         Ok(flat) => flat_answer(shared, cube, &flat),
         Err(fault) => refuse(fault),

@@ -13,6 +13,8 @@
 //! else all open cubes by their numbers; else the counts of the leaves closed. An answer costs the tally the same,
 //! whatever it is, but for a copy of the opaque assertion where its model is set aside.
 //!
+//! Cubes that hold an atom and its negation need no work, nor do those of a block whose literals have no values.
+//!
 //! Cubes come in blocks, each of one choice for the first terms: what the cubes of a block share is a cube of fewer
 //! terms, and where that has no values none of them has. The literals that a block shares cost a copy of their terms,
 //! and the cubes of these as a tree.

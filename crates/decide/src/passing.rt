@@ -1,18 +1,20 @@
-//! Cubes that need no work: those that share literals which have no values.
-ghost use Rattle.std.specs.Prelude.{◌≤◌, IfOk, IsTrue, length};
+//! Cubes that need no work: those that hold an atom and its negation, and those that share literals which have no values.
+ghost use Rattle.std.specs.Prelude.{◌≡◌, ℕ, ◌≤◌, IfOk, IsTrue, List, drop, length};
 ghost use Rattle.std.specs.List.{AllByRecursion};
 ghost use Rattle.bool_cubes.specs.Cubes.{cubes_of};
 ghost use Rattle.bool_cubes.specs.Laws.{IsClearBool};
 ghost use Rattle.decide.specs.CubeValues.{CubeHasNoValues};
 ghost use Rattle.decide.specs.Passing.{AreKnown};
 ghost use Rattle.decide.specs.Jobs.{IsAskedCube};
+ghost use Rattle.sv_terms.specs.declared.term.Term.{Term as AnyTerm};
 
 use crate::blocks::{block_of, count_ahead, longest_choice, shared_literals};
 use crate::cube_job::{Shared, answer_for};
-use bool_cubes::{cubes_are_counted, cubes_are_picked};
+use crate::tally::BATCH;
+use bool_cubes::{Cubes, contradictions_are_false, cubes_are_counted, cubes_are_picked};
 use cube_search::CubeAnswer;
 use literal_forms::Cube;
-use std::alloc::AllocError;
+use std::alloc::{AllocError, Global};
 use sv_terms::Term;
 
 /// Whether no values make the literals true, as far as is found.
@@ -89,4 +91,13 @@ pub fn count_refuted_ahead(
         }
     }
     Ok(cubes)
+}
+
+/// How many of the next cubes need no work, in whole batches: each holds an atom and its negation.
+pub fn count_contradictory_ahead(alloc: Global, cubes: &Cubes) -> Result<u64, AllocError>
+    ensures { IfOk result (λ known. (terms : List AnyTerm) (given : ℕ) → cubes.now ≡ drop given (cubes_of terms) → AreKnown terms given known) }
+{
+    contradictions_are_false();
+    let found = cubes.count_contradictory(alloc)?;
+    Ok(found / (BATCH as u64) * (BATCH as u64))
 }

@@ -3,7 +3,7 @@ use Rattle.std.specs.List.{AllByRecursion}
 use Rattle.sv_terms.specs.Truth.{opaque_of}
 use Rattle.decide.specs.Batches.{AreAnswersOf}
 use Rattle.decide.specs.Jobs.{IsAskedCube, IsFoldOf}
-use Rattle.decide.proofs.Going.{asked-left, asked-over, start, ended, fewer-left, go-over, no-more-over, pass-room, room, went-on}
+use Rattle.decide.proofs.Going.{asked-left, asked-over, start, ended, fewer-left, go-over, left-behind, no-more-over, pass-room, room, went-on}
 use Rattle.decide.proofs.checking.answer_all.Goals as goal
 
 pub loop-tally-init : goal.loop-tally-init
@@ -22,6 +22,12 @@ returns-then-ends g c =
 
 pub pass_over-requires-clause-asked : goal.pass_over-requires-clause-asked
 pass_over-requires-clause-asked g c = subst (AllByRecursion (IsAskedCube c.args.shared.now.terms.now)) c.requires.cubes c.requires.asked
+
+pub pass_over-requires-clause-left : goal.pass_over-requires-clause-left
+pass_over-requires-clause-left g c =
+    sym (left-behind c.args.shared.now.terms.now c.args.clear.now c.args.cubes c.next_batch.new.cubes c.tally_all.new.tally
+    (went-on c.args.shared.now.terms.now c.args.cubes c.loop-tally.cubes c.next_batch.new.cubes c.in_ok-jobs.jobs c.in_ok-outcomes.outcomes.items c.loop-tally.tally c.tally_all.new.tally c.loop-tally.invariant.0 c.in_ok-jobs.ensures.taken
+    (subst (λ js. AreAnswersOf js c.in_ok-outcomes.outcomes.items) c.as_slice.ensures c.in_ok-outcomes.ensures) c.in_ok-tally_all.ensures c.in_ok-jobs.ensures.size c.len.result c.len.ensures c.ends.result c.ends.ensures c.if-ends.false) c.requires.cubes)
 
 pub pass_over-requires-clause-room : goal.pass_over-requires-clause-room
 pass_over-requires-clause-room g c =

@@ -1,5 +1,6 @@
 use Rattle.std.proofs.Common.{IfOk, sym, subst}
 use Rattle.decide.specs.Jobs.{IsOutcome}
+use Rattle.bool_cubes.specs.Contradictions.{IsContradictory}
 use Rattle.decide.proofs.Models.{literals-sorted, refused-outcome}
 use Rattle.decide.proofs.cube_job.answer_for.Goals as goal
 
@@ -10,3 +11,11 @@ returns-in-Err c =
 
 pub flat_answer-requires-clause-apart : goal.flat_answer-requires-clause-apart
 flat_answer-requires-clause-apart c = c.in-Ok.ensures.flat.1 (literals-sorted c.args.shared.now.terms.now c.args.cube.now c.requires.asked)
+
+pub returns-then-found : goal.returns-then-found
+returns-then-found c =
+    let h = subst IsContradictory c.as_slice.ensures (c.in_ok-found.ensures c.if-found.true) in
+    subst (IsOutcome c.args.shared.now.terms.now c.args.cube.now) (sym c.without_leaf.ensures) (record {
+      right = λ values t. c.contradictions_are_false.ensures values c.args.cube.now.literals h t.holds;
+      decided = λ must. tt;
+    })

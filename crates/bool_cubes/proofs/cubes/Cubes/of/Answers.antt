@@ -1,6 +1,7 @@
 use Rattle.std.proofs.Common.{Err, List, ap, arith, map, subst, ◌∙◌}
 use Rattle.bool_cubes.specs.Cubes.{cube, cubes}
 use Rattle.literal_forms.specs.declared.literal.Cube.{Cube}
+use Rattle.bool_cubes.specs.Held.{IsKnown}
 use Rattle.bool_cubes.specs.Jumps.{HasJumps}
 use Rattle.bool_cubes.specs.Nodes.{tree_at}
 use Rattle.bool_cubes.specs.Past.{tree_steps}
@@ -24,6 +25,7 @@ invariant_of-result c = (
   giving_all c.args.terms.now c.new-plan.result.nodes c.all_sides.new.plan.nodes c.in-Ok.sides c.count_at-cubes.result c.in-Ok.ensures
       (counted c.args.terms.now c.new-plan.result.nodes c.all_sides.new.plan.nodes c.in-Ok.sides c.count_at-cubes.result c.in-Ok.ensures c.count_at-cubes.ensures) (omega arith),
   subst (λ ns. HasJumps ns c.in-Ok-all.jumps) c.as_slice-2.ensures c.in-Ok-all.ensures,
+  subst (λ ns. IsKnown ns c.in-Ok.sides.holding c.in-Ok-known_of.known) c.as_slice-3.ensures c.in-Ok-known_of.ensures,
 )
 
 pub returns-clause-cubes : goal.returns-clause-cubes
