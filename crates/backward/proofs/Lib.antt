@@ -18,3 +18,4 @@ pub mod StateLemmas
 pub mod StepLemmas
 pub mod FirstLemmas
 pub mod LeafLemmas
+pub mod WayLemmas

@@ -106,7 +106,7 @@ gives-comes (by.First q u z) v e t g words w p = let same : v ≡ z = cc in ((g 
 gives-comes (by.All q u z) v e t g words w p = let same : v ≡ z = cc in ((g (words v) w).0 p).1 ∙ ap (λ n. replace_all q u (words n)) same
 gives-comes (by.Through s z) v e t g words w p = let same : v ≡ z = cc in subst (λ r. Pairs r (words z) w) g (subst (λ n. Pairs t (words n) w) same p)
 
-comes-gives : (b : By) (v : ℕ) → reads b ≡ Some v → (t : Transducer) → RelatesBy b t → (words : Words) (w : Word) → IsWord (words v) → ComesBy words w b → Pairs t (words v) w
+pub comes-gives : (b : By) (v : ℕ) → reads b ≡ Some v → (t : Transducer) → RelatesBy b t → (words : Words) (w : Word) → IsWord (words v) → ComesBy words w b → Pairs t (words v) w
 comes-gives (by.Concat vs) v e t g words w is p = cc
 comes-gives (by.First q u z) v e t g words w is p = let same : z ≡ v = cc in (g (words v) w).1 (is, p ∙ ap (λ n. replace_first q u (words n)) same)
 comes-gives (by.All q u z) v e t g words w is p = let same : z ≡ v = cc in (g (words v) w).1 (is, p ∙ ap (λ n. replace_all q u (words n)) same)

@@ -14,3 +14,4 @@ pub mod Chains
 pub mod States
 pub mod Steps
 pub mod Leaves
+pub mod Ways

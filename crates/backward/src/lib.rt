@@ -9,6 +9,8 @@
 //!   first family of a flat cube, made of the machines of its variables' own parts.
 //! - [`carry_concat`] and [`carry_through`] carry one definition. Each meeting is explored at once, and has
 //!   at most the product of its parts' numbers of states.
+//! - [`live_cuts`] and [`next_cuts`] mark the states at which a concatenation may be cut: a list of cuts of which one
+//!   has no mark leads to no configuration.
 //! - [`lift_cut`] and [`lift_through`] take runs of a family back over such a step.
 //! - [`step_concat`] and [`step_through`] carry the definition at a place of a flat cube, and [`lift_step`]
 //!   takes runs back over it. A family that the cube's text leads to leads on to such a family: a chain of
@@ -29,9 +31,11 @@ mod laws;
 mod leaf_state;
 mod lifting;
 mod meeting;
+mod pairs;
 mod shared;
 mod stepping;
 mod through;
+mod ways;
 
 pub use carrying::carry_concat;
 pub use cut_lifting::lift_cut;
@@ -45,3 +49,4 @@ pub use meeting::MetPart;
 pub use shared::Shared;
 pub use stepping::{lift_step, step_concat, step_through};
 pub use through::{PreBuilt, carry_through};
+pub use ways::{live_cuts, lookup_effort, may_cut, next_cuts};

@@ -1,5 +1,5 @@
 -- The answer from the first family, and what is left where no leaf has a hit.
-use Rattle.std.proofs.Common.{◌≡◌, ℕ, zero, suc, ◌<◌, ◌≤◌, ◌+◌, ◌*◌, ◌/◌, pos, ◌≤ℤ◌, ◌<ℤ◌, List, [], ◌∷◌, length, map, Option, Some, None, refl, sym, ap, ◌∙◌, subst, arith, inl, inr}
+use Rattle.std.proofs.Common.{◌≡◌, ℕ, zero, suc, ◌<◌, ◌≤◌, ◌+◌, ◌*◌, ◌/◌, pos, ◌≤ℤ◌, ◌<ℤ◌, Bool, List, [], ◌∷◌, length, map, Option, Some, None, refl, sym, ap, ◌∙◌, subst, arith, inl, inr}
 use Rattle.std.specs.List.{range_with_len, sum_by}
 use Rattle.std.proofs.lemmas.Int.{ints}
 use Rattle.std.proofs.lemmas.List.{length-map}
@@ -31,7 +31,9 @@ use Rattle.cube_search.specs.Answers.{IsCubeAnswer, IsDecidedCube, IsModelOf}
 use Rattle.cube_search.specs.Causes.{EachSolution}
 use Rattle.cube_search.specs.Models.{all_words}
 use Rattle.cube_search.specs.Searches.{AreFoundRuns}
+use Rattle.cube_search.specs.Conflicts.{IsRefutedBy}
 use Rattle.cube_search.specs.Tallies.{IsTally, IsCovered, IsAccounted}
+use Rattle.cube_search.proofs.ConflictLemmas.{refuted-covered}
 use Rattle.cube_search.specs.declared.found.FoundRuns.{FoundRuns}
 use Rattle.backward.proofs.LeafLemmas.{range-at}
 use Rattle.cube_search.proofs.FirstLemmas.{satisfies-conf, satisfies-obey, words-same}
@@ -115,6 +117,15 @@ module _ (flat : Flat) (region : Region) (for : IsRegionFor flat region) where
 
   pub left-decides : (tally : LeafTally) → IsTally flat tally → MustDecideFlat flat → IsDecidedCube (left_of tally)
   left-decides tally is must = left-decided tally.given tally.long tally.closed is must
+
+-- a refutation of the first family
+pub nothing-satisfies : (flat : Flat) (region : Region) → IsRegionFor flat region → (ms : Family) (names : List Bool) → IsStraight flat → IsLedFrom flat (length flat.definitions) ms → IsRefutedBy flat (length flat.definitions) ms names
+    → EachSolution flat (λ ws ints. ⊥)
+nothing-satisfies flat region for ms names straight led h =
+    let none : Refutation = record { empty = 0; trees = 0; boxes = 0 } in
+    let tally : LeafTally = record { given = None; long = None; closed = none } in
+    let is : IsTally flat tally = record { given = tt; long = tt; undecided = λ s must. cc } in
+    left-answers flat region for ms tally straight led is (refuted-covered flat region (length flat.definitions) ms names tally h)
 
 pub model-of : (flat : Flat) (ms : Family) (found : FoundRuns) (values : Named) → AreFoundRuns flat (length flat.definitions) ms found → Satisfies flat (all_words (length flat.variables) found.runs) found.integers
     → AreModelValues flat (all_words (length flat.variables) found.runs) found.integers values → AreWorded values → IsModelOf flat values

@@ -1,7 +1,9 @@
 mod AnswerLemmas
 mod AskLemmas
 mod BareLemmas
+mod BelowLemmas
 mod ConfLemmas
+mod ConflictLemmas
 mod CountLemmas
 mod CoverLemmas
 mod Crossing
@@ -10,6 +12,7 @@ mod FirstLemmas
 mod FoundLemmas
 mod Measures
 mod ModelLemmas
+mod NameLemmas
 mod Named
 mod OrderLemmas
 mod Places
@@ -18,3 +21,4 @@ mod SearchLemmas
 mod SpreadLemmas
 mod TallyLemmas
 mod TrimLemmas
+mod WayLemmas

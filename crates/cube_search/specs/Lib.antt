@@ -1,3 +1,4 @@
+pub mod Allowances
 pub mod Answerable
 pub mod Answers
 pub mod Causes
@@ -13,3 +14,4 @@ pub mod Searches
 pub mod Spreads
 pub mod Steps
 pub mod Tallies
+pub mod Conflicts

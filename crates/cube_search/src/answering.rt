@@ -1,4 +1,4 @@
-ghost use Rattle.std.specs.Prelude.{◌≡◌, ◌<◌, ◌^◌, ◌⊎◌, ℕ, [], false, length, Err, IfOk};
+ghost use Rattle.std.specs.Prelude.{◌≡◌, ◌<◌, ◌^◌, ◌⊎◌, ℕ, [], true, false, length, Err, IfOk};
 ghost use Rattle.trim_search.specs.declared.build_fault.BuildFault.TheVariants.{States};
 ghost use Rattle.cube_bounds.specs.Bounds.{states};
 ghost use Rattle.cube_bounds.specs.Measuring.{AreNumbersOf};
@@ -7,10 +7,11 @@ ghost use Rattle.cube_search.specs.Answerable.{IsAnswerable};
 ghost use Rattle.cube_search.specs.Limits.{GrowsLittle, IsWithinLimits, MustDecideFlat};
 ghost use Rattle.cube_search.specs.Answers.{IsCubeAnswer, IsDecidedCube};
 ghost use Rattle.cube_search.specs.Causes.{GrowsLittleUnless, IsCauseOf, past_reason};
-ghost use Rattle.cube_search.specs.declared.allowance.Allowance.TheVariants.{Part};
+ghost use Rattle.cube_search.specs.Allowances.{is_bounded};
 
 use crate::allowance::Allowance;
 use crate::answer::{CubeAnswer, Refutation};
+use crate::below::Below;
 use crate::limits::{PastLimit, past_limit};
 use crate::modelling::model_of;
 use crate::searching::{Search, descend};
@@ -28,8 +29,8 @@ use trim_search::BuildFault;
 ///
 /// `numbers` are those of the cube, and machines of regular expressions are asked of `kept`. Only memory may be
 /// wanting. Time goes with the ways to cut all concatenations, and with what `leaf_solve` takes for each leaf;
-/// memory with one family of machines a definition. A cube whose text is past the limit on states or on splits
-/// is searched with a bounded effort: machines of 262,144 states, and families that take 1,048,576 in all.
+/// memory with one family of machines a definition. A cube whose text is past the limit on states is searched with
+/// machines of at most 262,144 states, one past the limit on splits with 1,048,576 explored states in all.
 pub fn cube_answer(
     alloc: Global,
     flat: &Flat,
@@ -100,7 +101,7 @@ fn answer_beyond(
     if let PastLimit::Growth(_) = limit {
         return Ok(CubeAnswer::Open(limit.reason()));
     }
-    match answer_by_search(alloc, flat, numbers, kept, Allowance::Part) {
+    match answer_by_search(alloc, flat, numbers, kept, Allowance::beyond(numbers)) {
         Ok(answer) => Ok(answer),
         Err(BuildFault::Memory(e)) => Err(e),
         Err(BuildFault::States(_)) => Ok(CubeAnswer::Open(limit.reason())),
@@ -121,7 +122,7 @@ fn answer_by_search(
     requires little { GrowsLittle flat.now }
     ensures right { IfOk result (IsCubeAnswer flat.now) }
     ensures decided { MustDecideFlat flat.now → IfOk result IsDecidedCube }
-    ensures refused { (n : ℕ) → result ≡ Err (States n) → (allowance ≡ Part) ⊎ (MOST_STATES < states flat.now) }
+    ensures refused { (n : ℕ) → result ≡ Err (States n) → (is_bounded allowance ≡ true) ⊎ (MOST_STATES < states flat.now) }
 {
     let search = Search {
         flat,
@@ -139,7 +140,8 @@ fn answer_by_search(
     let state = first_state(alloc, flat, kept)?;
     let left = flat.definitions.len() as u32;
     match descend(&search, alloc, &state, left, &mut tally, &mut spent)? {
-        Some(found) => Ok(CubeAnswer::Sat(model_of(alloc, flat, &found)?)),
-        None => Ok(open_answer(tally)),
+        Below::Found(found) => Ok(CubeAnswer::Sat(model_of(alloc, flat, &found)?)),
+        Below::Refuted(_) => Ok(CubeAnswer::Unsat(tally.closed)),
+        Below::Left => Ok(open_answer(tally)),
     }
 }

@@ -1,7 +1,7 @@
-//! Families that read nothing.
-ghost use Rattle.std.specs.Prelude.{◌≡◌, ℕ, true, List};
-ghost use Rattle.std.specs.List.{list_any};
-ghost use Rattle.backward.specs.Families.{Words, Conf};
+//! Machines that read nothing, on the way to a leaf.
+ghost use Rattle.std.specs.Prelude.{◌≡◌, ℕ, [], IfSome};
+ghost use Rattle.machine_core.specs.declared.graph.Graph.{Graph};
+ghost use Rattle.backward.specs.Families.{HasMachine};
 ghost use Rattle.cube_search.specs.DeadEnds.{is_dead_end};
 
 use backward::{LeafState, Shared};
@@ -17,11 +17,16 @@ fn is_dead(machine: &Option<Shared<Explicit>>) -> bool
     }
 }
 
-/// Whether some machine of the family has no end, so that the family reads nothing. Linear in the machines'
-/// number.
-pub fn reads_nothing(family: &LeafState) -> bool
-    ensures exact { result ≡ list_any is_dead_end family.now.machines }
-    ensures nothing { result ≡ true → (words : Words) (totals : List ℕ) → Conf family.now.registers family.now.machines words totals → ⊥ }
+/// The first variable whose machine has no end, so that the family reads nothing; none where each has one. Linear in the
+/// machines' number.
+pub fn dead_end(family: &LeafState) -> Option<usize>
+    ensures { IfSome result (λ v. (m : Graph) × HasMachine family.now.machines v m × (m.ends ≡ [])) }
 {
-    family.machines.as_slice().iter().any(is_dead)
+    let machines = family.machines.as_slice();
+    for v in 0..machines.len() {
+        if is_dead(&machines[v]) {
+            return Some(v);
+        }
+    }
+    None
 }

@@ -1,20 +1,27 @@
-ghost use Rattle.std.specs.Prelude.{◌≡◌, ◌+◌, ◌++◌, ◌∷◌, ◌≤◌, ℕ, [], Ok, Err, None, IfOk, IfSome, OnOk, length};
+ghost use Rattle.std.specs.Prelude.{◌≡◌, ◌+◌, ◌++◌, ◌∷◌, ◌≤◌, ℕ, [], Ok, Err, Some, IfOk, OnOk, length, slice_get, true};
+ghost use Rattle.machine_core.specs.declared.graph.Graph.{Graph};
+ghost use Rattle.flat_cubes.specs.declared.definition.Definition.{Definition as AnyDefinition};
+ghost use Rattle.backward.specs.Families.{HasMachine};
+ghost use Rattle.backward.specs.Ways.{AreLive};
 ghost use Rattle.trim_search.specs.declared.build_fault.BuildFault.TheVariants.{States};
 ghost use Rattle.backward.specs.States.{IsState};
-ghost use Rattle.cube_search.specs.Searches.{AreFoundRuns, IsSearch};
-ghost use Rattle.cube_search.specs.declared.allowance.Allowance.TheVariants.{Part};
+ghost use Rattle.cube_search.specs.Allowances.{is_bounded};
+ghost use Rattle.cube_search.specs.Conflicts.{AreNamesOf, IsBelow, IsBelowCuts, IsBelowStep};
+ghost use Rattle.cube_search.specs.Searches.{IsSearch};
 ghost use Rattle.cube_search.specs.Steps.{CanStep, IsCutting, IsNextFamily};
 ghost use Rattle.flat_cubes.specs.Straight.{IsStraight};
-ghost use Rattle.cube_search.specs.Tallies.{IsTally, Keeps, IsCovered, AreCoveredFrom, IsCoveredBelow};
+ghost use Rattle.cube_search.specs.Tallies.{IsTally, Keeps};
 
 use crate::allowance::Allowance;
-use crate::dead_ends::reads_nothing;
-use crate::found::FoundRuns;
+use crate::below::Below;
+use crate::dead_ends::dead_end;
+use crate::gathered::{Gathered, gather};
 use crate::leaves::answer_leaf;
+use crate::names::{names_of, only};
 use crate::spending::spend;
-use crate::stepping::{leave, pieces_at, states_at, step};
+use crate::stepping::{leave, live_at, name_own, next_at, pieces_at, states_at, step};
 use crate::tally::LeafTally;
-use backward::LeafState;
+use backward::{LeafState, may_cut};
 use flat_cubes::Flat;
 use search_hits::Region;
 use std::alloc::{AllocError, Global};
@@ -42,32 +49,57 @@ pub fn descend(
     left: u32,
     tally: &mut LeafTally,
     spent: &mut u64,
-) -> Result<Option<FoundRuns>, BuildFault>
+) -> Result<Below, BuildFault>
     requires search { IsSearch search.now }
     requires state { IsState search.now.flat.now left state.now }
     requires left { left ≤ length search.now.flat.now.definitions }
     requires tally { IsTally search.now.flat.now tally.old }
     ensures tally { OnOk result (IsTally search.now.flat.now tally.new) }
     ensures kept { OnOk result (Keeps tally.old tally.new) }
-    ensures covered { result ≡ Ok None → IsCovered search.now.flat.now search.now.region left state.now.machines tally.new }
-    ensures found { IfOk result (λ o. IfSome o (AreFoundRuns search.now.flat.now left state.now.machines)) }
-    ensures refused { (n : ℕ) → result ≡ Err (States n) → search.now.allowance ≡ Part }
+    ensures below { IfOk result (IsBelow search.now.flat.now search.now.region left state.now.machines tally.new) }
+    ensures refused { (n : ℕ) → result ≡ Err (States n) → is_bounded search.now.allowance ≡ true }
 {
-    if reads_nothing(state) {
-        return Ok(None);
+    if let Some(v) = dead_end(state) {
+        let names = only(alloc, v)?;
+        return Ok(Below::Refuted(names));
     }
     if left == 0 {
-        return answer_leaf(search, alloc, state, tally);
+        let found = answer_leaf(search, alloc, state, tally)?;
+        return Ok(Below::of_leaf(found));
     }
     let at = left - 1;
     match pieces_at(search, state, at) {
-        Some(pieces) => try_cuts(search, alloc, state, at, pieces, &[], tally, spent),
-        None => carry_definition(search, alloc, state, at, &[], tally, spent),
+        Some(pieces) => {
+            let live = live_at(alloc, search.flat, state, at, pieces, spent)?;
+            let own = names_of(alloc, pieces)?;
+            let below = try_cuts(
+                search,
+                alloc,
+                state,
+                at,
+                pieces,
+                &[],
+                live.as_slice(),
+                own.as_slice(),
+                tally,
+                spent,
+            )?;
+            let named = name_own(search.flat, at, below)?;
+            Ok(named)
+        }
+        None => {
+            let below = carry_definition(search, alloc, state, at, &[], tally, spent)?;
+            let named = name_own(search.flat, at, below)?;
+            Ok(named)
+        }
     }
 }
 
 /// The same, where the definition at `at` is the concatenation of the pieces and its machine is cut at
-/// these states first: for all lists of cuts that begin with them, one after another.
+/// these states first: for all lists of cuts that begin with them, one after another. A cut is left out to which no word
+/// of its piece leads from the cut before it, or from which no words of the later pieces lead on to an end; those that
+/// lead on are marked in `live`. A refutation that names neither of the two pieces beside a cut is one for all lists.
+/// `own` names the pieces.
 #[cycle(search)]
 fn try_cuts(
     search: &Search,
@@ -76,30 +108,45 @@ fn try_cuts(
     at: u32,
     pieces: &[u32],
     cuts: &[u32],
+    live: &[Items<bool>],
+    own: &[bool],
     tally: &mut LeafTally,
     spent: &mut u64,
-) -> Result<Option<FoundRuns>, BuildFault>
+) -> Result<Below, BuildFault>
     requires search { IsSearch search.now }
     requires state { IsState search.now.flat.now (at + 1) state.now }
     requires cuts { IsCutting search.now.flat.now at pieces.now state.now.machines cuts.now }
+    requires live { (d : AnyDefinition) (m : Graph) → slice_get search.now.flat.now.definitions at ≡ Some d → HasMachine state.now.machines d.variable m → AreLive state.now.machines m pieces.now live.now }
+    requires own { AreNamesOf pieces.now own.now }
     requires tally { IsTally search.now.flat.now tally.old }
     ensures tally { OnOk result (IsTally search.now.flat.now tally.new) }
     ensures kept { OnOk result (Keeps tally.old tally.new) }
-    ensures covered { result ≡ Ok None → AreCoveredFrom search.now.flat.now search.now.region at pieces.now state.now.machines cuts.now tally.new }
-    ensures found { IfOk result (λ o. IfSome o (AreFoundRuns search.now.flat.now (at + 1) state.now.machines)) }
-    ensures refused { (n : ℕ) → result ≡ Err (States n) → search.now.allowance ≡ Part }
+    ensures below { IfOk result (IsBelowCuts search.now.flat.now search.now.region at pieces.now state.now.machines cuts.now tally.new) }
+    ensures refused { (n : ℕ) → result ≡ Err (States n) → is_bounded search.now.allowance ≡ true }
 {
-    if cuts.len() + 1 == pieces.len() {
+    let place = cuts.len();
+    if place + 1 == pieces.len() {
         return carry_definition(search, alloc, state, at, cuts, tally, spent);
     }
+    let next = next_at(alloc, search.flat, state, at, pieces, cuts, spent)?;
+    let mut gathered = Gathered {
+        names: Items::from_slice(alloc, own)?,
+        all: true,
+    };
     for s in 0..states_at(search.flat, state, at) {
+        if !may_cut(next.as_slice(), live, place + 1, s) {
+            continue;
+        }
         let more = add_cut(alloc, cuts, s)?;
         let cuts = more.as_slice();
-        if let Some(found) = try_cuts(search, alloc, state, at, pieces, cuts, tally, spent)? {
-            return Ok(Some(found));
+        let below = try_cuts(
+            search, alloc, state, at, pieces, cuts, live, own, tally, spent,
+        )?;
+        if let Some(answer) = gather(&mut gathered, below, pieces[place], pieces[place + 1])? {
+            return Ok(answer);
         }
     }
-    Ok(None)
+    Ok(gathered.into_below())
 }
 
 /// The same, where the definition at `at` is carried, at all these cuts where it is a concatenation.
@@ -112,20 +159,19 @@ fn carry_definition(
     cuts: &[u32],
     tally: &mut LeafTally,
     spent: &mut u64,
-) -> Result<Option<FoundRuns>, BuildFault>
+) -> Result<Below, BuildFault>
     requires search { IsSearch search.now }
     requires state { IsState search.now.flat.now (at + 1) state.now }
     requires step { CanStep search.now.flat.now at state.now.machines cuts.now }
     requires tally { IsTally search.now.flat.now tally.old }
     ensures tally { OnOk result (IsTally search.now.flat.now tally.new) }
     ensures kept { OnOk result (Keeps tally.old tally.new) }
-    ensures covered { result ≡ Ok None → IsCoveredBelow search.now.flat.now search.now.region at cuts.now state.now tally.new }
-    ensures found { IfOk result (λ o. IfSome o (AreFoundRuns search.now.flat.now (at + 1) state.now.machines)) }
-    ensures refused { (n : ℕ) → result ≡ Err (States n) → search.now.allowance ≡ Part }
+    ensures below { IfOk result (IsBelowStep search.now.flat.now search.now.region at cuts.now state.now tally.new) }
+    ensures refused { (n : ℕ) → result ≡ Err (States n) → is_bounded search.now.allowance ≡ true }
 {
     let next = next_family(search, alloc, state, at, cuts, spent)?;
-    let found = descend(search, alloc, &next, at, tally, spent);
-    let lifted = leave(alloc, search.flat, state, at, cuts, next, found)?;
+    let below = descend(search, alloc, &next, at, tally, spent);
+    let lifted = leave(alloc, search.flat, state, at, cuts, next, below)?;
     Ok(lifted)
 }
 
@@ -142,7 +188,7 @@ fn next_family(
     requires { CanStep search.now.flat.now at state.now.machines cuts.now }
     ensures next { IfOk result (IsNextFamily search.now.flat.now at cuts.now state.now) }
     ensures state { IfOk result (λ s. IsStraight search.now.flat.now → IsState search.now.flat.now (at + 1) state.now → IsState search.now.flat.now at s) }
-    ensures refused { (n : ℕ) → result ≡ Err (States n) → search.now.allowance ≡ Part }
+    ensures refused { (n : ℕ) → result ≡ Err (States n) → is_bounded search.now.allowance ≡ true }
 {
     let limit = search.allowance.most_states();
     let next = step(alloc, search.flat, state, at, cuts, limit)?;

@@ -4,27 +4,12 @@ ghost use Rattle.trim_search.specs.declared.build_fault.BuildFault.TheVariants.{
 ghost use Rattle.cube_search.specs.declared.allowance.Allowance.TheVariants.{Part};
 
 use crate::allowance::Allowance;
-use backward::{FamilyOrigin, LeafState, MetPart, Shared};
-use machine_core::Explicit;
+use backward::{FamilyOrigin, LeafState, MetPart};
 use trim_search::BuildFault;
 
-// A family counts as so many states more, for what is done once for each.
+// A family counts as so many states more, for what is done once for each. Machines that it shares with the family
+// before count nothing.
 const FAMILY_EFFORT: u64 = 64;
-
-fn states_of(machine: &Option<Shared<Explicit>>) -> u64 {
-    match machine {
-        None => 0,
-        Some(machine) => u64::from(machine.get().states()),
-    }
-}
-
-fn states_of_all(machines: &[Option<Shared<Explicit>>]) -> u64 {
-    let mut sum = 0u64;
-    for machine in machines {
-        sum = sum.saturating_add(states_of(machine));
-    }
-    sum
-}
 
 fn explored_states(meetings: &[MetPart]) -> u64 {
     let mut sum = 0u64;
@@ -45,14 +30,13 @@ fn effort_of(made: &FamilyOrigin) -> u64 {
     }
 }
 
-/// Counts the states that a family has and that were explored for it. `States` comes where that is more than is
-/// allowed.
+/// Counts the states that were explored for a family. `States` comes where that is more than is allowed, which only
+/// a search of a part is refused.
 pub fn spend(allowance: Allowance, spent: &mut u64, family: &LeafState) -> Result<(), BuildFault>
     ensures { (n : ℕ) → result ≡ Err (States n) → allowance ≡ Part }
 {
     *spent = spent
         .saturating_add(FAMILY_EFFORT)
-        .saturating_add(states_of_all(family.machines.as_slice()))
         .saturating_add(effort_of(&family.made));
     if *spent > allowance.most_effort() {
         return Err(BuildFault::States(*spent));

@@ -1,10 +1,11 @@
-use Rattle.std.proofs.Common.{Ok, Err, inl, inr, sym, ap, ◌∙◌, subst, arith, rules, w64, length, IfSome}
+use Rattle.std.proofs.Common.{Err, inl, inr, sym, ap, ◌∙◌, subst, arith, rules, w64, length}
 use Rattle.std.proofs.lemmas.Int.{to_z-of_z}
 use mir.Val.{SFits}
 use Rattle.cube_search.specs.Answers.{IsCubeAnswer, IsDecidedCube}
+use Rattle.cube_search.specs.Conflicts.{IsBelow, IsRefutedBy}
 use Rattle.cube_search.specs.Searches.{AreFoundRuns}
 use Rattle.cube_search.specs.Tallies.{IsCovered}
-use Rattle.cube_search.proofs.AnswerLemmas.{left-answers, left-decides, little, model-of, reachable}
+use Rattle.cube_search.proofs.AnswerLemmas.{left-answers, left-decides, little, model-of, nothing-satisfies, reachable}
 use Rattle.cube_search.proofs.CountLemmas.{few-definitions}
 use Rattle.cube_search.proofs.FirstLemmas.{found-satisfies}
 use Rattle.cube_search.proofs.answering.answer_by_search.Goals as goal
@@ -34,24 +35,35 @@ pub model_of-requires-clause-satisfies : goal.model_of-requires-clause-satisfies
 model_of-requires-clause-satisfies c =
     let flat = c.args.flat.now in
     let state = c.in_ok-state.state in
-    let found = subst (λ o. IfSome o (AreFoundRuns flat (length flat.definitions) state.machines)) c.in-Some.is (subst (λ n. IfSome c.in_ok-found.field-0 (AreFoundRuns flat n state.machines)) c.len-left.ensures c.in_ok-found.ensures.found) in
-    found-satisfies flat state.machines c.in-Some.found c.requires.answerable.straight c.in_ok-state.ensures.state.led c.requires.whole found
+    let below = subst (λ b. IsBelow flat c.in_ok-region_of.field-0 c.len-left.result state.machines c.descend.new.tally b) c.in-Found.is c.in_ok-found.ensures.below in
+    let found = subst (λ n. AreFoundRuns flat n state.machines c.in-Found.found) c.len-left.ensures below in
+    found-satisfies flat state.machines c.in-Found.found c.requires.answerable.straight c.in_ok-state.ensures.state.led c.requires.whole found
 
-pub returns-in-Some-clause-right : goal.returns-in-Some-clause-right
-returns-in-Some-clause-right c =
+pub returns-in-Found-clause-right : goal.returns-in-Found-clause-right
+returns-in-Found-clause-right c =
     let flat = c.args.flat.now in
     let state = c.in_ok-state.state in
-    let found = subst (λ o. IfSome o (AreFoundRuns flat (length flat.definitions) state.machines)) c.in-Some.is (subst (λ n. IfSome c.in_ok-found.field-0 (AreFoundRuns flat n state.machines)) c.len-left.ensures c.in_ok-found.ensures.found) in
-    model-of flat state.machines c.in-Some.found c.in_ok-model_of-in-Some.field-0 found
-    (found-satisfies flat state.machines c.in-Some.found c.requires.answerable.straight c.in_ok-state.ensures.state.led c.requires.whole found) c.in_ok-model_of-in-Some.ensures.named c.in_ok-model_of-in-Some.ensures.worded
+    let below = subst (λ b. IsBelow flat c.in_ok-region_of.field-0 c.len-left.result state.machines c.descend.new.tally b) c.in-Found.is c.in_ok-found.ensures.below in
+    let found = subst (λ n. AreFoundRuns flat n state.machines c.in-Found.found) c.len-left.ensures below in
+    model-of flat state.machines c.in-Found.found c.in_ok-model_of-in-Found.field-0 found
+    (found-satisfies flat state.machines c.in-Found.found c.requires.answerable.straight c.in_ok-state.ensures.state.led c.requires.whole found) c.in_ok-model_of-in-Found.ensures.named c.in_ok-model_of-in-Found.ensures.worded
 
 pub returns-clause-right : goal.returns-clause-right
 returns-clause-right c =
     let flat = c.args.flat.now in
     let state = c.in_ok-state.state in
-    let covered = subst (λ n. IsCovered flat c.in_ok-region_of.field-0 n state.machines c.descend.new.tally) c.len-left.ensures (c.descend.ensures.covered (c.in_ok-found.was ∙ ap (λ o. Ok o) c.in-None.is)) in
+    let below = subst (λ b. IsBelow flat c.in_ok-region_of.field-0 c.len-left.result state.machines c.descend.new.tally b) c.in-Left.is c.in_ok-found.ensures.below in
+    let covered = subst (λ n. IsCovered flat c.in_ok-region_of.field-0 n state.machines c.descend.new.tally) c.len-left.ensures below in
     subst (IsCubeAnswer flat) (sym c.open_answer.ensures)
     (left-answers flat c.in_ok-region_of.field-0 c.in_ok-region_of.ensures state.machines c.descend.new.tally c.requires.answerable.straight c.in_ok-state.ensures.state.led c.in_ok-found.ensures.tally covered)
+
+pub returns-in-Refuted-clause-right : goal.returns-in-Refuted-clause-right
+returns-in-Refuted-clause-right c =
+    let flat = c.args.flat.now in
+    let state = c.in_ok-state.state in
+    let below = subst (λ b. IsBelow flat c.in_ok-region_of.field-0 c.len-left.result state.machines c.descend.new.tally b) c.in-Refuted.is c.in_ok-found.ensures.below in
+    let refuted = subst (λ n. IsRefutedBy flat n state.machines c.in-Refuted.field-0) c.len-left.ensures below in
+    nothing-satisfies flat c.in_ok-region_of.field-0 c.in_ok-region_of.ensures state.machines c.in-Refuted.field-0 c.requires.answerable.straight c.in_ok-state.ensures.state.led refuted
 
 pub returns-clause-decided : goal.returns-clause-decided
 returns-clause-decided c = λ must.

@@ -1,5 +1,6 @@
-use Rattle.std.proofs.Common.{ℕ, suc, ◌+◌, ◌-◌, ◌<◌, ◌++◌, ◌∷◌, [], length}
-use Rattle.cube_search.specs.Tallies.{IsTally, Keeps, AreCoveredFrom}
+use Rattle.std.proofs.Common.{suc, ◌+◌, ◌-◌, length}
+use Rattle.cube_search.specs.Conflicts.{AreGathered}
+use Rattle.cube_search.specs.Tallies.{IsTally, Keeps}
 use Rattle.cube_search.proofs.Measures.{weight}
 use Rattle.cube_search.proofs.searching.+search.Given as goal
 
@@ -12,10 +13,10 @@ decreases-try_cuts l = suc (weight l.search.now.flat.now.definitions l.at + (len
 abbrev pub decreases-carry_definition : goal.decreases-carry_definition
 decreases-carry_definition l = suc (weight l.search.now.flat.now.definitions l.at)
 
--- the cuts before this one are covered
+-- what the cuts before this one come to
 abbrev pub invariant-try_cuts-loop-s : goal.invariant-try_cuts-loop-s
 invariant-try_cuts-loop-s l = record {
   tally : IsTally l.search.flat.now l.tally;
   kept : Keeps l.fn.tally l.tally;
-  covered : (s : ℕ) → s < l.s → AreCoveredFrom l.search.flat.now l.search.region l.at l.pieces l.state.machines (l.cuts ++ s ∷ []) l.tally;
+  gathered : AreGathered l.search.flat.now l.search.region l.at l.pieces l.state.machines l.cuts l.s l.gathered l.tally;
 }
