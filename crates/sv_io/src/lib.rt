@@ -22,10 +22,13 @@
 mod call_count;
 mod memory_sink;
 mod memory_source;
+mod openings;
 mod sink;
 mod source;
+mod stage;
 mod standard_sink;
 mod standard_source;
+mod transfer;
 mod words;
 
 pub use memory_sink::MemSink;
@@ -34,4 +37,5 @@ pub use sink::{Sink, SinkFault};
 pub use source::{Failed, Source};
 pub use standard_sink::StdSink;
 pub use standard_source::StdSource;
+pub use transfer::write_all;
 pub use words::ProgramArguments;
