@@ -1,5 +1,6 @@
 -- What was read of a source and written to a sink so far, which each of them tells.
-use Rattle.std.specs.Prelude.{◌≡◌, ◌++◌, ◌⊎◌, ℕ, List, Bool, true, take}
+use Rattle.std.specs.Prelude.{◌≡◌, ◌++◌, ◌⊎◌, ℕ, List, Bool, true, false, take}
+use Rattle.std.specs.Io.KnownBytes.{Consumes, IsAtEnd}
 use Rattle.std.specs.declared.option.Option.{Option}
 
 -- what was read
@@ -44,3 +45,10 @@ pub record Takes (old new : Output) (text : List ℕ) : Type 0 where
   pub count : ℕ
   pub took : new.taken ≡ old.taken ++ take count text
   pub sent : (new.sent ≡ old.sent) ⊎ (new.sent ≡ new.taken)
+
+-- what was given is what is no longer left, where a source tells what is left; and nothing is left where a read met the end since
+pub record TellsLeft (old new : Input) (left_old left_new : Option (List ℕ)) : Type 0 where
+  pub bytes : List ℕ
+  pub gave : new.given ≡ old.given ++ bytes
+  pub consumed : Consumes left_old left_new bytes
+  pub end : old.at_end ≡ false → new.at_end ≡ true → IsAtEnd left_new

@@ -20,6 +20,7 @@
 #![tactic(auto)]
 
 mod call_count;
+mod laws;
 mod memory_sink;
 mod memory_source;
 mod openings;
@@ -31,6 +32,7 @@ mod standard_source;
 mod transfer;
 mod words;
 
+pub use laws::bytes_given_are_no_longer_left;
 pub use memory_sink::MemSink;
 pub use memory_source::MemSource;
 pub use sink::{Sink, SinkFault};
