@@ -23,6 +23,6 @@ pub returns-in-NoMemory-clause-generated : goal.returns-in-NoMemory-clause-gener
 returns-in-NoMemory-clause-generated g c =
     let text = script c.args.seed c.args.size in
     let log = c.into_log-log.result in
-    let taken = g.K.Sink.taken c.args.sink.now in
+    let taken = g.K.Sink.output c.args.sink.now in
     let stops = subst (λ (l : List Reply). StopsIn text l c.answer_blocks-status.result) (sym c.into_log-log.ensures) c.answer_blocks-status.ensures in
     subst (λ (s : Status). IsGenerated text c.args.size taken taken s log) (sym c.in-NoMemory.is) (unsummed text c.args.size taken log (subst (StopsIn text log) c.in-NoMemory.is stops))
