@@ -1,4 +1,5 @@
-ghost use Rattle.std.specs.Prelude.{◌≤◌, [], IfSome, length};
+ghost use Rattle.std.specs.Prelude.{◌≡◌, ◌≤◌, ◌++◌, [], IfSome, MatchOption, length, take};
+ghost use Rattle.std.specs.Io.KnownBytes.{Appends};
 
 use crate::{Failed, Sink, SinkFault};
 use std::io::{ErrorKind, Write};
@@ -17,15 +18,21 @@ pub struct StdSink {
     goes_on: bool,
 }
 
-// Offers bytes, and answers how many were taken, at least 1. A call that a signal cut short is made again.
-fn offer(runtime: HostRuntime, piece: &[u8]) -> Option<usize>
+// Offers a writer bytes, puts those that it took behind those that were taken, and answers how many, at least 1. A call
+// that a signal cut short is made again.
+fn offer<W: Write>(to: &mut W, piece: &[u8], taken: &mut Log<u8>) -> Option<usize>
     ensures least { IfSome result (λ count. 1 ≤ count) }
     ensures most { IfSome result (λ count. count ≤ length piece.now) }
+    ensures taken { MatchOption result (taken.new.items ≡ taken.old.items) (λ count. taken.new.items ≡ taken.old.items ++ take count piece.now) }
+    ensures bytes { IfSome result (λ count. Appends (W.contents to.old) (W.contents to.new) (take count piece.now)) }
 {
     'tries: for _try in 0..MOST_TRIES {
-        match runtime.stdout().write(piece) {
+        match to.write(piece) {
             Ok(0) => return None,
-            Ok(count) => return Some(count),
+            Ok(count) => {
+                *taken = taken.extend(&piece[..count]);
+                return Some(count);
+            }
             Err(e) if e.kind() == ErrorKind::Interrupted => {}
             Err(_) => return None,
         }
@@ -34,7 +41,7 @@ fn offer(runtime: HostRuntime, piece: &[u8]) -> Option<usize>
 }
 
 impl StdSink {
-    ghost use Rattle.std.specs.Prelude.{◌≡◌, true};
+    ghost use Rattle.std.specs.Prelude.{true};
 
     /// A sink without faults over the process's standard output.
     pub fn new(runtime: HostRuntime) -> StdSink
@@ -60,11 +67,8 @@ impl Sink for StdSink {
     ghost faults = { λ s. s.faults };
 
     fn write(&mut self, piece: &[u8]) -> Result<usize, SinkFault> {
-        match offer(self.runtime, piece) {
-            Some(count) => {
-                self.taken = self.taken.extend(&piece[..count]);
-                Ok(count)
-            }
+        match offer(&mut self.runtime.stdout(), piece, &mut self.taken) {
+            Some(count) => Ok(count),
             None => {
                 self.goes_on = false;
                 self.faults = self.faults.saturating_add(1);

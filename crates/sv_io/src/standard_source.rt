@@ -1,4 +1,5 @@
-ghost use Rattle.std.specs.Prelude.{◌≡◌, ◌^◌, ◌≤◌, [], IfSome, None, is_some, false, length};
+ghost use Rattle.std.specs.Prelude.{◌≡◌, ◌^◌, ◌≤◌, ◌<◌, ◌++◌, [], IfSome, MatchOption, None, is_some, false, length, take};
+ghost use Rattle.std.specs.Io.KnownBytes.{Consumes, IsAtEnd, Keeps};
 ghost use Rattle.sv_io.specs.Counts.{raised};
 ghost use Rattle.sv_io.specs.Stages.{is_at_end, may_read};
 
@@ -32,24 +33,26 @@ pub struct StdSource {
     openings: Openings,
 }
 
-// Asks for bytes, and answers how many came. A call that a signal cut short is made again, so many times at most.
-fn ask(
-    runtime: HostRuntime,
-    place: &mut Option<Place>,
+// Asks a reader for bytes, puts them behind those that were given, and answers how many came. A call that a signal cut
+// short is made again, so many times at most.
+fn ask<R: Read>(
+    from: &mut R,
     buffer: &mut [u8],
     tries: u64,
+    given: &mut Log<u8>,
 ) -> Option<usize>
     ensures most { IfSome result (λ count. count ≤ length buffer.new) }
     ensures size { length buffer.new ≡ length buffer.old }
-    ensures open { is_some place.new ≡ is_some place.old }
+    ensures given { MatchOption result (given.new.items ≡ given.old.items) (λ count. given.new.items ≡ given.old.items ++ take count buffer.new) }
+    ensures bytes { MatchOption result (Keeps (R.remaining from.old) (R.remaining from.new)) (λ count. Consumes (R.remaining from.old) (R.remaining from.new) (take count buffer.new)) }
+    ensures end { IfSome result (λ count. count ≡ 0 → 0 < length buffer.old → IsAtEnd (R.remaining from.new)) }
 {
     'tries: for _try in 0..tries {
-        let answer = match place {
-            Some(Place::File(file)) => file.read(buffer),
-            _ => runtime.stdin().read(buffer),
-        };
-        match answer {
-            Ok(count) => return Some(count),
+        match from.read(buffer) {
+            Ok(count) => {
+                *given = given.extend(&buffer[..count]);
+                return Some(count);
+            }
             Err(e) if e.kind() == ErrorKind::Interrupted => {}
             Err(_) => return None,
         }
@@ -129,12 +132,16 @@ impl Source for StdSource {
         if most == 0 {
             return Err(self.fail());
         }
-        match ask(self.runtime, &mut self.place, &mut buffer[..most], self.room) {
+        let buffer = &mut buffer[..most];
+        let answer = match &mut self.place {
+            Some(Place::File(file)) => ask(file, buffer, self.room, &mut self.given),
+            _ => ask(&mut self.runtime.stdin(), buffer, self.room, &mut self.given),
+        };
+        match answer {
             Some(count) => {
                 self.room -= count as u64;
                 self.last = count;
                 self.stage = Stage::behind(count);
-                self.given = self.given.extend(&buffer[..count]);
                 Ok(count)
             }
             None => Err(self.fail()),
