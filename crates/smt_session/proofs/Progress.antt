@@ -191,7 +191,7 @@ prompt_here before l0 l1 l t0 t a log gave kept w is =
     prompt_of before [] l0 l t0 t t a a.replies a.replies log (kept ∙ gave ∙ ap (λ (x : List ℕ). l0.given ++ x) (sym (append-nil before))) (omega arith) (omega arith) w refl (adds_none a.replies t) is
 
 -- what was left is told, behind a read that failed, and behind another one
-no_end : {P : Type 0} (end : Bool) → end ≡ false → end ≡ true → P
+pub no_end : {P : Type 0} (end : Bool) → end ≡ false → end ≡ true → P
 no_end end is e = absurd (false≢true (sym is ∙ e))
 
 pub left_kept : (bytes : List ℕ) (l0 l1 l : Input) (x y z : Option (List ℕ)) → l1.given ≡ l0.given ++ bytes → Consumes x y bytes → l.given ≡ l1.given → Keeps y z → l.at_end ≡ false → TellsLeft l0 l x z

@@ -1,6 +1,5 @@
 -- What was given, taken and sent, where one call follows another.
-use Rattle.std.proofs.Common.{◌≡◌, ◌⊎◌, ℕ, List, [], ◌∷◌, ◌++◌, Bool, true, false, refl, sym, ap, ◌∙◌, inl, inr, take, append-nil, append_assoc}
-use Rattle.std.proofs.lemmas.Bool.{false≢true}
+use Rattle.std.proofs.Common.{◌≡◌, ◌⊎◌, ℕ, List, [], ◌∷◌, ◌++◌, refl, sym, ap, ◌∙◌, inl, inr, take, append-nil, append_assoc}
 use Rattle.sv_io.specs.Histories.{Output, IsFrontOf, Sends, Delivers, Takes}
 
 pub take_none : (bs : List ℕ) → take 0 bs ≡ []

@@ -8,5 +8,4 @@ ghost use Rattle.sv_io.specs.Histories.{Input, TellsLeft};
 /// reads gave is one over the bytes left. It does nothing.
 pub fn bytes_given_are_no_longer_left()
     ensures { (old new : Input) (left_old left_new : Optional (List ℕ)) (bytes : List ℕ) → TellsLeft old new left_old left_new → new.given ≡ old.given ++ bytes → Consumes left_old left_new bytes }
-{
-}
+{}

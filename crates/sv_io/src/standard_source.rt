@@ -35,12 +35,7 @@ pub struct StdSource {
 
 // Asks a reader for bytes, puts them behind those that were given, and answers how many came. A call that a signal cut
 // short is made again, so many times at most.
-fn ask<R: Read>(
-    from: &mut R,
-    buffer: &mut [u8],
-    tries: u64,
-    given: &mut Log<u8>,
-) -> Option<usize>
+fn ask<R: Read>(from: &mut R, buffer: &mut [u8], tries: u64, given: &mut Log<u8>) -> Option<usize>
     ensures most { IfSome result (λ count. count ≤ length buffer.new) }
     ensures size { length buffer.new ≡ length buffer.old }
     ensures given { MatchOption result (given.new.items ≡ given.old.items) (λ count. given.new.items ≡ given.old.items ++ take count buffer.new) }
@@ -135,7 +130,12 @@ impl Source for StdSource {
         let buffer = &mut buffer[..most];
         let answer = match &mut self.place {
             Some(Place::File(file)) => ask(file, buffer, self.room, &mut self.given),
-            _ => ask(&mut self.runtime.stdin(), buffer, self.room, &mut self.given),
+            _ => ask(
+                &mut self.runtime.stdin(),
+                buffer,
+                self.room,
+                &mut self.given,
+            ),
         };
         match answer {
             Some(count) => {

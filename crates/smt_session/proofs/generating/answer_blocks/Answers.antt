@@ -8,7 +8,7 @@ use Rattle.smt_session.specs.declared.generating.Mute.{Mute}
 use Rattle.smt_session.proofs.generating.answer_blocks.Goals as goal
 
 -- what was written to it
-told : Mute → Output
+abbrev told : Mute → Output
 told m = record { taken = m.taken.items; sent = m.sent.items }
 
 pub loop-block-init : goal.loop-block-init
