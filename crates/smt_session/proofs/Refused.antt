@@ -82,6 +82,15 @@ nothing_left l m x y same is more = record {
   end = λ old new. absurd (false≢true (sym (more old) ∙ new));
 }
 
+-- an opening gave nothing
+pub left_opened : (l0 l1 l : Input) (x y z : Option (List ℕ)) → l1.given ≡ l0.given → y ≡ x → l1.at_end ≡ false → TellsLeft l1 l y z → TellsLeft l0 l x z
+left_opened l0 l1 l x y z same is more h = record {
+  bytes = h.bytes;
+  gave = h.gave ∙ ap (λ (g : List ℕ). g ++ h.bytes) same;
+  consumed = subst (λ (w : Option (List ℕ)). Consumes w z h.bytes) is h.consumed;
+  end = λ old new. h.end more new;
+}
+
 -- nothing was written of the line that sums up the verdicts
 pub unsummed : (script : List ℕ) (size : ℕ) (t : Output) (log : List Reply) → IsAnsweredFront script log → IsGenerated script size t t NoMemory log
 unsummed script size t log front = record {

@@ -18,11 +18,11 @@ returns-in-Err-clause-added g c = adds_none c.args.self.now.replies (g.K.Sink.ou
 pub returns-in-Ok-written-clause-added : goal.returns-in-Ok-written-clause-added
 returns-in-Ok-written-clause-added g c = adds_one c.args.self.now.replies c.and-self.result (Error c.in-Ok.kind) (text_of (Error c.in-Ok.kind)) (g.K.Sink.output c.args.sink.now) (g.K.Sink.output c.write_reply-written.new.sink) c.and-self.ensures c.write_reply-written.ensures.front
 
-pub returns-in-Err-written-clause-went : goal.returns-in-Err-written-clause-went
-returns-in-Err-written-clause-went g c = λ ended bytes taken h.
+pub returns-clause-went : goal.returns-clause-went
+returns-clause-went g c = λ ended bytes taken h.
     cut_stops ended bytes taken (g.K.Sink.output c.write_reply-written.new.sink) c.and-self.result c.of_fault.result c.of_fault.ensures.either
     (faulty_cut ended c.args.self.now c.args.fault bytes taken (g.K.Sink.output c.args.sink.now) (g.K.Sink.output c.write_reply-written.new.sink) h c.in-Ok.kind c.and-self.result c.in-Ok.ensures.kind c.and-self.ensures c.write_reply-written.ensures.front c.in-Err-written.ensures.err)
     (faulty_last ended c.args.self.now c.args.fault bytes taken (g.K.Sink.output c.args.sink.now) (g.K.Sink.output c.write_reply-written.new.sink) h c.in-Ok.kind c.and-self.result c.in-Ok.ensures.kind c.and-self.ensures c.in-Err-written.ensures.err)
 
-pub returns-in-Err-written-clause-added : goal.returns-in-Err-written-clause-added
-returns-in-Err-written-clause-added g c = adds_one c.args.self.now.replies c.and-self.result (Error c.in-Ok.kind) (text_of (Error c.in-Ok.kind)) (g.K.Sink.output c.args.sink.now) (g.K.Sink.output c.write_reply-written.new.sink) c.and-self.ensures c.write_reply-written.ensures.front
+pub returns-clause-added : goal.returns-clause-added
+returns-clause-added g c = adds_one c.args.self.now.replies c.and-self.result (Error c.in-Ok.kind) (text_of (Error c.in-Ok.kind)) (g.K.Sink.output c.args.sink.now) (g.K.Sink.output c.write_reply-written.new.sink) c.and-self.ensures c.write_reply-written.ensures.front
