@@ -3,7 +3,7 @@ use Rattle.std.proofs.Common.{◌≡◌, ℕ, List, [], ◌∷◌, ◌++◌, ◌
 use Rattle.sexpr_reader.specs.declared.sexpr.Sexpr.{Sexpr}
 use Rattle.sexpr_reader.specs.declared.sexpr.Sexpr.TheVariants as s
 use Rattle.sexpr_reader.specs.Tokens.{Token}
-use Rattle.sexpr_reader.specs.Lexes.{none, white, IsBlank, Lexes}
+use Rattle.sexpr_reader.specs.Lexes.{none, white, IsBlank, IsBlankEnd, Lexes}
 use Rattle.sexpr_reader.specs.Items.{tokens_of, tokens_of_all, levels}
 use Rattle.sexpr_reader.specs.Reads.{Begins, Ends}
 use Rattle.sexpr_reader.proofs.Faults.{skip-end}
@@ -46,12 +46,12 @@ end_blank [] = none
 end_blank (item ∷ []) = white refl none
 end_blank (item ∷ next ∷ items) = end_blank (next ∷ items)
 
--- no token stands in white space
-no_item : (rest : List ℕ) → IsBlank rest → (ts : List Token) (after : List ℕ) → (ts ≡ [] → ⊥) → Lexes true rest ts after → ⊥
-no_item rest blank [] after some l = some refl
-no_item rest blank (t ∷ ts) after some l =
+-- no token stands in white space and comments
+no_token : (rest : List ℕ) → IsBlankEnd rest → (ts : List Token) (after : List ℕ) → (ts ≡ [] → ⊥) → Lexes true rest ts after → ⊥
+no_token rest blank [] after some l = some refl
+no_token rest blank (t ∷ ts) after some l =
     let w = token_front true rest t ts after l in
-    no_text true t l.1 w.0 (sym (skip-end rest (inl blank)) ∙ w.1)
+    no_text true t l.1 w.0 (sym (skip-end rest blank) ∙ w.1)
 
 pub lines_end : (items : List Sexpr) → ArePrintable items → Ends (printed_lines items) items
 lines_end items h = record {
@@ -60,7 +60,7 @@ lines_end items h = record {
     begins =
         subst (λ (b : List ℕ). Begins true b items (line_end items)) (append-nil (printed_lines items))
         (subst (λ (r : List ℕ). Begins true (printed_lines items ++ []) items r) (append-nil (line_end items)) (lines_read true items [] h));
-    last = λ item after b. no_item (line_end items) (end_blank items) (tokens_of_all (item ∷ [])) after (λ e. some_tokens item (sym (append-nil (tokens_of item)) ∙ e)) b.lexed;
+    last = λ item after b. no_token (line_end items) (inl (end_blank items)) (tokens_of_all (item ∷ [])) after (λ e. some_tokens item (sym (append-nil (tokens_of item)) ∙ e)) b.lexed;
   };
   blank = inl (end_blank items);
 }
@@ -71,3 +71,15 @@ further_items ended xs ys rest after (second vs e l) = let r = same_items ys xs 
 
 pub one_goes_on : (ended : Bool) (bytes : List ℕ) (xs ys : List Sexpr) (rest after : List ℕ) → Begins ended bytes xs rest → Begins ended bytes ys after → ((more : List Sexpr) × (ys ≡ xs ++ more)) ⊎ ((more : List Sexpr) × (xs ≡ ys ++ more))
 one_goes_on ended bytes xs ys rest after h g = further_items ended xs ys rest after (same_lexing ended bytes (tokens_of_all xs) (tokens_of_all ys) rest after h.lexed g.lexed)
+
+-- nothing is read behind all
+no_longer : (all items : List Sexpr) (left rest : List ℕ) → IsBlankEnd left → Further true (tokens_of_all all) (tokens_of_all items) left rest → (more : List Sexpr) × (all ≡ items ++ more)
+no_longer all items left rest blank (second vs e l) = let r = same_items items all vs e in (r.0, r.1)
+no_longer all items left rest blank (first [] e l) = let r = same_items items all [] (sym (append-nil (tokens_of_all all)) ∙ sym e ∙ sym (append-nil (tokens_of_all items))) in (r.0, r.1)
+no_longer all items left rest blank (first (v ∷ vs) e l) = absurd (no_token left blank (v ∷ vs) rest (λ k. some_nil v vs k) l)
+  where
+    some_nil : (u : Token) (us : List Token) → u ∷ us ≡ [] → ⊥
+    some_nil u us k = cc
+
+pub all_read : (bytes : List ℕ) (all items : List Sexpr) (rest : List ℕ) → Ends bytes all → Begins true bytes items rest → (more : List Sexpr) × (all ≡ items ++ more)
+all_read bytes all items rest h b = no_longer all items h.rest rest h.blank (same_lexing true bytes (tokens_of_all all) (tokens_of_all items) h.rest rest h.reads.begins.lexed b.lexed)

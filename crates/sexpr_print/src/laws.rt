@@ -14,7 +14,9 @@ pub fn printed_items_are_read()
     ensures all { (items : List AnySexpr) → ArePrintable items → Ends (printed_lines items) items }
 {}
 
-/// Of two lists of s-expressions that bytes begin with, one goes on where the other stops.
+/// Of two lists of s-expressions that bytes begin with, one goes on where the other stops; and none goes
+/// on behind all that are read to the end.
 pub fn readings_agree()
-    ensures { (ended : Bool) (bytes : List ℕ) (these those : List AnySexpr) (rest after : List ℕ) → Begins ended bytes these rest → Begins ended bytes those after → ((more : List AnySexpr) × (those ≡ these ++ more)) ⊎ ((more : List AnySexpr) × (these ≡ those ++ more)) }
+    ensures further { (ended : Bool) (bytes : List ℕ) (these those : List AnySexpr) (rest after : List ℕ) → Begins ended bytes these rest → Begins ended bytes those after → ((more : List AnySexpr) × (those ≡ these ++ more)) ⊎ ((more : List AnySexpr) × (these ≡ those ++ more)) }
+    ensures all { (bytes : List ℕ) (all items : List AnySexpr) (rest : List ℕ) → Ends bytes all → Begins true bytes items rest → (more : List AnySexpr) × (all ≡ items ++ more) }
 {}
