@@ -1,5 +1,5 @@
 -- A block is one cube.
-use Rattle.std.proofs.Common.{◌≡◌, ℕ, ◌≤◌, List, [], ◌∷◌, true, map, refl, ap, ◌∙◌, arith}
+use Rattle.std.proofs.Common.{◌≡◌, ℕ, [], ◌∷◌, true, map, refl, ap, ◌∙◌}
 use Rattle.bool_cubes.specs.Cubes.{cubes, count, cube, cubes_of}
 use Rattle.bool_cubes.specs.Refusing.{count_of}
 use Rattle.bool_cubes.specs.Trees.{Tree, always, both, formula, tree_of}

@@ -1,13 +1,12 @@
 -- The flat cubes of the blocks.
-use Rattle.std.proofs.Common.{◌≡◌, ℕ, zero, suc, ◌+◌, ◌*◌, ◌<◌, ◌≤◌, ◌^◌, ℤ, pos, ◌+ℤ◌, ◌*ℤ◌, List, [], ◌∷◌, map, length, slice_get, Bool, true, false, Option, None, Some, if◌then◌else◌, refl, sym, ap, ◌∙◌, subst, arith, ne_eqb}
+use Rattle.std.proofs.Common.{◌≡◌, ℕ, zero, suc, ◌+◌, ◌*◌, ◌<◌, ◌≤◌, ◌^◌, pos, ◌+ℤ◌, List, [], ◌∷◌, map, slice_get, Bool, true, false, None, Some, if◌then◌else◌, refl, sym, ap, ◌∙◌, subst, arith, ne_eqb}
 use Rattle.sv_linear.specs.declared.row.Row.{Row}
 use Rattle.sv_linear.specs.declared.row.RowKind.TheVariants.{Eq}
 use Rattle.sv_linear.specs.Terms.{coefficient}
 use Rattle.literal_forms.specs.Linear.{length_of, less, of_unknown, of_number}
 use Rattle.literal_forms.specs.Mirrors.{seen-raw}
-use Rattle.literal_forms.specs.Shapes.{Shape, raw}
-use Rattle.literal_forms.specs.declared.literal.Literal.{Literal}
-use Rattle.flat_cubes.specs.Said.{Said, atom_said, said, is_outside, first_outside}
+use Rattle.literal_forms.specs.Shapes.{Shape}
+use Rattle.flat_cubes.specs.Said.{atom_said, is_outside, first_outside}
 use Rattle.flat_cubes.specs.Met.{DraftView, nothing_met, add, met}
 use Rattle.flat_cubes.specs.Flattening.{IsRowFor, coefficient_at, IsFlatOf, IsFlattening, variables_of, variable_of, definitions_of, ordered, registers_of, integers_of}
 use Rattle.flat_cubes.specs.Straight.{IsRowBelow, IsStraight}

@@ -1,5 +1,5 @@
 -- The numbers of the flat cubes of the blocks.
-use Rattle.std.proofs.Common.{◌≡◌, ℕ, zero, suc, ◌+◌, ◌*◌, ◌/◌, ◌≤◌, ◌<◌, ◌^◌, max, ℤ, pos, neg_ℤ, ◌≤ℤ◌, unsigned_abs, length, List, [], ◌∷◌, Some, Option, refl, sym, ap, ◌∙◌, subst, arith}
+use Rattle.std.proofs.Common.{◌≡◌, ℕ, ◌+◌, ◌*◌, ◌≤◌, ◌<◌, ◌^◌, ℤ, pos, neg_ℤ, ◌≤ℤ◌, unsigned_abs, Some, refl, sym, ap, ◌∙◌, subst, arith}
 use Rattle.std.proofs.lemmas.Int.{ints}
 use Rattle.std.specs.Int.{int_div_euclid}
 use Rattle.std.specs.List.{AllByRecursion}
@@ -15,7 +15,7 @@ use Rattle.flat_cubes.specs.declared.flat.Flat.{Flat}
 use Rattle.generated_script.specs.declared.shape.Shape.{Shape as Block}
 use Rattle.generated_script.specs.declared.shape.Shape.TheVariants.{Power, Odd, Halves, Escaped}
 use Rattle.generated_cubes.specs.Blocks.{IsSmallBlock}
-use Rattle.generated_cubes.proofs.Flats.{flat_of, flattening, length_row}
+use Rattle.generated_cubes.proofs.Flats.{flat_of, flattening}
 use Rattle.generated_cubes.proofs.Numbers.{row_constant, magnitude, upper_is, values_are, amount_is, below_limit}
 
 -- the greatest length, and how many there are
