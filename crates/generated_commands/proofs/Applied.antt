@@ -1,5 +1,5 @@
 -- A function of the theories at arguments that it takes, and numerals.
-use Rattle.std.proofs.Common.{◌≡◌, ℕ, ◌≤◌, ◌<◌, ◌^◌, pos, Bool, true, false, nat_le, nat_lt, List, [], ◌∷◌, map, Ok, Some, refl, sym, ap, ◌∙◌, arith, leb-true, ltb-true}
+use Rattle.std.proofs.Common.{◌≡◌, ℕ, ◌≤◌, ◌^◌, pos, Bool, true, false, nat_le, nat_lt, List, [], ◌∷◌, map, Ok, Some, refl, ap, ◌∙◌, arith, leb-true, ltb-true}
 use Rattle.std.specs.Fmt.{decimal}
 use Rattle.sexpr_reader.specs.declared.kind.TokenKind.TheVariants as kind
 use Rattle.smt_names.specs.Faults.{and_then, ◌>>◌, need, refuse}
@@ -16,7 +16,7 @@ use Rattle.sv_terms.specs.declared.sort.Sort.{Sort}
 use Rattle.sv_terms.specs.declared.term.Term.TheVariants as term
 use Rattle.term_weight.specs.Bodies.{body_sort}
 use Rattle.term_weight.specs.Ranks.{takes_count, takes_sorts, applied}
-use Rattle.term_walk.specs.Meant.{Names, Head, theory, head, in_parentheses, meant, meant_all, meant_let, meant_quantifier, meant_annotated, alone, of_theory, identified, index_of}
+use Rattle.term_walk.specs.Meant.{Names, theory, head, in_parentheses, meant, meant_all, meant_let, meant_quantifier, meant_annotated, alone, of_theory, identified, index_of}
 use Rattle.generated_items.proofs.Decimals.{small_decimal}
 
 module _ (test : Body → Bool) (symbols : Names) where

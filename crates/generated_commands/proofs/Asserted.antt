@@ -1,6 +1,5 @@
 -- The assertions of a block are within the limits, and are sorted.
-use Rattle.std.proofs.Common.{◌≡◌, ℕ, ◌+◌, ◌*◌, ◌≤◌, Bool, true, false, ◌&&◌, nat_le, List, [], ◌∷◌, codes, Result, Ok, refl, sym, ap, ◌∙◌, arith}
-use Rattle.std.specs.Fmt.{decimal}
+use Rattle.std.proofs.Common.{◌≡◌, ℕ, ◌+◌, ◌*◌, ◌≤◌, Bool, true, ◌&&◌, nat_le, List, [], ◌∷◌, codes, Ok, refl, sym, ap, ◌∙◌, arith}
 use Rattle.std.specs.List.{list_all}
 use Rattle.generated_script.specs.declared.shape.Shape.{Shape as Block}
 use Rattle.generated_script.specs.declared.shape.Shape.TheVariants.{Power, Odd, Halves, Escaped}
@@ -24,7 +23,7 @@ use Rattle.sv_terms.specs.declared.regex.Regex.TheVariants as regex
 use Rattle.sv_terms.specs.declared.sort.Sort.{Sort}
 use Rattle.sv_terms.specs.declared.sort.Sort.TheVariants as sort
 use Rattle.term_weight.specs.Sizes.{fits, one_more, one_deeper, regex_measure, regex_nodes, regex_nesting, term_measure}
-use Rattle.term_walk.specs.Meant.{any_size, meant_all}
+use Rattle.term_walk.specs.Meant.{any_size}
 use Rattle.generated_commands.specs.Commands.{with_both}
 use Rattle.generated_commands.proofs.Applied.{Means, AllMean, none-mean, more-mean, small_digits}
 use Rattle.generated_commands.proofs.Meanings.{of, sort-of, first-means, second-means}

@@ -1,5 +1,5 @@
 -- The items of a block as commands.
-use Rattle.std.proofs.Common.{◌≡◌, ℕ, ◌≤◌, List, [], codes, Ok, refl, ap, ◌∙◌}
+use Rattle.std.proofs.Common.{◌≡◌, ℕ, ◌≤◌, [], codes, Ok, refl, ap, ◌∙◌}
 use Rattle.generated_script.specs.declared.shape.Shape.{Shape as Block}
 use Rattle.generated_terms.specs.Terms as terms
 use Rattle.generated_items.specs.Forms as forms
@@ -14,7 +14,6 @@ use Rattle.sv_terms.specs.declared.sort.Sort.TheVariants as sort
 use Rattle.term_walk.specs.Meant.{Names}
 use Rattle.generated_commands.specs.Commands.{with_x, with_both, block_commands, AreCommands}
 use Rattle.generated_commands.proofs.Asserted.{first_asserted, second_asserted}
-
 
 -- of the s-expression of a form
 of_form : (symbols : Names) (f : Form) (c : Command) → checked symbols f ≡ Ok c → checked symbols (seen (raw f)) ≡ Ok c

@@ -1,15 +1,13 @@
 -- What the assertions of a block mean.
-use Rattle.std.proofs.Common.{◌≡◌, ℕ, ◌+◌, ◌*◌, ◌≤◌, pos, Bool, true, false, List, [], ◌∷◌, map, codes, Ok, Some, Option, ◌&&◌, is_some, if◌then◌else◌, refl, sym, ap, ◌∙◌, subst, arith}
-use Rattle.std.specs.Fmt.{decimal}
+use Rattle.std.proofs.Common.{◌≡◌, ℕ, ◌+◌, ◌*◌, ◌≤◌, pos, Bool, true, false, List, [], ◌∷◌, codes, Ok, Option, ◌&&◌, is_some, if◌then◌else◌, refl, ap, ◌∙◌, arith}
 use Rattle.generated_script.specs.declared.shape.Shape.{Shape as Block}
 use Rattle.generated_script.specs.declared.shape.Shape.TheVariants.{Power, Odd, Halves, Escaped}
 use Rattle.generated_terms.specs.Terms as terms
 use Rattle.generated_terms.proofs.Folds.{shape_fold, fold-raw}
 use Rattle.generated_items.specs.Forms as forms
 use Rattle.literal_forms.specs.Shapes.{Shape, text, apply, member, number, raw, end as last, ◌⨾◌ as ◌⨾⨾◌}
-use Rattle.sexpr_reader.specs.declared.kind.TokenKind.TheVariants as kind
 use Rattle.smt_names.specs.Faults.{and_then}
-use Rattle.smt_names.specs.Form.{Form, Forms, token, group, end, ◌⨾◌}
+use Rattle.smt_names.specs.Form.{Form, group, end, ◌⨾◌}
 use Rattle.smt_names.specs.Signature.{function, power}
 use Rattle.smt_names.specs.declared.function.ArgumentSorts.TheVariants.{One, Two, Three, Each, Alike}
 use Rattle.smt_names.specs.declared.function.Interpretation.TheVariants as is

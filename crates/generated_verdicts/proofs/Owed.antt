@@ -1,5 +1,5 @@
 -- On each block an answer is owed.
-use Rattle.std.proofs.Common.{◌≡◌, ℕ, zero, suc, ◌≤◌, List, [], ◌∷◌, All, inl, refl, sym, ap, ◌∙◌, subst, arith}
+use Rattle.std.proofs.Common.{ℕ, zero, suc, ◌≤◌, List, [], ◌∷◌, All, inl, sym, subst, arith}
 use Rattle.bool_cubes.specs.Cubes.{cube, cubes_of}
 use Rattle.bool_cubes.specs.Past.{HasNoPast}
 use Rattle.bool_cubes.specs.Refusing.{count_of, most_cubes}

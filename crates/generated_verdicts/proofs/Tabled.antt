@@ -1,5 +1,5 @@
 -- A right verdict on a block is the table's.
-use Rattle.std.proofs.Common.{◌≡◌, ℕ, zero, suc, ◌+◌, ◌≤◌, Bool, true, false, not, List, refl, sym, ap, ◌∙◌, subst, arith}
+use Rattle.std.proofs.Common.{◌≡◌, ℕ, zero, suc, ◌+◌, ◌≤◌, Bool, true, false, not, refl, subst, arith}
 use Rattle.decide.specs.Completeness.{IsComplete, MustDecide}
 use Rattle.decide.specs.Verdicts.{RightVerdict}
 use Rattle.decide.specs.declared.verdict.Verdict.{Verdict}
@@ -10,8 +10,7 @@ use Rattle.generated_terms.specs.Terms.{has_values, terms_of}
 use Rattle.generated_terms.proofs.Answered as answered
 use Rattle.generated_verdicts.specs.Table.{IsVerdictBy, one_if, is_sat_at, sat_from, unsat_from, sat_count, unsat_count}
 use Rattle.generated_verdicts.proofs.Owed.{must_decide}
-use Rattle.sv_terms.specs.Truth.{HasNoValues, clear_of}
-use Rattle.sv_terms.specs.declared.term.Term.{Term}
+use Rattle.sv_terms.specs.Truth.{HasNoValues}
 
 by_answer : (block : Block) (k : ℕ) (b : Bool) → has_values block k ≡ b → (v : Verdict) → RightVerdict (terms_of block k) v → IsComplete (terms_of block k) v → IsVerdictBy b v
 by_answer block k true e (Sat values) right complete = tt

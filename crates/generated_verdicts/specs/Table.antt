@@ -1,7 +1,7 @@
 -- The verdicts on the blocks of a generated script, and how many there are of each.
 use Rattle.std.specs.Prelude.{ℕ, zero, suc, ◌+◌, Bool, true, false, not, ⊤}
 use Rattle.decide.specs.declared.verdict.Verdict.{Verdict}
-use Rattle.decide.specs.declared.verdict.Verdict.TheVariants.{Sat, Unsat, Unknown}
+use Rattle.decide.specs.declared.verdict.Verdict.TheVariants.{Sat, Unsat}
 use Rattle.generated_items.specs.Items.{block_at, number_at}
 use Rattle.generated_script.specs.Draws.{behind, seeded}
 use Rattle.generated_script.specs.declared.tally.VerdictCounts.{VerdictCounts}
