@@ -7,7 +7,7 @@ use Rattle.generated_commands.proofs.Commanded.{block_read}
 use Rattle.generated_items.specs.Forms as forms
 use Rattle.generated_items.specs.Items.{block_items}
 use Rattle.generated_script.specs.declared.shape.Shape.{Shape as Block}
-use Rattle.generated_tally.specs.Replies.{IsReplyBy}
+use Rattle.generated_tally.specs.Tabled.{IsReplyBy}
 use Rattle.generated_tally.proofs.Stepped.{IsCommand, performs, silent, first_done, silent_done}
 use Rattle.generated_terms.specs.Terms.{first, second, has_values, terms_of}
 use Rattle.generated_verdicts.specs.Table.{IsVerdictBy}
@@ -75,22 +75,22 @@ module _ (block : Block) (k : ℕ) (h : k ≤ 50) where
   abbrev are : AreCommands (block_items block k) (block_commands block k)
   are = block_read block k h
 
-  abbrev behind_six : List Sexpr → List Sexpr
+  abbrev pub behind_six : List Sexpr → List Sexpr
   behind_six others = raw forms.popped ∷ others
 
-  abbrev behind_five : List Sexpr → List Sexpr
+  abbrev pub behind_five : List Sexpr → List Sexpr
   behind_five others = raw forms.asked ∷ behind_six others
 
-  abbrev behind_four : List Sexpr → List Sexpr
+  abbrev pub behind_four : List Sexpr → List Sexpr
   behind_four others = raw (forms.asserted (forms.second_form block k)) ∷ behind_five others
 
-  abbrev behind_three : List Sexpr → List Sexpr
+  abbrev pub behind_three : List Sexpr → List Sexpr
   behind_three others = raw (forms.asserted (forms.first_form block k)) ∷ behind_four others
 
-  abbrev behind_two : List Sexpr → List Sexpr
+  abbrev pub behind_two : List Sexpr → List Sexpr
   behind_two others = raw (forms.declared forms.y) ∷ behind_three others
 
-  abbrev behind_one : List Sexpr → List Sexpr
+  abbrev pub behind_one : List Sexpr → List Sexpr
   behind_one others = raw (forms.declared forms.x) ∷ behind_two others
 
   pub push_told : (r : Reply) (t : State) → Does opened (command.Push 1) r t → (r ≡ silent) × (t ≡ with_levels levels_in)

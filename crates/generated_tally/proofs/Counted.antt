@@ -2,7 +2,7 @@
 use Rattle.std.proofs.Common.{◌≡◌, ℕ, zero, suc, ◌+◌, ◌≤◌, ◌%◌, List, [], ◌∷◌, Bool, true, false, not, cond, count_by, fold, refl, sym, ap, ◌∙◌, arith}
 use Rattle.generated_items.specs.Items.{block_at, number_at, items_from, script_items}
 use Rattle.generated_script.specs.Draws.{behind, seeded}
-use Rattle.generated_tally.specs.Replies.{IsReplyBy, IsTabled}
+use Rattle.generated_tally.specs.Tabled.{IsReplyBy, IsTabled}
 use Rattle.generated_tally.proofs.Blocks.{BlockDone, block_done}
 use Rattle.generated_tally.proofs.Stepped.{silent, nothing_done}
 use Rattle.generated_verdicts.specs.Table.{one_if, is_sat_at, sat_from, unsat_from}
@@ -56,7 +56,11 @@ unsat_one false (Definitions ds) h = absurd h
 unsat_one false (Values vs) h = absurd h
 unsat_one false (Info i) h = absurd h
 
-unknown_none : (b : Bool) (r : Reply) → IsReplyBy b r → cond (is_unknown r) 1 0 ≡ 0
+-- one, where the reply passes
+abbrev one_of : (Reply → Bool) → Reply → ℕ
+one_of p r = cond (p r) 1 0
+
+unknown_none : (b : Bool) (r : Reply) → IsReplyBy b r → one_of is_unknown r ≡ 0
 unknown_none true (Unknown why) h = absurd h
 unknown_none false (Unknown why) h = absurd h
 unknown_none b (Sat values) h = refl

@@ -6,7 +6,7 @@ use Rattle.generated_commands.specs.Commands.{AreCommands, block_commands}
 use Rattle.generated_commands.proofs.Commanded.{block_read}
 use Rattle.generated_script.specs.Draws.{behind}
 use Rattle.generated_script.specs.declared.shape.Shape.{Shape as Block}
-use Rattle.generated_tally.proofs.Blocks.{with_levels, levels_in, levels_x, levels_y, levels_one, levels_two, push_told, x_told, y_told, first_told, second_told, pop_told}
+use Rattle.generated_tally.proofs.Blocks.{with_levels, levels_in, levels_x, levels_y, levels_one, levels_two, behind_one, behind_two, behind_three, behind_four, behind_five, push_told, x_told, y_told, first_told, second_told, pop_told}
 use Rattle.generated_tally.proofs.Stepped.{IsCommand, performs}
 use Rattle.generated_terms.specs.Terms.{first, second}
 use Rattle.literal_forms.specs.Shapes.{raw as term_of}
@@ -53,11 +53,11 @@ module _ (block : Block) (k : ℕ) (h : k ≤ 50) where
 
   block_goes : (others : List Sexpr) → GoesOn opened others → GoesOn opened (block_items block k ++ others)
   block_goes others g =
-      let five = goes_by (with_levels (levels_one block k)) (with_levels (levels_two block k)) (raw (forms.asserted (forms.second_form block k))) _ (command.Assert (term_of (second block k))) are.1.1.1.1.0 refl (λ r t d. (second_told block k h r t d).1) (at_check others g) in
-      let four = goes_by (with_levels levels_y) (with_levels (levels_one block k)) (raw (forms.asserted (forms.first_form block k))) _ (command.Assert (term_of (first block k))) are.1.1.1.0 refl (λ r t d. (first_told block k h r t d).1) five in
-      let three = goes_by (with_levels levels_x) (with_levels levels_y) (raw (forms.declared forms.y)) _ (command.Declare (codes "y") sort.String) are.1.1.0 refl (λ r t d. (y_told block k h r t d).1) four in
-      let two = goes_by (with_levels levels_in) (with_levels levels_x) (raw (forms.declared forms.x)) _ (command.Declare (codes "x") sort.String) are.1.0 refl (λ r t d. (x_told block k h r t d).1) three in
-      goes_by opened (with_levels levels_in) (raw forms.pushed) _ (command.Push 1) are.0 refl (λ r t d. (push_told block k h r t d).1) two
+      let five = goes_by (with_levels (levels_one block k)) (with_levels (levels_two block k)) (raw (forms.asserted (forms.second_form block k))) (behind_five block k h others) (command.Assert (term_of (second block k))) are.1.1.1.1.0 refl (λ r t d. (second_told block k h r t d).1) (at_check others g) in
+      let four = goes_by (with_levels levels_y) (with_levels (levels_one block k)) (raw (forms.asserted (forms.first_form block k))) (behind_four block k h others) (command.Assert (term_of (first block k))) are.1.1.1.0 refl (λ r t d. (first_told block k h r t d).1) five in
+      let three = goes_by (with_levels levels_x) (with_levels levels_y) (raw (forms.declared forms.y)) (behind_three block k h others) (command.Declare (codes "y") sort.String) are.1.1.0 refl (λ r t d. (y_told block k h r t d).1) four in
+      let two = goes_by (with_levels levels_in) (with_levels levels_x) (raw (forms.declared forms.x)) (behind_two block k h others) (command.Declare (codes "x") sort.String) are.1.0 refl (λ r t d. (x_told block k h r t d).1) three in
+      goes_by opened (with_levels levels_in) (raw forms.pushed) (behind_one block k h others) (command.Push 1) are.0 refl (λ r t d. (push_told block k h r t d).1) two
 
 number_small : (s : ℕ) → number_at s ≤ 50
 number_small s = omega arith

@@ -6,7 +6,7 @@ use Rattle.generated_items.proofs.Scripts.{script_read}
 use Rattle.generated_script.specs.Blocks.{script}
 use Rattle.generated_script.specs.Draws.{seeded}
 use Rattle.generated_script.specs.declared.tally.VerdictCounts.{VerdictCounts}
-use Rattle.generated_tally.specs.Replies.{IsTabled}
+use Rattle.generated_tally.specs.Tabled.{IsTabled}
 use Rattle.generated_tally.proofs.Counted.{script_tabled}
 use Rattle.generated_tally.proofs.Quiet.{GoesOn, never_ended, script_goes}
 use Rattle.generated_verdicts.specs.Table.{sat_count, unsat_count, table_of}

@@ -2,7 +2,7 @@
 ghost use Rattle.std.specs.Prelude.{◌≡◌, ◌<◌, ◌^◌, ℕ, List};
 ghost use Rattle.generated_items.specs.Items.{script_items};
 ghost use Rattle.generated_script.specs.Blocks.{script};
-ghost use Rattle.generated_tally.specs.Replies.{IsTabled};
+ghost use Rattle.generated_tally.specs.Tabled.{IsTabled};
 ghost use Rattle.generated_verdicts.specs.Table.{table_of};
 ghost use Rattle.smt_session.specs.Generated.{IsAnsweredWhole, tally_of};
 ghost use Rattle.smt_session.specs.Scripts.{FollowsScript};
