@@ -1,0 +1,5 @@
+pub mod Stepped
+pub mod Blocks
+pub mod Counted
+pub mod Quiet
+pub mod Whole
