@@ -6,6 +6,7 @@ use Rattle.std.specs.declared.option.Option.{Option}
 use Rattle.sv_io.proofs.Histories.{delivers_nothing, takes_nothing}
 use Rattle.sv_io.specs.Histories.{Input, Output, Delivers, TellsLeft}
 use Rattle.std.specs.Io.KnownBytes.{Consumes}
+use Rattle.generated_script.specs.declared.tally.VerdictCounts.{VerdictCounts}
 use Rattle.generated_script.specs.Summary.{summary_text}
 use Rattle.command_words.specs.Asked.{IsAskedLine, IsTaskOf}
 use Rattle.command_words.specs.Words.{is_in_form, seed_given, size_given, file_given}
@@ -92,20 +93,24 @@ left_opened l0 l1 l x y z same is more h = record {
 }
 
 -- nothing was written of the line that sums up the verdicts
-pub unsummed : (script : List ℕ) (size : ℕ) (t : Output) (log : List Reply) → IsAnsweredFront script log → IsGenerated script size t t NoMemory log
-unsummed script size t log front = record {
+pub unsummed : (script : List ℕ) (size : ℕ) (counts : VerdictCounts) (t : Output) (log : List Reply) → IsAnsweredFront script log → IsGenerated script size counts t t NoMemory log
+unsummed script size counts t log front = record {
   statuses = inr (inr refl);
   answered = λ h. elim h [
     | inl a ↦ absurd (unanswered a)
     | inr a ↦ absurd (unwritten a)
   ];
   front = front;
+  tally = λ h. elim h [
+    | inl a ↦ absurd (unanswered a)
+    | inr a ↦ absurd (unwritten a)
+  ];
   took = λ a. absurd (unanswered a);
   cut = takes_nothing t (summary_text size (tally_of log));
 }
 
-pub nothing_generated : (script : List ℕ) (size : ℕ) (t : Output) (log : List Reply) → log ≡ [] → IsGenerated script size t t NoMemory log
-nothing_generated script size t log e = unsummed script size t log (record { ended = false; front = []; more = script; is = refl; right = (nothing_cut t log e).right })
+pub nothing_generated : (script : List ℕ) (size : ℕ) (counts : VerdictCounts) (t : Output) (log : List Reply) → log ≡ [] → IsGenerated script size counts t t NoMemory log
+nothing_generated script size counts t log e = unsummed script size counts t log (record { ended = false; front = []; more = script; is = refl; right = (nothing_cut t log e).right })
 
 pub verdict_in : (script : List ℕ) (log early late : List Reply) (r : Reply) → IsAnsweredFront script log → log ≡ early ++ r ∷ late → IsTrueIn script early r
 verdict_in script log early late r h e = record { ended = h.ended; front = h.front; more = h.more; is = h.is; verdict_is = verdict_true h.ended h.front log early late r h.right e }

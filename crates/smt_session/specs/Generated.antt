@@ -56,12 +56,13 @@ StopsIn script log ReadFailed = ⊥
 StopsIn script log WriteFailed = ⊥
 StopsIn script log NoMemory = IsAnsweredFront script log
 
--- the script was answered, and the sink took the line that sums up its verdicts; or up to some place, where the sink failed or there was no memory
-pub record IsGenerated (script : List ℕ) (size : ℕ) (output_old output_new : Output) (status : Status) (log : List Reply) : Type 0 where
+-- the script was answered, with so many verdicts of each kind, and the sink took the line that sums them up; or up to some place, where the sink failed or there was no memory
+pub record IsGenerated (script : List ℕ) (size : ℕ) (counts : VerdictCounts) (output_old output_new : Output) (status : Status) (log : List Reply) : Type 0 where
   pub statuses : (status ≡ Answered) ⊎ (status ≡ WriteFailed) ⊎ (status ≡ NoMemory)
   pub answered : (status ≡ Answered) ⊎ (status ≡ WriteFailed) → IsAnsweredWhole script log
   pub front : IsAnsweredFront script log
-  pub took : status ≡ Answered → Sends output_old output_new (summary_text size (tally_of log))
+  pub tally : (status ≡ Answered) ⊎ (status ≡ WriteFailed) → tally_of log ≡ counts
+  pub took : status ≡ Answered → Sends output_old output_new (summary_text size counts)
   pub cut : Takes output_old output_new (summary_text size (tally_of log))
 
 -- a reply behind the early ones is one for a front of the script

@@ -4,6 +4,7 @@ ghost use Rattle.generated_script.specs.Summary.{summary_text};
 ghost use Rattle.sv_io.specs.Counts.{Rose};
 ghost use Rattle.sv_io.specs.Histories.{Output, Sends, Takes};
 ghost use Rattle.generated_script.specs.Blocks.{script};
+ghost use Rattle.generated_verdicts.specs.Table.{table_of};
 ghost use Rattle.smt_session.specs.Generated.{IsGenerated, StopsIn, tally_of};
 ghost use Rattle.smt_session.specs.Awaiting.{AwaitsItem};
 
@@ -112,7 +113,7 @@ pub fn answer_generated<R: Threads + Sync, K: Sink>(
 ) -> ProgramRun
     requires workers { 1 ≤ workers }
     requires writes { K.goes_on sink.old ≡ true }
-    ensures generated { IsGenerated (script seed size) size (K.output sink.old) (K.output sink.new) result.status result.log }
+    ensures generated { IsGenerated (script seed size) size (table_of seed size) (K.output sink.old) (K.output sink.new) result.status result.log }
     ensures failed { result.status ≡ Status.WriteFailed → Rose (K.faults sink.old) (K.faults sink.new) }
 {
     let mut answering = Answering::new(alloc, workers);

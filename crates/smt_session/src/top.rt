@@ -10,6 +10,7 @@ ghost use Rattle.command_words.specs.declared.options.TheConstants.{MOST_WORKERS
 ghost use Rattle.command_words.specs.Asked.{named};
 ghost use Rattle.command_words.specs.Words.{is_in_form};
 ghost use Rattle.generated_script.specs.Blocks.{script};
+ghost use Rattle.generated_verdicts.specs.Table.{table_of};
 ghost use Rattle.smt_session.specs.CommandLine.{AskFor, usage};
 ghost use Rattle.smt_session.specs.Generated.{IsGenerated, IsTrueIn};
 ghost use Rattle.smt_session.specs.Runs.{IsTrueBehind, IsAnswered, IsCutAtLast, IsFront, IsPrompt, IsRefused, StopsAtExit, IsAnsweredSoFar};
@@ -168,7 +169,7 @@ pub fn run<R: Threads + Sync, S: Source, K: Sink>(
     ensures open { is_some (named words.now) ≡ true → (result.status ≡ Status.Answered) ⊎ (result.status ≡ Status.ErrorAnswered) → S.is_open source.new ≡ true }
     ensures name { (name : Optional (List ℕ)) → named words.now ≡ Some name → (result.status ≡ Status.Answered) ⊎ (result.status ≡ Status.ErrorAnswered) → IsOwn (S.own_name source.old) name }
     ensures astray { (name : Optional (List ℕ)) → named words.now ≡ Some name → IsOwn (S.own_name source.old) name → S.is_astray source.new ≡ S.is_astray source.old }
-    ensures generated { (seed size : ℕ) → AskFor words.now seed size → (source.new ≡ source.old) × IsGenerated (script seed size) size (K.output sink.old) (K.output sink.new) result.status result.log }
+    ensures generated { (seed size : ℕ) → AskFor words.now seed size → (source.new ≡ source.old) × IsGenerated (script seed size) size (table_of seed size) (K.output sink.old) (K.output sink.new) result.status result.log }
     ensures generated_verdicts { (seed size : ℕ) → AskFor words.now seed size → (early late : List AnyReply) (verdict : AnyReply) → result.log ≡ early ++ verdict ∷ late → IsTrueIn (script seed size) early verdict }
 {
     let line = match read(alloc, words.as_slice()) {

@@ -1,5 +1,6 @@
 use Rattle.std.proofs.Common.{refl, subst, inl, inr}
 use Rattle.generated_script.specs.Blocks.{script}
+use Rattle.generated_verdicts.specs.Table.{table_of}
 use Rattle.smt_session.specs.declared.status.Status.TheVariants.{NoMemory}
 use Rattle.smt_session.specs.CommandLine.{usage}
 use Rattle.smt_session.specs.Generated.{IsTrueIn}
@@ -21,7 +22,7 @@ pub returns-in-Err-Memory-clause-exit : goal.returns-in-Err-Memory-clause-exit
 returns-in-Err-Memory-clause-exit g c = λ named. stops_at_exit _ _ (g.K.Sink.output c.args.sink.now) (g.K.Sink.output c.args.sink.now) c.new-in-Err-Memory.result (nothing_prompt (g.S.Source.input c.args.source.now) (g.S.Source.input c.args.source.now) (g.K.Sink.output c.args.sink.now) c.new-in-Err-Memory.result refl c.new-in-Err-Memory.ensures)
 
 pub returns-in-Err-Memory-clause-generated : goal.returns-in-Err-Memory-clause-generated
-returns-in-Err-Memory-clause-generated g c = λ seed size ask. (refl, nothing_generated (script seed size) size (g.K.Sink.output c.args.sink.now) c.new-in-Err-Memory.result c.new-in-Err-Memory.ensures)
+returns-in-Err-Memory-clause-generated g c = λ seed size ask. (refl, nothing_generated (script seed size) size (table_of seed size) (g.K.Sink.output c.args.sink.now) c.new-in-Err-Memory.result c.new-in-Err-Memory.ensures)
 
 pub returns-in-Answer-clause-verdicts : goal.returns-in-Answer-clause-verdicts
 returns-in-Answer-clause-verdicts g c = λ named early late verdict e.

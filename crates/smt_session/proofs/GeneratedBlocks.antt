@@ -7,8 +7,8 @@ use Rattle.generated_commands.proofs.Commanded.{block_read}
 use Rattle.generated_items.specs.Forms as forms
 use Rattle.generated_items.specs.Items.{block_items}
 use Rattle.generated_script.specs.declared.shape.Shape.{Shape as Block}
-use Rattle.generated_tally.specs.Tabled.{IsReplyBy}
-use Rattle.generated_tally.proofs.Stepped.{IsCommand, performs, silent, first_done, silent_done}
+use Rattle.smt_session.specs.Tabled.{IsReplyBy}
+use Rattle.smt_session.proofs.GeneratedSteps.{IsCommand, performs, silent, first_done, silent_done}
 use Rattle.generated_terms.specs.Terms.{first, second, has_values, terms_of}
 use Rattle.generated_verdicts.specs.Table.{IsVerdictBy}
 use Rattle.generated_verdicts.proofs.Tabled.{tabled}

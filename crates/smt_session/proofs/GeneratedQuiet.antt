@@ -6,8 +6,8 @@ use Rattle.generated_commands.specs.Commands.{AreCommands, block_commands}
 use Rattle.generated_commands.proofs.Commanded.{block_read}
 use Rattle.generated_script.specs.Draws.{behind}
 use Rattle.generated_script.specs.declared.shape.Shape.{Shape as Block}
-use Rattle.generated_tally.proofs.Blocks.{with_levels, levels_in, levels_x, levels_y, levels_one, levels_two, behind_one, behind_two, behind_three, behind_four, behind_five, push_told, x_told, y_told, first_told, second_told, pop_told}
-use Rattle.generated_tally.proofs.Stepped.{IsCommand, performs}
+use Rattle.smt_session.proofs.GeneratedBlocks.{with_levels, levels_in, levels_x, levels_y, levels_one, levels_two, behind_one, behind_two, behind_three, behind_four, behind_five, push_told, x_told, y_told, first_told, second_told, pop_told}
+use Rattle.smt_session.proofs.GeneratedSteps.{IsCommand, performs}
 use Rattle.generated_terms.specs.Terms.{first, second}
 use Rattle.literal_forms.specs.Shapes.{raw as term_of}
 use Rattle.sexpr_reader.specs.declared.sexpr.Sexpr.{Sexpr}

@@ -6,9 +6,9 @@ use Rattle.generated_items.proofs.Scripts.{script_read}
 use Rattle.generated_script.specs.Blocks.{script}
 use Rattle.generated_script.specs.Draws.{seeded}
 use Rattle.generated_script.specs.declared.tally.VerdictCounts.{VerdictCounts}
-use Rattle.generated_tally.specs.Tabled.{IsTabled}
-use Rattle.generated_tally.proofs.Counted.{script_tabled}
-use Rattle.generated_tally.proofs.Quiet.{GoesOn, never_ended, script_goes}
+use Rattle.smt_session.specs.Tabled.{IsTabled}
+use Rattle.smt_session.proofs.GeneratedCounts.{script_tabled}
+use Rattle.smt_session.proofs.GeneratedQuiet.{GoesOn, never_ended, script_goes}
 use Rattle.generated_verdicts.specs.Table.{sat_count, unsat_count, table_of}
 use Rattle.generated_verdicts.proofs.Tabled.{all_counted}
 use Rattle.sexpr_print.proofs.Whole.{all_read}
