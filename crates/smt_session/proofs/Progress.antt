@@ -2,10 +2,9 @@
 use Rattle.std.proofs.Common.{◌≡◌, ℕ, ◌+◌, ◌≤◌, List, [], ◌∷◌, ◌++◌, Bool, true, false, Some, None, Ok, Err, refl, sym, ap, ◌∙◌, subst, length, take, append-nil, append_assoc, arith, length-append, length-take}
 use Rattle.std.proofs.KnownBytes.{Consumes-trans, Consumes-kept}
 use Rattle.std.proofs.lemmas.Bool.{false≢true}
-use Rattle.std.proofs.Math.Seq.{take-length}
 use Rattle.std.specs.declared.option.Option.{Option}
 use Rattle.std.specs.Io.KnownBytes.{Consumes, IsAtEnd, Keeps}
-use Rattle.sv_io.proofs.Histories.{front_all, gave_more, sent_on, take_none}
+use Rattle.sv_io.proofs.Histories.{front_all, gave_more, sent_on}
 use Rattle.sv_io.specs.Histories.{Input, Output, IsRead, Delivers, Takes, TellsLeft}
 use Rattle.sexpr_reader.specs.Reads.{Begins, FaultAfter, Ends}
 use Rattle.sexpr_reader.specs.Standing.{AnswersNext as Next, AnswersEnd, GivesItem}

@@ -1,4 +1,4 @@
-use Rattle.std.proofs.Common.{◌≡◌, ◌==◌, ℕ, length, ◌++◌, ◌∙◌, [], false, true, not, refl, sym, ap, take, append-nil, arith, rules}
+use Rattle.std.proofs.Common.{◌≡◌, ◌==◌, ℕ, length, ◌++◌, ◌∙◌, [], false, true, refl, sym, ap, take, append-nil, arith, rules}
 use Rattle.std.proofs.KnownBytes.{Consumes-nil, Consumes-trans}
 use Rattle.std.specs.Io.KnownBytes.{IsAtEnd}
 use Rattle.sv_io.proofs.Histories.{gave_more, gave_none}

@@ -1,4 +1,4 @@
-use Rattle.std.proofs.Common.{◌≡◌, List, ℕ, subst}
+use Rattle.std.proofs.Common.{subst}
 use Rattle.sv_io.specs.Histories.{Sends, Takes}
 use Rattle.smt_session.proofs.top.refuse_words.Goals as goal
 
