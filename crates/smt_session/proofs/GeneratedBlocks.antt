@@ -1,6 +1,6 @@
 -- What is replied to a block.
-use Rattle.std.proofs.Common.{◌≡◌, ℕ, ◌≤◌, List, [], ◌∷◌, ◌++◌, Bool, true, false, None, Some, codes, refl, sym, ap, ◌∙◌, subst}
-use Rattle.assert_stack.specs.Levels.{Level, empty, symbols_of, live, pushed, declared, asserted}
+use Rattle.std.proofs.Common.{◌≡◌, ℕ, ◌≤◌, List, [], ◌∷◌, ◌++◌, Bool, true, false, None, codes, ap, ◌∙◌, subst}
+use Rattle.assert_stack.specs.Levels.{Level, empty, pushed, declared, asserted}
 use Rattle.decide.specs.declared.verdict.Verdict.{Verdict}
 use Rattle.generated_commands.specs.Commands.{AreCommands, block_commands}
 use Rattle.generated_commands.proofs.Commanded.{block_read}
@@ -8,8 +8,8 @@ use Rattle.generated_items.specs.Forms as forms
 use Rattle.generated_items.specs.Items.{block_items}
 use Rattle.generated_script.specs.declared.shape.Shape.{Shape as Block}
 use Rattle.smt_session.specs.Tabled.{IsReplyBy}
-use Rattle.smt_session.proofs.GeneratedSteps.{IsCommand, performs, silent, first_done, silent_done}
-use Rattle.generated_terms.specs.Terms.{first, second, has_values, terms_of}
+use Rattle.smt_session.proofs.GeneratedSteps.{performs, silent, first_done, silent_done}
+use Rattle.generated_terms.specs.Terms.{first, second, has_values}
 use Rattle.generated_verdicts.specs.Table.{IsVerdictBy}
 use Rattle.generated_verdicts.proofs.Tabled.{tabled}
 use Rattle.literal_forms.specs.Shapes.{raw as term_of}

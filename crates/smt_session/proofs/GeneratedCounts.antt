@@ -1,9 +1,9 @@
 -- How many verdicts of each kind a followed script has.
-use Rattle.std.proofs.Common.{◌≡◌, ℕ, zero, suc, ◌+◌, ◌≤◌, ◌%◌, List, [], ◌∷◌, Bool, true, false, not, cond, count_by, fold, refl, sym, ap, ◌∙◌, arith}
+use Rattle.std.proofs.Common.{◌≡◌, ℕ, zero, suc, ◌+◌, ◌≤◌, List, [], ◌∷◌, Bool, true, false, not, cond, count_by, fold, refl, ap, ◌∙◌, arith}
 use Rattle.generated_items.specs.Items.{block_at, number_at, items_from, script_items}
 use Rattle.generated_script.specs.Draws.{behind, seeded}
 use Rattle.smt_session.specs.Tabled.{IsReplyBy, IsTabled}
-use Rattle.smt_session.proofs.GeneratedBlocks.{BlockDone, block_done}
+use Rattle.smt_session.proofs.GeneratedBlocks.{block_done}
 use Rattle.smt_session.proofs.GeneratedSteps.{silent, nothing_done}
 use Rattle.generated_verdicts.specs.Table.{one_if, is_sat_at, sat_from, unsat_from}
 use Rattle.smt_session.specs.Generated.{is_sat, is_unsat, is_unknown}

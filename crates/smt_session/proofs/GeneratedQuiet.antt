@@ -1,5 +1,5 @@
 -- No command of a generated script ends the session.
-use Rattle.std.proofs.Common.{◌≡◌, ℕ, zero, suc, ◌≤◌, ◌%◌, ◌+◌, List, [], ◌∷◌, ◌++◌, false, codes, refl, sym, subst, arith}
+use Rattle.std.proofs.Common.{◌≡◌, ℕ, zero, suc, ◌≤◌, List, [], ◌∷◌, ◌++◌, false, codes, refl, sym, subst, arith}
 use Rattle.generated_items.specs.Forms as forms
 use Rattle.generated_items.specs.Items.{block_at, number_at, block_items, items_from}
 use Rattle.generated_commands.specs.Commands.{AreCommands, block_commands}

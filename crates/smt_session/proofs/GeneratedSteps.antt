@@ -1,5 +1,5 @@
 -- The first step of a script that is followed, where its item is a known command.
-use Rattle.std.proofs.Common.{◌≡◌, ℕ, List, [], ◌∷◌, Bool, false, Result, Ok, length, refl, sym, ap, ◌∙◌, subst, arith}
+use Rattle.std.proofs.Common.{◌≡◌, List, [], ◌∷◌, false, Result, Ok, length, refl, ap, ◌∙◌, subst, arith}
 use Rattle.assert_stack.specs.Levels.{symbols_of}
 use Rattle.sexpr_reader.specs.declared.sexpr.Sexpr.{Sexpr}
 use Rattle.smt_names.specs.Form.{seen}

@@ -1,11 +1,10 @@
 -- A generated script that was answered has the table's verdicts.
-use Rattle.std.proofs.Common.{◌≡◌, ℕ, ◌+◌, ◌-◌, ◌<◌, ◌≤◌, ◌^◌, min, List, [], ◌∷◌, ◌++◌, Bool, true, false, count_by, refl, sym, ap, ◌∙◌, subst, append-nil, arith}
+use Rattle.std.proofs.Common.{◌≡◌, ℕ, ◌-◌, ◌<◌, ◌≤◌, ◌^◌, min, List, [], ◌++◌, Bool, true, false, refl, sym, ap, ◌∙◌, subst, append-nil, arith}
 use Rattle.std.proofs.lemmas.Bool.{false≢true}
 use Rattle.generated_items.specs.Items.{script_items}
 use Rattle.generated_items.proofs.Scripts.{script_read}
 use Rattle.generated_script.specs.Blocks.{script}
 use Rattle.generated_script.specs.Draws.{seeded}
-use Rattle.generated_script.specs.declared.tally.VerdictCounts.{VerdictCounts}
 use Rattle.smt_session.specs.Tabled.{IsTabled}
 use Rattle.smt_session.proofs.GeneratedCounts.{script_tabled}
 use Rattle.smt_session.proofs.GeneratedQuiet.{GoesOn, never_ended, script_goes}
