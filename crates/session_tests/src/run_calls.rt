@@ -3,7 +3,7 @@ ghost use Rattle.std.specs.Prelude.{◌≤◌};
 
 use smt_session::{ProgramRun, Status, run};
 use std::alloc::Global;
-use std::process::Abort;
+use std::process::{Abort, ExitCode};
 use std::test::Fail;
 use std::thread::Threads;
 use sv_io::{MemSink, MemSource, ProgramArguments};
@@ -698,6 +698,20 @@ fn faults_are_told(rt: HostRuntime) -> Result<(), Fail> {
         )?;
     }
     Ok(())
+}
+
+#[test]
+fn each_status_has_its_exit_code(rt: HostRuntime) {
+    for (status, code) in [
+        (Status::Answered, 0),
+        (Status::ErrorAnswered, 1),
+        (Status::WrongWords, 2),
+        (Status::ReadFailed, 3),
+        (Status::WriteFailed, 4),
+        (Status::NoMemory, 5),
+    ] {
+        assert!(rt; status.exit_code() == ExitCode::from(code));
+    }
 }
 
 // Each call of the source and the sink in turn. Call 0 of the source opens it; those of the sink are a write and a

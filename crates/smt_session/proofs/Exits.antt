@@ -1,7 +1,7 @@
 -- Little is read behind an answered `exit`: it is a list, whole with its last byte, and wasn't whole before the last bytes that were read.
 use Rattle.std.proofs.Common.{◌≡◌, ℕ, ◌≤◌, List, [], ◌∷◌, ◌++◌, Bool, true, false, Result, Ok, Err, Some, refl, sym, ap, ◌∙◌, subst, length, append-nil, append_assoc, arith, length-append, inl, inr}
 use Rattle.std.proofs.lemmas.Bool.{cases_lt, false≢true}
-use Rattle.std.specs.declared.option.Option.{Option}
+use Rattle.sv_io.specs.Histories.{Input, Output}
 use Rattle.assert_stack.specs.Levels.{symbols_of}
 use Rattle.decide.specs.declared.verdict.Verdict.{Verdict}
 use Rattle.sexpr_reader.specs.Items.{tokens_of, tokens_of_all, levels}
@@ -165,7 +165,7 @@ none_late [] e = refl
 none_late (x ∷ late) e = absurd (omega (arith, e))
 
 -- what was read behind an answered `exit` is shorter than the last bytes that were read
-module _ (l0 l : Option (List ℕ)) (read : Option ℕ) (t0 t : Option (List ℕ)) (log : List Reply) (p : IsPrompt l0 l read t0 t log) (items : List Sexpr) (rest : List ℕ) (session : State)
+module _ (l0 l : Input) (t0 t : Output) (log : List Reply) (p : IsPrompt l0 l t0 t log) (items : List Sexpr) (rest : List ℕ) (session : State)
     (begins : Begins false (p.before ++ p.piece) items rest) (follows : FollowsScript opened items log session) (over : session.ended ≡ true) where
   -- otherwise the `exit` was whole before them, and the session had ended
   whole_before : (mid : List ℕ) → rest ≡ mid ++ p.piece → ⊥
@@ -190,5 +190,5 @@ module _ (l0 l : Option (List ℕ)) (read : Option ℕ) (t0 t : Option (List ℕ
     | inr more ↦ let k = left_behind false (p.before ++ p.piece) (tokens_of_all items) rest begins.lexed in let m = longer_end k.0 rest p.before p.piece (sym k.1) more in absurd (whole_before m.0 m.1)
   ]
 
-pub stops_at_exit : (l0 l : Option (List ℕ)) (read : Option ℕ) (t0 t : Option (List ℕ)) (log : List Reply) → IsPrompt l0 l read t0 t log → StopsAtExit l0 l log
-stops_at_exit l0 l read t0 t log p = record { bytes = p.before ++ p.piece; gave = p.gave; few = λ items rest session begins follows over. few l0 l read t0 t log p items rest session begins follows over }
+pub stops_at_exit : (l0 l : Input) (t0 t : Output) (log : List Reply) → IsPrompt l0 l t0 t log → StopsAtExit l0 l log
+stops_at_exit l0 l t0 t log p = record { bytes = p.before ++ p.piece; gave = p.gave; few = λ items rest session begins follows over. few l0 l t0 t log p items rest session begins follows over }

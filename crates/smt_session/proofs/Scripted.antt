@@ -1,5 +1,6 @@
--- What was answered of a generated script, block by block, where nothing is written.
-use Rattle.std.proofs.Common.{◌≡◌, ℕ, suc, List, [], ◌++◌, Bool, true, false, None, refl, sym, subst, inl, inr, ◌⊎◌, ap, ◌∙◌, append_assoc}
+-- What was answered of a generated script, block by block.
+use Rattle.std.proofs.Common.{◌≡◌, ℕ, suc, List, [], ◌++◌, Bool, true, false, refl, sym, subst, inl, inr, ◌⊎◌, ap, ◌∙◌, append_assoc}
+use Rattle.sv_io.specs.Histories.{Output}
 use Rattle.smt_session.specs.declared.reply.Reply.{Reply}
 use Rattle.generated_script.specs.Blocks.{block, blocks}
 use Rattle.generated_script.specs.Draws.{behind}
@@ -22,22 +23,22 @@ pub all-fed : (script bytes : List ℕ) (s n : ℕ) → n ≡ 0 → script ≡ b
 all-fed script bytes s n is e = e ∙ ap (λ m. bytes ++ blocks s m) is
 
 -- a front of it was answered so far
-pub cut-front : (script bytes more : List ℕ) (log : List Reply) (ended : Bool) → script ≡ bytes ++ more → IsLogCut ended bytes None None log → IsAnsweredFront script log
-cut-front script bytes more log ended is cut = record { ended = ended; front = bytes; more = more; is = is; right = cut.right }
+pub cut-front : (script bytes more : List ℕ) (log : List Reply) (ended : Bool) (t0 t : Output) → script ≡ bytes ++ more → IsLogCut ended bytes t0 t log → IsAnsweredFront script log
+cut-front script bytes more log ended t0 t is cut = record { ended = ended; front = bytes; more = more; is = is; right = cut.right }
 
-pub here-front : (script bytes more : List ℕ) (a : Answering) → script ≡ bytes ++ more → AwaitsItem a bytes None None → IsAnsweredFront script a.replies
-here-front script bytes more a is waits =
+pub here-front : (script bytes more : List ℕ) (a : Answering) (t0 t : Output) → script ≡ bytes ++ more → AwaitsItem a bytes t0 t → IsAnsweredFront script a.replies
+here-front script bytes more a t0 t is waits =
     let w = waits.answering in
-    cut-front script bytes more a.replies false is (cut_here false bytes w.items a.session a.replies None None w.written)
+    cut-front script bytes more a.replies false t0 t is (cut_here false bytes w.items a.session a.replies t0 t w.written)
 
 -- nothing is answered any more
-pub stopped : (script bytes more : List ℕ) (log : List Reply) (ended : Bool) (s : Status) → script ≡ bytes ++ more → (ended ≡ true → more ≡ []) → (s ≡ WriteFailed → ⊥) → Stops ended bytes None None log s → StopsIn script log s
-stopped script bytes more log ended Answered is whole fine h = record { ended = ended; front = bytes; more = more; is = is; whole = whole; right = h.0.right }
-stopped script bytes more log ended ErrorAnswered is whole fine h = record { ended = ended; front = bytes; more = more; is = is; whole = whole; right = h.0.right }
-stopped script bytes more log ended WrongWords is whole fine h = h
-stopped script bytes more log ended ReadFailed is whole fine h = h
-stopped script bytes more log ended WriteFailed is whole fine h = absurd (fine refl)
-stopped script bytes more log ended NoMemory is whole fine h = cut-front script bytes more log ended is h
+pub stopped : (script bytes more : List ℕ) (log : List Reply) (ended : Bool) (t0 t : Output) (s : Status) → script ≡ bytes ++ more → (ended ≡ true → more ≡ []) → (s ≡ WriteFailed → ⊥) → Stops ended bytes t0 t log s → StopsIn script log s
+stopped script bytes more log ended t0 t Answered is whole fine h = record { ended = ended; front = bytes; more = more; is = is; whole = whole; right = h.0.right }
+stopped script bytes more log ended t0 t ErrorAnswered is whole fine h = record { ended = ended; front = bytes; more = more; is = is; whole = whole; right = h.0.right }
+stopped script bytes more log ended t0 t WrongWords is whole fine h = h
+stopped script bytes more log ended t0 t ReadFailed is whole fine h = h
+stopped script bytes more log ended t0 t WriteFailed is whole fine h = absurd (fine refl)
+stopped script bytes more log ended t0 t NoMemory is whole fine h = cut-front script bytes more log ended t0 t is h
 
 pub answered-whole : (script : List ℕ) (log : List Reply) (s : Status) → (s ≡ Answered) ⊎ (s ≡ ErrorAnswered) → StopsIn script log s → IsAnsweredWhole script log
 answered-whole script log s (inl is) h = subst (StopsIn script log) is h

@@ -1,7 +1,6 @@
 -- What a run answers and writes where the words ask for a generated script.
-use Rattle.std.specs.Prelude.{◌≡◌, ◌⊎◌, ◌++◌, ◌^◌, ◌-◌, min, ℕ, Bool, true, false, List, [], take, count_by}
-use Rattle.std.specs.declared.option.Option.{Option}
-use Rattle.std.specs.Io.KnownBytes.{Appends}
+use Rattle.std.specs.Prelude.{◌≡◌, ◌⊎◌, ◌++◌, ◌^◌, ◌-◌, min, ℕ, Bool, true, false, List, [], count_by}
+use Rattle.sv_io.specs.Histories.{Output, Sends, Takes}
 use Rattle.smt_session.specs.declared.reply.Reply.{Reply}
 use Rattle.smt_session.specs.declared.reply.Reply.TheVariants as reply
 use Rattle.generated_script.specs.Summary.{summary_text}
@@ -57,13 +56,14 @@ StopsIn script log ReadFailed = ⊥
 StopsIn script log WriteFailed = ⊥
 StopsIn script log NoMemory = IsAnsweredFront script log
 
--- the script was answered, and the sink took the line that sums up its verdicts; or up to some place, where the sink failed or there was no memory
-pub record IsGenerated (script : List ℕ) (size : ℕ) (taken_old taken_new : Option (List ℕ)) (status : Status) (log : List Reply) : Type 0 where
+-- the script was answered, with so many verdicts of each kind, and the sink took the line that sums them up; or up to some place, where the sink failed or there was no memory
+pub record IsGenerated (script : List ℕ) (size : ℕ) (counts : VerdictCounts) (output_old output_new : Output) (status : Status) (log : List Reply) : Type 0 where
   pub statuses : (status ≡ Answered) ⊎ (status ≡ WriteFailed) ⊎ (status ≡ NoMemory)
   pub answered : (status ≡ Answered) ⊎ (status ≡ WriteFailed) → IsAnsweredWhole script log
   pub front : IsAnsweredFront script log
-  pub took : status ≡ Answered → Appends taken_old taken_new (summary_text size (tally_of log))
-  pub cut : (count : ℕ) × Appends taken_old taken_new (take count (summary_text size (tally_of log)))
+  pub tally : (status ≡ Answered) ⊎ (status ≡ WriteFailed) → tally_of log ≡ counts
+  pub took : status ≡ Answered → Sends output_old output_new (summary_text size counts)
+  pub cut : Takes output_old output_new (summary_text size (tally_of log))
 
 -- a reply behind the early ones is one for a front of the script
 pub record IsTrueIn (script : List ℕ) (early : List Reply) (verdict : Reply) : Type 0 where

@@ -9,3 +9,4 @@ pub mod Scripts
 pub mod Standing
 pub mod Steps
 pub mod Verdicts
+pub mod Tabled

@@ -1,13 +1,13 @@
 //! Answers items as they come.
 ghost use Rattle.std.specs.Prelude.{◌≡◌, ◌≤◌, ◌+◌, ◌++◌, [], ℕ, List, Bool, true, false, length, IfSome, IfNone, MatchOption, OnOk, OnErr};
-ghost use Rattle.std.specs.declared.option.Option.{Option as Optional};
 ghost use Rattle.sv_io.specs.Counts.{Rose};
+ghost use Rattle.sv_io.specs.Histories.{Output};
 ghost use Rattle.smt_session.specs.Runs.{IsLogCut};
 ghost use Rattle.smt_session.specs.Awaiting.{AddsReplies, IsAnswering, IsFaulty, IsGiven, AwaitsItem, Stops};
 
 use crate::log::ReplyLog;
 use crate::status::Status;
-use crate::transfer::write_reply;
+use crate::writing::write_reply;
 use crate::{Reply, Session};
 use reply_text::ErrorKind;
 use sexpr_reader::{Reader, Sexpr, SyntaxFault, more_bytes_may_follow};
@@ -29,7 +29,7 @@ impl Answering {
     /// Nothing was fed and answered. So many threads do the cubes of a check. It takes no memory.
     pub fn new(alloc: Global, workers: u32) -> Answering
         requires { 1 ≤ workers }
-        ensures waits { (taken : Optional (List ℕ)) → AwaitsItem result [] taken taken }
+        ensures waits { (output : Output) → AwaitsItem result [] output output }
         ensures empty { result.replies ≡ [] }
     {
         Answering {
@@ -50,8 +50,8 @@ impl Answering {
 
     /// Takes the next bytes.
     pub fn feed(&mut self, piece: &[u8]) -> Result<(), AllocError>
-        ensures ok { OnOk result ((bytes : List ℕ) (taken_old taken_new : Optional (List ℕ)) → IsAnswering false self.old bytes taken_old taken_new → IsAnswering false self.new (bytes ++ piece.now) taken_old taken_new) }
-        ensures err { OnErr result ((bytes : List ℕ) (taken_old taken_new : Optional (List ℕ)) → IsAnswering false self.old bytes taken_old taken_new → IsLogCut false (bytes ++ piece.now) taken_old taken_new self.new.replies) }
+        ensures ok { OnOk result ((bytes : List ℕ) (old new : Output) → IsAnswering false self.old bytes old new → IsAnswering false self.new (bytes ++ piece.now) old new) }
+        ensures err { OnErr result ((bytes : List ℕ) (old new : Output) → IsAnswering false self.old bytes old new → IsLogCut false (bytes ++ piece.now) old new self.new.replies) }
         ensures replies { self.new.replies ≡ self.old.replies }
     {
         more_bytes_may_follow();
@@ -71,10 +71,12 @@ impl Answering {
         alloc: Global,
         sink: &mut K,
     ) -> Option<Status>
-        requires answering { (bytes : List ℕ) × (taken : Optional (List ℕ)) × IsAnswering false self.old bytes taken (K.taken sink.old) }
-        ensures went { (bytes : List ℕ) (taken : Optional (List ℕ)) → IsAnswering false self.old bytes taken (K.taken sink.old)
-            → MatchOption result (AwaitsItem self.new bytes taken (K.taken sink.new)) (λ status. Stops false bytes taken (K.taken sink.new) self.new.replies status) }
-        ensures added { AddsReplies self.old.replies self.new.replies (K.taken sink.old) (K.taken sink.new) }
+        requires goes_on { K.goes_on sink.old ≡ true }
+        requires answering { (bytes : List ℕ) × (output : Output) × IsAnswering false self.old bytes output (K.output sink.old) }
+        ensures went { (bytes : List ℕ) (output : Output) → IsAnswering false self.old bytes output (K.output sink.old)
+            → MatchOption result (AwaitsItem self.new bytes output (K.output sink.new)) (λ status. Stops false bytes output (K.output sink.new) self.new.replies status) }
+        ensures added { AddsReplies self.old.replies self.new.replies (K.output sink.old) (K.output sink.new) }
+        ensures goes_on { IfNone result (K.goes_on sink.new ≡ true) }
         ensures later { K.faults sink.old ≤ K.faults sink.new }
         ensures failed { IfSome result (λ status. status ≡ Status.WriteFailed → Rose (K.faults sink.old) (K.faults sink.new)) }
     {
@@ -97,9 +99,10 @@ impl Answering {
         alloc: Global,
         sink: &mut K,
     ) -> Status
-        requires answering { (bytes : List ℕ) × (taken : Optional (List ℕ)) × IsAnswering false self.old bytes taken (K.taken sink.old) }
-        ensures went { (bytes : List ℕ) (taken : Optional (List ℕ)) → IsAnswering false self.old bytes taken (K.taken sink.old) → Stops true bytes taken (K.taken sink.new) self.new.replies result }
-        ensures added { AddsReplies self.old.replies self.new.replies (K.taken sink.old) (K.taken sink.new) }
+        requires goes_on { K.goes_on sink.old ≡ true }
+        requires answering { (bytes : List ℕ) × (output : Output) × IsAnswering false self.old bytes output (K.output sink.old) }
+        ensures went { (bytes : List ℕ) (output : Output) → IsAnswering false self.old bytes output (K.output sink.old) → Stops true bytes output (K.output sink.new) self.new.replies result }
+        ensures added { AddsReplies self.old.replies self.new.replies (K.output sink.old) (K.output sink.new) }
         ensures later { K.faults sink.old ≤ K.faults sink.new }
         ensures failed { result ≡ Status.WriteFailed → Rose (K.faults sink.old) (K.faults sink.new) }
     {
@@ -124,11 +127,13 @@ impl Answering {
         sink: &mut K,
         item: &Sexpr,
     ) -> Option<Status>
-        ensures went { (ended : Bool) (bytes : List ℕ) (taken : Optional (List ℕ)) → IsGiven ended self.old item.now bytes taken (K.taken sink.old)
-            → MatchOption result (IsAnswering ended self.new bytes taken (K.taken sink.new)) (λ status. Stops ended bytes taken (K.taken sink.new) self.new.replies status) }
+        requires { K.goes_on sink.old ≡ true }
+        ensures went { (ended : Bool) (bytes : List ℕ) (output : Output) → IsGiven ended self.old item.now bytes output (K.output sink.old)
+            → MatchOption result (IsAnswering ended self.new bytes output (K.output sink.new)) (λ status. Stops ended bytes output (K.output sink.new) self.new.replies status) }
         ensures count { IfNone result (length self.new.replies ≡ length self.old.replies + 1) }
+        ensures goes_on { IfNone result (K.goes_on sink.new ≡ true) }
         ensures fed { self.new.fed ≡ self.old.fed }
-        ensures added { AddsReplies self.old.replies self.new.replies (K.taken sink.old) (K.taken sink.new) }
+        ensures added { AddsReplies self.old.replies self.new.replies (K.output sink.old) (K.output sink.new) }
         ensures later { K.faults sink.old ≤ K.faults sink.new }
         ensures failed { IfSome result (λ status. status ≡ Status.WriteFailed → Rose (K.faults sink.old) (K.faults sink.new)) }
     {
@@ -149,8 +154,9 @@ impl Answering {
 
     // Answers a syntax fault by its error.
     fn refuse<K: Sink>(&mut self, alloc: Global, sink: &mut K, fault: SyntaxFault) -> Status
-        ensures went { (ended : Bool) (bytes : List ℕ) (taken : Optional (List ℕ)) → IsFaulty ended self.old fault bytes taken (K.taken sink.old) → Stops ended bytes taken (K.taken sink.new) self.new.replies result }
-        ensures added { AddsReplies self.old.replies self.new.replies (K.taken sink.old) (K.taken sink.new) }
+        requires { K.goes_on sink.old ≡ true }
+        ensures went { (ended : Bool) (bytes : List ℕ) (output : Output) → IsFaulty ended self.old fault bytes output (K.output sink.old) → Stops ended bytes output (K.output sink.new) self.new.replies result }
+        ensures added { AddsReplies self.old.replies self.new.replies (K.output sink.old) (K.output sink.new) }
         ensures later { K.faults sink.old ≤ K.faults sink.new }
         ensures failed { result ≡ Status.WriteFailed → Rose (K.faults sink.old) (K.faults sink.new) }
     {

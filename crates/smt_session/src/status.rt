@@ -1,7 +1,9 @@
 ghost use Rattle.std.specs.Prelude.{◌≡◌, ◌⊎◌, ◌≤◌};
+ghost use Rattle.std.specs.Process.{exit_status};
 ghost use Rattle.smt_session.specs.Codes.{code_of};
 
 use crate::log::ReplyLog;
+use std::process::ExitCode;
 use sv_io::SinkFault;
 
 /// How a run ended.
@@ -36,6 +38,13 @@ impl Status {
             Status::WriteFailed => 4,
             Status::NoMemory => 5,
         }
+    }
+
+    /// The exit code with that status, which `main` returns.
+    pub fn exit_code(self) -> ExitCode
+        ensures { exit_status result ≡ code_of self }
+    {
+        ExitCode::from(self.code())
     }
 
     /// How a run ends at a fault of the sink.

@@ -1,4 +1,5 @@
 pub mod Counts
-pub mod Lasts
+pub mod Histories
 pub mod Memory
 pub mod Names
+pub mod Stages

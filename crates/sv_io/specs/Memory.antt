@@ -21,6 +21,14 @@ pub record Given : Type 0 where
   pub faults : ℕ
   -- how many bytes the last read gave
   pub last : ℕ
+  -- the bytes given; those left come behind them
+  pub given : List ℕ
+  -- the last read answered 0
+  pub at_end : Bool
+  -- a read may follow
+  pub goes_on : Bool
+  -- the names that it was opened with, or was to be
+  pub openings : List (Option (List ℕ))
 
 -- a sink in memory
 pub record Taken : Type 0 where
@@ -33,6 +41,10 @@ pub record Taken : Type 0 where
   -- the number of the next call, counted from 0
   pub calls : ℕ
   pub faults : ℕ
+  -- the bytes that had been taken when a flush last answered Ok
+  pub sent : List ℕ
+  -- no call failed: another may follow
+  pub goes_on : Bool
 
 -- whether the call of this number is one that fails
 abbrev pub is_failing : List ℕ → ℕ → Bool

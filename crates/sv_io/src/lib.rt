@@ -20,18 +20,24 @@
 #![tactic(auto)]
 
 mod call_count;
+mod laws;
 mod memory_sink;
 mod memory_source;
+mod openings;
 mod sink;
 mod source;
+mod stage;
 mod standard_sink;
 mod standard_source;
+mod transfer;
 mod words;
 
+pub use laws::bytes_given_are_no_longer_left;
 pub use memory_sink::MemSink;
 pub use memory_source::MemSource;
 pub use sink::{Sink, SinkFault};
 pub use source::{Failed, Source};
 pub use standard_sink::StdSink;
 pub use standard_source::StdSource;
+pub use transfer::write_all;
 pub use words::ProgramArguments;

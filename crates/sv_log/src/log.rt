@@ -23,6 +23,13 @@ impl<A> Log<A> {
         Log { of: PhantomData }
     }
 
+    /// What happened so far, and then these, in their order. It looks at none of them.
+    pub fn extend(&self, items: &[A]) -> Log<A>
+        ensures { result.items ≡ self.now.items ++ items.now }
+    {
+        Log { of: PhantomData }
+    }
+
     /// What happened so far, and then this.
     pub fn and(&self, item: &A) -> Log<A>
         ensures { result.items ≡ self.now.items ++ item.now ∷ [] }

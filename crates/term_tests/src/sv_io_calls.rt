@@ -11,6 +11,14 @@ fn the_real_source_is_reached(rt: HostRuntime) {
 }
 
 #[test]
+fn the_end_of_a_real_source_is_reached(rt: HostRuntime) {
+    let mut buffer = [0u8; 4];
+    let mut source = StdSource::new(rt);
+    assert!(rt; source.open(Some("/dev/null")) == Ok(()));
+    assert!(rt; source.read(&mut buffer) == Ok(0));
+}
+
+#[test]
 fn the_real_sink_is_reached(rt: HostRuntime) {
     let mut sink = StdSink::new(rt);
     assert!(rt; sink.write(b"a\n") == Ok(2));

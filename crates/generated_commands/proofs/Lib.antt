@@ -1,0 +1,4 @@
+pub mod Applied
+pub mod Meanings
+pub mod Asserted
+pub mod Commanded

@@ -1,0 +1,5 @@
+pub mod Decimals
+pub mod Raws
+pub mod Formed
+pub mod Texts
+pub mod Scripts

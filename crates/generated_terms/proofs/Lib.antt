@@ -1,0 +1,4 @@
+pub mod Folds
+pub mod Told
+pub mod Words
+pub mod Answered

@@ -1,0 +1,4 @@
+pub mod Lexed
+pub mod Nested
+pub mod Opened
+pub mod Whole
