@@ -2,6 +2,7 @@
 """Draws small scripts at random, and looks at each verdict with an evaluator of its own.
 
     python3 docs/differ.py PROGRAM [--seed S] [--scripts N] [--peer "COMMAND"]
+    python3 docs/differ.py --write FOLDER [--seed S] [--scripts N]     writes the scripts, for tools/corpus.sh
 
 The evaluator below says what SMT-LIB 2.6 and its theories Core, Ints and UnicodeStrings say of a term whose constants
 have values; it shares nothing with the program. Behind `sat` every assertion has to be true by it under the model that
@@ -16,6 +17,7 @@ import argparse
 import collections
 import functools
 import itertools
+import pathlib
 import random
 import re
 import subprocess
@@ -431,13 +433,27 @@ def wrong(script, verdict, values, peer):
     return None
 
 
+def write(folder, seeds):
+    """Writes the scripts of these seeds, each asking for the cause of an `unknown`."""
+    folder.mkdir(parents=True, exist_ok=True)
+    for seed in seeds:
+        text = f"{Script(seed).commands()}(get-info :reason-unknown)\n"
+        (folder / f"{seed:07}.smt2").write_text(text, encoding="utf-8")
+    return 0
+
+
 def main():
     words = argparse.ArgumentParser()
-    words.add_argument("program")
+    words.add_argument("program", nargs="?")
     words.add_argument("--seed", type=int, default=1)
     words.add_argument("--scripts", type=int, default=1000)
     words.add_argument("--peer")
+    words.add_argument("--write", metavar="FOLDER", help="runs nothing, but writes the scripts there, for tools/corpus.sh")
     given = words.parse_args()
+    if given.write:
+        return write(pathlib.Path(given.write), range(given.seed, given.seed + given.scripts))
+    if not given.program:
+        words.error("it takes a program, or --write FOLDER")
     counts, bad = collections.Counter(), 0
     for seed in range(given.seed, given.seed + given.scripts):
         script = Script(seed)
