@@ -120,9 +120,7 @@ fn leads_on(alloc: Global, cut: u32) -> Result<bool, AllocError> {
 }
 
 #[test]
-fn a_cut_leads_on_where_the_later_pieces_read_the_rest(
-    rt: HostRuntime,
-) -> Result<(), AllocError> {
+fn a_cut_leads_on_where_the_later_pieces_read_the_rest(rt: HostRuntime) -> Result<(), AllocError> {
     let alloc = rt.alloc();
     for (cut, leads) in CUTS {
         assert!(rt; leads_on(alloc, cut)? == leads);
