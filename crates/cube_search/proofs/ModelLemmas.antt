@@ -1,9 +1,10 @@
 -- The model of runs and numbers, entry by entry.
-use Rattle.std.proofs.Common.{◌≡◌, refl, ap, sym, subst, ◌∙◌, Bool, true, false, ℕ, suc, zero, ◌+◌, ◌<◌, ◌≤◌, ℤ, List, [], ◌∷◌, ◌++◌, map, length, get_or, Option, nat_eq, arith}
+use Rattle.std.proofs.Common.{◌≡◌, refl, ap, sym, subst, ◌∙◌, Bool, true, false, ◌||◌, ℕ, suc, zero, ◌+◌, ◌<◌, ◌≤◌, ℤ, List, [], ◌∷◌, ◌++◌, map, length, get_or, Option, nat_eq, arith}
 use Rattle.std.specs.Prelude.{if◌then◌else◌}
-use Rattle.std.specs.List.{AllByRecursion, AllZip, IsDistinct, range_with_len}
-use Rattle.std.specs.Map.{keys_of}
+use Rattle.std.specs.List.{AllByRecursion, AllZip, IsDistinct, list_any, range_with_len}
+use Rattle.std.specs.Map.{keys_of, lookup}
 use Rattle.std.specs.Cmp.Lexicographic.{pointwise}
+use Rattle.std.proofs.lemmas.Bool.{true≢false}
 use Rattle.std.proofs.lemmas.List.Elements.{All-nil, All-cons, All-head, All-tail}
 use Rattle.sv_list.specs.Lists.{AllByRecursion-append}
 use Rattle.indexmap.specs.IndexMap.{insert_all, insert_entry}
@@ -18,10 +19,11 @@ use Rattle.flat_cubes.specs.Satisfying.{HasValue, MeetsParts, NamesHave, Satisfi
 use Rattle.flat_cubes.specs.Straight.{AreNamesApart, all_names, string_names}
 use Rattle.flat_cubes.specs.declared.flat.Flat.{Flat}
 use Rattle.flat_cubes.specs.declared.variable.Variable.{Variable}
+use Rattle.cube_search.specs.Answers.{AreOnlyIn}
 use Rattle.cube_search.specs.Entries.{all_entries, number_entries, string_entries, text_entries, truth_entries, word_by, word_of}
 use Rattle.cube_search.specs.Models.{IsNamedBy, all_words}
 use Rattle.cube_search.specs.declared.found.FoundRuns.{FoundRuns}
-use Rattle.cube_search.proofs.Named.{all-found}
+use Rattle.cube_search.proofs.Named.{all-found, found-behind}
 
 abbrev same : List ℕ → List ℕ → Bool
 same = pointwise nat_eq
@@ -139,6 +141,15 @@ module _ where
   truths-worded [] = tt
   truths-worded (t ∷ ts) = (tt, truths-worded ts)
 
+-- a name that isn't among these is none of them
+none-same : (name : List ℕ) (ns : List (List ℕ)) → list_any (same name) ns ≡ false → AllByRecursion (λ k. same name k ≡ false) ns
+none-same name [] h = tt
+none-same name (n ∷ ns) h = by (same name n) refl h (none-same name ns)
+  where
+    by : (b : Bool) → same name n ≡ b → (b || list_any (same name) ns) ≡ false → (list_any (same name) ns ≡ false → AllByRecursion (λ k. same name k ≡ false) ns) → AllByRecursion (λ k. same name k ≡ false) (n ∷ ns)
+    by true e g rest = absurd (true≢false g)
+    by false e g rest = (e, rest g)
+
 module _ (flat : Flat) (found : FoundRuns) (values : Named) (is : values ≡ insert_all same [] (all_entries flat found)) where
   pub named-by : AreNamesApart flat → length found.integers ≡ length flat.integers → IsNamedBy flat found values
   named-by apart e =
@@ -158,6 +169,12 @@ module _ (flat : Flat) (found : FoundRuns) (values : Named) (is : values ≡ ins
       (AllByRecursion-append W (string_entries found.runs 0 flat.variables ++ number_entries flat.integers found.integers) (truth_entries flat.truths)
       (AllByRecursion-append W (string_entries found.runs 0 flat.variables) (number_entries flat.integers found.integers) (strings-worded found.runs 0 flat.variables h.strings.parts) (numbers-worded flat.integers found.integers))
       (truths-worded flat.truths)))
+
+  -- a name that isn't one of the cube has no value
+  pub only-in : length found.integers ≡ length flat.integers → AreOnlyIn flat values
+  only-in e = λ name no.
+      ap (lookup (same name)) is
+      ∙ found-behind (all_entries flat found) [] name (subst (AllByRecursion (λ k. same name k ≡ false)) (sym (all-keys flat found e)) (none-same name (all_names flat) no))
 
 -- the entries, set one list after another
 pub set-in-turn : (flat : Flat) (found : FoundRuns) (a b d : Named) → a ≡ insert_all same [] (string_entries found.runs 0 flat.variables) → b ≡ insert_all same a (number_entries flat.integers found.integers)

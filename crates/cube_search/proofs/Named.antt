@@ -14,7 +14,8 @@ abbrev same : Name → Name → Bool
 same = pointwise nat_eq
 
 module _ {V : Type 0} where
-  found-behind : (xs es : List (Name × V)) (q : Name) → AllByRecursion (λ k. same q k ≡ false) (keys_of xs) → lookup (same q) (insert_all same es xs) ≡ lookup (same q) es
+  -- a name that isn't set keeps its value
+  pub found-behind : (xs es : List (Name × V)) (q : Name) → AllByRecursion (λ k. same q k ≡ false) (keys_of xs) → lookup (same q) (insert_all same es xs) ≡ lookup (same q) es
   found-behind [] es q h = refl
   found-behind (x ∷ xs) es q h = found-behind xs (insert_entry same es x.0 x.1) q h.1 ∙ found-other es x.0 q x.1 h.0
 

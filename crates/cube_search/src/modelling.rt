@@ -5,6 +5,7 @@ ghost use Rattle.indexmap.specs.IndexMap.{insert_all};
 ghost use Rattle.sv_terms.specs.Truth.{AreWorded};
 ghost use Rattle.flat_cubes.specs.Satisfying.{Satisfies};
 ghost use Rattle.flat_cubes.specs.Straight.{AreNamesApart};
+ghost use Rattle.cube_search.specs.Answers.{AreOnlyIn};
 ghost use Rattle.cube_search.specs.Entries.{number_entries, string_entries, text_entries, truth_entries, word_by, word_of};
 ghost use Rattle.cube_search.specs.Models.{IsNamedBy, all_words};
 
@@ -90,7 +91,7 @@ fn set_truths(alloc: Global, model: &mut Model, truths: &[(Name, bool)]) -> Resu
 }
 
 /// The values of the constants: of the strings by the words of the runs, of the integers by the numbers, and
-/// of the truths as the cube has them.
+/// of the truths as the cube has them. No other name has a value.
 ///
 /// Linear in the text of the names and of the words, a word once for each of its variable's names.
 pub fn model_of(alloc: Global, flat: &Flat, found: &FoundRuns) -> Result<Model, AllocError>
@@ -98,6 +99,7 @@ pub fn model_of(alloc: Global, flat: &Flat, found: &FoundRuns) -> Result<Model, 
     requires satisfies { Satisfies flat.now (all_words (length flat.now.variables) found.now.runs) found.now.integers }
     ensures named { IfOk result (IsNamedBy flat.now found.now) }
     ensures worded { IfOk result AreWorded }
+    ensures only { IfOk result (AreOnlyIn flat.now) }
 {
     let mut model = Model::new(alloc);
     set_strings(

@@ -18,20 +18,20 @@ use Rattle.decide.specs.Folds.{first_sat, opens_from}
 use Rattle.decide.proofs.Listed.{contains-cases, contains-none}
 use Rattle.decide.specs.Causes.{IsCause}
 use Rattle.decide.specs.Completeness.{MustDecideCube}
-use Rattle.decide.specs.Jobs.{IsOutcome}
+use Rattle.decide.specs.Jobs.{IsOutcome, IsSatOf}
 
 module _ (terms : List Term) where
   -- the first model is that of some cube
   pub sat-at : (done : List Cube) (answers : List CubeAnswer) → AllZip (IsOutcome terms) done answers → (m : Named) → first_sat answers ≡ Some m
-      → (k : ℕ) × (c : Cube) × (slice_get done k ≡ Some c) × AreTrueAtCube m c × AreValuesOf m (clear_of terms)
+      → (k : ℕ) × (c : Cube) × (slice_get done k ≡ Some c) × IsSatOf terms c m
   sat-at [] [] z m e = cc
   sat-at [] (a ∷ bs) z m e = absurd z
   sat-at (c ∷ cs) [] z m e = cc
   sat-at (c ∷ cs) (answer.Sat n ∷ bs) z m e =
       let same : n ≡ m = cc in
-      (zero, c, refl, subst (λ v. AreTrueAtCube v c) same z.0.right.holds, subst (λ v. AreValuesOf v (clear_of terms)) same z.0.right.just)
-  sat-at (c ∷ cs) (answer.Unsat r ∷ bs) z m e = let s = sat-at cs bs z.1 m e in (suc s.0, s.1, s.2, s.3, s.4)
-  sat-at (c ∷ cs) (answer.Open r ∷ bs) z m e = let s = sat-at cs bs z.1 m e in (suc s.0, s.1, s.2, s.3, s.4)
+      (zero, c, refl, subst (IsSatOf terms c) same z.0.right)
+  sat-at (c ∷ cs) (answer.Unsat r ∷ bs) z m e = let s = sat-at cs bs z.1 m e in (suc s.0, s.1, s.2, s.3)
+  sat-at (c ∷ cs) (answer.Open r ∷ bs) z m e = let s = sat-at cs bs z.1 m e in (suc s.0, s.1, s.2, s.3)
 
   -- where no assertion is opaque and no cube was found to have values: a cube that isn't open has none
   pub others-clear : (n : ℕ) (done : List Cube) (answers : List CubeAnswer) → AllZip (IsOutcome terms) done answers → first_sat answers ≡ None

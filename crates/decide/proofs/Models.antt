@@ -1,17 +1,18 @@
 -- Values of a flat cube as values of its cube, and the other way round.
-use Rattle.std.proofs.Common.{◌≡◌, refl, sym, ap, ◌∙◌, subst, ℕ, ℤ, cond, map, Bool, true, IsTrue, List, [], ◌∷◌, Option, Some, None, Err, IfOk}
+use Rattle.std.proofs.Common.{◌≡◌, refl, sym, ap, ◌∙◌, subst, ℕ, ℤ, cond, map, Bool, true, false, IsTrue, List, [], ◌∷◌, Option, Some, None, Err, IfOk}
 use Rattle.std.specs.List.{AllByRecursion, AllZip}
+use Rattle.sv_list.specs.Lists.{AllByRecursion-weaker}
 use Rattle.sv_terms.specs.Language.{Word}
 use Rattle.sv_terms.specs.Meaning.{Named}
 use Rattle.sv_terms.specs.Sorting.{is_valued, kind, same_sort}
-use Rattle.sv_terms.specs.Truth.{clear_of}
+use Rattle.sv_terms.specs.Truth.{AreWorded, clear_of}
 use Rattle.sv_terms.specs.declared.sort.Sort.{Sort}
 use Rattle.sv_terms.specs.declared.sort.Sort.TheVariants as sort
 use Rattle.sv_terms.specs.declared.term.Term.{Term}
 use Rattle.sv_terms.specs.declared.value.Value.{Value}
 use Rattle.sv_terms.specs.declared.value.Value.TheVariants as value
 use Rattle.assertion_parts.specs.Filling.{AreChosen, IsFilledFrom, default, or_default, value_of}
-use Rattle.assertion_parts.proofs.Sorts.{same-self}
+use Rattle.assertion_parts.proofs.Sorts.{same-is, same-self}
 use Rattle.bool_cubes.specs.Laws.{IsValuedCube}
 use Rattle.literal_forms.specs.Shapes.{seen}
 use Rattle.literal_forms.specs.declared.literal.Literal.{Literal}
@@ -25,7 +26,7 @@ use Rattle.flat_cubes.specs.declared.fault.FlatFault.{FlatFault}
 use Rattle.flat_cubes.specs.declared.fault.FlatFault.TheVariants as fault
 use Rattle.flat_cubes.specs.declared.flat.Flat.{Flat}
 use Rattle.flat_cubes.specs.declared.variable.Variable.{Variable}
-use Rattle.cube_search.specs.Answers.{IsModelOf}
+use Rattle.cube_search.specs.Answers.{AreOnlyIn, IsModelOf}
 use Rattle.cube_search.specs.Causes.{EachSolution, IsCauseOf}
 use Rattle.cube_search.specs.Limits.{MustDecideFlat}
 use Rattle.cube_search.specs.declared.reason.OpenReason.{OpenReason}
@@ -34,7 +35,7 @@ use Rattle.decide.specs.CubeValues.{CubeHasNoValues}
 use Rattle.decide.proofs.Listed.{first-part}
 use Rattle.decide.specs.Causes.{IsCause}
 use Rattle.decide.specs.Completeness.{MustDecideCube}
-use Rattle.decide.specs.Jobs.{IsAskedCube, IsOutcome, IsSatOf, refused_answer}
+use Rattle.decide.specs.Jobs.{IsAskedCube, IsModelOfFlat, IsOutcome, IsSatOf, refused_answer}
 use Rattle.decide.proofs.Sorts.{sort_at, sorted-by, sorts_by}
 
 abbrev Name : Type 0
@@ -98,8 +99,8 @@ module _ (terms : List Term) (cube : Cube) (flat : Flat) (asked : IsAskedCube te
   good values v = each-good values cube.literals v asked.spelled
 
   -- a model of the flat cube, with a value for each constant
-  pub sat-of : NamesAreSorted → (given full : Named) → IsModelOf flat given → IsFilledFrom given (clear_of terms) full → IsSatOf terms cube full
-  sat-of sorted given full m f =
+  pub sat-of : NamesAreSorted → (given full : Named) → IsModelOf flat given → AreOnlyIn flat given → IsFilledFrom given (clear_of terms) full → IsSatOf terms cube full
+  sat-of sorted given full m only f =
       let v = asked.valued full f.just.valued in
       let names = sorted (sorts_by full) cube.literals flat (each-sorted full cube.literals v) flattening in
       let o = of-stays given full f.chosen flat m.words m.numbers m.of names in
@@ -108,7 +109,12 @@ module _ (terms : List Term) (cube : Cube) (flat : Flat) (asked : IsAskedCube te
       record {
         holds = record { worded = w; valued = v; holds = (exact full cube.literals flat w (good full v) flattening).1 e };
         just = f.just;
-        within = (flat, flattening, record { words = m.words; numbers = m.numbers; worded = w; of = o; satisfies = m.satisfies; within = m.within });
+        within = record {
+          flat = flat;
+          flattening = flattening;
+          model = record { words = m.words; numbers = m.numbers; worded = w; of = o; satisfies = m.satisfies; within = m.within };
+          defaults = λ name v no e. f.chosen name v e ∙ ap (or_default (kind v)) (only name no);
+        };
       }
 
   -- where nothing satisfies the flat cube, the cube has no values
@@ -126,6 +132,48 @@ module _ (terms : List Term) (cube : Cube) (flat : Flat) (asked : IsAskedCube te
   cause-of (reason.Growth n) h = (flat, flattening, h)
   cause-of (reason.Length ms s) h = (flat, flattening, h)
   cause-of (reason.Arithmetic ms s e) h = (flat, flattening, h)
+
+-- the default of its sort stays one
+default-stays : (v : Value) (o : Option Value) → v ≡ or_default (kind v) o → ((w : Value) → o ≡ Some w → w ≡ default (kind w)) → v ≡ default (kind v)
+default-stays v None e h = e
+default-stays v (Some w) e h = by (same_sort (kind v) (kind w)) refl
+  where
+    by : (b : Bool) → same_sort (kind v) (kind w) ≡ b → v ≡ default (kind v)
+    by true k = e ∙ ap (λ b. cond b w (default (kind v))) k ∙ h w refl ∙ ap default (sym (same-is (kind v) (kind w) k))
+    by false k = e ∙ ap (λ b. cond b w (default (kind v))) k
+
+-- values among which all that are given stay, and each is chosen from these, are a model of the same flat cube
+module _ (given full : Named) (keeps : (n : Name) (x : Value) → value_of given n ≡ Some x → value_of full n ≡ Some x) (chosen : AreChosen given full) (worded : AreWorded full) where
+  texts-keep : (vs : List Variable) (ws : List Word) → AllZip (NamesHave given) vs ws → AllZip (NamesHave full) vs ws
+  texts-keep [] [] h = tt
+  texts-keep [] (w ∷ ws) h = h
+  texts-keep (v ∷ vs) [] h = h
+  texts-keep (v ∷ vs) (w ∷ ws) h = (AllByRecursion-weaker (HasValue given (value.Text w)) (HasValue full (value.Text w)) (λ n e. keeps n (value.Text w) e) v.names h.0, texts-keep vs ws h.1)
+
+  numbers-keep : (ns : List Name) (zs : List ℤ) → AllZip (λ n z. HasValue given (value.Number z) n) ns zs → AllZip (λ n z. HasValue full (value.Number z) n) ns zs
+  numbers-keep [] [] h = tt
+  numbers-keep [] (z ∷ zs) h = h
+  numbers-keep (n ∷ ns) [] h = h
+  numbers-keep (n ∷ ns) (z ∷ zs) h = (keeps n (value.Number z) h.0, numbers-keep ns zs h.1)
+
+  pub model-keeps : (cube : Cube) → IsModelOfFlat cube given → IsModelOfFlat cube full
+  model-keeps cube m = record {
+    flat = m.flat;
+    flattening = m.flattening;
+    model = record {
+      words = m.model.words;
+      numbers = m.model.numbers;
+      worded = worded;
+      of = record {
+        names = texts-keep m.flat.variables m.model.words m.model.of.names;
+        integers = numbers-keep m.flat.integers m.model.numbers m.model.of.integers;
+        truths = AllByRecursion-weaker (λ (t : Name × Bool). HasValue given (value.Truth t.1) t.0) (λ (t : Name × Bool). HasValue full (value.Truth t.1) t.0) (λ t e. keeps t.0 (value.Truth t.1) e) m.flat.truths m.model.of.truths;
+      };
+      satisfies = m.model.satisfies;
+      within = m.model.within;
+    };
+    defaults = λ name v no e. default-stays v (value_of given name) (chosen name v e) (λ w f. m.defaults name w no f);
+  }
 
 -- the flat cube must be decided where the cube must
 pub must-of : FlatIsOne → (cube : Cube) (flat : Flat) → IsFlattening cube.literals flat → MustDecideCube cube → MustDecideFlat flat

@@ -21,7 +21,7 @@ use Rattle.decide.specs.Folds.{first_sat, opens_from, refuted_from, refutation, 
 use Rattle.decide.specs.declared.verdict.Verdict.{Verdict}
 use Rattle.decide.specs.declared.verdict.Verdict.TheVariants.{Sat, Unsat, Unknown}
 use Rattle.decide.specs.Completeness.{MustDecideCube, MustDecide, IsComplete, IsUnsat, IsUnknown}
-use Rattle.decide.specs.Jobs.{IsOutcome, IsFoldOf}
+use Rattle.decide.specs.Jobs.{IsOutcome, IsFoldOf, IsModelOfSomeCube, IsSatOf}
 use Rattle.decide.specs.Verdicts.{RightVerdict, HasOnly}
 use Rattle.decide.proofs.Folding.{sat-at, others-clear, others-opaque, causes, none-open, none-open-at-all, opens-rise, rise-strictly}
 
@@ -85,7 +85,7 @@ module _ (terms : List Term) (laws : AreLaws terms) where
   right-sat done left answers m parts z none e =
       let s = sat-at terms done answers z m e in
       let at = subst (λ l. slice_get l s.0 ≡ Some s.1) (sym parts) (slice_get-append done left s.0 s.1 s.2) in
-      (none, subst (AreTrueAt m) (all-clear terms none) (of-cube m s.0 s.1 at s.3 s.4.valued))
+      (none, subst (AreTrueAt m) (all-clear terms none) (of-cube m s.0 s.1 at s.3.holds s.3.just.valued))
 
   pub right-rest : (opaque : List Term) (answers : List CubeAnswer) → opaque_of terms ≡ opaque → AllZip (IsOutcome terms) (cubes_of (clear_of terms)) answers
       → ((k : ℕ) (c : Cube) → slice_get (cubes_of (clear_of terms)) k ≡ Some c → (Contains (map (λ e. e.0) (opens_from 0 opaque answers)) k → ⊥) → CubeHasNoValues c)
@@ -175,16 +175,23 @@ model-is : (m : Named) (o : Option Named) (list : List (ℕ × OpenReason)) (r :
 model-is m None list r e = absurd (no-model m list r e)
 model-is m (Some n) list r e = cc
 
+-- a model of a fold is one of some cube, and then no term is opaque
+pub sat-of : (terms : List Term) (m : Named) → IsFoldOf terms (cubes_of (clear_of terms)) (Sat m) → (k : ℕ) × (c : Cube) × (slice_get (cubes_of (clear_of terms)) k ≡ Some c) × IsSatOf terms c m × (opaque_of terms ≡ [])
+sat-of terms m f = by (opaque_of terms) refl f.folded
+  where
+    by : (opaque : List Term) → opaque_of terms ≡ opaque → Sat m ≡ fold opaque f.answers → (k : ℕ) × (c : Cube) × (slice_get (cubes_of (clear_of terms)) k ≡ Some c) × IsSatOf terms c m × (opaque_of terms ≡ [])
+    by [] none e =
+        let s = sat-at terms f.done f.answers f.outcomes m (model-is m (first_sat f.answers) (opens_from 0 [] f.answers) (refuted_from (refutation 0 0 0) f.answers) e) in
+        (s.0, s.1, subst (λ l. slice_get l s.0 ≡ Some s.1) (sym f.parts) (slice_get-append f.done f.left s.0 s.1 s.2), s.3, none)
+    by (t ∷ ts) some e = absurd (no-model m (opens_from 0 (t ∷ ts) f.answers) (refuted_from (refutation 0 0 0) f.answers) e)
+
 pub only-of : (terms : List Term) (v : Verdict) → IsFoldOf terms (cubes_of (clear_of terms)) v → HasOnly terms v
 only-of terms (Unsat r) f = tt
 only-of terms (Unknown why) f = tt
-only-of terms (Sat m) f = by (opaque_of terms) refl f.folded
-  where
-    by : (opaque : List Term) → opaque_of terms ≡ opaque → Sat m ≡ fold opaque f.answers → AreOnly m terms
-    by [] none e =
-        let s = sat-at terms f.done f.answers f.outcomes m (model-is m (first_sat f.answers) (opens_from 0 [] f.answers) (refuted_from (refutation 0 0 0) f.answers) e) in
-        subst (AreOnly m) (all-clear terms none) s.4.only
-    by (t ∷ ts) some e = absurd (no-model m (opens_from 0 (t ∷ ts) f.answers) (refuted_from (refutation 0 0 0) f.answers) e)
+only-of terms (Sat m) f = let s = sat-of terms m f in subst (AreOnly m) (all-clear terms s.4) s.3.just.only
+
+pub some-cube-of : (terms : List Term) (m : Named) → IsFoldOf terms (cubes_of (clear_of terms)) (Sat m) → IsModelOfSomeCube terms m
+some-cube-of terms m f = let s = sat-of terms m f in (s.0, s.1, s.2, s.3.within)
 
 pub when-fold : {E : Type 0} (P : Verdict → Type 0) (terms : List Term) (cubes : List Cube) (r : Result Verdict E) → cubes ≡ cubes_of (clear_of terms) → ((v : Verdict) → IsFoldOf terms (cubes_of (clear_of terms)) v → P v) → IfOk r (IsFoldOf terms cubes) → IfOk r P
 when-fold P terms cubes (Ok v) e f h = f v (subst (λ l. IsFoldOf terms l v) e h)

@@ -1,11 +1,14 @@
 -- What the answer for one cube of some assertions is, and what the answers for all come to.
-use Rattle.std.specs.Prelude.{◌≡◌, ◌≢◌, ℕ, ◌*◌, ◌≤◌, List, [], ◌++◌, length, None, Result, Ok, Err, ◌⊎◌, ⊤}
+use Rattle.std.specs.Prelude.{◌≡◌, ◌≢◌, ℕ, ◌*◌, ◌≤◌, false, List, [], ◌++◌, length, None, Some, slice_get, Result, Ok, Err, ◌⊎◌, ⊤}
 use Rattle.std.specs.List.{AllByRecursion, AllZip}
 use Rattle.std.specs.declared.alloc.AllocError.{AllocError}
 use Rattle.sv_terms.specs.Meaning.{Named}
+use Rattle.sv_terms.specs.Sorting.{kind}
 use Rattle.sv_terms.specs.Truth.{AreValued, clear_of, opaque_of}
 use Rattle.sv_terms.specs.declared.term.Term.{Term}
+use Rattle.sv_terms.specs.declared.value.Value.{Value}
 use Rattle.assertion_parts.specs.Constants.{AreValuesOf, ConstantsHaveOneSort}
+use Rattle.assertion_parts.specs.Filling.{default, value_of}
 use Rattle.bool_cubes.specs.Cubes.{cubes_of}
 use Rattle.bool_cubes.specs.Laws.{IsFittingCube, IsValuedCube}
 use Rattle.literal_forms.specs.Shapes.{seen}
@@ -16,7 +19,7 @@ use Rattle.straight_line.specs.Laws.{IsSpelled}
 use Rattle.flat_cubes.specs.declared.fault.FlatFault.{FlatFault}
 use Rattle.flat_cubes.specs.declared.fault.FlatFault.TheVariants as fault
 use Rattle.flat_cubes.specs.declared.flat.Flat.{Flat}
-use Rattle.cube_search.specs.Answers.{IsDecidedCube, IsModelOf}
+use Rattle.cube_search.specs.Answers.{IsDecidedCube, IsModelOf, is_name_in}
 use Rattle.cube_search.specs.declared.answer.CubeAnswer.{CubeAnswer}
 use Rattle.cube_search.specs.declared.answer.CubeAnswer.TheVariants as answer
 use Rattle.cube_search.specs.declared.reason.OpenReason.TheVariants.{Fragment, Wide}
@@ -38,9 +41,20 @@ pub record IsAskedCube (terms : List Term) (cube : Cube) : Type 0 where
   pub valued : (values : Named) → AreValued values (clear_of terms) → IsValuedCube values cube
   pub one_sort : ConstantsHaveOneSort (clear_of terms)
 
--- the values extend to words and numbers that satisfy the flat cube, within its reach
-abbrev pub IsModelOfFlat : Cube → Named → Type 0
-IsModelOfFlat cube values = (flat : Flat) × IsFlattening cube.literals flat × IsModelOf flat values
+-- a name that isn't one of the flat cube has, if a value, the default of its sort: nothing depends on it
+abbrev pub HaveDefaultsBeside : Flat → Named → Type 0
+HaveDefaultsBeside flat values = (name : List ℕ) (v : Value) → is_name_in flat name ≡ false → value_of values name ≡ Some v → v ≡ default (kind v)
+
+-- the values extend to words and numbers that satisfy the flat cube, within its reach; beside it they are defaults
+pub record IsModelOfFlat (cube : Cube) (values : Named) : Type 0 where
+  pub flat : Flat
+  pub flattening : IsFlattening cube.literals flat
+  pub model : IsModelOf flat values
+  pub defaults : HaveDefaultsBeside flat values
+
+-- such values of some cube of the assertions without opaque parts
+abbrev pub IsModelOfSomeCube : List Term → Named → Type 0
+IsModelOfSomeCube terms values = (k : ℕ) × (cube : Cube) × (slice_get (cubes_of (clear_of terms)) k ≡ Some cube) × IsModelOfFlat cube values
 
 -- values that make the cube true, one for each constant of the assertions without opaque parts and for no other name
 pub record IsSatOf (terms : List Term) (cube : Cube) (values : Named) : Type 0 where

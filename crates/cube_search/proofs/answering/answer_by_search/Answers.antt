@@ -45,8 +45,10 @@ returns-in-Found-clause-right c =
     let state = c.in_ok-state.state in
     let below = subst (λ b. IsBelow flat c.in_ok-region_of.field-0 c.len-left.result state.machines c.descend.new.tally b) c.in-Found.is c.in_ok-found.ensures.below in
     let found = subst (λ n. AreFoundRuns flat n state.machines c.in-Found.found) c.len-left.ensures below in
+    let model =
     model-of flat state.machines c.in-Found.found c.in_ok-model_of-in-Found.field-0 found
-    (found-satisfies flat state.machines c.in-Found.found c.requires.answerable.straight c.in_ok-state.ensures.state.led c.requires.whole found) c.in_ok-model_of-in-Found.ensures.named c.in_ok-model_of-in-Found.ensures.worded
+    (found-satisfies flat state.machines c.in-Found.found c.requires.answerable.straight c.in_ok-state.ensures.state.led c.requires.whole found) c.in_ok-model_of-in-Found.ensures.named c.in_ok-model_of-in-Found.ensures.worded in
+    (model, c.in_ok-model_of-in-Found.ensures.only)
 
 pub returns-clause-right : goal.returns-clause-right
 returns-clause-right c =

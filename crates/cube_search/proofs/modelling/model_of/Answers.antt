@@ -2,7 +2,7 @@ use Rattle.std.proofs.Common.{◌≡◌, ◌∙◌, [], nat_eq}
 use Rattle.std.specs.Cmp.Lexicographic.{pointwise}
 use Rattle.indexmap.specs.IndexMap.{insert_all}
 use Rattle.cube_search.specs.Entries.{all_entries, number_entries, string_entries, truth_entries}
-use Rattle.cube_search.proofs.ModelLemmas.{all-worded, named-by, set-in-turn}
+use Rattle.cube_search.proofs.ModelLemmas.{all-worded, named-by, only-in, set-in-turn}
 use Rattle.cube_search.proofs.modelling.model_of.Goals as goal
 
 made : (c : goal.In_ok-set_truths) → c.set_truths.new.model ≡ insert_all (pointwise nat_eq) [] (all_entries c.args.flat.now c.args.found.now)
@@ -17,3 +17,6 @@ returns-clause-named c = named-by c.args.flat.now c.args.found.now c.set_truths.
 
 pub returns-clause-worded : goal.returns-clause-worded
 returns-clause-worded c = all-worded c.args.flat.now c.args.found.now c.set_truths.new.model (made c) c.requires.satisfies
+
+pub returns-clause-only : goal.returns-clause-only
+returns-clause-only c = only-in c.args.flat.now c.args.found.now c.set_truths.new.model (made c) c.requires.satisfies.rows.count

@@ -8,8 +8,9 @@ cube_answer-requires-clause-bare c = c.rows_count.ensures c.args.cube.now.litera
 
 pub returns-in-Sat : goal.returns-in-Sat
 returns-in-Sat c = record {
-  right = sat-of c.args.shared.now.terms.now c.args.cube.now c.args.flat.now c.requires.asked c.requires.flattening c.flat_cubes_are_exact.ensures c.names_are_sorted.ensures c.in-Sat.model c.in_ok-full-in-Sat.full
-      (subst (IsCubeAnswer c.args.flat.now) c.in-Sat.is c.in_ok-model.ensures.right) (c.in_ok-full-in-Sat.ensures c.requires.asked.one_sort);
+  right = (let found = subst (IsCubeAnswer c.args.flat.now) c.in-Sat.is c.in_ok-model.ensures.right in
+      sat-of c.args.shared.now.terms.now c.args.cube.now c.args.flat.now c.requires.asked c.requires.flattening c.flat_cubes_are_exact.ensures c.names_are_sorted.ensures c.in-Sat.model c.in_ok-full-in-Sat.full
+      found.0 found.1 (c.in_ok-full-in-Sat.ensures c.requires.asked.one_sort));
   decided = λ must. tt;
 }
 
