@@ -1,9 +1,9 @@
-//! A family of concrete machines, cut along a concatenation, and where it may be cut.
+//! A family of concrete machines, cut along a concatenation.
 ghost use Rattle.std.specs.Prelude.{◌≡◌, ◌<◌, [], ◌∷◌, max, Some, IfOk, OnOk};
 ghost use Rattle.machine_core.specs.Costs.{cost_top};
 ghost use Rattle.machine_core.specs.Graphs.{graph_top};
 
-use backward::{LeafState, carry_concat, live_cuts, may_cut, next_cuts};
+use backward::{LeafState, carry_concat};
 use machine_core::{Cost, Explicit};
 use std::alloc::{AllocError, Global};
 use sv_list::Items;
@@ -102,28 +102,5 @@ fn a_cut_at_the_start_leaves_the_empty_word(rt: HostRuntime) -> Result<(), Build
     let alloc = rt.alloc();
     assert!(rt; least_end(alloc, 0, 0)? == Some(0));
     assert!(rt; least_end(alloc, 0, 2)? == Some(1));
-    Ok(())
-}
-
-// The states of the word b, and whether a cut there leads on, between a count of b and the letter b.
-const CUTS: [(u32, bool); 2] = [(0, true), (1, false)];
-
-// Whether the word b may be cut at this state.
-fn leads_on(alloc: Global, cut: u32) -> Result<bool, AllocError> {
-    let piece = any_count(alloc, b'b')?;
-    let whole = one_letter(alloc, b'b')?;
-    let other = one_letter(alloc, b'b')?;
-    let state = family(alloc, piece, whole, other)?;
-    let live = live_cuts(alloc, &state, 1, &[0, 2])?;
-    let next = next_cuts(alloc, &state, 1, &[0, 2], &[])?;
-    Ok(may_cut(next.as_slice(), live.as_slice(), 1, cut))
-}
-
-#[test]
-fn a_cut_leads_on_where_the_later_pieces_read_the_rest(rt: HostRuntime) -> Result<(), AllocError> {
-    let alloc = rt.alloc();
-    for (cut, leads) in CUTS {
-        assert!(rt; leads_on(alloc, cut)? == leads);
-    }
     Ok(())
 }
