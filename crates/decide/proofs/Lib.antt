@@ -4,8 +4,8 @@ mod Crossing
 mod Folding
 mod Going
 mod Listed
-mod Models
-mod Rightness
+pub mod Models
+pub mod Rightness
 mod Sharing
 mod Sorts
 mod Tallying

@@ -1,7 +1,7 @@
 -- The model that is made of the values of a verdict, over the declared symbols.
 use Rattle.std.proofs.Common.{◌≡◌, refl, sym, ap, ◌∙◌, subst, ℕ, Bool, true, false, not, ◌&&◌, List, [], ◌∷◌, ◌++◌, Option, Some, None, IsTrue, zero, suc, ◌+◌, ◌<◌, length, take, drop, arith, get_or, append_assoc, append-nil, is_some}
 use Rattle.std.specs.Prelude.{All, slice_get, if◌then◌else◌}
-use Rattle.std.proofs.lemmas.Option.{slice_get_within, get_or_from_slice_get}
+use Rattle.std.proofs.lemmas.Option.{none-some, slice_get_within, get_or_from_slice_get}
 use Rattle.std.specs.List.{AllByRecursion}
 use Rattle.std.specs.Map.{lookup}
 use Rattle.std.proofs.lemmas.Bool.{true≢false}
@@ -9,12 +9,14 @@ use Rattle.std.proofs.lemmas.List.Elements.{recursion_from_All, All-from_recursi
 use Rattle.sv_list.specs.Bools.{and-first}
 use Rattle.sv_list.specs.Lists.{take-read}
 use Rattle.assert_stack.specs.Levels.{Symbol}
-use Rattle.assertion_parts.specs.Constants.{AreOnly, ConstantsHaveOneSort}
-use Rattle.assertion_parts.specs.Filling.{default, or_default}
+use Rattle.assertion_parts.specs.Constants.{AreOnly, ConstantsHaveOneSort, is_mentioned, mentions}
+use Rattle.assertion_parts.specs.Filling.{AreChosen, default, or_default}
 use Rattle.assertion_parts.proofs.Sorts.{same-is, same-self}
 use Rattle.assertion_parts.proofs.Fillings.{worded-or}
 use Rattle.decide.specs.Completeness.{IsComplete}
+use Rattle.decide.specs.Jobs.{IsModelOfSomeCube}
 use Rattle.decide.specs.Verdicts.{RightVerdict}
+use Rattle.decide.proofs.Models.{model-keeps}
 use Rattle.decide.specs.declared.verdict.Verdict.TheVariants.{Sat}
 use Rattle.term_weight.specs.Bodies.{is_escaped}
 use Rattle.sort_check.specs.WellFormed.{is_constant_of, is_declared, constants_known, is_entry, is_new, follow, is_well_formed, is_given, AreGiven}
@@ -31,7 +33,7 @@ use Rattle.sv_terms.specs.declared.value.Value.{Value}
 use Rattle.smt_names.specs.Signature.{Name}
 use Rattle.smt_session.specs.Verdicts.{IsModelFor, constants_of, kinds_of}
 use Rattle.smt_session.specs.Models.{model_of}
-use Rattle.smt_session.proofs.Agreeing.{agrees}
+use Rattle.smt_session.proofs.Agreeing.{agrees, agrees-at, either}
 use Rattle.smt_session.proofs.Names.{same, parted, skip, cases, found-has}
 use mathlib.Core.Bool.{cond}
 
@@ -190,15 +192,36 @@ Placed = (symbols : List Symbol) → IsTrue (is_well_formed symbols) → All (λ
 abbrev pub Valued : Type 0
 Valued = (values : Named) (symbols : List Symbol) (term : Term) → AreGiven values symbols → IsTrue (constants_known symbols term) → IsTrue (is_valued values term)
 
+-- each value is chosen from those of the verdict
+chosen-each : (values : Named) (xs : List Symbol) → AllByRecursion (Suits values) xs → AllByRecursion (λ (e : Name × Value). e.1 ≡ or_default (kind e.1) (lookup (same e.0) values)) (model_of values xs)
+chosen-each values [] h = tt
+chosen-each values ((n, entry.Constant s) ∷ xs) h = (ap (λ z. or_default z (lookup (same n) values)) (sym h.0), chosen-each values xs h.1)
+chosen-each values ((n, entry.Macro ps b) ∷ xs) h = chosen-each values xs h.1
+chosen-each values ((n, entry.Machine t) ∷ xs) h = chosen-each values xs h.1
+
+chosen-all : Allowed → (symbols : List Symbol) (values : Named) → IsTrue (is_well_formed symbols) → AreChosen values (model_of values symbols)
+chosen-all allowed symbols values formed = λ name v e.
+    found-has (λ n w. w ≡ or_default (kind w) (lookup (same n) values)) (model_of values symbols) name v
+    (chosen-each values symbols (all-suit values symbols symbols (recursion_from_All (λ (e : Symbol). IsTrue (is_entry symbols e.1)) symbols (allowed symbols formed)))) e
+
+-- a value of the verdict is kept, where it has values for the constants of the assertions alone
+mentioned-stays : (symbols : List Symbol) (values : Named) (n : Name) (live : List Term) → AllByRecursion (λ t. IsTrue (constants_known symbols t)) live → AllByRecursion (λ t. IsTrue (is_valued values t)) live → is_mentioned n live ≡ true
+    → lookup (same n) (model_of values symbols) ≡ lookup (same n) values
+mentioned-stays symbols values n [] k g m = absurd (true≢false (sym m))
+mentioned-stays symbols values n (t ∷ ts) k g m =
+    either (lookup (same n) (model_of values symbols) ≡ lookup (same n) values) (mentions n t) (is_mentioned n ts) m
+    (agrees-at (model_of values symbols) values (is_declared symbols) (value-stays values symbols) n t k.0 g.0) (mentioned-stays symbols values n ts k.1 g.1)
+
+keeps-all : (symbols : List Symbol) (live : List Term) (values : Named) → AllByRecursion (λ t. IsTrue (constants_known symbols t)) live → AreValued values live → AreOnly values live
+    → (n : Name) (x : Value) → lookup (same n) values ≡ Some x → lookup (same n) (model_of values symbols) ≡ Some x
+keeps-all symbols live values known valued only n x e = by (is_mentioned n live) refl
+  where
+    by : (b : Bool) → is_mentioned n live ≡ b → lookup (same n) (model_of values symbols) ≡ Some x
+    by true m = mentioned-stays symbols values n live known (recursion_from_All (λ t. IsTrue (is_valued values t)) live valued) m ∙ e
+    by false m = absurd (none-some x (sym (only n m) ∙ e))
+
 pub covers-all : Allowed → (symbols : List Symbol) (values : Named) → IsTrue (is_well_formed symbols) → kinds_of (model_of values symbols) ≡ constants_of symbols
 covers-all allowed symbols values formed = kinds-cover values symbols (all-suit values symbols symbols (recursion_from_All (λ (e : Symbol). IsTrue (is_entry symbols e.1)) symbols (allowed symbols formed)))
-
--- the values of a verdict make a model for the declared constants
-pub model-for : Allowed → (symbols : List Symbol) (live : List Term) (values : Named) → IsTrue (is_well_formed symbols) → AreOnly values live → IsModelFor symbols live (model_of values symbols)
-model-for allowed symbols live values formed only = record {
-  covers = covers-all allowed symbols values formed;
-  defaults = λ name s is no. in-model values name s symbols is ∙ ap (λ o. Some (or_default s o)) (only name no);
-}
 
 -- a right model has a value for each declared constant
 kind-found : (n : Name) (values : Named) (s : Sort) → lookup (same n) (kinds_of values) ≡ Some s → IsTrue (is_of s (lookup (same n) values))
@@ -252,6 +275,20 @@ true-at allowed placed valued symbols live values formed known h = record {
       agrees (model_of values symbols) values (is_declared symbols) (value-stays values symbols) (get_or live k d)
       (All-from_recursion (λ t. IsTrue (constants_known symbols t)) live known k d l) (h.valued k d l)
       ∙ h.holds k d l;
+}
+
+-- the values of a verdict make a model for the declared constants
+pub model-for : Allowed → Placed → Valued → (symbols : List Symbol) (live : List Term) (values : Named) → IsTrue (is_well_formed symbols) → AllByRecursion (λ t. IsTrue (constants_known symbols t)) live → AreTrueAt values live → AreOnly values live → IsModelOfSomeCube live values
+    → IsModelFor symbols live (model_of values symbols)
+model-for allowed placed valued symbols live values formed known right only some = record {
+  covers = covers-all allowed symbols values formed;
+  chosen = (
+    some.0,
+    some.1,
+    some.2,
+    model-keeps values (model_of values symbols) (keeps-all symbols live values known right.valued only) (chosen-all allowed symbols values formed) (true-at allowed placed valued symbols live values formed known right).worded some.1 some.3,
+  );
+  unmentioned = λ name s is no. in-model values name s symbols is ∙ ap (λ o. Some (or_default s o)) (only name no);
 }
 
 -- the verdict with the model in the place of its values

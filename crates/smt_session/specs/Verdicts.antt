@@ -8,6 +8,7 @@ use Rattle.cube_search.specs.declared.reason.OpenReason.{OpenReason}
 use Rattle.cube_search.specs.declared.reason.OpenReason.TheVariants as reason
 use Rattle.assertion_parts.specs.Constants.{is_mentioned}
 use Rattle.assertion_parts.specs.Filling.{default}
+use Rattle.decide.specs.Jobs.{IsModelOfSomeCube}
 use Rattle.decide.specs.declared.verdict.Open.{Open}
 use Rattle.decide.specs.declared.verdict.Open.TheVariants as open_by
 use Rattle.decide.specs.declared.verdict.Verdict.{Verdict}
@@ -35,10 +36,11 @@ constants_of ((name, Machine t) ∷ symbols) = constants_of symbols
 abbrev pub kinds_of : Named → List (Name × Sort)
 kinds_of values = map (λ v. (v.0, kind v.1)) values
 
--- a value of its sort for each declared constant, in order; one that no assertion mentions has the default of its sort
+-- a value of its sort for each declared constant, in order: a model of the flat cube of some cube of the assertions, in which each constant that isn't one of the flat cube has the default of its sort. So has one that no assertion mentions
 pub record IsModelFor (symbols : List Symbol) (live : List Term) (values : Named) : Type 0 where
   pub covers : kinds_of values ≡ constants_of symbols
-  pub defaults : (name : Name) (s : Sort) → lookup (pointwise nat_eq name) (constants_of symbols) ≡ Some s → is_mentioned name live ≡ false → lookup (pointwise nat_eq name) values ≡ Some (default s)
+  pub chosen : IsModelOfSomeCube live values
+  pub unmentioned : (name : Name) (s : Sort) → lookup (pointwise nat_eq name) (constants_of symbols) ≡ Some s → is_mentioned name live ≡ false → lookup (pointwise nat_eq name) values ≡ Some (default s)
 
 -- a model is one for the declared constants
 abbrev pub IsVerdictFor : List Symbol → List Term → Verdict → Type 0

@@ -1,6 +1,8 @@
 use Rattle.std.proofs.Common.{sym, subst}
 use Rattle.decide.specs.Completeness.{IsComplete}
+use Rattle.decide.specs.Jobs.{IsFolded}
 use Rattle.decide.specs.Verdicts.{RightVerdict, HasOnly}
+use Rattle.decide.proofs.Rightness.{some-cube-of}
 use Rattle.decide.specs.declared.verdict.Verdict.TheVariants.{Sat}
 use Rattle.smt_session.specs.Verdicts.{IsModelFor}
 use Rattle.smt_session.proofs.Models.{one-sort, right-model, complete-model, model-for}
@@ -20,8 +22,9 @@ returns-in_ok-model-in-Sat-clause-right g c =
 pub returns-in_ok-model-in-Sat-clause-covers : goal.returns-in_ok-model-in-Sat-clause-covers
 returns-in_ok-model-in-Sat-clause-covers g c =
     subst (IsModelFor c.args.symbols.now c.args.live.now) (sym c.in_ok-model-in-Sat.ensures)
-    (model-for c.entries_are_well_formed.ensures.allowed c.args.symbols.now c.args.live.now c.in-Sat.values c.requires.well_formed
-    (subst (HasOnly c.args.live.now) c.in-Sat.is c.in_ok-values.ensures.only))
+    (model-for c.entries_are_well_formed.ensures.allowed c.entries_are_well_formed.ensures.found c.constants_have_values.ensures.valued c.args.symbols.now c.args.live.now c.in-Sat.values c.requires.well_formed (known c.args.symbols.now c.args.live.now c.requires.terms)
+    (subst (RightVerdict c.args.live.now) c.in-Sat.is c.in_ok-values.ensures.right).1 (subst (HasOnly c.args.live.now) c.in-Sat.is c.in_ok-values.ensures.only)
+    (some-cube-of c.args.live.now c.in-Sat.values (subst (IsFolded c.args.live.now) c.in-Sat.is c.in_ok-values.ensures.folded)))
 
 pub returns-in_ok-model-in-Sat-clause-complete : goal.returns-in_ok-model-in-Sat-clause-complete
 returns-in_ok-model-in-Sat-clause-complete g c = λ must. complete-model c.args.live.now c.in-Sat.values _ (subst (IsComplete c.args.live.now) c.in-Sat.is (c.in_ok-values.ensures.complete must))
