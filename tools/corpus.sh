@@ -96,7 +96,7 @@ limited="ulimit -S -s 65536 2>/dev/null; ulimit -c 0; ulimit -t $seconds; ulimit
 exec /usr/bin/time -q -f 'corpus-end %U %S %M' timeout $((10 * seconds)) $command </dev/null 2>&1"
 send=() at=$(printf '%q/' "$folder")
 if [ -n "$hosts" ]; then
-    send=(--sshlogin "$hosts" --workdir ... --transferfile "$folder/./{}" --cleanup) at=""
+    send=(--sshlogin "$hosts" --workdir "corpus-$$" --transferfile "$folder/./{}" --cleanup) at=""
     [ ! -e "$out/run/${program##*/}" ] || send+=(--basefile "./${program##*/}")
 fi
 shown=()
