@@ -1,5 +1,8 @@
+ghost use Rattle.std.specs.Prelude.{◌≡◌, IfOk};
+
 use crate::subset_machine_calls::machine_of_many_lists;
 use crate::trim_search_calls::{has_shortest, two_letters};
+use machine_core::Explicit;
 use regex_machine::{build, complement, least, only_first, reversed};
 use std::alloc::{AllocError, Global};
 use sv_list::{Boxed, Items};
@@ -42,6 +45,42 @@ fn nothing_is_in_itself_alone(alloc: Global) -> Result<bool, BuildFault> {
 #[test]
 fn a_difference_from_the_end(rt: HostRuntime) -> Result<(), BuildFault> {
     assert!(rt; nothing_is_in_itself_alone(rt.alloc())?);
+    Ok(())
+}
+
+// An `a`, twenty letters and a `b`, with any letters around them where `within`.
+fn far_apart(alloc: Global, within: bool) -> Result<Regex, AllocError> {
+    let mut parts = Items::new(alloc);
+    if within {
+        parts.push(Regex::Star(Boxed::new(alloc, Regex::Range(0x61, 0x62))?))?;
+    }
+    parts.push(Regex::Range(0x61, 0x61))?;
+    parts.push(Regex::Loop(Boxed::new(alloc, Regex::Range(0x61, 0x62))?, 20, 20))?;
+    parts.push(Regex::Range(0x62, 0x62))?;
+    if within {
+        parts.push(Regex::Star(Boxed::new(alloc, Regex::Range(0x61, 0x62))?))?;
+    }
+    Ok(Regex::Concat(parts))
+}
+
+fn machine_far_apart(alloc: Global, within: bool) -> Result<Explicit, BuildFault>
+    ensures { IfOk result (λ m. m.registers ≡ 0) }
+{
+    let regex = far_apart(alloc, within)?;
+    build(alloc, &regex, 100)
+}
+
+// From neither end a product has few states; few of its places stand for all.
+fn nothing_is_outside(alloc: Global) -> Result<bool, BuildFault> {
+    let alone = machine_far_apart(alloc, false)?;
+    let within = machine_far_apart(alloc, true)?;
+    let left = only_first(alloc, &[alone, within], 1_000)?;
+    Ok(shortest(alloc, &left)?.is_none())
+}
+
+#[test]
+fn a_difference_by_few_places(rt: HostRuntime) -> Result<(), BuildFault> {
+    assert!(rt; nothing_is_outside(rt.alloc())?);
     Ok(())
 }
 

@@ -9,11 +9,12 @@ use machine_core::Explicit;
 use regex_machine::{build, least};
 use std::alloc::{AllocError, Global};
 use std::marker::Model;
+use sv_list::Copied;
 use sv_terms::{Regex, languages_are_words};
 use trim_search::BuildFault;
 
-/// What came of building the machine of a regular expression, kept beside it: the machine, made least where it is small
-/// (so that products with it stay small), or that it takes more states than a machine may have.
+/// What came of building the machine of a regular expression, kept beside it: the machine, or that it takes more states
+/// than a machine may have.
 #[derive(Drop)]
 pub struct Keep {
     key: Regex,
@@ -53,19 +54,19 @@ impl Keyed<Regex> for Keep {
 }
 
 // Of a machine of more states the least isn't sought, which looks at up to five times as many sets of them.
-const MOST_MADE_LEAST: u32 = 4_096;
+const MOST_MADE_LEAST: u32 = 512;
 
-// The least machine of the same words, where it is sought and has no more states, and else the machine itself.
-fn make_least(alloc: Global, machine: Explicit) -> Result<Explicit, AllocError>
-    requires { machine.registers ≡ 0 }
-    ensures { IfOk result (ReadsSameWithin machine machine.states) }
+// The least machine of the same words, where it is sought and has no more states, and else a copy.
+fn make_least(alloc: Global, machine: &Explicit) -> Result<Explicit, AllocError>
+    requires { machine.now.registers ≡ 0 }
+    ensures { IfOk result (ReadsSameWithin machine.now machine.now.states) }
 {
     if machine.states() > MOST_MADE_LEAST {
-        return Ok(machine);
+        return machine.copy(alloc);
     }
-    match least(alloc, &machine)? {
+    match least(alloc, machine)? {
         Some(fewest) => Ok(fewest),
-        None => Ok(machine),
+        None => machine.copy(alloc),
     }
 }
 
@@ -75,7 +76,7 @@ fn build_within(alloc: Global, key: &Regex) -> Result<Option<Explicit>, AllocErr
 {
     languages_are_words();
     match build(alloc, key, MOST_STATES) {
-        Ok(machine) => Ok(Some(make_least(alloc, machine)?)),
+        Ok(machine) => Ok(Some(machine)),
         Err(BuildFault::States(_)) => Ok(None),
         Err(BuildFault::Memory(e)) => Err(e),
     }
@@ -88,6 +89,18 @@ impl Keep {
     {
         let machine = build_within(alloc, key)?;
         let key = key.copy(alloc)?;
+        Ok(Keep { key, machine })
+    }
+
+    /// The same with the least machine of its words, where that is sought: products with it stay small.
+    pub fn made_least(&self, alloc: Global) -> Result<Keep, AllocError>
+        ensures key { IfOk result (λ keep. keep.0 ≡ self.now.0) }
+    {
+        let machine = match &self.machine {
+            Some(machine) => Some(make_least(alloc, machine)?),
+            None => None,
+        };
+        let key = self.key.copy(alloc)?;
         Ok(Keep { key, machine })
     }
 

@@ -5,8 +5,9 @@
 //! isn't. [`own_machine`] joins the machines of all parts of a variable, and lets each character cost what
 //! the registers of the variable count.
 //!
-//! A regular expression is built once for all threads that share [`Machines`], and made least where it is small; so is its
-//! complement, by the subset construction; that one takes too many states is found once too. Beside other parts an
+//! A regular expression is built once for all threads that share [`Machines`], and made least once where it is met with
+//! other parts and is small; so is its complement, by the subset construction; that one takes too many states is found
+//! once too. Beside other parts an
 //! expression that no word may be in isn't complemented where that takes many states: its sets of states are made as the
 //! other parts lead to them. All other parts come by a table that says where each state leads on each character: a word, a
 //! prefix and a digit by a chain along their characters, what occurs and what ends a word by the failure automaton of

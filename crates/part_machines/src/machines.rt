@@ -17,7 +17,9 @@ use sv_terms::Regex;
 pub struct Machines {
     digests: Vec<u64>,
     pool: Pool<Regex, Keep>,
+    made_least: Pool<Regex, Keep>,
     ghost one_each: { length pool ≡ length digests.items },
+    ghost one_least_each: { length made_least ≡ length digests.items },
 }
 
 impl Machines {
@@ -27,7 +29,12 @@ impl Machines {
         digests.sort_unstable();
         digests.dedup();
         let pool = Pool::new(alloc, digests.len())?;
-        Ok(Machines { digests, pool })
+        let made_least = Pool::new(alloc, digests.len())?;
+        Ok(Machines {
+            digests,
+            pool,
+            made_least,
+        })
     }
 
     /// What came of building the machine of the expression. One without a place is built for the caller.
@@ -48,6 +55,36 @@ impl Machines {
             }
             Err(_) => Ok(PoolValue::Owned(make(alloc, regex)?)),
         }
+    }
+
+    /// The same with the least machine of its words, where that is sought: for machines that are met with others.
+    ///
+    /// Where it is kept, time is as for [`find_or_build`](Machines::find_or_build); else also that of
+    /// [`Keep::made_least`].
+    pub fn find_or_make_least(
+        &self,
+        alloc: Global,
+        regex: &Regex,
+    ) -> Result<PoolValue<'_, Keep>, AllocError>
+        ensures { IfOk result (λ found. (found_value found).0 ≡ regex.now) }
+    {
+        match self.digests.binary_search(&digest(regex)) {
+            Ok(cell) => {
+                let mut note = self.made_least.note(cell);
+                self.made_least
+                    .get(cell, regex, &mut note, || self.make_least(alloc, regex))
+            }
+            Err(_) => Ok(PoolValue::Owned(self.make_least(alloc, regex)?)),
+        }
+    }
+
+    // What is made for a place among the least, on the heap.
+    fn make_least(&self, alloc: Global, regex: &Regex) -> Result<Box<Keep>, AllocError>
+        ensures { IfOk result (λ keep. keep.value.0 ≡ regex.now) }
+    {
+        let plain = self.find_or_build(alloc, regex)?;
+        let keep = plain.value().made_least(alloc)?;
+        Ok(Box::new(alloc, keep)?)
     }
 }
 

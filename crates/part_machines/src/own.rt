@@ -14,7 +14,7 @@ ghost use Rattle.part_machines.specs.Sides.{AddsSide, AreSides, ReadsOthers};
 
 use crate::machines::Machines;
 use crate::pairs::{meet_in_turn, meet_pairs};
-use crate::part::{MOST_STATES, kept_machine, part_machine};
+use crate::part::{MOST_STATES, least_machine, machine_to_meet, part_machine};
 use crate::pricing::price;
 use flat_cubes::Own;
 use machine_core::{Cost, Explicit};
@@ -98,14 +98,14 @@ fn add_side(
     ensures refused { (n : ℕ) → result ≡ Err (States n) → MOST_STATES < part_bound part.now }
 {
     if let Some(regex) = barred_regex(part) {
-        let machine = kept_machine(alloc, regex, kept)?;
+        let machine = least_machine(alloc, regex, kept)?;
         match complement_of(alloc, &machine, ahead)? {
             Some(others) => within.push(others)?,
             None => outside.push(machine)?,
         }
         return Ok(());
     }
-    let machine = part_machine(alloc, part, kept)?;
+    let machine = machine_to_meet(alloc, part, kept)?;
     within.push(machine)?;
     Ok(())
 }

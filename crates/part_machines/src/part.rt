@@ -52,6 +52,22 @@ pub fn kept_machine(
     }
 }
 
+/// The machine of the expression for a product with others: the least one, where that is sought.
+pub fn least_machine(
+    alloc: Global,
+    regex: &Regex,
+    machines: &Machines,
+) -> Result<Explicit, BuildFault>
+    ensures machine { IfOk result (IsMachineOf regex.now) }
+    ensures refused { (n : ℕ) → result ≡ Err (States n) → MOST_STATES < size regex.now }
+{
+    let found = machines.find_or_make_least(alloc, regex)?;
+    match found.value().machine() {
+        Some(machine) => Ok(machine.copy(alloc)?),
+        None => Err(BuildFault::States(MOST_STATES + 1)),
+    }
+}
+
 // All words that aren't of the expression, as an expression.
 fn others_of(alloc: Global, regex: &Regex) -> Result<Regex, AllocError>
     ensures { IfOk result (λ others. others ≡ Comp regex.now) }
@@ -127,5 +143,21 @@ pub fn part_machine(
         Own::Contains(word) => word_pattern(alloc, word, true, holds),
         Own::Suffix(word) => word_pattern(alloc, word, false, holds),
         Own::InRe(regex) => language(alloc, regex, holds, machines),
+    }
+}
+
+/// The machine of a part for a product with others: that of an expression is the least one, where that is sought. Refusals
+/// and time are as for [`part_machine`], and the least machine is made once.
+pub fn machine_to_meet(
+    alloc: Global,
+    part: &(Own, bool),
+    machines: &Machines,
+) -> Result<Explicit, BuildFault>
+    ensures machine { IfOk result (IsOfPart part.now) }
+    ensures refused { (n : ℕ) → result ≡ Err (States n) → MOST_STATES < part_bound part.now }
+{
+    match part {
+        (Own::InRe(regex), true) => least_machine(alloc, regex, machines),
+        _ => part_machine(alloc, part, machines),
     }
 }

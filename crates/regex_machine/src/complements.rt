@@ -108,7 +108,8 @@ fn by_tries(
 /// reads words from their ends on, whichever ends first where both are tried with more and more states: of
 /// `(a|b)*a(a|b){n}` the one has 2^n states and the other n.
 ///
-/// Takes at most eight times the states of the smaller one, and below three times the limit where neither is within it.
+/// Takes at most eight times the states of the smaller one where that is within a quarter of the limit, and else below three
+/// times the limit.
 #[inline(never)]
 pub fn complement(alloc: Global, part: &Explicit, limit: u64) -> Result<Explicit, BuildFault>
     requires { part.now.registers ≡ 0 }

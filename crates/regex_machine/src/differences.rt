@@ -152,8 +152,8 @@ fn most_tried(parts: &[Explicit], limit: u64) -> u64
 /// ends first where both are tried with more and more states; and where few places of either product show that there is no
 /// such word, nothing more is made.
 ///
-/// Takes at most eight times the states of the smaller product, and below three times the limit where neither is within
-/// it.
+/// Takes at most eight times the states of the smaller product where that is within a quarter of the limit, and else below
+/// three times the limit.
 #[inline(never)]
 pub fn only_first(alloc: Global, parts: &[Explicit], limit: u64) -> Result<Explicit, BuildFault>
     requires { HaveNoRegisters parts.now }

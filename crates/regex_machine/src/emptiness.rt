@@ -117,6 +117,44 @@ fn add_place(
     Ok(())
 }
 
+// How many states the sides have at a place, together.
+fn size(place: &[Items<u32>]) -> usize {
+    place
+        .iter()
+        .fold(0, |sum: usize, states| sum.saturating_add(states.len()))
+}
+
+// The numbers of the steps, each after the size of the place to which it leads, by that size.
+fn by_size(alloc: Global, steps: &[Move<Place>]) -> Result<Vec<(usize, usize)>, AllocError> {
+    let mut order = Vec::new(alloc);
+    for (number, step) in steps.iter().enumerate() {
+        order.push((size(step.to.as_slice()), number))?;
+    }
+    order.sort_unstable();
+    Ok(order)
+}
+
+// Adds the places to which steps lead, those of fewer states first, since these may stand for the others.
+fn add_by_size(
+    alloc: Global,
+    sides: &[MeetSide],
+    places: &mut Items<Place>,
+    by_state: &mut PlacesByState,
+    steps: &[Move<Place>],
+) -> Result<(), AllocError>
+    requires targets { All (λ step. AreStates state_of_side sides.now step.to) steps.now }
+    requires states { ArePlaces sides.now places.old }
+    ensures more { OnOk result (AddsPlaces places.old places.new) }
+    ensures states { OnOk result (ArePlaces sides.now places.new) }
+{
+    for (_, number) in by_size(alloc, steps)? {
+        if let Some(step) = steps.get(number) {
+            add_place(alloc, sides, places, by_state, &step.to)?;
+        }
+    }
+    Ok(())
+}
+
 // Adds the places to which steps lead, unless one stands for them.
 fn add_targets(
     alloc: Global,
@@ -131,6 +169,7 @@ fn add_targets(
     ensures states { OnOk result (ArePlaces sides.now places.new) }
     ensures each { OnOk result (All (λ step. HasOneFor sides.now places.new step.to) steps.now) }
 {
+    add_by_size(alloc, sides, places, by_state, steps)?;
     for step in steps {
         add_place(alloc, sides, places, by_state, &step.to)?;
     }

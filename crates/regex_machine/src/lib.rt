@@ -10,9 +10,9 @@
 //! and take their place in what is written. What isn't reached is dropped by the last exploration. A
 //! refusal comes only where the bound is above the limit that is given.
 //!
-//! Complements and differences are made from the words' beginnings on or from their ends on, whichever takes fewer states;
-//! and that a difference has no word is told by few of its places. [`reversed`] and [`least`] are machines of the reversed
-//! words, and of the same words with the fewest states.
+//! Complements and differences are made from the words' beginnings or from their ends, whichever takes fewer states; a
+//! difference without words is often found by few places of its product. [`reversed`] and [`least`] are machines of the
+//! reversed words, and of the same words with the fewest states.
 //!
 //! Tests: crates/machine_tests, and the program's scripts (crates/strsolve/data/session.smt2).
 //!
