@@ -7,7 +7,7 @@ use Rattle.bool_cubes.specs.Contradictions.{IsContradictory, IsContradictoryCube
 use Rattle.bool_cubes.specs.Cubes.{count, cube, cubes}
 use Rattle.bool_cubes.specs.Nodes.{IsPlan, tree_at}
 use Rattle.bool_cubes.specs.Picking.{cube_at}
-use Rattle.bool_cubes.specs.Refusing.{most_cubes}
+use Rattle.bool_cubes.specs.Refusing.{most_numbered}
 use Rattle.bool_cubes.specs.Trees.{Tree}
 use Rattle.bool_cubes.specs.declared.node.CubeNode.{CubeNode}
 use Rattle.literal_forms.specs.declared.literal.Cube.{Cube}
@@ -35,7 +35,7 @@ module _ (ns : List CubeNode) (root : ℕ) where
       )
 
 -- the number of cubes that the root keeps
-pub root_cubes : (ns : List CubeNode) (root : ℕ) (n : CubeNode) → IsPlan ns → root < length ns → n ≡ get_or ns root n → count (tree_at ns root) ≤ most_cubes → n.cubes ≡ count (tree_at ns root)
+pub root_cubes : (ns : List CubeNode) (root : ℕ) (n : CubeNode) → IsPlan ns → root < length ns → n ≡ get_or ns root n → count (tree_at ns root) ≤ most_numbered → n.cubes ≡ count (tree_at ns root)
 root_cubes ns root n p w g most = let e = (p.each root n w g).cubes in omega (arith, e, most)
 
 -- a stretch behind another

@@ -10,7 +10,8 @@ use Rattle.bool_cubes.specs.Given.{IsGiving}
 use borrow.Author.Tests.{ltb-true, ltb-false}
 use Rattle.bool_cubes.specs.Nodes.{IsMade, IsOfEarlier, IsPlan, IsPlanned, made, tree_at, trees_of}
 use Rattle.bool_cubes.specs.Picking.{cube_at}
-use Rattle.bool_cubes.specs.Refusing.{IsRefusedExactly, count_of, fault_of, most_cubes}
+use Rattle.bool_cubes.specs.Planned.{IsRootOf}
+use Rattle.bool_cubes.specs.Refusing.{IsRefusedBySteps, count_of, fault_of, most_cubes, most_numbered}
 use Rattle.sv_linear.specs.declared.fault.FormFault.{FormFault}
 use Rattle.sv_linear.specs.declared.fault.FormFault.TheVariants as form
 use Rattle.sv_terms.specs.CutOff.{cut_off}
@@ -29,13 +30,13 @@ use Rattle.sv_terms.specs.declared.term.Term.{Term}
 use Rattle.bool_cubes.proofs.Choosing.{cubes_length}
 use Rattle.bool_cubes.proofs.Picked.{digit_below, picked}
 
--- a number of a cube of a node's tree, which has not too many
+-- a number of a cube of a node's tree, each of whose cubes has one
 pub record IsNumberIn (ns : List CubeNode) (k n : ℕ) : Type 0 where
   pub within : k < length ns
   pub below : n < count (tree_at ns k)
-  pub most : count (tree_at ns k) ≤ most_cubes
+  pub most : count (tree_at ns k) ≤ most_numbered
 
-uncut : (n : ℕ) → n ≤ most_cubes → cut_off n ≡ n
+uncut : (n : ℕ) → n ≤ most_numbered → cut_off n ≡ n
 uncut n h = omega arith
 
 factors : (a b n : ℕ) → n < a * b → (0 < b) × (n / b < a) × (n % b < b) × (a ≤ a * b) × (b ≤ a * b)
@@ -66,7 +67,7 @@ module _ (ns : List CubeNode) (at : ℕ) (n : CubeNode) (left : ℕ) (p : IsPlan
   pub one_part : (l : Literal) → n.kind ≡ kind.One l → cube_at (tree_at ns at) left ≡ l ∷ []
   one_part l e = ap (λ t. cube_at t left) (tree_is (kind.One l) e)
 
-  pub stored : (k : ℕ) (m : CubeNode) → k < length ns → m ≡ get_or ns k m → count (tree_at ns k) ≤ most_cubes → m.cubes ≡ count (tree_at ns k)
+  pub stored : (k : ℕ) (m : CubeNode) → k < length ns → m ≡ get_or ns k m → count (tree_at ns k) ≤ most_numbered → m.cubes ≡ count (tree_at ns k)
   stored k m l e h = (p.each k m l e).cubes ∙ uncut (count (tree_at ns k)) h
 
 -- a node of both, and one of either
@@ -120,7 +121,7 @@ module _ (ns : List CubeNode) (at : ℕ) (n : CubeNode) (left i j : ℕ) (p : Is
       let f2 = f.2 in
       let f3 = f.3 in
       let f4 = f.4 in
-      let few : count (tree_at ns j) ≤ most_cubes = omega arith in
+      let few : count (tree_at ns j) ≤ most_numbered = omega arith in
       let kept : m.cubes ≡ count (tree_at ns j) = stored ns at n left p d g j m (let y = early.1 in omega arith) h few in
       record {
         some = omega arith;
@@ -139,7 +140,7 @@ module _ (ns : List CubeNode) (at : ℕ) (n : CubeNode) (left i j : ℕ) (p : Is
       let w = d.within in
       let b = d.below in
       let most = d.most in
-      let few : count (tree_at ns i) ≤ most_cubes = omega arith in
+      let few : count (tree_at ns i) ≤ most_numbered = omega arith in
       let kept : m.cubes ≡ count (tree_at ns i) = stored ns at n left p d g i m (let y = early.0 in omega arith) h few in
       let x = early.0 in
       let y = early.1 in
@@ -233,10 +234,10 @@ skipped ns root all given more n h e =
     (cases_lt more (all - given))
 
 -- what the making of cubes answers
-pub refused_by : (X : Type 0) (ts : List Term) (fault : FormFault) (e : CubeFault) → e ≡ fault_of fault → IsPlainExactly {X = Unit {0}} (tree_steps (tree_of ts)) (Err fault) → IsRefusedExactly {X = X} ts (Err e)
-refused_by X ts fault e q h = subst (λ z. IsRefusedExactly {X = X} ts (Err z)) (sym q) (by_fault fault h)
+pub refused_by : (X : Type 0) (ts : List Term) (fault : FormFault) (e : CubeFault) → e ≡ fault_of fault → IsPlainExactly {X = Unit {0}} (tree_steps (tree_of ts)) (Err fault) → IsRefusedBySteps {X = X} ts (Err e)
+refused_by X ts fault e q h = subst (λ z. IsRefusedBySteps {X = X} ts (Err z)) (sym q) (by_fault fault h)
   where
-    by_fault : (fault : FormFault) → IsPlainExactly {X = Unit {0}} (tree_steps (tree_of ts)) (Err fault) → IsRefusedExactly {X = X} ts (Err (fault_of fault))
+    by_fault : (fault : FormFault) → IsPlainExactly {X = Unit {0}} (tree_steps (tree_of ts)) (Err fault) → IsRefusedBySteps {X = X} ts (Err (fault_of fault))
     by_fault (form.Past l r) h = h
     by_fault (form.Memory e) h = tt
 
@@ -250,11 +251,22 @@ many ts n e l = omega arith
 pub few : (ts : List Term) (n : ℕ) → n ≡ cut_off (count_of ts) → n ≤ most_cubes → count_of ts ≤ most_cubes
 few ts n e l = omega arith
 
-pub giving_all : (ts : List Term) (old new : List CubeNode) (s : NodePair) (n : ℕ) → IsPlanned old new s (conjunction (formulas_of ts)) → n ≡ cut_off (count_of ts) → n ≤ most_cubes → IsGiving new s.holding n 0
-giving_all ts old new s n p e l = record {
-  plan = p.longer.plan;
-  within = p.stands.holding;
-  number = e ∙ uncut (count_of ts) (few ts n e l) ∙ ap count (sym (planned_tree ts old new s p));
+pub numbered : (ts : List Term) (n : ℕ) → n ≡ cut_off (count_of ts) → n ≤ most_numbered → count_of ts ≤ most_numbered
+numbered ts n e l = omega arith
+
+pub giving_all : (ns : List CubeNode) (at n : ℕ) → IsPlan ns → at < length ns → n ≡ cut_off (count (tree_at ns at)) → n ≤ most_numbered → IsGiving ns at n 0
+giving_all ns at n p w e l = record {
+  plan = p;
+  within = w;
+  number = omega arith;
   most = l;
   some = omega arith;
+}
+
+pub root-planned : (ts : List Term) (old new : List CubeNode) (s : NodePair) (n : ℕ) → IsPlanned old new s (conjunction (formulas_of ts)) → n ≡ cut_off (count (tree_at new s.holding)) → IsRootOf ts new s.holding n
+root-planned ts old new s n p e = record {
+  plan = p.longer.plan;
+  within = p.stands.holding;
+  tree = planned_tree ts old new s p;
+  count = counted ts old new s n p e;
 }

@@ -3,9 +3,11 @@ use Rattle.std.specs.Prelude.{◌≡◌, ℕ, ◌<◌, List, length, slice_index
 use Rattle.std.specs.List.{AllZip}
 use Rattle.sv_terms.specs.declared.sort.Sort.TheVariants as sort
 use Rattle.sv_terms.specs.declared.term.Term.{Term}
-use Rattle.bool_cubes.specs.Nodes.{HasBothTrees}
+use Rattle.bool_cubes.specs.Nodes.{HasBothTrees, IsPlan, tree_at}
+use Rattle.bool_cubes.specs.Refusing.{count_of}
+use Rattle.sv_terms.specs.CutOff.{cut_off}
 use Rattle.literal_forms.specs.Shapes.{head_sort, seen}
-use Rattle.bool_cubes.specs.Trees.{formula}
+use Rattle.bool_cubes.specs.Trees.{formula, tree_of}
 use Rattle.bool_cubes.specs.declared.node.CubeNode.{CubeNode}
 use Rattle.bool_cubes.specs.declared.node.NodePair.{NodePair}
 
@@ -21,3 +23,10 @@ pub record AreBooleanSides (ns : List CubeNode) (ts : List Term) (ss : List Node
 pub record HasSide (ns : List CubeNode) (ss : List NodePair) (i : ℕ) (t : Term) : Type 0 where
   pub within : i < length ss
   pub stands : (s : NodePair) → HasBothTrees ns (slice_index_or ss i s) (formula (seen t))
+
+-- the node at this place has the tree of the assertions, of so many cubes, cut off
+pub record IsRootOf (ts : List Term) (ns : List CubeNode) (at cubes : ℕ) : Type 0 where
+  pub plan : IsPlan ns
+  pub within : at < length ns
+  pub tree : tree_at ns at ≡ tree_of ts
+  pub count : cubes ≡ cut_off (count_of ts)

@@ -1,16 +1,19 @@
-ghost use Rattle.std.specs.Prelude.{◌≡◌, ◌∷◌, [], ◌++◌, ◌<◌, ◌≤◌, IfOk, OnOk, OnErr, MatchOption, drop, length, take};
+ghost use Rattle.std.specs.Prelude.{◌≡◌, ◌∷◌, [], ◌++◌, ◌<◌, ◌≤◌, IfOk, OnOk, OnErr, MatchOption, drop, length, map, take};
 ghost use Rattle.std.specs.List.{AllByRecursion};
 ghost use Rattle.bool_cubes.specs.Contradictions.{IsContradictoryCube};
-ghost use Rattle.bool_cubes.specs.Cubes.{count, cubes_of};
+ghost use Rattle.bool_cubes.specs.Cubes.{count, cube, cubes, cubes_of};
 ghost use Rattle.bool_cubes.specs.Jumps.{HasJumps};
 ghost use Rattle.bool_cubes.specs.Laws.{IsClearBool};
 ghost use Rattle.bool_cubes.specs.Nodes.{IsPlan, tree_at};
+ghost use Rattle.sv_terms.specs.CutOff.{cut_off};
 ghost use Rattle.bool_cubes.specs.Picking.{cube_at};
-ghost use Rattle.bool_cubes.specs.Refusing.{IsRefusedExactly, most_cubes};
+ghost use Rattle.bool_cubes.specs.Planned.{IsRootOf};
+ghost use Rattle.bool_cubes.specs.Refusing.{IsRefusedBySteps, IsRefusedExactly, IsRefusedWhereMany, most_numbered};
 
 use crate::fault::{CubeFault, cube_fault};
 use crate::jumps::{self, Jump};
 use crate::known::{Known, known_of};
+use crate::marks::is_set;
 use crate::node::{CubeNode, NodeKind};
 use crate::past;
 use crate::plan::Plan;
@@ -21,6 +24,9 @@ use std::alloc::{AllocError, Global};
 use std::marker::Model;
 use sv_list::{Copied, Items};
 use sv_terms::{MOST_CUBES, Term};
+
+// Cubes have numbers where they are at most so many, so that sums of two numbers are numbers of 64 bits.
+const MOST_NUMBERED: u64 = 9_223_372_036_854_775_807;
 
 /// The cubes of assertions that are still to be given, one after another.
 ///
@@ -78,36 +84,72 @@ impl Cubes {
         ensures cubes { IfOk result (λ c. c ≡ cubes_of terms.now) }
         ensures refused { IsRefusedExactly terms.now result }
     {
-        let mut plan = Plan::new(alloc);
-        let sides = match all_sides(&mut plan, alloc, terms) {
-            Ok(sides) => sides,
-            Err(error) => return Err(CubeFault::Memory(error)),
-        };
-        match past::tree(alloc, plan.nodes.as_slice(), sides.holding) {
-            Ok(()) => {}
-            Err(fault) => return Err(cube_fault(fault)),
+        let root = root_of(alloc, terms)?;
+        if root.cubes > MOST_CUBES {
+            return Err(CubeFault::TooMany(root.cubes));
         }
-        let cubes = plan.count_at(sides.holding);
-        if cubes > MOST_CUBES {
-            return Err(CubeFault::TooMany(cubes));
+        let cubes = Cubes::from_root(alloc, root)?;
+        Ok(cubes)
+    }
+
+    /// The same, also of more than 1,048,576 cubes, where at most so many are left without those that are known to hold
+    /// an atom and its negation: by literals that are in every cube, and by what follows from these. Names of conditions,
+    /// such as `(= p (= x y))` with `p`, double the cubes, and leave as many. Numbers of cubes are below 2^63.
+    pub fn with_few_left(alloc: Global, terms: &[Term]) -> Result<Cubes, CubeFault>
+        requires { AllByRecursion IsClearBool terms.now }
+        ensures cubes { IfOk result (λ c. c ≡ cubes_of terms.now) }
+        ensures refused { IsRefusedWhereMany terms.now result }
+    {
+        let root = root_of(alloc, terms)?;
+        let count = root.cubes;
+        if count > MOST_NUMBERED {
+            return Err(CubeFault::TooMany(count));
         }
-        let jumps = match jumps::all(alloc, plan.nodes.as_slice()) {
-            Ok(jumps) => jumps,
-            Err(error) => return Err(CubeFault::Memory(error)),
-        };
-        let known = match known_of(alloc, plan.nodes.as_slice(), sides.holding) {
-            Ok(known) => known,
-            Err(error) => return Err(CubeFault::Memory(error)),
-        };
+        let cubes = Cubes::from_root(alloc, root)?;
+        if count > MOST_CUBES && cubes.count_left(alloc)? > MOST_CUBES {
+            return Err(CubeFault::TooMany(count));
+        }
+        Ok(cubes)
+    }
+
+    /// The cubes of a root, none of them given.
+    fn from_root(alloc: Global, root: CubeRoot) -> Result<Cubes, AllocError>
+        requires plan { IsPlan root.nodes }
+        requires root { root.at < length root.nodes }
+        requires count { root.cubes ≡ cut_off (count (tree_at root.nodes root.at)) }
+        requires most { root.cubes ≤ most_numbered }
+        ensures { IfOk result (λ c. c ≡ map cube (cubes (tree_at root.nodes root.at))) }
+    {
+        let jumps = jumps::all(alloc, root.nodes.as_slice())?;
+        let known = known_of(alloc, root.nodes.as_slice(), root.at)?;
         Ok(Cubes {
-            nodes: plan.nodes,
+            nodes: root.nodes,
             jumps,
             known,
-            root: sides.holding,
-            count: cubes,
+            root: root.at,
+            count: root.cubes,
             given: 0,
             room: 0,
         })
+    }
+
+    /// How many cubes there are without those that are known to hold an atom and its negation, 2^64 - 1 where they are
+    /// more. Linear in the terms.
+    fn count_left(&self, alloc: Global) -> Result<u64, AllocError> {
+        let mut left: Vec<u64> = Vec::with_capacity(alloc, self.nodes.len())?;
+        for (at, node) in self.nodes.as_slice().iter().enumerate() {
+            let at_node = |place: usize| left.get(place).copied().unwrap_or(0);
+            let cubes = match &node.kind {
+                _ if is_set(self.known.dead.as_slice(), at) => 0,
+                NodeKind::Always => 1,
+                NodeKind::Never => 0,
+                NodeKind::One(_) => 1,
+                NodeKind::Both(first, second) => at_node(*first).saturating_mul(at_node(*second)),
+                NodeKind::Either(first, second) => at_node(*first).saturating_add(at_node(*second)),
+            };
+            left.push(cubes)?;
+        }
+        Ok(left.get(self.root).copied().unwrap_or(0))
     }
 
     /// The next cube, in their order; `None` exactly where all were given. Costs the literals of the cube, each
@@ -159,6 +201,33 @@ impl Cubes {
     }
 }
 
+/// The tree of assertions: its node among nodes, and how many cubes it has, 2^64 - 1 where they are more.
+#[derive(Drop)]
+struct CubeRoot {
+    nodes: Items<CubeNode>,
+    at: usize,
+    cubes: u64,
+}
+
+/// The tree of the and of terms. No step of their atoms' linear forms leaves 128 bits.
+fn root_of(alloc: Global, terms: &[Term]) -> Result<CubeRoot, CubeFault>
+    ensures root { IfOk result (λ root. IsRootOf terms.now root.nodes root.at root.cubes) }
+    ensures refused { IsRefusedBySteps terms.now result }
+{
+    let mut plan = Plan::new(alloc);
+    let sides = all_sides(&mut plan, alloc, terms)?;
+    match past::tree(alloc, plan.nodes.as_slice(), sides.holding) {
+        Ok(()) => {}
+        Err(fault) => return Err(cube_fault(fault)),
+    }
+    let cubes = plan.count_at(sides.holding);
+    Ok(CubeRoot {
+        nodes: plan.nodes,
+        at: sides.holding,
+        cubes,
+    })
+}
+
 /// The literals of the cube of this number of a node's tree, with room for so many. Costs what `Cubes::next` does.
 fn pick(
     alloc: Global,
@@ -172,7 +241,7 @@ fn pick(
     requires jumps { HasJumps nodes.now jumps.now }
     requires root { root < length nodes.now }
     requires number { number < count (tree_at nodes.now root) }
-    requires most { count (tree_at nodes.now root) ≤ most_cubes }
+    requires most { count (tree_at nodes.now root) ≤ most_numbered }
     ensures { IfOk result (λ ls. ls ≡ cube_at (tree_at nodes.now root) number) }
 {
     let mut literals = Items::new(alloc);
@@ -195,7 +264,7 @@ fn gather(
     requires jumps { HasJumps nodes.now jumps.now }
     requires root { root < length nodes.now }
     requires number { number < count (tree_at nodes.now root) }
-    requires most { count (tree_at nodes.now root) ≤ most_cubes }
+    requires most { count (tree_at nodes.now root) ≤ most_numbered }
     ensures { OnOk result (literals.new ≡ literals.old ++ cube_at (tree_at nodes.now root) number) }
 {
     let mut at = root;

@@ -5,6 +5,8 @@
 //! exactly where they make some cube true. The cubes come one after another, in a fixed order, and a
 //! cube is made from its number alone, so none is kept.
 //!
+//! More than 1,048,576 cubes are taken only where at most so many are left without those.
+//!
 //! Stretches of cubes that hold an atom and its negation are found from their number, without making them: those that
 //! share the choices by which they hold both.
 //!

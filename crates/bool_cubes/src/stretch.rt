@@ -6,7 +6,7 @@ ghost use Rattle.bool_cubes.specs.Held.{AreDead, AreHeld, IsKnown};
 ghost use Rattle.bool_cubes.specs.Jumps.{HasJumps};
 ghost use Rattle.bool_cubes.specs.Nodes.{IsPlan, tree_at};
 ghost use Rattle.bool_cubes.specs.Picking.{cube_at};
-ghost use Rattle.bool_cubes.specs.Refusing.{most_cubes};
+ghost use Rattle.bool_cubes.specs.Refusing.{most_numbered};
 ghost use Rattle.literal_forms.specs.declared.literal.Literal.{Literal as AnyLiteral};
 
 use crate::jumps::Jump;
@@ -30,7 +30,7 @@ fn scan(
     requires jumps { HasJumps nodes.now jumps.now }
     requires root { root < length nodes.now }
     requires number { number < count (tree_at nodes.now root) }
-    requires most { count (tree_at nodes.now root) ≤ most_cubes }
+    requires most { count (tree_at nodes.now root) ≤ most_numbered }
     ensures within { number + result ≤ count (tree_at nodes.now root) }
     ensures held { result ≡ 0 → (ls : List AnyLiteral) → AreHeld nodes.now ls marks.old → AreHeld nodes.now (ls ++ cube_at (tree_at nodes.now root) number) marks.new }
     ensures stretch { (ls : List AnyLiteral) → AreHeld nodes.now ls marks.old → AreDead nodes.now ls known.now.dead → (d : ℕ) → d < result → IsContradictory (ls ++ cube_at (tree_at nodes.now root) (number + d)) }
@@ -92,7 +92,7 @@ fn stretch(
     requires known { IsKnown nodes.now root known.now }
     requires root { root < length nodes.now }
     requires number { number < count (tree_at nodes.now root) }
-    requires most { count (tree_at nodes.now root) ≤ most_cubes }
+    requires most { count (tree_at nodes.now root) ≤ most_numbered }
     ensures within { IfOk result (λ cubes. number + cubes ≤ count (tree_at nodes.now root)) }
     ensures stretch { IfOk result (λ cubes. (d : ℕ) → d < cubes → IsContradictory (cube_at (tree_at nodes.now root) (number + d))) }
 {
@@ -115,7 +115,7 @@ pub fn stretches(
     requires known { IsKnown nodes.now root known.now }
     requires root { root < length nodes.now }
     requires number { number ≤ count (tree_at nodes.now root) }
-    requires most { count (tree_at nodes.now root) ≤ most_cubes }
+    requires most { count (tree_at nodes.now root) ≤ most_numbered }
     ensures within { IfOk result (λ cubes. number + cubes ≤ count (tree_at nodes.now root)) }
     ensures stretch { IfOk result (λ cubes. (d : ℕ) → d < cubes → IsContradictory (cube_at (tree_at nodes.now root) (number + d))) }
 {
