@@ -5,10 +5,9 @@
 //! exactly where they make some cube true. The cubes come one after another, in a fixed order, and a
 //! cube is made from its number alone, so none is kept.
 //!
-//! More than 1,048,576 cubes are taken only where at most so many are left without those.
-//!
 //! Stretches of cubes that hold an atom and its negation are found from their number, without making them: those that
-//! share the choices by which they hold both.
+//! share the choices by which they hold both. More than 1,048,576 cubes are given only on request, where at most so many
+//! are left without these.
 //!
 //! What leaves 128 bits in the linear form of an atom is found before the first cube is given.
 //!
