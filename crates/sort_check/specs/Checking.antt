@@ -19,7 +19,7 @@ use Rattle.smt_names.specs.declared.verb.CommandName.TheVariants as verb
 use Rattle.item_passes.specs.Binders.{is_variable, bound_names, repeats, variables}
 use Rattle.smt_names.specs.Form.{are_all}
 use Rattle.term_weight.specs.Bodies.{body_sort, term_of, parameter_name, is_escaped}
-use Rattle.smt_names.specs.Faults.{and_then, ◌>>◌, need, refuse, or_fault}
+use Rattle.smt_names.specs.Faults.{and_then, ◌>>◌, need, refuse, or_fault, made_of}
 use Rattle.smt_names.specs.Form.{Form, Forms, group, end, ◌⨾◌, two, seen, raws}
 use Rattle.term_walk.specs.Meant.{Names, settled, settled_sorts, parameters_of}
 use Rattle.item_passes.specs.Passes.{at_variables, looked, passed}
@@ -146,18 +146,21 @@ attributes _ = end
 abbrev pub label : Form → Result (Option Name) CheckFault
 label t = label_of (after_named (attributes t))
 
-abbrev pub assertion_of : (Term → Command) → List Body → Result Command CheckFault
-assertion_of make (b ∷ []) = need (same_sort sort.Bool (body_sort b)) fault.Sort >> Ok (make (term_of b))
-assertion_of make _ = Err fault.Shape
+abbrev pub is_truth : Body → Bool
+is_truth b = same_sort sort.Bool (body_sort b)
 
--- a term of sort Bool, of which a command is made
-abbrev pub asserted : Names → (Term → Command) → Form → Result Command CheckFault
-asserted symbols make t = passed (t ⨾ end) >> and_then (assertion_of make) (settled symbols [] (t ⨾ end))
+abbrev pub assertion_of : List Body → Result Term CheckFault
+assertion_of (b ∷ []) = need (is_truth b) fault.Sort >> Ok (term_of b)
+assertion_of _ = Err fault.Shape
+
+-- a term of sort Bool
+abbrev pub asserted : Names → Form → Result Term CheckFault
+asserted symbols t = passed (t ⨾ end) >> and_then assertion_of (settled symbols [] (t ⨾ end))
 
 -- a name may be declared, and isn't known in its own term
 abbrev pub labelled : Names → Form → Option Name → Result Command CheckFault
-labelled symbols t None = asserted symbols command.Assert t
-labelled symbols t (Some n) = free symbols n >> asserted symbols (command.AssertNamed n) t
+labelled symbols t None = made_of command.Assert (asserted symbols t)
+labelled symbols t (Some n) = free symbols n >> made_of (command.AssertNamed n) (asserted symbols t)
 
 -- one term, which may have a name
 abbrev pub assertion : Names → Forms → Result Command CheckFault
@@ -176,9 +179,6 @@ is_negated_symbol None = false
 -- a symbol, or a negated one
 abbrev pub is_assumption : Form → Bool
 is_assumption f = is_some (symbol f) || is_negated_symbol (two f)
-
-abbrev pub is_truth : Body → Bool
-is_truth b = same_sort sort.Bool (body_sort b)
 
 abbrev pub assumed : List Body → Result Command CheckFault
 assumed bs = need (list_all is_truth bs) fault.Sort >> Ok (command.CheckAssuming (map term_of bs))
