@@ -20,7 +20,7 @@ use Rattle.item_passes.specs.Binders.{is_variable, bound_names, repeats, variabl
 use Rattle.smt_names.specs.Form.{are_all}
 use Rattle.term_weight.specs.Bodies.{body_sort, term_of, parameter_name, is_escaped}
 use Rattle.smt_names.specs.Faults.{and_then, ◌>>◌, need, refuse, or_fault, made_of}
-use Rattle.smt_names.specs.Form.{Form, Forms, group, end, ◌⨾◌, two, seen, raws}
+use Rattle.smt_names.specs.Form.{Form, Forms, end, ◌⨾◌, two, seen, raws}
 use Rattle.term_walk.specs.Meant.{Names, settled, settled_sorts, parameters_of}
 use Rattle.item_passes.specs.Passes.{at_variables, looked, passed}
 use Rattle.smt_names.specs.Signature.{Name, same_name, is_reserved}
@@ -137,14 +137,14 @@ label_of None = Ok None
 label_of (Some end) = Err fault.Shape
 label_of (Some (n ⨾ rest)) = refuse (is_some (after_named rest)) fault.Shape >> and_then (λ n. Ok (Some n)) (or_fault fault.Shape (symbol n))
 
--- the attributes of an annotated term
-abbrev pub attributes : Form → Forms
-attributes (group (w ⨾ t ⨾ rest)) = chosen (opening w) end end rest end end
+-- the attributes in a list that is an annotated term
+abbrev pub attributes : Option Forms → Forms
+attributes (Some (w ⨾ t ⨾ rest)) = chosen (opening w) end end rest end end
 attributes _ = end
 
 -- the name that the attributes of an asserted term give it; those of terms within it give none
 abbrev pub label : Form → Result (Option Name) CheckFault
-label t = label_of (after_named (attributes t))
+label t = label_of (after_named (attributes (listed t)))
 
 abbrev pub is_truth : Body → Bool
 is_truth b = same_sort sort.Bool (body_sort b)

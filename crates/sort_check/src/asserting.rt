@@ -49,12 +49,13 @@ fn after_named(attributes: &[Sexpr]) -> Option<&[Sexpr]>
     None
 }
 
-/// The attributes of an annotated term.
-fn attributes(term: &Sexpr) -> &[Sexpr]
-    ensures { forms (map seen result.now) ≡ commands.attributes (seen term.now) }
+/// The attributes in a list that is an annotated term.
+#[tactic(auto, using(crate::proofs::Counted::annotating))]
+fn attributes(items: &[Sexpr]) -> &[Sexpr]
+    ensures { forms (map seen result.now) ≡ commands.attributes (Some (forms (map seen items.now))) }
 {
-    match list_items(term) {
-        Some([first, _, attributes @ ..]) => match opening(first) {
+    match items {
+        [first, _, attributes @ ..] => match opening(first) {
             Opening::Annotation => attributes,
             _ => &[],
         },
@@ -66,8 +67,11 @@ fn attributes(term: &Sexpr) -> &[Sexpr]
 fn label(term: &Sexpr) -> Result<Option<&[u8]>, CheckFault>
     ensures { made_of (option_map (λ text. symbol_name text.now)) result ≡ commands.label (seen term.now) }
 {
-    match after_named(attributes(term)) {
-        Some(after) => Ok(Some(label_of(after)?)),
+    match list_items(term) {
+        Some(items) => match after_named(attributes(items)) {
+            Some(after) => Ok(Some(label_of(after)?)),
+            None => Ok(None),
+        },
         None => Ok(None),
     }
 }

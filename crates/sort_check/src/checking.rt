@@ -6,8 +6,8 @@ ghost use Rattle.smt_names.specs.Form.{seen, forms};
 ghost use Rattle.smt_names.specs.Tokens as tokens;
 ghost use Rattle.smt_names.specs.Verbs.{verb_of as verb_is};
 
-use crate::asserting::{assertion, check_assuming};
 use crate::asking::{echo, get_info, get_value, level_count};
+use crate::asserting::{assertion, check_assuming};
 use crate::commands::Command;
 use crate::declaring::{declare_const, declare_fun};
 use crate::defining::{define_fun, define_transducer};
