@@ -191,6 +191,7 @@ impl Stack {
     /// that were there aren't copied.
     pub fn assert_all(&mut self, terms: Items<Term>) -> Result<(), AllocError>
         ensures ok { OnOk result (self.new ≡ asserted_all terms self.old) }
+        ensures live { OnOk result (live self.new ≡ live self.old ++ terms) }
         ensures err { OnErr result (self.new ≡ self.old) }
     {
         self.live.append(terms)
