@@ -2,8 +2,9 @@
 //! (SMT-LIB 2.6, section 4.1.4).
 //!
 //! The central fact is how contracts see a [`Stack`]: as its levels, the innermost first, each with
-//! its symbols and its assertions. All assertions stand in one slice, and all symbols in one map, so
-//! that `live` and `symbols` cost nothing; `push` and `pop` cost what they put and take away.
+//! its symbols, its assertions, and the names of those that have one. All assertions stand in one
+//! slice, all names in another, and all symbols in one map, so that `live`, `named` and `symbols` cost
+//! nothing; `push` and `pop` cost what they put and take away.
 //!
 //! ```text
 //! let mut stack = Stack::new(alloc);

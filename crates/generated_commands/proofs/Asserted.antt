@@ -11,7 +11,7 @@ use Rattle.literal_forms.specs.Shapes.{Shape, raw}
 use Rattle.smt_names.specs.Faults.{and_then, ◌>>◌, need, refuse}
 use Rattle.smt_names.specs.Form.{Form, end, ◌⨾◌}
 use Rattle.smt_names.specs.declared.check_fault.CheckFault.TheVariants as fault
-use Rattle.sort_check.specs.Checking.{checked, assertion_of}
+use Rattle.sort_check.specs.Checking.{checked, assertion_of, label, labelled}
 use Rattle.sort_check.specs.declared.commands.Command.TheVariants as command
 use Rattle.sv_terms.specs.Sorting.{layer_sort, same_sort}
 use Rattle.sv_terms.specs.declared.entry.Body.{Body}
@@ -101,16 +101,30 @@ second_sort Odd k = refl
 second_sort Halves k = refl
 second_sort Escaped k = refl
 
--- a term that passes, has this meaning and fits is asserted
-asserts : (t : Form) (s : Shape) → passed (t ⨾ end) ≡ Ok tt → ((test : Body → Bool) → Means test with_both t (of s)) → fits (of s) ≡ true → shape_fold Sort layer_sort s ≡ sort.Bool → checked with_both (forms.asserted t) ≡ Ok (command.Assert (raw s))
-asserts t s p means fit is =
+-- no name is given to a term
+first_plain : (block : Block) (k : ℕ) → label (forms.first_form block k) ≡ Ok None
+first_plain Power k = refl
+first_plain Odd k = refl
+first_plain Halves k = refl
+first_plain Escaped k = refl
+
+second_plain : (block : Block) (k : ℕ) → label (forms.second_form block k) ≡ Ok None
+second_plain Power k = refl
+second_plain Odd k = refl
+second_plain Halves k = refl
+second_plain Escaped k = refl
+
+-- a term without a name that passes, has this meaning and fits is asserted
+asserts : (t : Form) (s : Shape) → label t ≡ Ok None → passed (t ⨾ end) ≡ Ok tt → ((test : Body → Bool) → Means test with_both t (of s)) → fits (of s) ≡ true → shape_fold Sort layer_sort s ≡ sort.Bool → checked with_both (forms.asserted t) ≡ Ok (command.Assert (raw s))
+asserts t s plain p means fit is =
     let all : (test : Body → Bool) → AllMean test with_both (t ⨾ end) (of s ∷ []) = λ test. more-mean test with_both t end (of s) [] (means test) (none-mean test with_both) in
-    (λ i. p i >> and_then assertion_of (and_then (λ (bs : List Body). and_then (λ (_ : List Body). need (list_all fits bs) fault.Size >> Ok bs) (all fits i)) (all any_size i)))
-    ∙ (λ i. and_then assertion_of (need (fit i && true) fault.Size >> Ok (of s ∷ [])))
-    ∙ (λ i. need (same_sort sort.Bool ((sort-of s ∙ is) i)) fault.Sort >> Ok (command.Assert (raw s)))
+    ap (and_then (labelled with_both t)) plain
+    ∙ (λ i. made_of command.Assert (p i >> and_then assertion_of (and_then (λ (bs : List Body). and_then (λ (_ : List Body). need (list_all fits bs) fault.Size >> Ok bs) (all fits i)) (all any_size i))))
+    ∙ (λ i. made_of command.Assert (and_then assertion_of (need (fit i && true) fault.Size >> Ok (of s ∷ []))))
+    ∙ (λ i. made_of command.Assert (need (same_sort sort.Bool ((sort-of s ∙ is) i)) fault.Sort >> Ok (raw s)))
 
 pub first_asserted : (block : Block) (k : ℕ) → k ≤ 50 → checked with_both (forms.asserted (forms.first_form block k)) ≡ Ok (command.Assert (raw (terms.first block k)))
-first_asserted block k h = asserts (forms.first_form block k) (terms.first block k) (first_passes block k h) (λ test. first-means test block k h) (first_fits block k) (first_sort block k)
+first_asserted block k h = asserts (forms.first_form block k) (terms.first block k) (first_plain block k) (first_passes block k h) (λ test. first-means test block k h) (first_fits block k) (first_sort block k)
 
 pub second_asserted : (block : Block) (k : ℕ) → k ≤ 50 → checked with_both (forms.asserted (forms.second_form block k)) ≡ Ok (command.Assert (raw (terms.second block k)))
-second_asserted block k h = asserts (forms.second_form block k) (terms.second block k) (second_passes block k h) (λ test. second-means test block k h) (second_fits block k) (second_sort block k)
+second_asserted block k h = asserts (forms.second_form block k) (terms.second block k) (second_plain block k) (second_passes block k h) (λ test. second-means test block k h) (second_fits block k) (second_sort block k)

@@ -74,6 +74,10 @@ definition_text d = line (codes "  (define-fun " ++ name_text d.0 ++ codes " () 
 abbrev pub pair_text : Sexpr × Value → Text
 pair_text p = enclosed (sexpr_text p.0 ++ 32 ∷ value_text p.1)
 
+-- the name of an entry, whatever comes with it
+abbrev pub entry_text : {V : Type 0} → Text × V → Text
+entry_text entry = name_text entry.0
+
 -- the text, and a number behind it
 abbrev pub numbered : Text → ℕ → Text
 numbered t n = t ++ decimal n
@@ -94,6 +98,7 @@ error_text error.NoSuchLevel = codes "no such level"
 error_text error.Levels = codes "levels"
 error_text error.NoModel = codes "no model"
 error_text error.NoReason = codes "no reason"
+error_text error.NoCore = codes "no core"
 error_text error.OpaqueValue = codes "opaque value"
 error_text (error.SyntaxToken p) = numbered (codes "syntax token at ") p
 error_text (error.SyntaxClose p) = numbered (codes "syntax close at ") p

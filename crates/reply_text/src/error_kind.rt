@@ -38,6 +38,8 @@ pub enum ErrorKind {
     NoModel,
     /// The last verdict isn't `unknown`, or was dropped.
     NoReason,
+    /// The last verdict isn't `unsat`, or was dropped.
+    NoCore,
     /// A term with an opaque part has no value.
     OpaqueValue,
     /// Bytes at this place that form no token.

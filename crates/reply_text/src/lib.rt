@@ -19,4 +19,4 @@ mod shown;
 pub use cause::{Cause, CubeCause};
 pub use error_kind::ErrorKind;
 pub use info::Info;
-pub use printing::{error_line, info_line, line, model_lines, values_line};
+pub use printing::{error_line, info_line, line, model_lines, names_line, values_line};

@@ -1,7 +1,7 @@
 //! The lines of replies.
 ghost use Rattle.std.specs.Prelude.{◌≡◌, ◌++◌, codes, map, IfOk, OnOk};
 ghost use Rattle.std.specs.List.{flat_map};
-ghost use Rattle.reply_text.specs.Replies.{definition_text, enclosed, error_text, info_text, line, pair_text, spaced};
+ghost use Rattle.reply_text.specs.Replies.{definition_text, enclosed, entry_text, error_text, info_text, line, pair_text, spaced};
 
 use crate::error_kind::ErrorKind;
 use crate::info::Info;
@@ -38,6 +38,19 @@ fn pairs(alloc: Global, text: &mut Text, pairs: &[(Sexpr, Value)]) -> Result<(),
     Ok(())
 }
 
+// The names of the entries, one space between them.
+fn names<V>(text: &mut Text, entries: &[(Name, V)]) -> Result<(), AllocError>
+    ensures { OnOk result (text.new.items ≡ text.old.items ++ spaced (map entry_text entries.now)) }
+{
+    for at in 0..entries.len() {
+        if at > 0 {
+            text.push(b' ')?;
+        }
+        shown::name(text, &entries[at].0)?;
+    }
+    Ok(())
+}
+
 /// The line of an error.
 pub fn error_line(alloc: Global, kind: ErrorKind) -> Result<Vec<u8>, AllocError>
     ensures { IfOk result (λ text. text.items ≡ line (codes "(error \"" ++ error_text kind ++ codes "\")")) }
@@ -64,6 +77,16 @@ pub fn values_line(alloc: Global, all: &[(Sexpr, Value)]) -> Result<Vec<u8>, All
 {
     let mut text = Vec::from_slice(alloc, b"(")?;
     pairs(alloc, &mut text, all)?;
+    text.extend_from_slice(b")\n")?;
+    Ok(text)
+}
+
+/// The line of the names of entries, as that of an unsatisfiable core.
+pub fn names_line<V>(alloc: Global, entries: &[(Name, V)]) -> Result<Vec<u8>, AllocError>
+    ensures { IfOk result (λ text. text.items ≡ line (enclosed (spaced (map entry_text entries.now)))) }
+{
+    let mut text = Vec::from_slice(alloc, b"(")?;
+    names(&mut text, entries)?;
     text.extend_from_slice(b")\n")?;
     Ok(text)
 }

@@ -21,7 +21,7 @@ fn decimal(text: &mut Text, n: u64) -> Result<(), AllocError>
     text.extend_from_slice(digits.format(n).as_bytes())
 }
 
-fn name(text: &mut Text, name: &Name) -> Result<(), AllocError>
+pub fn name(text: &mut Text, name: &Name) -> Result<(), AllocError>
     ensures { OnOk result (text.new.items ≡ text.old.items ++ name_text name.now) }
 {
     if is_symbol(name.as_bytes()) {
@@ -164,6 +164,7 @@ pub fn error(text: &mut Text, kind: ErrorKind) -> Result<(), AllocError>
         ErrorKind::Levels => text.extend_from_slice(b"levels"),
         ErrorKind::NoModel => text.extend_from_slice(b"no model"),
         ErrorKind::NoReason => text.extend_from_slice(b"no reason"),
+        ErrorKind::NoCore => text.extend_from_slice(b"no core"),
         ErrorKind::OpaqueValue => text.extend_from_slice(b"opaque value"),
         ErrorKind::SyntaxToken(place) => push_numbered(text, "syntax token at ", place),
         ErrorKind::SyntaxClose(place) => push_numbered(text, "syntax close at ", place),

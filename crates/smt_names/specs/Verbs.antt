@@ -13,7 +13,8 @@ script_verbs = (codes "set-logic", verb.SetLogic) ∷ (codes "set-info", verb.Se
 
 abbrev pub session_verbs : List (Name × CommandName)
 session_verbs = (codes "push", verb.Push) ∷ (codes "pop", verb.Pop)
-    ∷ (codes "check-sat", verb.CheckSat) ∷ (codes "get-model", verb.GetModel) ∷ (codes "get-info", verb.GetInfo)
+    ∷ (codes "check-sat", verb.CheckSat) ∷ (codes "check-sat-assuming", verb.CheckSatAssuming) ∷ (codes "get-model", verb.GetModel)
+    ∷ (codes "get-unsat-core", verb.GetUnsatCore) ∷ (codes "get-info", verb.GetInfo)
     ∷ (codes "echo", verb.Echo) ∷ (codes "reset", verb.Reset)
     ∷ (codes "reset-assertions", verb.ResetAssertions) ∷ (codes "exit", verb.Exit) ∷ []
 

@@ -92,7 +92,7 @@ static SIGNATURE: [(&[u8], Function); 53] = rows! {
     b"re.range": Two(String, String) => RegLan, Range;
 };
 
-static VERBS: [(&[u8], CommandName); 18] = [
+static VERBS: [(&[u8], CommandName); 20] = [
     (b"set-logic", CommandName::SetLogic),
     (b"set-info", CommandName::SetInfo),
     (b"set-option", CommandName::SetOption),
@@ -105,7 +105,9 @@ static VERBS: [(&[u8], CommandName); 18] = [
     (b"push", CommandName::Push),
     (b"pop", CommandName::Pop),
     (b"check-sat", CommandName::CheckSat),
+    (b"check-sat-assuming", CommandName::CheckSatAssuming),
     (b"get-model", CommandName::GetModel),
+    (b"get-unsat-core", CommandName::GetUnsatCore),
     (b"get-info", CommandName::GetInfo),
     (b"echo", CommandName::Echo),
     (b"reset", CommandName::Reset),

@@ -34,7 +34,7 @@ then-ok next (Err f) y e = absurd (cc)
 same-ok : {A : Type 0} (r : Result A CheckFault) (x y : A) → r ≡ Ok x → r ≡ Ok y → x ≡ y
 same-ok r x y e f = cc
 
-made-ok : {A B : Type 0} (f : A → B) (r : Result A CheckFault) (y : B) → made_of f r ≡ Ok y → (x : A) × (r ≡ Ok x) × (f x ≡ y)
+pub made-ok : {A B : Type 0} (f : A → B) (r : Result A CheckFault) (y : B) → made_of f r ≡ Ok y → (x : A) × (r ≡ Ok x) × (f x ≡ y)
 made-ok f (Ok x) y e = (x, refl, same-ok (Ok (f x)) (f x) y refl e)
 made-ok f (Err g) y e = absurd (cc)
 
@@ -116,6 +116,36 @@ module _ (symbols : Names) where
         (term_of a.first, ap (asked_term symbols) (seen-raw t) ∙ one-asked t a.first d.first (first-passed t ts p) a.means d.means m.0 n.0),
         each-asked ts a.others d.others (others-passed t ts p) a.rest d.rest m.1 n.1,
       )
+
+  -- the first of terms that are settled together, and the others
+  pub record IsTaken (t : Form) (ts : Forms) (bs : List Body) : Type 0 where
+    pub first : Body
+    pub others : List Body
+    pub one : settled symbols [] (t ⨾ end) ≡ Ok (first ∷ [])
+    pub rest : settled symbols [] ts ≡ Ok others
+    pub all : bs ≡ first ∷ others
+
+  others-settled : (ts : Forms) (bs cs : List Body) → meant_all any_size symbols [] ts ≡ Ok bs → meant_all fits symbols [] ts ≡ Ok cs → list_all fits bs ≡ true → settled symbols [] ts ≡ Ok bs
+  others-settled ts bs cs e g h =
+      ap (λ z. and_then (λ bs. and_then (λ _. need (list_all fits bs) fault.Size >> Ok bs) (meant_all fits symbols [] ts)) z) e
+      ∙ ap (λ z. and_then (λ _. need (list_all fits bs) fault.Size >> Ok bs) z) g
+      ∙ ap (λ z. need z fault.Size >> Ok bs) h
+
+  pub one-by-one : (t : Form) (ts : Forms) (bs : List Body) → settled symbols [] (t ⨾ ts) ≡ Ok bs → IsTaken t ts bs
+  one-by-one t ts bs e =
+      let b = then-ok (λ bs. and_then (λ _. need (list_all fits bs) fault.Size >> Ok bs) (meant_all fits symbols [] (t ⨾ ts))) (meant_all any_size symbols [] (t ⨾ ts)) bs e in
+      let c = then-ok (λ _. need (list_all fits b.0) fault.Size >> Ok b.0) (meant_all fits symbols [] (t ⨾ ts)) bs b.2 in
+      let d = after-ok (need (list_all fits b.0) fault.Size) (Ok b.0) bs c.2 in
+      let p = split (meant any_size symbols [] t) (meant_all any_size symbols [] ts) b.0 b.1 in
+      let q = split (meant fits symbols [] t) (meant_all fits symbols [] ts) c.0 c.1 in
+      let m = and_parts (fits p.first) (list_all fits p.others) (subst (λ (l : List Body). IsTrue (list_all fits l)) p.all (need-ok (list_all fits b.0) fault.Size d.0)) in
+      record {
+        first = p.first;
+        others = p.others;
+        one = one-settled t p.first q.first p.means q.means m.0;
+        rest = others-settled ts p.others q.others p.rest q.rest m.1;
+        all = same-ok (Ok bs) bs b.0 refl (sym d.1) ∙ p.all;
+      }
 
   -- terms that are taken together
   pub all-asked : (ts : Forms) (ss : List Sort) → passed ts ≡ Ok tt → settled_sorts symbols [] ts ≡ Ok ss → IsTrue (list_all has_values ss) → Each (IsAskable symbols) (raws ts)

@@ -1,11 +1,11 @@
 -- What commands make of parts in a number that they don't take.
-use Rattle.std.proofs.Common.{◌≡◌, refl, ℕ, ◌<◌, ◌≤◌, List, [], ◌∷◌, length, map, Ok, Err, arith}
+use Rattle.std.proofs.Common.{◌≡◌, refl, ℕ, ◌<◌, ◌≤◌, List, [], ◌∷◌, length, map, Some, Ok, Err, arith}
 use Rattle.sexpr_reader.specs.declared.sexpr.Sexpr.{Sexpr}
 use Rattle.smt_names.specs.declared.check_fault.CheckFault.TheVariants as fault
 use Rattle.sort_check.specs.declared.commands.Command.{Command}
 use Rattle.sort_check.specs.declared.commands.Command.TheVariants as command
-use Rattle.sort_check.specs.Checking.{without_parts, set_logic, set_option, declare_const, declare_fun, define_fun, define_transducer, assertion, stepped, get_value, get_info, echo}
-use Rattle.smt_names.specs.Form.{forms, seen}
+use Rattle.sort_check.specs.Checking.{without_parts, set_logic, set_option, declare_const, declare_fun, define_fun, define_transducer, attributes, assertion, check_assuming, stepped, get_value, get_info, echo}
+use Rattle.smt_names.specs.Form.{forms, end, seen}
 use Rattle.term_walk.specs.Meant.{Names}
 use Rattle.smt_names.specs.Shapes.{none-seen, one-seen, two-seen, first-seen, seen-Atom, seen-List}
 
@@ -21,6 +21,11 @@ pub set_logic-many : (xs : List Sexpr) → 2 ≤ length xs → set_logic (forms 
 set_logic-many [] h = absurd (omega arith)
 set_logic-many (a ∷ []) h = absurd (omega arith)
 set_logic-many (a ∷ b ∷ xs) h = refl
+
+pub attributes-few : (xs : List Sexpr) → length xs < 2 → attributes (Some (forms (map seen xs))) ≡ end
+attributes-few [] h = refl
+attributes-few (a ∷ []) h = refl
+attributes-few (a ∷ b ∷ xs) h = absurd (omega arith)
 
 pub get_info-few : (xs : List Sexpr) → length xs < 1 → get_info (forms (map seen xs)) ≡ Err fault.Shape
 get_info-few [] h = refl
@@ -129,5 +134,16 @@ pub get_value-many : (symbols : Names) (xs : List Sexpr) → 2 ≤ length xs →
 get_value-many symbols [] h = absurd (omega arith)
 get_value-many symbols (a ∷ []) h = absurd (omega arith)
 get_value-many symbols (a ∷ b ∷ xs) h = refl
+
+pub check_assuming-few : (symbols : Names) (xs : List Sexpr) → length xs < 1 → check_assuming symbols (forms (map seen xs)) ≡ Err fault.Shape
+check_assuming-few symbols [] h = refl
+check_assuming-few symbols (a ∷ xs) h = absurd (omega arith)
+
+pub check_assuming-many : (symbols : Names) (xs : List Sexpr) → 2 ≤ length xs → check_assuming symbols (forms (map seen xs)) ≡ Err fault.Shape
+check_assuming-many symbols [] h = absurd (omega arith)
+check_assuming-many symbols (a ∷ []) h = absurd (omega arith)
+check_assuming-many symbols (a ∷ b ∷ xs) h = refl
+
+pub ruleset annotating = (attributes-few)
 
 pub ruleset commands = (none-seen, one-seen, two-seen, first-seen, seen-Atom, seen-List, without_parts-many, set_logic-few, set_logic-many, get_info-few, get_info-many, echo-few, echo-many, stepped-many)

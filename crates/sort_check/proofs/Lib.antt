@@ -1,5 +1,6 @@
 mod Answering
 mod Asked
+mod Assumed
 mod Begun
 mod Counted
 mod Declared

@@ -3,7 +3,7 @@ use Rattle.std.proofs.Common.{◌≡◌, refl, ap, ◌∙◌, map, Bool, true, f
 use Rattle.std.specs.List.{list_all, list_any}
 use Rattle.std.specs.Map.{lookup}
 use Rattle.std.specs.Option.{option_to_list}
-use Rattle.std.proofs.lemmas.Bool.{not-true, not_from_false, and_from}
+use Rattle.std.proofs.lemmas.Bool.{not-true, not_from_false, and_from, and_parts}
 use mathlib.Core.Bool.{cond}
 use Rattle.sv_terms.specs.Sorting.{same_sort, sort_of}
 use Rattle.sv_terms.specs.declared.entry.Body.{Body}
@@ -12,6 +12,7 @@ use Rattle.sv_terms.specs.declared.entry.Entry.{Entry}
 use Rattle.sv_terms.specs.declared.entry.Entry.TheVariants as entry
 use Rattle.sv_terms.specs.declared.sort.Sort.{Sort}
 use Rattle.sv_terms.specs.declared.sort.Sort.TheVariants as sort
+use Rattle.sv_terms.specs.declared.term.Term.{Term}
 use Rattle.smt_names.specs.declared.check_fault.CheckFault.{CheckFault}
 use Rattle.smt_names.specs.declared.check_fault.CheckFault.TheVariants as fault
 use Rattle.sort_check.specs.declared.commands.Command.{Command}
@@ -23,7 +24,7 @@ use Rattle.smt_names.specs.Form.{are_all}
 use Rattle.term_weight.specs.Bodies.{body_sort, term_of, parameter_name, is_escaped}
 use Rattle.item_passes.specs.Passes.{passed}
 use Rattle.sort_check.specs.Checking as c
-use Rattle.smt_names.specs.Faults.{◌>>◌, refuse, or_fault}
+use Rattle.smt_names.specs.Faults.{◌>>◌, refuse, or_fault, made_of}
 use Rattle.smt_names.specs.Form.{Form, Forms, token, group, end, ◌⨾◌, count}
 use Rattle.term_walk.specs.Meant as m
 use Rattle.term_walk.specs.Meant.{Scope, Names, meant_all, any_size, parameters_of}
@@ -52,6 +53,8 @@ Open n = is_escaped n ≡ false
 -- what is known of a command under these names
 abbrev pub IsSound : Names → Command → Type 0
 IsSound symbols (command.Assert u) = IsTermOf symbols sort.Bool u
+IsSound symbols (command.AssertNamed n u) = IsTermOf symbols sort.Bool u × IsAdded symbols n (entry.Macro [] (body.Term u))
+IsSound symbols (command.CheckAssuming us) = Each (IsTermOf symbols sort.Bool) us
 IsSound symbols (command.GetValue items) = Each (c.IsAskable symbols) items
 IsSound symbols (command.Declare n s) = IsAdded symbols n (entry.Constant s)
 IsSound symbols (command.Define n e) = IsAdded symbols n e
@@ -76,6 +79,10 @@ past-gives P (Err f) s h = tt
 self-gives : {A : Type 0} (r : Result A CheckFault) → Gives (λ x. r ≡ Ok x) r
 self-gives (Ok x) = refl
 self-gives (Err f) = tt
+
+made-gives : {A B : Type 0} (P : A → Type 0) (Q : B → Type 0) (f : A → B) (r : Result A CheckFault) → Gives P r → ((x : A) → P x → Q (f x)) → Gives Q (made_of f r)
+made-gives P Q f (Ok x) h k = k x h
+made-gives P Q f (Err g) h k = tt
 
 -- parameters with names apart
 abbrev escaped : List (Name × Sort) → List (Name × Sort)
@@ -165,16 +172,64 @@ module _ (symbols : Names) (wf : IsTrue (is_well_formed symbols)) where
   written : (s : Sort) (b : Body) → IsWell (is_declared symbols) b → body_sort b ≡ s → IsTermOf symbols s (term_of b)
   written s b w e = record { sorted = w.sorted ∙ ap Some e; known = w.constants; formed = w.formed }
 
-  assertion_of-sound : (bs : List Body) → Each (IsWell (is_declared symbols)) bs → Gives Sound (c.assertion_of bs)
+  -- names that may be declared
+  free-gives : (n : Name) (r : Result Command CheckFault) → (Open n → lookup (same_name n) symbols ≡ None → Gives Sound r) → Gives Sound (c.free symbols n >> r)
+  free-gives n r k = go (is_escaped n) (is_reserved n) (lookup (same_name n) symbols) k
+    where
+      go : (e b : Bool) (o : Option Entry) → (e ≡ false → o ≡ None → Gives Sound r) → Gives Sound ((refuse e fault.Shape >> refuse b fault.Reserved >> refuse (is_some o) fault.Declared) >> r)
+      go true b o k = tt
+      go false true o k = tt
+      go false false None k = k refl refl
+      go false false (Some e) k = tt
+
+  abbrev Truth : Term → Type 0
+  Truth u = IsTermOf symbols sort.Bool u × (body_sort (body.Term u) ≡ sort.Bool)
+
+  taken-sort : (b : Body) → body_sort b ≡ sort.Bool → body_sort (body.Term (term_of b)) ≡ sort.Bool
+  taken-sort (body.Term u) e = e
+  taken-sort (body.Language r) e = absurd (cc)
+
+  assertion_of-sound : (bs : List Body) → Each (IsWell (is_declared symbols)) bs → Gives Truth (c.assertion_of bs)
   assertion_of-sound [] w = tt
-  assertion_of-sound (b ∷ []) w = need-gives Sound (same_sort sort.Bool (body_sort b)) fault.Sort _ (λ h. written sort.Bool b w.0 (same_is sort.Bool (body_sort b) h))
+  assertion_of-sound (b ∷ []) w = need-gives Truth (c.is_truth b) fault.Sort _ (λ h.
+      let e = same_is sort.Bool (body_sort b) h in (written sort.Bool b w.0 e, taken-sort b e))
   assertion_of-sound (b ∷ d ∷ bs) w = tt
+
+  asserted-sound : (u : Form) → Gives Truth (c.asserted symbols u)
+  asserted-sound u = after-gives Truth (passed (u ⨾ end)) _
+      (then-gives (AreWell (is_declared symbols) 1) Truth c.assertion_of (m.settled symbols [] (u ⨾ end)) (settled-well (is_declared symbols) declared-knows [] tt (u ⨾ end)) (λ bs a. assertion_of-sound bs a.well))
+
+  -- a named term is the body of a macro
+  named-entry : (u : Term) → Truth u → IsTrue (is_entry symbols (entry.Macro [] (body.Term u)))
+  named-entry u h =
+      and_from (is_sort (body_sort (body.Term u)) (sort_of u) && has_formed u) (constants_are (is_bound [] symbols) u)
+      (and_from (is_sort (body_sort (body.Term u)) (sort_of u)) (has_formed u) (λ i. is_sort (h.1 i) (h.0.sorted i)) h.0.formed) h.0.known
+
+  labelled-sound : (u : Form) (o : Option Name) → Gives Sound (c.labelled symbols u o)
+  labelled-sound u None = made-gives Truth Sound command.Assert (c.asserted symbols u) (asserted-sound u) (λ x h. h.0)
+  labelled-sound u (Some n) = free-gives n _ (λ ok new.
+      made-gives Truth Sound (command.AssertNamed n) (c.asserted symbols u) (asserted-sound u) (λ x h.
+      (h.0, record { new = new; well_formed = one-more symbols n (entry.Macro [] (body.Term x)) wf ok new (named-entry x h) })))
 
   assertion-sound : (fs : Forms) → Gives Sound (c.assertion symbols fs)
   assertion-sound end = tt
-  assertion-sound (u ⨾ end) = after-gives Sound (passed (u ⨾ end)) _
-      (then-gives (AreWell (is_declared symbols) 1) Sound c.assertion_of (m.settled symbols [] (u ⨾ end)) (settled-well (is_declared symbols) declared-knows [] tt (u ⨾ end)) (λ bs a. assertion_of-sound bs a.well))
+  assertion-sound (u ⨾ end) = then-gives Any Sound (c.labelled symbols u) (c.label u) (any-gives (c.label u)) (λ o _. labelled-sound u o)
   assertion-sound (u ⨾ w ⨾ fs) = tt
+
+  -- assumptions
+  each-truth : (bs : List Body) → Each (IsWell (is_declared symbols)) bs → IsTrue (list_all c.is_truth bs) → Each (IsTermOf symbols sort.Bool) (map term_of bs)
+  each-truth [] w h = tt
+  each-truth (b ∷ bs) w h = let p = and_parts (c.is_truth b) (list_all c.is_truth bs) h in (written sort.Bool b w.0 (same_is sort.Bool (body_sort b) p.0), each-truth bs w.1 p.1)
+
+  assumptions-sound : (ts : Forms) → Gives Sound (c.assumptions symbols ts)
+  assumptions-sound ts = need-gives Sound (are_all c.is_assumption ts) fault.Shape _ (λ _.
+      then-gives (AreWell (is_declared symbols) (count ts)) Sound c.assumed (m.settled symbols [] ts) (settled-well (is_declared symbols) declared-knows [] tt ts)
+      (λ bs a. need-gives Sound (list_all c.is_truth bs) fault.Sort _ (λ h. each-truth bs a.well h)))
+
+  assuming-sound : (fs : Forms) → Gives Sound (c.check_assuming symbols fs)
+  assuming-sound end = tt
+  assuming-sound (ts ⨾ end) = then-gives Any Sound (c.assumptions symbols) (or_fault fault.Shape (t.listed ts)) (any-gives (or_fault fault.Shape (t.listed ts))) (λ fs _. assumptions-sound fs)
+  assuming-sound (ts ⨾ w ⨾ fs) = tt
 
   -- terms whose values are asked for
   asked-well : (bs : List Body) → Each (IsWell (is_declared symbols)) bs → Gives (IsOfWrittenSort symbols) (c.asked bs)
@@ -197,16 +252,7 @@ module _ (symbols : Names) (wf : IsTrue (is_well_formed symbols)) where
   get-sound (ts ⨾ end) = then-gives Any Sound (c.values symbols) (or_fault fault.Shape (t.listed ts)) (any-gives (or_fault fault.Shape (t.listed ts))) (λ fs _. values-sound fs)
   get-sound (ts ⨾ w ⨾ fs) = tt
 
-  -- declared names
-  free-gives : (n : Name) (r : Result Command CheckFault) → (Open n → lookup (same_name n) symbols ≡ None → Gives Sound r) → Gives Sound (c.free symbols n >> r)
-  free-gives n r k = go (is_escaped n) (is_reserved n) (lookup (same_name n) symbols) k
-    where
-      go : (e b : Bool) (o : Option Entry) → (e ≡ false → o ≡ None → Gives Sound r) → Gives Sound ((refuse e fault.Shape >> refuse b fault.Reserved >> refuse (is_some o) fault.Declared) >> r)
-      go true b o k = tt
-      go false true o k = tt
-      go false false None k = k refl refl
-      go false false (Some e) k = tt
-
+  -- declared constants
   declaration-sound : (n s : Form) → Gives Sound (c.declaration symbols n s)
   declaration-sound n s = need-gives Sound (t.is_sort_form s) fault.Shape _ (λ _.
       then-gives Any Sound _ (or_fault fault.Shape (t.symbol n)) (any-gives (or_fault fault.Shape (t.symbol n))) (λ x _.
@@ -347,8 +393,10 @@ module _ (symbols : Names) (wf : IsTrue (is_well_formed symbols)) where
   commanded-sound (Some verb.Push) fs = stepped-sound command.Push fs (λ n. tt)
   commanded-sound (Some verb.Pop) fs = stepped-sound command.Pop fs (λ n. tt)
   commanded-sound (Some verb.CheckSat) fs = without_parts-sound command.CheckSat fs tt
+  commanded-sound (Some verb.CheckSatAssuming) fs = assuming-sound fs
   commanded-sound (Some verb.GetModel) fs = without_parts-sound command.GetModel fs tt
   commanded-sound (Some verb.GetValue) fs = get-sound fs
+  commanded-sound (Some verb.GetUnsatCore) fs = without_parts-sound command.GetCore fs tt
   commanded-sound (Some verb.GetInfo) fs = info-sound fs
   commanded-sound (Some verb.Echo) fs = echo-sound fs
   commanded-sound (Some verb.Reset) fs = without_parts-sound command.Reset fs tt

@@ -4,7 +4,7 @@ use Rattle.sexpr_reader.specs.declared.sexpr.Sexpr.{Sexpr}
 use Rattle.smt_names.specs.declared.check_fault.CheckFault.{CheckFault}
 use Rattle.smt_names.specs.declared.check_fault.CheckFault.TheVariants as fault
 use Rattle.sort_check.specs.declared.commands.Command.{Command}
-use Rattle.sort_check.specs.Checking.{declaration, declare_const, define_fun, definition, define_transducer, get_value, machine, values}
+use Rattle.sort_check.specs.Checking.{assumptions, check_assuming, declaration, declare_const, define_fun, definition, define_transducer, get_value, machine, values}
 use Rattle.item_passes.specs.Binders.{is_variable}
 use Rattle.smt_names.specs.Answering.{answers-same}
 use Rattle.smt_names.specs.Faults.{Answers, and_then, need, or_fault, ◌>>◌}
@@ -42,6 +42,12 @@ module _ (symbols : Names) (fs : Forms) where
 
     pub values-none : None ≡ listed t → get_value symbols fs ≡ Err fault.Shape
     values-none e = ap (get_value symbols) is_ ∙ ap (λ o. and_then (values symbols) (or_fault fault.Shape o)) (sym e)
+
+    pub assuming-listed : (ts : Forms) (r : Result Command CheckFault) → Some ts ≡ listed t → Answers (assumptions symbols ts) r → Answers (check_assuming symbols fs) r
+    assuming-listed ts r e a = answers-same (assumptions symbols ts) (check_assuming symbols fs) r (ap (check_assuming symbols) is_ ∙ ap (λ o. and_then (assumptions symbols) (or_fault fault.Shape o)) (sym e)) a
+
+    pub assuming-none : None ≡ listed t → check_assuming symbols fs ≡ Err fault.Shape
+    assuming-none e = ap (check_assuming symbols) is_ ∙ ap (λ o. and_then (assumptions symbols) (or_fault fault.Shape o)) (sym e)
 
   module _ (n ps s t : Form) (is_ : fs ≡ n ⨾ ps ⨾ s ⨾ t ⨾ end) where
     abbrev with_parameters : Forms → Result Command CheckFault

@@ -1,5 +1,5 @@
 -- The command that an item is, or its first fault (SMT-LIB 2.6, section 3.9). What is looked for stands in this order, each over the whole item: its written form; declared names; sorts; numerals; the walk over its terms; the size of the terms; their sorts; the description of a transducer.
-use Rattle.std.specs.Prelude.{◌≡◌, ℕ, Bool, true, false, ◌&&◌, not, List, [], ◌∷◌, map, Option, Some, None, Result, Ok, Err, codes, if◌then◌else◌, is_some}
+use Rattle.std.specs.Prelude.{◌≡◌, ℕ, Bool, true, false, ◌&&◌, ◌||◌, not, List, [], ◌∷◌, map, Option, Some, None, Result, Ok, Err, codes, if◌then◌else◌, is_some}
 use Rattle.std.specs.List.{list_all}
 use Rattle.std.specs.Map.{lookup}
 use Rattle.sexpr_reader.specs.declared.sexpr.Sexpr.{Sexpr}
@@ -19,12 +19,12 @@ use Rattle.smt_names.specs.declared.verb.CommandName.TheVariants as verb
 use Rattle.item_passes.specs.Binders.{is_variable, bound_names, repeats, variables}
 use Rattle.smt_names.specs.Form.{are_all}
 use Rattle.term_weight.specs.Bodies.{body_sort, term_of, parameter_name, is_escaped}
-use Rattle.smt_names.specs.Faults.{and_then, ◌>>◌, need, refuse, or_fault}
-use Rattle.smt_names.specs.Form.{Form, Forms, end, ◌⨾◌, seen, raws}
+use Rattle.smt_names.specs.Faults.{and_then, ◌>>◌, need, refuse, or_fault, made_of}
+use Rattle.smt_names.specs.Form.{Form, Forms, end, ◌⨾◌, two, seen, raws}
 use Rattle.term_walk.specs.Meant.{Names, settled, settled_sorts, parameters_of}
 use Rattle.item_passes.specs.Passes.{at_variables, looked, passed}
 use Rattle.smt_names.specs.Signature.{Name, same_name, is_reserved}
-use Rattle.smt_names.specs.Tokens.{symbol, word, digits, keyword, literal_text, listed, truth, is_too_large, level, is_sort_form, sort_of}
+use Rattle.smt_names.specs.Tokens.{symbol, word, digits, keyword, literal_text, listed, truth, is_too_large, level, is_sort_form, sort_of, opening, chosen}
 use Rattle.smt_names.specs.Verbs.{verb_of}
 use Rattle.transducer_form.specs.Descriptions.{described}
 use Rattle.transducer_form.specs.Written.{DescriptionForm, description_form}
@@ -118,14 +118,78 @@ abbrev pub define_transducer : Names → Forms → Result Command CheckFault
 define_transducer symbols (n ⨾ states ⨾ start ⨾ edges ⨾ ends ⨾ end) = and_then (λ d. and_then (machine symbols d) (or_fault fault.Shape (symbol n))) (or_fault fault.Shape (description_form states start edges ends))
 define_transducer symbols _ = Err fault.Shape
 
-abbrev pub assertion_of : List Body → Result Command CheckFault
-assertion_of (b ∷ []) = need (same_sort sort.Bool (body_sort b)) fault.Sort >> Ok (command.Assert (term_of b))
+-- whether a form is the keyword `:named`
+abbrev pub is_named_keyword : Option Name → Bool
+is_named_keyword (Some k) = same_name k (codes ":named")
+is_named_keyword None = false
+
+abbrev pub is_named : Form → Bool
+is_named f = is_named_keyword (keyword f)
+
+-- what stands after the first `:named` among attributes
+abbrev pub after_named : Forms → Option Forms
+after_named end = None
+after_named (k ⨾ rest) = if is_named k then Some rest else after_named rest
+
+-- a symbol, and no other `:named` after it
+abbrev pub label_of : Option Forms → Result (Option Name) CheckFault
+label_of None = Ok None
+label_of (Some end) = Err fault.Shape
+label_of (Some (n ⨾ rest)) = refuse (is_some (after_named rest)) fault.Shape >> and_then (λ n. Ok (Some n)) (or_fault fault.Shape (symbol n))
+
+-- the attributes in a list that is an annotated term
+abbrev pub attributes : Option Forms → Forms
+attributes (Some (w ⨾ t ⨾ rest)) = chosen (opening w) end end rest end end
+attributes _ = end
+
+-- the name that the attributes of an asserted term give it; those of terms within it give none
+abbrev pub label : Form → Result (Option Name) CheckFault
+label t = label_of (after_named (attributes (listed t)))
+
+abbrev pub is_truth : Body → Bool
+is_truth b = same_sort sort.Bool (body_sort b)
+
+abbrev pub assertion_of : List Body → Result Term CheckFault
+assertion_of (b ∷ []) = need (is_truth b) fault.Sort >> Ok (term_of b)
 assertion_of _ = Err fault.Shape
 
--- one term
+-- a term of sort Bool
+abbrev pub asserted : Names → Form → Result Term CheckFault
+asserted symbols t = passed (t ⨾ end) >> and_then assertion_of (settled symbols [] (t ⨾ end))
+
+-- a name may be declared, and isn't known in its own term
+abbrev pub labelled : Names → Form → Option Name → Result Command CheckFault
+labelled symbols t None = made_of command.Assert (asserted symbols t)
+labelled symbols t (Some n) = free symbols n >> made_of (command.AssertNamed n) (asserted symbols t)
+
+-- one term, which may have a name
 abbrev pub assertion : Names → Forms → Result Command CheckFault
-assertion symbols (t ⨾ end) = passed (t ⨾ end) >> and_then assertion_of (settled symbols [] (t ⨾ end))
+assertion symbols (t ⨾ end) = and_then (labelled symbols t) (label t)
 assertion symbols _ = Err fault.Shape
+
+abbrev pub is_not : Option Name → Bool
+is_not (Some n) = same_name n (codes "not")
+is_not None = false
+
+-- `(not SYMBOL)`, taken apart
+abbrev pub is_negated_symbol : Option (Form × Form) → Bool
+is_negated_symbol (Some p) = is_not (symbol p.0) && is_some (symbol p.1)
+is_negated_symbol None = false
+
+-- a symbol, or a negated one
+abbrev pub is_assumption : Form → Bool
+is_assumption f = is_some (symbol f) || is_negated_symbol (two f)
+
+abbrev pub assumed : List Body → Result Command CheckFault
+assumed bs = need (list_all is_truth bs) fault.Sort >> Ok (command.CheckAssuming (map term_of bs))
+
+-- assumptions, each of sort Bool; there may be none
+abbrev pub assumptions : Names → Forms → Result Command CheckFault
+assumptions symbols ts = need (are_all is_assumption ts) fault.Shape >> and_then assumed (settled symbols [] ts)
+
+abbrev pub check_assuming : Names → Forms → Result Command CheckFault
+check_assuming symbols (ts ⨾ end) = and_then (assumptions symbols) (or_fault fault.Shape (listed ts))
+check_assuming symbols _ = Err fault.Shape
 
 -- a number of levels
 abbrev pub level_command : (ℕ → Command) → Option (List ℕ) → Result Command CheckFault
@@ -192,8 +256,10 @@ commanded symbols (Some verb.Assert) parts = assertion symbols parts
 commanded symbols (Some verb.Push) parts = stepped command.Push parts
 commanded symbols (Some verb.Pop) parts = stepped command.Pop parts
 commanded symbols (Some verb.CheckSat) parts = without_parts command.CheckSat parts
+commanded symbols (Some verb.CheckSatAssuming) parts = check_assuming symbols parts
 commanded symbols (Some verb.GetModel) parts = without_parts command.GetModel parts
 commanded symbols (Some verb.GetValue) parts = get_value symbols parts
+commanded symbols (Some verb.GetUnsatCore) parts = without_parts command.GetCore parts
 commanded symbols (Some verb.GetInfo) parts = get_info parts
 commanded symbols (Some verb.Echo) parts = echo parts
 commanded symbols (Some verb.Reset) parts = without_parts command.Reset parts

@@ -1,4 +1,4 @@
-// What is asserted, and what is asked of a level, a value, an information or a text.
+// What is asked of a level, a value, an information or a text.
 ghost use Rattle.std.specs.Prelude.{◌≡◌, ℕ, [], ◌∷◌, map};
 ghost use Rattle.std.specs.List.{list_all};
 ghost use Rattle.sort_check.specs.declared.commands.Command.{Command as AnyCommand};
@@ -18,34 +18,6 @@ use sv_terms::{Body, Sort, Term};
 use term_draft::{body_sort, into_term};
 use term_walk::{settle_one, settle_sorts};
 use term_weight::{Declarations, same_sort};
-
-fn assert_body(body: Body) -> Result<Command, CheckFault>
-    ensures { result ≡ commands.assertion_of (body ∷ []) }
-{
-    if same_sort(Sort::Bool, body_sort(&body)) {
-        Ok(Command::Assert(into_term(body)))
-    } else {
-        // as in `command_without_parts`, by one call
-        drop(body);
-        Err(CheckFault::Sort)
-    }
-}
-
-pub fn assertion(
-    alloc: Global,
-    symbols: &Declarations,
-    parts: &[Sexpr],
-) -> Result<Command, CheckFault>
-    ensures { Answers (commands.assertion symbols.now (forms (map seen parts.now))) result }
-{
-    match parts {
-        [term] => {
-            pass_over(alloc, parts)?;
-            assert_body(settle_one(alloc, symbols, &[], term)?)
-        }
-        _ => Err(CheckFault::Shape),
-    }
-}
 
 /// A number of levels.
 fn levels(part: &Sexpr) -> Result<u32, CheckFault>

@@ -6,7 +6,8 @@ ghost use Rattle.smt_names.specs.Form.{seen, forms};
 ghost use Rattle.smt_names.specs.Tokens as tokens;
 ghost use Rattle.smt_names.specs.Verbs.{verb_of as verb_is};
 
-use crate::asking::{assertion, echo, get_info, get_value, level_count};
+use crate::asking::{echo, get_info, get_value, level_count};
+use crate::asserting::{assertion, check_assuming};
 use crate::commands::Command;
 use crate::declaring::{declare_const, declare_fun};
 use crate::defining::{define_fun, define_transducer};
@@ -52,8 +53,10 @@ fn command_of(
         CommandName::Push => Ok(Command::Push(level_count(parts)?)),
         CommandName::Pop => Ok(Command::Pop(level_count(parts)?)),
         CommandName::CheckSat => command_without_parts(Command::CheckSat, parts),
+        CommandName::CheckSatAssuming => check_assuming(alloc, symbols, parts),
         CommandName::GetModel => command_without_parts(Command::GetModel, parts),
         CommandName::GetValue => get_value(alloc, symbols, parts),
+        CommandName::GetUnsatCore => command_without_parts(Command::GetCore, parts),
         CommandName::GetInfo => get_info(alloc, parts),
         CommandName::Echo => echo(alloc, parts),
         CommandName::Reset => command_without_parts(Command::Reset, parts),

@@ -17,15 +17,22 @@ pub enum Command {
     Define(Name, Entry),
     /// `assert` of a term of sort Bool.
     Assert(Term),
+    /// `assert` of a term of sort Bool with a name for it, which is new. The name stands for a macro without parameters, whose body
+    /// is the term.
+    AssertNamed(Name, Term),
     /// `push` of so many levels; more than 4,294,967,295 stand as that number.
     Push(u32),
     /// `pop` of so many levels; more than 4,294,967,295 stand as that number.
     Pop(u32),
     CheckSat,
+    /// `check-sat-assuming` of these terms of sort Bool, each a symbol or one negated symbol, in the order as read; there may be none.
+    CheckAssuming(Items<Term>),
     GetModel,
     /// `get-value` of one or more terms, each the s-expression as it was read. `asked_term` builds
     /// them one by one, so that no more than one need be in memory.
     GetValue(Items<Sexpr>),
+    /// `get-unsat-core`
+    GetCore,
     /// `get-info` of this keyword, colon included.
     GetInfo(Items<u8>),
     /// `echo` of this literal as it stood, quotes included.

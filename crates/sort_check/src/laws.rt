@@ -4,6 +4,7 @@ ghost use Rattle.std.specs.Map.{lookup};
 ghost use Rattle.sexpr_reader.specs.declared.sexpr.Sexpr.{Sexpr as AnySexpr};
 ghost use Rattle.sv_terms.specs.Meaning.{Named};
 ghost use Rattle.sv_terms.specs.Sorting.{is_valued};
+ghost use Rattle.sv_terms.specs.declared.entry.Body.TheVariants as body;
 ghost use Rattle.sv_terms.specs.declared.entry.Entry.{Entry as AnyEntry};
 ghost use Rattle.sv_terms.specs.declared.entry.Entry.TheVariants as entry;
 ghost use Rattle.sv_terms.specs.declared.sort.Sort.{Sort as AnySort};
@@ -30,10 +31,12 @@ pub fn entries_are_well_formed()
     ensures found { (symbols : Names) → IsTrue (is_well_formed symbols) → All (λ e. lookup (same_name e.0) symbols ≡ Some e.1) symbols }
 {}
 
-/// Under well formed names a term that is asserted has sort Bool, and one whose value is asked for
+/// Under well formed names a term that is asserted or assumed has sort Bool, and one whose value is asked for
 /// has a sort other than RegLan; its constants are declared, and its transducers are formed.
 pub fn terms_are_sorted()
     ensures asserted { (symbols : Names) (item : Form) (term : AnyTerm) → IsTrue (is_well_formed symbols) → checked symbols item ≡ Ok (command.Assert term) → IsTermOf symbols sort.Bool term }
+    ensures named { (symbols : Names) (item : Form) (name : Name) (term : AnyTerm) → IsTrue (is_well_formed symbols) → checked symbols item ≡ Ok (command.AssertNamed name term) → IsTermOf symbols sort.Bool term }
+    ensures assumed { (symbols : Names) (item : Form) (terms : List AnyTerm) → IsTrue (is_well_formed symbols) → checked symbols item ≡ Ok (command.CheckAssuming terms) → All (IsTermOf symbols sort.Bool) terms }
     ensures asked { (symbols : Names) (item : Form) (term : AnyTerm) → IsTrue (is_well_formed symbols) → asked_term symbols item ≡ Ok term → IsOfWrittenSort symbols term }
 {}
 
@@ -42,10 +45,11 @@ pub fn terms_are_taken_one_by_one()
     ensures { (symbols : Names) (item : Form) (asked : List AnySexpr) → IsTrue (is_well_formed symbols) → checked symbols item ≡ Ok (command.GetValue asked) → All (IsAskable symbols) asked }
 {}
 
-/// A name that an item declares or defines is new, and well formed names stay so with it.
+/// A name that an item declares, defines or gives to its assertion is new, and well formed names stay so with it.
 pub fn additions_are_well_formed()
     ensures declared { (symbols : Names) (item : Form) (name : Name) (s : AnySort) → IsTrue (is_well_formed symbols) → checked symbols item ≡ Ok (command.Declare name s) → IsAdded symbols name (entry.Constant s) }
     ensures defined { (symbols : Names) (item : Form) (name : Name) (e : AnyEntry) → IsTrue (is_well_formed symbols) → checked symbols item ≡ Ok (command.Define name e) → IsAdded symbols name e }
+    ensures named { (symbols : Names) (item : Form) (name : Name) (term : AnyTerm) → IsTrue (is_well_formed symbols) → checked symbols item ≡ Ok (command.AssertNamed name term) → IsAdded symbols name (entry.Macro [] (body.Term term)) }
 {}
 
 /// Constants that are declared stay so when more names are, and have values of their sorts where

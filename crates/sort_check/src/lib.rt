@@ -17,6 +17,7 @@
 #![tactic(auto)]
 
 mod asking;
+mod asserting;
 mod checking;
 mod commands;
 mod declaring;

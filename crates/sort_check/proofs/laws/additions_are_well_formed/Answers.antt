@@ -9,3 +9,6 @@ returns-clause-declared c symbols item name s wf e = gave (IsSound symbols) (che
 
 pub returns-clause-defined : goal.returns-clause-defined
 returns-clause-defined c symbols item name d wf e = gave (IsSound symbols) (checked symbols item) (command.Define name d) (checked-sound symbols item wf) e
+
+pub returns-clause-named : goal.returns-clause-named
+returns-clause-named c symbols item name term wf e = (gave (IsSound symbols) (checked symbols item) (command.AssertNamed name term) (checked-sound symbols item wf) e).1

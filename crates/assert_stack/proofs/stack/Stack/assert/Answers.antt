@@ -9,12 +9,12 @@ use Rattle.assert_stack.proofs.stack.Stack.assert.Goals as goal
 pub invariant_of-self : goal.invariant_of-self
 invariant_of-self c =
     let s = c.self.inside in (
-      either_way (λ (l : List Term). AreMarks (reverse s.marks) (length s.symbols) (length l)) c.push.result s.live c.push.new.self (c.args.term ∷ []) c.push.ensures.ok c.push.ensures.err c.self.invariant.0
-          (marks-asserted (reverse s.marks) (length s.symbols) s.live (c.args.term ∷ []) c.self.invariant.0),
+      either_way (λ (l : List Term). AreMarks (reverse s.marks) (length s.symbols) (length l) (length s.named)) c.push.result s.live c.push.new.self (c.args.term ∷ []) c.push.ensures.ok c.push.ensures.err c.self.invariant.0
+          (marks-asserted (reverse s.marks) (length s.symbols) s.live (c.args.term ∷ []) (length s.named) c.self.invariant.0),
       c.self.invariant.1,
     )
 
 pub returns-clause-ok : goal.returns-clause-ok
 returns-clause-ok c =
     let s = c.self.inside in
-    OnOk-weaker c.push.result c.push.ensures.ok (λ e. ap (λ (l : List Term). levels_at (reverse s.marks) s.symbols l) e ∙ asserts (reverse s.marks) c.args.term s.symbols s.live c.self.invariant.0 ∙ ap (asserted c.args.term) c.self.view_is)
+    OnOk-weaker c.push.result c.push.ensures.ok (λ e. ap (λ (l : List Term). levels_at (reverse s.marks) s.symbols l s.named) e ∙ asserts (reverse s.marks) (c.args.term ∷ []) s.symbols s.live s.named c.self.invariant.0 ∙ ap (asserted c.args.term) c.self.view_is)

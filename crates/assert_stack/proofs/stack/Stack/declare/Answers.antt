@@ -10,17 +10,17 @@ use Rattle.assert_stack.proofs.stack.Stack.declare.Goals as goal
 pub declare-requires : goal.declare-requires
 declare-requires c =
     let s = c.self.inside in
-    subst (λ (l : List Symbol). lookup (pointwise nat_eq c.args.name) l ≡ None) (ap symbols_of (sym c.self.view_is) ∙ symbols-at (reverse s.marks) s.symbols s.live c.self.invariant.0) c.requires
+    subst (λ (l : List Symbol). lookup (pointwise nat_eq c.args.name) l ≡ None) (ap symbols_of (sym c.self.view_is) ∙ symbols-at (reverse s.marks) s.symbols s.live s.named c.self.invariant.0) c.requires
 
 pub invariant_of-self : goal.invariant_of-self
 invariant_of-self c =
     let s = c.self.inside in (
-      either_way (λ (l : List Symbol). AreMarks (reverse s.marks) (length l) (length s.live)) c.declare.result s.symbols c.declare.new.self ((c.args.name, c.args.entry) ∷ []) c.declare.ensures.ok c.declare.ensures.err c.self.invariant.0
-          (marks-declared (reverse s.marks) s.symbols ((c.args.name, c.args.entry) ∷ []) (length s.live) c.self.invariant.0),
+      either_way (λ (l : List Symbol). AreMarks (reverse s.marks) (length l) (length s.live) (length s.named)) c.declare.result s.symbols c.declare.new.self ((c.args.name, c.args.entry) ∷ []) c.declare.ensures.ok c.declare.ensures.err c.self.invariant.0
+          (marks-declared (reverse s.marks) s.symbols ((c.args.name, c.args.entry) ∷ []) (length s.live) (length s.named) c.self.invariant.0),
       c.self.invariant.1,
     )
 
 pub returns-clause-ok : goal.returns-clause-ok
 returns-clause-ok c =
     let s = c.self.inside in
-    OnOk-weaker c.declare.result c.declare.ensures.ok (λ e. ap (λ (l : List Symbol). levels_at (reverse s.marks) l s.live) e ∙ declares (reverse s.marks) c.args.name c.args.entry s.symbols s.live c.self.invariant.0 ∙ ap (declared c.args.name c.args.entry) c.self.view_is)
+    OnOk-weaker c.declare.result c.declare.ensures.ok (λ e. ap (λ (l : List Symbol). levels_at (reverse s.marks) l s.live s.named) e ∙ declares (reverse s.marks) c.args.name c.args.entry s.symbols s.live s.named c.self.invariant.0 ∙ ap (declared c.args.name c.args.entry) c.self.view_is)

@@ -4,4 +4,4 @@ use Rattle.assert_stack.proofs.LevelLemmas.{live-at}
 use Rattle.assert_stack.proofs.stack.Stack.live.Goals as goal
 
 pub returns : goal.returns
-returns c = c.as_slice.ensures ∙ sym (ap live (sym c.self.view_is) ∙ live-at (reverse c.self.inside.marks) c.self.inside.symbols c.self.inside.live c.self.invariant.0)
+returns c = let s = c.self.inside in c.as_slice.ensures ∙ sym (ap live (sym c.self.view_is) ∙ live-at (reverse s.marks) s.symbols s.live s.named c.self.invariant.0)

@@ -4,4 +4,4 @@ use Rattle.assert_stack.proofs.LevelLemmas.{symbols-at}
 use Rattle.assert_stack.proofs.stack.Stack.symbols.Goals as goal
 
 pub returns : goal.returns
-returns c = sym (ap symbols_of (sym c.self.view_is) ∙ symbols-at (reverse c.self.inside.marks) c.self.inside.symbols c.self.inside.live c.self.invariant.0)
+returns c = let s = c.self.inside in sym (ap symbols_of (sym c.self.view_is) ∙ symbols-at (reverse s.marks) s.symbols s.live s.named c.self.invariant.0)
