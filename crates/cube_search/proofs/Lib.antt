@@ -15,6 +15,7 @@ mod ModelLemmas
 mod NameLemmas
 mod Named
 mod OrderLemmas
+mod PartLemmas
 mod Places
 mod RowLemmas
 mod SearchLemmas

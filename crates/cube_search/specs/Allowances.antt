@@ -8,3 +8,4 @@ abbrev pub is_bounded : Allowance → Bool
 is_bounded allowance.Whole = false
 is_bounded allowance.Machines = true
 is_bounded allowance.Part = true
+is_bounded (allowance.Little effort) = true

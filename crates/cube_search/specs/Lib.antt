@@ -10,6 +10,7 @@ pub mod Leaves
 pub mod Limits
 pub mod Models
 pub mod OpenLeaves
+pub mod Parts
 pub mod Searches
 pub mod Spreads
 pub mod Steps

@@ -11,6 +11,7 @@ ghost use Rattle.cube_search.specs.Allowances.{is_bounded};
 
 use crate::allowance::Allowance;
 use crate::answer::{CubeAnswer, Refutation};
+use crate::apart::answer_apart;
 use crate::below::Below;
 use crate::limits::{PastLimit, past_limit};
 use crate::modelling::model_of;
@@ -55,7 +56,8 @@ pub fn cube_answer(
     }
 }
 
-fn empty_refutation() -> Refutation {
+/// No leaf is closed.
+pub fn empty_refutation() -> Refutation {
     Refutation {
         empty: 0,
         trees: 0,
@@ -76,7 +78,7 @@ fn answer_within(
     ensures right { IfOk result (IsCubeAnswer flat.now) }
     ensures decided { MustDecideFlat flat.now → IfOk result IsDecidedCube }
 {
-    match answer_by_search(alloc, flat, numbers, kept, Allowance::Whole) {
+    match answer_apart(alloc, flat, numbers, kept, Allowance::Whole) {
         Ok(answer) => Ok(answer),
         Err(BuildFault::Memory(e)) => Err(e),
         Err(BuildFault::States(_)) => unreachable!(),
@@ -101,16 +103,16 @@ fn answer_beyond(
     if let PastLimit::Growth(_) = limit {
         return Ok(CubeAnswer::Open(limit.reason()));
     }
-    match answer_by_search(alloc, flat, numbers, kept, Allowance::beyond(numbers)) {
+    match answer_apart(alloc, flat, numbers, kept, Allowance::beyond(numbers)) {
         Ok(answer) => Ok(answer),
         Err(BuildFault::Memory(e)) => Err(e),
         Err(BuildFault::States(_)) => Ok(CubeAnswer::Open(limit.reason())),
     }
 }
 
-// The answer by all leaves. `States` comes where they take more than is allowed, or the text allows a machine
-// more states than one may have.
-fn answer_by_search(
+/// The answer by all leaves. `States` comes where they take more than is allowed, or the text allows a machine
+/// more states than one may have.
+pub fn answer_by_search(
     alloc: Global,
     flat: &Flat,
     numbers: &Numbers,

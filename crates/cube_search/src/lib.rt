@@ -36,6 +36,7 @@
 mod allowance;
 mod answer;
 mod answering;
+mod apart;
 mod asking;
 mod below;
 mod dead_ends;
@@ -46,6 +47,8 @@ mod leaves;
 mod limits;
 mod modelling;
 mod names;
+mod part_copy;
+mod parts;
 mod reason;
 mod searching;
 mod settling;

@@ -1,7 +1,7 @@
 //! What a search has taken so far.
-ghost use Rattle.std.specs.Prelude.{◌≡◌, ℕ, Err};
+ghost use Rattle.std.specs.Prelude.{◌≡◌, ◌⊎◌, ℕ, Err};
 ghost use Rattle.trim_search.specs.declared.build_fault.BuildFault.TheVariants.{States};
-ghost use Rattle.cube_search.specs.declared.allowance.Allowance.TheVariants.{Part};
+ghost use Rattle.cube_search.specs.declared.allowance.Allowance.TheVariants.{Little, Part};
 
 use crate::allowance::Allowance;
 use backward::{FamilyOrigin, LeafState, MetPart};
@@ -31,9 +31,9 @@ fn effort_of(made: &FamilyOrigin) -> u64 {
 }
 
 /// Counts the states that were explored for a family. `States` comes where that is more than is allowed, which only
-/// a search of a part is refused.
+/// a search of a bounded effort is refused.
 pub fn spend(allowance: Allowance, spent: &mut u64, family: &LeafState) -> Result<(), BuildFault>
-    ensures { (n : ℕ) → result ≡ Err (States n) → allowance ≡ Part }
+    ensures { (n : ℕ) → result ≡ Err (States n) → (allowance ≡ Part) ⊎ ((effort : ℕ) × (allowance ≡ Little effort)) }
 {
     *spent = spent
         .saturating_add(FAMILY_EFFORT)
