@@ -4,16 +4,14 @@ use Rattle.std.proofs.lemmas.List.{append-nil}
 use Rattle.std.specs.List.{AllByRecursion, AllZip, Contains, IsDistinct, list_any}
 use Rattle.std.specs.Cmp.Lexicographic.{pointwise}
 use Rattle.sv_list.specs.Lists.{AllByRecursion-filter, AllZip-length}
-use Rattle.sv_linear.specs.declared.row.Row.{Row}
 use Rattle.sv_linear.specs.Rows.{MeetsRow, unknowns_of}
 use Rattle.sv_terms.specs.Language.{Word}
 use Rattle.flat_cubes.specs.Satisfying.{MeetsPart, MeetsParts, Defines, Satisfies, lengths_of}
-use Rattle.flat_cubes.specs.Straight.{AreBelow, AreNamesApart, HasFormed, InOrder, IsFormedBy, IsRowBelow, IsStraight, string_names}
+use Rattle.flat_cubes.specs.Straight.{AreBelow, AreNamesApart, InOrder, IsFormedBy, IsRowBelow, IsStraight, string_names}
 use Rattle.flat_cubes.specs.Using.{used, is_defined}
 use Rattle.flat_cubes.proofs.Members.{all_contains}
 use Rattle.flat_cubes.specs.declared.definition.Definition.{Definition}
 use Rattle.flat_cubes.specs.declared.flat.Flat.{Flat}
-use Rattle.flat_cubes.specs.declared.variable.Own.{Own}
 use Rattle.flat_cubes.specs.declared.variable.Variable.{Variable}
 use Rattle.cube_search.specs.Causes.{EachSolution}
 use Rattle.cube_search.specs.Conflicts.{is_named}

@@ -26,6 +26,10 @@
 //! past the limit on states is searched all the same, and left open for its text only where one exploration comes to
 //! more states than a machine may have; one past the limit on splits as far as a bounded effort goes.
 //!
+//! Where definitions and rows leave a cube in parts (`parts.rt`) a small effort is spent on the whole first. Where that
+//! isn't enough each part is searched as a cube of its own, and one that is refuted refutes the cube; else the whole is
+//! searched.
+//!
 //! ```
 //! let numbers = numbers(alloc, &flat)?;
 //! match cube_answer(alloc, &flat, &numbers, &kept)? {
