@@ -12,6 +12,7 @@ use bool_cubes::{contradictions_are_false, is_contradictory};
 use cube_bounds::numbers;
 use cube_search::{CubeAnswer, OpenReason, Refutation, Shown, cube_answer, rows_count};
 use flat_cubes::{Flat, FlatFault};
+use length_rows::contradict;
 use literal_forms::Cube;
 use par_phase::Job;
 use part_machines::Machines;
@@ -120,7 +121,8 @@ fn fragment(shown: Shown) -> CubeAnswer
     CubeAnswer::Open(OpenReason::Fragment(shown))
 }
 
-/// The answer for a cube by its flat cube.
+/// The answer for a cube by its flat cube: none where its rows and lengths contradict one another, else what the search
+/// finds.
 fn flat_answer(shared: &Shared<'_>, cube: &Cube, flat: &Flat) -> Result<CubeAnswer, AllocError>
     requires asked { IsAskedCube shared.now.terms.now cube.now }
     requires flattening { IsFlattening cube.now.literals flat.now }
@@ -133,6 +135,10 @@ fn flat_answer(shared: &Shared<'_>, cube: &Cube, flat: &Flat) -> Result<CubeAnsw
     names_are_sorted();
     transducers_are_formed();
     rows_count();
+    let refuted = contradict(shared.alloc, flat)?;
+    if refuted {
+        return Ok(without_leaf());
+    }
     let numbers = numbers(shared.alloc, flat)?;
     match cube_answer(shared.alloc, flat, &numbers, shared.kept)? {
         CubeAnswer::Sat(model) => {
