@@ -1,6 +1,5 @@
-use Rattle.std.proofs.Common.{subst, sym}
+use Rattle.std.proofs.Common.{subst}
 use Rattle.cube_search.specs.Answers.{IsCubeAnswer, IsDecidedCube}
-use Rattle.decide.specs.Jobs.{IsOutcome}
 use Rattle.decide.proofs.Models.{cause-of, must-of, none-of, sat-of}
 use Rattle.decide.proofs.cube_job.flat_answer.Goals as goal
 
@@ -26,9 +25,3 @@ returns c = record {
   right = cause-of c.args.shared.now.terms.now c.args.cube.now c.args.flat.now c.requires.asked c.requires.flattening c.flat_cubes_are_exact.ensures c.in-Open.reason (subst (IsCubeAnswer c.args.flat.now) c.in-Open.is c.in_ok-model.ensures.right);
   decided = λ must. subst IsDecidedCube c.in-Open.is (c.in_ok-model.ensures.decided (must-of c.flat_cubes_are_unique.ensures c.args.cube.now c.args.flat.now c.requires.flattening must));
 }
-
-pub returns-then-refuted : goal.returns-then-refuted
-returns-then-refuted c = subst (IsOutcome c.args.shared.now.terms.now c.args.cube.now) (sym c.without_leaf.ensures) (record {
-  right = none-of c.args.shared.now.terms.now c.args.cube.now c.args.flat.now c.requires.asked c.requires.flattening c.flat_cubes_are_exact.ensures (c.in_ok-refuted.ensures c.if-refuted.true);
-  decided = λ must. tt;
-})
