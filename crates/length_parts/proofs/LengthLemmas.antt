@@ -1,12 +1,12 @@
 -- Which words a regular expression of characters has.
-use Rattle.std.proofs.Common.{◌≡◌, ◌↔◌, refl, sym, ap, subst, ◌∙◌, ◌≤◌, ◌+◌, ℕ, zero, suc, List, [], ◌∷◌, ◌++◌, length, take, drop, arith}
+use Rattle.std.proofs.Common.{◌≡◌, refl, sym, ap, subst, ◌∙◌, ◌≤◌, ℕ, zero, suc, [], ◌∷◌, ◌++◌, length, arith}
 use Rattle.std.proofs.lemmas.List.{append-nil, length-append}
 use Rattle.sv_word.specs.Words.{IsWord, greatest_character}
 use Rattle.sv_terms.specs.Language.{In, InEachInTurn, Power, Then, Word}
 use Rattle.sv_terms.specs.Opened.{In-All, In-AnyChar, In-Concat, In-Loop}
 use Rattle.sv_terms.specs.declared.regex.Regex.{Regex}
 use Rattle.sv_terms.specs.declared.regex.Regex.TheVariants as regex
-use Rattle.length_parts.specs.Rewriting.{HasLength, HasWordsOf}
+use Rattle.length_parts.specs.Rewriting.{HasWordsOf}
 use Rattle.length_parts.specs.declared.bound.LengthBound.{LengthBound}
 use Rattle.length_parts.specs.declared.bound.LengthBound.TheVariants as bound
 

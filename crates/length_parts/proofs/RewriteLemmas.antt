@@ -1,5 +1,5 @@
 -- A row that becomes a part leaves what satisfies the cube.
-use Rattle.std.proofs.Common.{Bool, ◌≡◌, ◌↔◌, refl, sym, ap, subst, ◌∙◌, ◌≤◌, ◌<◌, ◌+◌, ◌*◌, ℕ, zero, suc, ℤ, pos, ◌+ℤ◌, ◌*ℤ◌, true, List, [], ◌∷◌, ◌++◌, map, length, get_or, Some, slice_get, slice_set, arith}
+use Rattle.std.proofs.Common.{Bool, ◌≡◌, refl, sym, ap, subst, ◌∙◌, ◌<◌, ◌+◌, ℕ, zero, suc, ℤ, pos, ◌+ℤ◌, ◌*ℤ◌, true, List, [], ◌∷◌, ◌++◌, map, length, get_or, Some, slice_get, slice_set, arith}
 use Rattle.std.specs.List.{AllByRecursion, AllZip, remove}
 use Rattle.std.proofs.lemmas.List.{length-map, get_or-append-add, get_or-map}
 use Rattle.sv_list.specs.Lists.{AllByRecursion-first, AllByRecursion-push}
@@ -8,14 +8,13 @@ use Rattle.sv_terms.specs.Language.{In, Word}
 use Rattle.sv_terms.specs.declared.regex.Regex.{Regex}
 use Rattle.sv_linear.specs.Rows.{Compares, MeetsRow, unknowns_of}
 use Rattle.sv_linear.specs.Terms.{terms_value}
-use Rattle.sv_linear.specs.declared.row.Row.{Row}
 use Rattle.flat_cubes.specs.Satisfying.{MeetsPart, MeetsParts, Satisfies, lengths_of, word_at}
 use Rattle.flat_cubes.specs.Straight.{AreBelow, InOrder, IsRowBelow, IsStraight}
 use Rattle.flat_cubes.specs.declared.variable.Own.{Own}
 use Rattle.flat_cubes.specs.declared.variable.Own.TheVariants as own
 use Rattle.flat_cubes.specs.declared.variable.Variable.{Variable}
 use Rattle.flat_cubes.specs.declared.flat.Flat.{Flat}
-use Rattle.length_parts.specs.Rewriting.{HasLength, HasWordsOf, HaveSameNames, IsRegisterOf, IsRewriting}
+use Rattle.length_parts.specs.Rewriting.{HasWordsOf, HaveSameNames, IsRegisterOf, IsRewriting}
 use Rattle.length_parts.specs.Steps.{IsBoundRow, parted, with_own, with_part}
 use Rattle.length_parts.specs.declared.bound.LengthBound.{LengthBound}
 

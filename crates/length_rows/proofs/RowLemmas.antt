@@ -1,5 +1,5 @@
 -- Rows that are met.
-use Rattle.std.proofs.Common.{◌≡◌, ◌↔◌, refl, sym, ap, subst, ◌∙◌, ◌≤◌, ◌<◌, ◌+◌, ◌^◌, ℕ, zero, suc, ℤ, pos, ◌≤ℤ◌, ◌-ℤ◌, ◌+ℤ◌, true, IsTrue, List, [], ◌∷◌, ◌++◌, map, length, take, drop, get_or, Some, slice_get, All, arith}
+use Rattle.std.proofs.Common.{◌≡◌, ◌↔◌, sym, ap, subst, ◌∙◌, ◌≤◌, ◌<◌, ◌+◌, ◌^◌, ℕ, zero, suc, ℤ, pos, ◌≤ℤ◌, ◌-ℤ◌, List, [], ◌∷◌, ◌++◌, map, length, take, get_or, Some, slice_get, All, arith}
 use Rattle.std.specs.List.{AllByRecursion, AllZip}
 use Rattle.std.proofs.lemmas.Int.{ints}
 use Rattle.std.proofs.Math.Seq.{take-length}
@@ -7,9 +7,8 @@ use Rattle.std.proofs.lemmas.List.Elements.{All-nil, All-cons}
 use Rattle.sv_list.specs.Lists.{AllByRecursion-push}
 use Rattle.sv_terms.specs.Language.{Word}
 use Rattle.sv_linear.specs.Forms.{form_value}
-use Rattle.sv_linear.specs.Rows.{MeetsRow, NameUnknowns, unknowns_of}
-use Rattle.sv_linear.specs.declared.row.RowKind.{RowKind}
-use Rattle.sv_linear.specs.declared.row.RowKind.TheVariants.{Eq, Le}
+use Rattle.sv_linear.specs.Rows.{MeetsRow, NameUnknowns}
+use Rattle.sv_linear.specs.declared.row.RowKind.TheVariants.{Eq}
 use Rattle.sv_linear.specs.declared.form.Form.{Form}
 use Rattle.sv_linear.specs.Terms.{AscendsWithin}
 use Rattle.sv_linear.specs.declared.row.Row.{Row}

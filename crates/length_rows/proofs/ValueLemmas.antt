@@ -1,15 +1,13 @@
 -- The values of the unknowns of a flat cube's rows and lengths.
-use Rattle.std.proofs.Common.{◌≡◌, ◌↔◌, refl, sym, ap, subst, ◌∙◌, ◌≤◌, ◌<◌, ◌+◌, ◌-◌, ◌*◌, ℕ, zero, suc, ℤ, pos, ◌+ℤ◌, ◌*ℤ◌, Bool, true, false, cond, nat_lt, List, [], ◌∷◌, ◌++◌, map, length, get_or, arith}
+use Rattle.std.proofs.Common.{◌≡◌, refl, sym, ap, subst, ◌∙◌, ◌≤◌, ◌<◌, ◌+◌, ◌-◌, ℕ, ℤ, pos, ◌+ℤ◌, ◌*ℤ◌, Bool, true, false, cond, nat_lt, List, [], ◌∷◌, map, length, get_or, arith}
 use Rattle.std.specs.List.{AllByRecursion}
 use Rattle.std.proofs.lemmas.List.{length-map, get_or-append-add, get_or-map}
 use Rattle.std.proofs.lemmas.Bool.{lt-ltb, ltb-true}
-use Rattle.std.proofs.lemmas.Int.{ints}
 use Rattle.sv_terms.specs.Language.{Word}
-use Rattle.sv_linear.specs.Forms.{form_value}
 use Rattle.sv_linear.specs.Rows.{Compares, MeetsRow, unknowns_of}
 use Rattle.sv_linear.specs.Terms.{terms_value}
 use Rattle.sv_linear.specs.declared.row.Row.{Row}
-use Rattle.flat_cubes.specs.Satisfying.{Satisfies, lengths_of, word_at}
+use Rattle.flat_cubes.specs.Satisfying.{lengths_of, word_at}
 use Rattle.flat_cubes.specs.Straight.{IsRowBelow}
 use Rattle.flat_cubes.specs.declared.flat.Flat.{Flat}
 use Rattle.length_rows.specs.Lengths.{AreMet, HasLengths, own_unknowns, values_of}

@@ -1,5 +1,5 @@
 -- What parts say of the lengths of words.
-use Rattle.std.proofs.Common.{◌≡◌, refl, sym, ap, subst, ◌∙◌, ◌≤◌, ◌<◌, ◌+◌, ℕ, zero, suc, ℤ, pos, ◌≤ℤ◌, ◌+ℤ◌, ◌-ℤ◌, Bool, true, false, not, cond, List, [], ◌∷◌, ◌++◌, map, length, drop, get_or, reverse, arith}
+use Rattle.std.proofs.Common.{◌≡◌, refl, sym, ap, subst, ◌∙◌, ◌≤◌, ◌<◌, ◌+◌, ℕ, suc, ℤ, pos, ◌≤ℤ◌, ◌+ℤ◌, ◌-ℤ◌, Bool, true, false, cond, List, [], ◌∷◌, map, length, drop, get_or, reverse, arith}
 use Rattle.std.specs.Prelude.{nat_eq, ◌&&◌}
 use Rattle.std.proofs.lemmas.Int.{ints}
 use Rattle.std.proofs.Math.Seq.{drop-cons}
@@ -12,7 +12,6 @@ use Rattle.flat_cubes.specs.declared.definition.By.TheVariants as by
 use Rattle.flat_cubes.specs.declared.definition.Definition.{Definition}
 use Rattle.length_rows.specs.Lengths.{HasLengths}
 use Rattle.flat_cubes.specs.declared.variable.Own.{Own}
-use Rattle.flat_cubes.specs.declared.variable.Own.TheVariants as own
 
 and-right : (a b : Bool) → (a && b) ≡ true → b ≡ true
 and-right true b h = h

@@ -1,8 +1,7 @@
 use Rattle.std.proofs.Common.{subst, sym}
 use Rattle.std.specs.Prelude.{IfSome}
-use Rattle.flat_cubes.specs.declared.variable.Own.TheVariants.{InRe}
 use Rattle.length_parts.specs.Rewriting.{IsRewriting}
-use Rattle.length_parts.specs.Steps.{IsBoundRow, with_part}
+use Rattle.length_parts.specs.Steps.{IsBoundRow}
 use Rattle.length_parts.specs.declared.rewriting.BoundRow.{BoundRow}
 use Rattle.length_parts.proofs.RewriteLemmas.{nothing-rewritten, step-rewriting}
 use Rattle.length_parts.proofs.rewriting.rewrite_at.Goals as goal

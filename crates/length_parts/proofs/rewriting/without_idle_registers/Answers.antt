@@ -1,4 +1,4 @@
-use Rattle.std.proofs.Common.{subst, sym, List, ℕ, IsTrue}
+use Rattle.std.proofs.Common.{subst, sym, List, ℕ}
 use Rattle.length_parts.specs.Rewriting.{IsRewriting}
 use Rattle.length_parts.proofs.RewriteLemmas.{nothing-rewritten, registers-dropped}
 use Rattle.length_parts.proofs.rewriting.without_idle_registers.Goals as goal

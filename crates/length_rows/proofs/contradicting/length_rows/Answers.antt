@@ -1,10 +1,8 @@
 use Rattle.std.proofs.Common.{subst, sym, List, ℕ, pos, ◌≡◌, ◌<◌, ◌+◌, length, get_or}
 use Rattle.std.specs.List.{AllByRecursion, AllZip}
-use Rattle.sv_linear.specs.declared.row.Row.{Row}
 use Rattle.flat_cubes.specs.Satisfying.{Defines, MeetsParts, word_at}
-use Rattle.flat_cubes.specs.declared.definition.Definition.{Definition}
 use Rattle.flat_cubes.specs.declared.variable.Variable.{Variable}
-use Rattle.length_rows.specs.Lengths.{AreMet, HasLengths, own_unknowns, values_of}
+use Rattle.length_rows.specs.Lengths.{AreMet, HasLengths, values_of}
 use Rattle.length_rows.proofs.ValueLemmas.{lengths-stand, own-met, register-stands}
 use Rattle.length_rows.proofs.contradicting.length_rows.Goals as goal
 

@@ -1,4 +1,4 @@
-use Rattle.std.proofs.Common.{◌≡◌, length, arith}
+use Rattle.std.proofs.Common.{arith}
 use Rattle.length_rows.proofs.RowLemmas.{names-taken}
 use Rattle.length_rows.proofs.naming.name_below.Goals as goal
 

@@ -1,4 +1,4 @@
-use Rattle.std.proofs.Common.{◌<◌, take, ℕ, ℤ}
+use Rattle.std.proofs.Common.{◌<◌, take}
 use Rattle.std.specs.List.{AllByRecursion}
 use Rattle.sv_linear.specs.declared.row.Row.{Row}
 use Rattle.length_rows.proofs.naming.name_below.Given as goal

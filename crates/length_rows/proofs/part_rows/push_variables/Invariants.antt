@@ -1,4 +1,4 @@
-use Rattle.std.proofs.Common.{◌≡◌, ℕ, ℤ, List}
+use Rattle.std.proofs.Common.{ℕ, ℤ, List}
 use Rattle.std.specs.List.{AllZip}
 use Rattle.sv_terms.specs.Language.{Word}
 use Rattle.flat_cubes.specs.Satisfying.{MeetsParts}

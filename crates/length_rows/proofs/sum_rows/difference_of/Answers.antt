@@ -1,6 +1,5 @@
-use Rattle.std.proofs.Common.{◌≡◌, ◌+◌, ◌-◌, suc, ℕ, ℤ, pos, ◌+ℤ◌, ◌-ℤ◌, length, map, drop, get_or, subst, refl, arith}
+use Rattle.std.proofs.Common.{◌≡◌, ◌+◌, ◌-◌, ℕ, ℤ, pos, ◌+ℤ◌, ◌-ℤ◌, length, map, drop, get_or, subst, refl, arith}
 use Rattle.std.specs.Prelude.{IfSome}
-use Rattle.std.proofs.lemmas.Int.{ints}
 use Rattle.sv_linear.specs.Forms.{form_value}
 use Rattle.sv_linear.specs.declared.form.Form.{Form}
 use Rattle.sv_terms.specs.Meaning.{joined}
