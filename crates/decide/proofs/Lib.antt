@@ -5,6 +5,7 @@ mod Folding
 mod Going
 mod Listed
 pub mod Models
+mod Rewritten
 pub mod Rightness
 mod Sharing
 mod Sorts

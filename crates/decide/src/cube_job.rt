@@ -1,5 +1,5 @@
 //! One cube of some assertions, as a job.
-ghost use Rattle.std.specs.Prelude.{◌≡◌, ◌<◌, ◌^◌, length, IfOk};
+ghost use Rattle.std.specs.Prelude.{◌≡◌, ◌<◌, ◌^◌, length, IfOk, IfSome};
 ghost use Rattle.flat_cubes.specs.Flattening.{IsFlattening};
 ghost use Rattle.flat_cubes.specs.Straight.{AreNamesApart};
 ghost use Rattle.cube_search.specs.declared.answer.CubeAnswer.TheVariants.{Open, Unsat};
@@ -12,6 +12,8 @@ use bool_cubes::{contradictions_are_false, is_contradictory};
 use cube_bounds::numbers;
 use cube_search::{CubeAnswer, OpenReason, Refutation, Shown, cube_answer, rows_count};
 use flat_cubes::{Flat, FlatFault};
+use length_parts::{has_length_rows, with_length_parts};
+use length_rows::contradict;
 use literal_forms::Cube;
 use par_phase::Job;
 use part_machines::Machines;
@@ -96,7 +98,7 @@ pub fn answer_for(shared: &Shared<'_>, cube: &Cube) -> Result<CubeAnswer, AllocE
         return Ok(without_leaf());
     }
     match flatten(shared.alloc, cube) {
-        Ok(flat) => flat_answer(shared, cube, &flat),
+        Ok(flat) => straight_answer(shared, cube, flat),
         Err(fault) => refuse(fault),
     }
 }
@@ -120,7 +122,70 @@ fn fragment(shown: Shown) -> CubeAnswer
     CubeAnswer::Open(OpenReason::Fragment(shown))
 }
 
-/// The answer for a cube by its flat cube.
+/// The answer for a straight cube: none where its rows and lengths contradict one another, else what the search finds
+/// with bounds on lengths as parts, or else as they stand.
+fn straight_answer(shared: &Shared<'_>, cube: &Cube, flat: Flat) -> Result<CubeAnswer, AllocError>
+    requires asked { IsAskedCube shared.now.terms.now cube.now }
+    requires flattening { IsFlattening cube.now.literals flat }
+    requires apart { AreNamesApart flat }
+    requires few { length flat.variables < 2 ^ 32 }
+    ensures { IfOk result (IsOutcome shared.now.terms.now cube.now) }
+{
+    flat_cubes_are_exact();
+    let refuted = contradict(shared.alloc, &flat)?;
+    if refuted {
+        return Ok(without_leaf());
+    }
+    if !has_length_rows(&flat) {
+        let answer = flat_answer(shared, cube, &flat)?;
+        return Ok(answer);
+    }
+    match bounded_answer(shared, cube, flat)? {
+        Some(answer) => Ok(answer),
+        None => answer_as_it_stands(shared, cube),
+    }
+}
+
+/// The answer for a cube by its flat cube with bounds on lengths as parts. `None` where that is left open.
+fn bounded_answer(
+    shared: &Shared<'_>,
+    cube: &Cube,
+    flat: Flat,
+) -> Result<Option<CubeAnswer>, AllocError>
+    requires asked { IsAskedCube shared.now.terms.now cube.now }
+    requires flattening { IsFlattening cube.now.literals flat }
+    requires apart { AreNamesApart flat }
+    requires few { length flat.variables < 2 ^ 32 }
+    ensures { IfOk result (λ o. IfSome o (IsOutcome shared.now.terms.now cube.now)) }
+{
+    flat_cubes_are_exact();
+    names_are_sorted();
+    transducers_are_formed();
+    let new = with_length_parts(shared.alloc, flat)?;
+    let numbers = numbers(shared.alloc, &new)?;
+    match cube_answer(shared.alloc, &new, &numbers, shared.kept)? {
+        CubeAnswer::Sat(model) => {
+            let full = complete(shared.alloc, &model, shared.terms)?;
+            Ok(Some(CubeAnswer::Sat(full)))
+        }
+        CubeAnswer::Unsat(refutation) => Ok(Some(CubeAnswer::Unsat(refutation))),
+        CubeAnswer::Open(_) => Ok(None),
+    }
+}
+
+/// The answer for a cube by its flat cube, which is made once more.
+fn answer_as_it_stands(shared: &Shared<'_>, cube: &Cube) -> Result<CubeAnswer, AllocError>
+    requires asked { IsAskedCube shared.now.terms.now cube.now }
+    ensures { IfOk result (IsOutcome shared.now.terms.now cube.now) }
+{
+    refusals_have_no_flat_cube();
+    match flatten(shared.alloc, cube) {
+        Ok(flat) => flat_answer(shared, cube, &flat),
+        Err(fault) => refuse(fault),
+    }
+}
+
+/// The answer for a cube by its flat cube as it stands.
 fn flat_answer(shared: &Shared<'_>, cube: &Cube, flat: &Flat) -> Result<CubeAnswer, AllocError>
     requires asked { IsAskedCube shared.now.terms.now cube.now }
     requires flattening { IsFlattening cube.now.literals flat.now }

@@ -9,8 +9,8 @@ returns-in-Err c =
     subst (λ r. IfOk r (IsOutcome c.args.shared.now.terms.now c.args.cube.now)) (sym c.refuse.ensures)
     (refused-outcome c.refusals_have_no_flat_cube.ensures c.args.shared.now.terms.now c.args.cube.now c.in-Err.fault c.in-Err.ensures.flat)
 
-pub flat_answer-requires-clause-apart : goal.flat_answer-requires-clause-apart
-flat_answer-requires-clause-apart c = c.in-Ok.ensures.flat.1 (literals-sorted c.args.shared.now.terms.now c.args.cube.now c.requires.asked)
+pub straight_answer-requires-clause-apart : goal.straight_answer-requires-clause-apart
+straight_answer-requires-clause-apart c = c.in-Ok.ensures.flat.1 (literals-sorted c.args.shared.now.terms.now c.args.cube.now c.requires.asked)
 
 pub returns-then-found : goal.returns-then-found
 returns-then-found c =
