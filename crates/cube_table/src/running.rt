@@ -49,6 +49,11 @@ fn step(rt: HostRuntime, script: &mut Script, item: &Sexpr) -> Result<Going, Tab
             print_table(rt, script.live())?;
             Ok(Going::On)
         }
+        Ok(Asked::CubesUnder(count)) => {
+            print_table(rt, script.live())?;
+            script.leave(count);
+            Ok(Going::On)
+        }
         Ok(Asked::Echo(text)) => {
             print_line(rt, text.as_slice())?;
             Ok(Going::On)

@@ -1,9 +1,11 @@
 //! The declarations and assertions of a script.
 ghost use Rattle.std.specs.Prelude.{◌≡◌, [], ◌∷◌, Some};
 ghost use Rattle.std.specs.List.{AllByRecursion};
-ghost use Rattle.assert_stack.specs.Levels.{empty, live, symbols_of};
+ghost use Rattle.assert_stack.specs.Levels.{dropped_last, empty, live, symbols_of};
 ghost use Rattle.sort_check.specs.WellFormed.{IsAdded};
 ghost use Rattle.sv_terms.specs.Sorting.{sort_of};
+ghost use Rattle.sv_terms.specs.declared.entry.Body.TheVariants as body;
+ghost use Rattle.sv_terms.specs.declared.entry.Entry.TheVariants as entry;
 ghost use Rattle.sv_terms.specs.declared.sort.Sort.TheVariants as sort;
 
 use assert_stack::{Stack, StackFault};
@@ -22,6 +24,8 @@ pub enum Asked {
     Nothing,
     /// The cubes of the live assertions.
     Cubes,
+    /// The cubes of the live assertions, of which the last so many are assumptions, to be left after it.
+    CubesUnder(usize),
     /// This literal, quotes included.
     Echo(Items<u8>),
     /// A word on what is wrong.
@@ -81,9 +85,11 @@ impl Script {
             Command::Declare(name, sort) => Ok(self.declare(name, Entry::Constant(sort))?),
             Command::Define(name, entry) => Ok(self.declare(name, entry)?),
             Command::Assert(term) => Ok(self.assert(term)?),
+            Command::AssertNamed(name, term) => Ok(self.assert_named(alloc, name, term)?),
             Command::Push(levels) => Ok(self.push(levels)?),
             Command::Pop(levels) => Ok(self.pop(levels)),
             Command::CheckSat => Ok(Asked::Cubes),
+            Command::CheckAssuming(terms) => Ok(self.assume(terms)?),
             Command::Echo(text) => Ok(Asked::Echo(text)),
             Command::Reset | Command::ResetAssertions => Ok(self.reset()),
             Command::Exit => Ok(Asked::End),
@@ -106,6 +112,32 @@ impl Script {
     {
         self.stack.assert(term)?;
         Ok(Asked::Nothing)
+    }
+
+    #[tactic(auto, using(crate::proofs::Standing::stands_named))]
+    fn assert_named(&mut self, alloc: Global, name: Name, term: Term) -> Result<Asked, AllocError>
+        requires added { IsAdded (symbols_of self.old) name (entry.Macro [] (body.Term term)) }
+        requires sorted { sort_of term ≡ Some sort.Bool }
+    {
+        self.stack.assert_named(alloc, name, term)?;
+        Ok(Asked::Nothing)
+    }
+
+    #[tactic(auto, using(crate::proofs::Standing::stands_assumed))]
+    fn assume(&mut self, terms: Items<Term>) -> Result<Asked, AllocError>
+        requires { AllByRecursion (λ t. sort_of t ≡ Some sort.Bool) terms }
+    {
+        let count = terms.len();
+        self.stack.assert_all(terms)?;
+        Ok(Asked::CubesUnder(count))
+    }
+
+    /// The last `count` assertions of the innermost level go.
+    #[tactic(auto, using(crate::proofs::Standing::stands_left))]
+    pub fn leave(&mut self, count: usize)
+        ensures { self.new ≡ dropped_last count self.old }
+    {
+        self.stack.drop_last(count)
     }
 
     #[tactic(auto, using(crate::proofs::Standing::stands_pushed))]

@@ -461,6 +461,58 @@ fn bytes_are_read_as_they_are(rt: HostRuntime) -> Result<(), Fail> {
     Ok(())
 }
 
+// Names of assertions, and assumptions, with the fault of each that isn't taken.
+const NAMED: [(&[u8], Status, &[u8]); 8] = [
+    (
+        b"(declare-const p Bool)(assert (! p :named a))(assert (! p :named a))(assert (! q :named a))(assert (! q :named p))(assert (! q :named and))(assert (! q :named let))(check-sat)(get-value (a))",
+        Status::ErrorAnswered,
+        b"(error \"declared\")\n(error \"declared\")\n(error \"declared\")\n(error \"reserved\")\n(error \"reserved\")\nsat\n((a true))\n",
+    ),
+    (
+        b"(declare-const p Bool)(assert (! p :named))(assert (! p :named \"a\"))(assert (! p :named :named))(assert (! p :named a :named b))(assert (! p :named a :named))(assert (!))(assert (! p :named a) p)(assert (! q :named))(get-value (a))",
+        Status::ErrorAnswered,
+        b"(error \"shape\")\n(error \"shape\")\n(error \"shape\")\n(error \"shape\")\n(error \"shape\")\n(error \"shape\")\n(error \"shape\")\n(error \"shape\")\n(error \"no model\")\n",
+    ),
+    (
+        b"(declare-const n Int)(assert (! a :named a))(assert (! n :named a))(assert (! (+ n n) :named a))(assert (! (= n a) :named |a|))(declare-const a Int)(assert (! (= n a) :named a))",
+        Status::ErrorAnswered,
+        b"(error \"unknown symbol\")\n(error \"sort\")\n(error \"sort\")\n(error \"unknown symbol\")\n(error \"declared\")\n",
+    ),
+    (
+        b"(declare-const p Bool)(assert (! p :weight 1 :named a :pattern (p)))(assert (! (! a :named b) :note c))(assert b)(assert (and (! p :named c) a))(assert c)(assert (! p))(check-sat)",
+        Status::ErrorAnswered,
+        b"(error \"unknown symbol\")\n(error \"unknown symbol\")\nsat\n",
+    ),
+    (
+        b"(declare-const p Bool)(push)(assert (! p :named a))(pop)(assert a)(assert (! (not p) :named a))(check-sat)(get-value (a p))",
+        Status::ErrorAnswered,
+        b"(error \"unknown symbol\")\nsat\n((a true) (p false))\n",
+    ),
+    (
+        b"(check-sat-assuming)(check-sat-assuming p)(check-sat-assuming (p) (p))(check-sat-assuming ((and p p)))(check-sat-assuming ((not (not p))))(check-sat-assuming ((not p p)))(check-sat-assuming ((not)))(check-sat-assuming (1))(check-sat-assuming (\"a\"))(check-sat-assuming (p (and)))(get-unsat-core p)",
+        Status::ErrorAnswered,
+        b"(error \"shape\")\n(error \"shape\")\n(error \"shape\")\n(error \"shape\")\n(error \"shape\")\n(error \"shape\")\n(error \"shape\")\n(error \"shape\")\n(error \"shape\")\n(error \"shape\")\n(error \"shape\")\n",
+    ),
+    (
+        b"(declare-const p Bool)(declare-const n Int)(define-fun k () Int 1)(define-fun f ((b Bool)) Bool b)(check-sat-assuming (q))(check-sat-assuming ((not q)))(check-sat-assuming (n))(check-sat-assuming ((not n)))(check-sat-assuming (k))(check-sat-assuming (f))(check-sat-assuming ((not f)))(check-sat-assuming (and))(check-sat-assuming (n q))(check-sat-assuming (n f))",
+        Status::ErrorAnswered,
+        b"(error \"unknown symbol\")\n(error \"unknown symbol\")\n(error \"sort\")\n(error \"sort\")\n(error \"sort\")\n(error \"arity\")\n(error \"arity\")\n(error \"arity\")\n(error \"unknown symbol\")\n(error \"arity\")\n",
+    ),
+    (
+        b"(declare-const p Bool)(define-fun m () Bool (not p))(check-sat-assuming (p m))(check-sat-assuming ((not p) m))(check-sat-assuming ())(check-sat-assuming (true (not false)))(check-sat-assuming (|p| (|not| m)))",
+        Status::Answered,
+        b"unsat\nsat\nsat\nsat\nsat\n",
+    ),
+];
+
+#[test]
+fn names_and_assumptions_are_checked(rt: HostRuntime) -> Result<(), Fail> {
+    for (script, status, taken) in NAMED.as_slice() {
+        answer_of(&rt, rt.alloc(), script, *status, taken)?;
+    }
+    Ok(())
+}
+
 // A number in decimal digits.
 fn push_number(alloc: Global, script: &mut Vec<u8>, number: u32) -> Result<(), Fail> {
     let digits = format!(in alloc; "{number}")?;
