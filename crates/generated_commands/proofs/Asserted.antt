@@ -1,5 +1,5 @@
 -- The assertions of a block are within the limits, and are sorted.
-use Rattle.std.proofs.Common.{◌≡◌, ℕ, ◌+◌, ◌*◌, ◌≤◌, Bool, true, ◌&&◌, nat_le, List, [], ◌∷◌, codes, Ok, refl, sym, ap, ◌∙◌, arith}
+use Rattle.std.proofs.Common.{◌≡◌, ℕ, ◌+◌, ◌*◌, ◌≤◌, Bool, true, ◌&&◌, nat_le, List, [], ◌∷◌, codes, None, Ok, refl, sym, ap, ◌∙◌, arith}
 use Rattle.std.specs.List.{list_all}
 use Rattle.generated_script.specs.declared.shape.Shape.{Shape as Block}
 use Rattle.generated_script.specs.declared.shape.Shape.TheVariants.{Power, Odd, Halves, Escaped}
@@ -8,7 +8,7 @@ use Rattle.generated_terms.proofs.Folds.{shape_fold, fold-raw}
 use Rattle.generated_items.specs.Forms as forms
 use Rattle.item_passes.specs.Passes.{passed}
 use Rattle.literal_forms.specs.Shapes.{Shape, raw}
-use Rattle.smt_names.specs.Faults.{and_then, ◌>>◌, need, refuse}
+use Rattle.smt_names.specs.Faults.{and_then, ◌>>◌, made_of, need, refuse}
 use Rattle.smt_names.specs.Form.{Form, end, ◌⨾◌}
 use Rattle.smt_names.specs.declared.check_fault.CheckFault.TheVariants as fault
 use Rattle.sort_check.specs.Checking.{checked, assertion_of, label, labelled}
