@@ -1,9 +1,8 @@
 -- Which terms stay.
-use Rattle.std.proofs.Common.{◌≡◌, ◌<◌, ℕ, zero, suc, List, [], ◌∷◌, ◌++◌, ◌+◌, Bool, true, false, length, take, get_or, replicate, All, IsTrue, Some, refl, sym, ap, ◌∙◌, subst, arith}
+use Rattle.std.proofs.Common.{◌≡◌, ◌<◌, ℕ, zero, suc, List, [], ◌∷◌, ◌++◌, ◌+◌, Bool, true, false, length, take, get_or, replicate, All, IsTrue, Some, refl, sym, ap, ◌∙◌, arith}
 use Rattle.std.proofs.lemmas.List.{append-nil, length-take-le}
 use Rattle.std.specs.List.{AllByRecursion}
 use Rattle.sv_list.specs.Lists.{take-read}
-use Rattle.assertion_parts.specs.Constants.{ConstantsHaveOneSort}
 use Rattle.sv_terms.specs.Sorting.{sort_of, is_valued}
 use Rattle.sv_terms.specs.TransducerSizes.{has_formed}
 use Rattle.sv_terms.specs.declared.sort.Sort.TheVariants as sort

@@ -2,7 +2,6 @@
 use Rattle.std.specs.Prelude.{◌≡◌, ◌<◌, ◌≤◌, ◌-◌, ℕ, Bool, List, [], ◌∷◌, length, take, drop, IsTrue, Some}
 use Rattle.std.specs.List.{AllByRecursion}
 use Rattle.assertion_parts.specs.Constants.{ConstantsHaveOneSort}
-use Rattle.decide.specs.declared.verdict.Verdict.{Verdict}
 use Rattle.sv_terms.specs.Sorting.{sort_of}
 use Rattle.sv_terms.specs.TransducerSizes.{has_formed}
 use Rattle.sv_terms.specs.Truth.{HasNoValues, clear_of}

@@ -6,6 +6,8 @@
 #![tactic(auto)]
 
 #[cfg(test)]
+mod core_calls;
+#[cfg(test)]
 mod decide_calls;
 #[cfg(test)]
 mod run_calls;

@@ -2,7 +2,7 @@
 use Rattle.std.proofs.Common.{◌≡◌, ℕ, ◌≤◌, List, [], ◌∷◌, ◌++◌, Bool, true, false, Result, Ok, Err, Some, refl, sym, ap, ◌∙◌, subst, length, append-nil, append_assoc, arith, length-append, inl, inr}
 use Rattle.std.proofs.lemmas.Bool.{cases_lt, false≢true}
 use Rattle.sv_io.specs.Histories.{Input, Output}
-use Rattle.assert_stack.specs.Levels.{symbols_of}
+use Rattle.assert_stack.specs.Levels.{symbols_of, live}
 use Rattle.decide.specs.declared.verdict.Verdict.{Verdict}
 use Rattle.sexpr_reader.specs.Items.{tokens_of, tokens_of_all, levels}
 use Rattle.sexpr_reader.specs.Lexes.{Lexes}
@@ -21,36 +21,44 @@ use Rattle.smt_names.specs.declared.check_fault.CheckFault.{CheckFault}
 use Rattle.sort_check.specs.Checking.{checked}
 use Rattle.sort_check.specs.declared.commands.Command.{Command}
 use Rattle.sort_check.specs.declared.commands.Command.TheVariants as command
-use Rattle.smt_session.specs.Steps.{State, opened, kept_of, with_verdict, Tells, Does, Performs, Steps}
+use Rattle.smt_session.specs.Steps.{State, opened, kept_of, with_verdict, Tells, Checks, Does, Performs, Steps}
+use Rattle.sv_terms.specs.declared.term.Term.{Term}
 use Rattle.smt_session.specs.declared.reply.Reply.{Reply}
-use Rattle.smt_session.specs.declared.reply.Reply.TheVariants.{Success, Unsupported, Echo, Error, Sat, Unsat, Unknown, Definitions, Values, Info}
+use Rattle.smt_session.specs.declared.reply.Reply.TheVariants.{Success, Unsupported, Echo, Error, Sat, Unsat, Unknown, Definitions, Values, Info, Core}
 use Rattle.smt_session.specs.Runs.{IsPrompt, StopsAtExit}
 use Rattle.smt_session.specs.Scripts.{FollowsScript, none, next}
 use Rattle.smt_session.proofs.Turns.{replies_count}
 
 -- the session behind a command is told by its reply
-same_kept : (r : Reply) (a b : Verdict) → Tells r a → Tells r b → kept_of a ≡ kept_of b
-same_kept (Sat values) a b h k = ap kept_of (h ∙ sym k)
-same_kept Unsat a b h k = ap kept_of h.1 ∙ sym (ap kept_of k.1)
-same_kept (Unknown why) a b h k = ap kept_of (h ∙ sym k)
-same_kept (Success p) a b h k = absurd h
-same_kept Unsupported a b h k = absurd h
-same_kept (Echo t) a b h k = absurd h
-same_kept (Error kind) a b h k = absurd h
-same_kept (Definitions ds) a b h k = absurd h
-same_kept (Values vs) a b h k = absurd h
-same_kept (Info i) a b h k = absurd h
+same_kept : (assumed : List Term) (r : Reply) (a b : Verdict) → Tells r a → Tells r b → kept_of assumed a ≡ kept_of assumed b
+same_kept assumed (Sat values) a b h k = ap (kept_of assumed) (h ∙ sym k)
+same_kept assumed Unsat a b h k = ap (kept_of assumed) h.1 ∙ sym (ap (kept_of assumed) k.1)
+same_kept assumed (Unknown why) a b h k = ap (kept_of assumed) (h ∙ sym k)
+same_kept assumed (Success p) a b h k = absurd h
+same_kept assumed Unsupported a b h k = absurd h
+same_kept assumed (Echo t) a b h k = absurd h
+same_kept assumed (Error kind) a b h k = absurd h
+same_kept assumed (Definitions ds) a b h k = absurd h
+same_kept assumed (Values vs) a b h k = absurd h
+same_kept assumed (Info i) a b h k = absurd h
+same_kept assumed (Core list) a b h k = absurd h
 
 module _ (s t u : State) (r : Reply) where
+  same_checked : (terms assumed : List Term) → Checks s terms assumed r t → Checks s terms assumed r u → t ≡ u
+  same_checked terms assumed h k = h.after ∙ ap (λ kept. with_verdict kept s) (same_kept assumed r h.answer k.answer h.told k.told) ∙ sym k.after
+
   same_done : (c : Command) → Does s c r t → Does s c r u → t ≡ u
   same_done command.Inform h k = h.1 ∙ sym k.1
   same_done (command.PrintSuccess b) h k = h.1 ∙ sym k.1
   same_done (command.Declare name sort) h k = h.1 ∙ sym k.1
   same_done (command.Define name e) h k = h.1 ∙ sym k.1
   same_done (command.Assert term) h k = h.1 ∙ sym k.1
+  same_done (command.AssertNamed name term) h k = h.1 ∙ sym k.1
   same_done (command.Push n) h k = h.1 ∙ sym k.1
   same_done (command.Pop n) h k = h.1 ∙ sym k.1
-  same_done command.CheckSat h k = h.after ∙ ap (λ kept. with_verdict kept s) (same_kept r h.answer k.answer h.told k.told) ∙ sym k.after
+  same_done command.CheckSat h k = same_checked (live s.levels) [] h k
+  same_done (command.CheckAssuming assumed) h k = same_checked (live s.levels ++ assumed) assumed h k
+  same_done command.GetCore h k = h.1 ∙ sym k.1
   same_done command.GetModel h k = h.1 ∙ sym k.1
   same_done (command.GetValue items) h k = h.1 ∙ sym k.1
   same_done (command.GetInfo i) h k = h.1 ∙ sym k.1

@@ -1,6 +1,6 @@
 -- What is replied to a block.
 use Rattle.std.proofs.Common.{◌≡◌, ℕ, ◌≤◌, List, [], ◌∷◌, ◌++◌, Bool, true, false, None, codes, ap, ◌∙◌, subst}
-use Rattle.assert_stack.specs.Levels.{Level, empty, pushed, declared, asserted}
+use Rattle.assert_stack.specs.Levels.{Level, empty, live, pushed, declared, asserted}
 use Rattle.decide.specs.declared.verdict.Verdict.{Verdict}
 use Rattle.generated_commands.specs.Commands.{AreCommands, block_commands}
 use Rattle.generated_commands.proofs.Commanded.{block_read}
@@ -18,7 +18,7 @@ use Rattle.smt_names.specs.Form.{raw}
 use Rattle.smt_session.specs.Scripts.{FollowsScript}
 use Rattle.smt_session.specs.Steps.{State, state, opened, Tells, Checks, Does, kept_of, with_verdict}
 use Rattle.smt_session.specs.declared.reply.Reply.{Reply}
-use Rattle.smt_session.specs.declared.reply.Reply.TheVariants.{Success, Unsupported, Echo, Error, Sat, Unsat, Unknown, Definitions, Values, Info}
+use Rattle.smt_session.specs.declared.reply.Reply.TheVariants.{Success, Unsupported, Echo, Error, Sat, Unsat, Unknown, Definitions, Values, Info, Core}
 use Rattle.smt_session.specs.declared.session.LastVerdict.{LastVerdict}
 use Rattle.sort_check.specs.declared.commands.Command.TheVariants as command
 use Rattle.sv_terms.specs.declared.entry.Entry.TheVariants as entry
@@ -59,8 +59,9 @@ reply_by b (Error kind) v t h = absurd t
 reply_by b (Definitions ds) v t h = absurd t
 reply_by b (Values vs) v t h = absurd t
 reply_by b (Info i) v t h = absurd t
+reply_by b (Core list) v t h = absurd t
 
-pub checks_by : (block : Block) (k : ℕ) (r : Reply) (t : State) → k ≤ 50 → Checks (with_levels (levels_two block k)) r t → IsReplyBy (has_values block k) r
+pub checks_by : (block : Block) (k : ℕ) (r : Reply) (t : State) → k ≤ 50 → Checks (with_levels (levels_two block k)) (live (levels_two block k)) [] r t → IsReplyBy (has_values block k) r
 checks_by block k r t h c = reply_by (has_values block k) r c.answer c.told (tabled block k c.answer h c.right c.complete)
 
 -- the seven replies to a block, of which the sixth is a verdict, and what follows them
@@ -119,9 +120,9 @@ module _ (block : Block) (k : ℕ) (h : k ≤ 50) where
       let four = silent_done (with_levels levels_y) (with_levels (levels_one block k)) u (raw (forms.asserted (forms.first_form block k))) (behind_four others) (command.Assert (term_of (first block k))) three.late are.1.1.1.0 first_told three.follows in
       let five = silent_done (with_levels (levels_one block k)) (with_levels (levels_two block k)) u (raw (forms.asserted (forms.second_form block k))) (behind_five others) (command.Assert (term_of (second block k))) four.late are.1.1.1.1.0 second_told four.follows in
       let six = first_done (with_levels (levels_two block k)) u (raw forms.asked) (behind_six others) five.late five.follows in
-      let checks : Checks (with_levels (levels_two block k)) six.reply six.behind = performs (with_levels (levels_two block k)) six.behind (raw forms.asked) command.CheckSat six.reply are.1.1.1.1.1.0 six.step in
+      let checks : Checks (with_levels (levels_two block k)) (live (levels_two block k)) [] six.reply six.behind = performs (with_levels (levels_two block k)) six.behind (raw forms.asked) command.CheckSat six.reply are.1.1.1.1.1.0 six.step in
       let answered = subst (λ (z : State). FollowsScript z (behind_six others) six.late u) checks.after six.follows in
-      let seven = silent_done (with_verdict (kept_of checks.answer) (with_levels (levels_two block k))) opened u (raw forms.popped) others (command.Pop 1) six.late are.1.1.1.1.1.1.0 (pop_told (kept_of checks.answer)) answered in
+      let seven = silent_done (with_verdict (kept_of [] checks.answer) (with_levels (levels_two block k))) opened u (raw forms.popped) others (command.Pop 1) six.late are.1.1.1.1.1.1.0 (pop_told (kept_of [] checks.answer)) answered in
       record {
         reply = six.reply;
         late = seven.late;

@@ -10,7 +10,7 @@ use Rattle.smt_session.specs.Generated.{is_sat, is_unsat, is_unknown}
 use Rattle.smt_session.specs.Scripts.{FollowsScript}
 use Rattle.smt_session.specs.Steps.{State, opened}
 use Rattle.smt_session.specs.declared.reply.Reply.{Reply}
-use Rattle.smt_session.specs.declared.reply.Reply.TheVariants.{Success, Unsupported, Echo, Error, Sat, Unsat, Unknown, Definitions, Values, Info}
+use Rattle.smt_session.specs.declared.reply.Reply.TheVariants.{Success, Unsupported, Echo, Error, Sat, Unsat, Unknown, Definitions, Values, Info, Core}
 
 sat_one : (b : Bool) (r : Reply) → IsReplyBy b r → cond (is_sat r) 1 0 ≡ one_if b
 sat_one true (Sat values) h = refl
@@ -25,6 +25,7 @@ sat_one true (Unknown why) h = absurd h
 sat_one true (Definitions ds) h = absurd h
 sat_one true (Values vs) h = absurd h
 sat_one true (Info i) h = absurd h
+sat_one true (Core list) h = absurd h
 sat_one false (Success p) h = absurd h
 sat_one false Unsupported h = absurd h
 sat_one false (Echo text) h = absurd h
@@ -33,6 +34,7 @@ sat_one false (Unknown why) h = absurd h
 sat_one false (Definitions ds) h = absurd h
 sat_one false (Values vs) h = absurd h
 sat_one false (Info i) h = absurd h
+sat_one false (Core list) h = absurd h
 
 unsat_one : (b : Bool) (r : Reply) → IsReplyBy b r → cond (is_unsat r) 1 0 ≡ one_if (not b)
 unsat_one true (Sat values) h = refl
@@ -47,6 +49,7 @@ unsat_one true (Unknown why) h = absurd h
 unsat_one true (Definitions ds) h = absurd h
 unsat_one true (Values vs) h = absurd h
 unsat_one true (Info i) h = absurd h
+unsat_one true (Core list) h = absurd h
 unsat_one false (Success p) h = absurd h
 unsat_one false Unsupported h = absurd h
 unsat_one false (Echo text) h = absurd h
@@ -55,6 +58,7 @@ unsat_one false (Unknown why) h = absurd h
 unsat_one false (Definitions ds) h = absurd h
 unsat_one false (Values vs) h = absurd h
 unsat_one false (Info i) h = absurd h
+unsat_one false (Core list) h = absurd h
 
 -- one, where the reply passes
 abbrev one_of : (Reply → Bool) → Reply → ℕ
@@ -72,6 +76,7 @@ unknown_none b (Error kind) h = refl
 unknown_none b (Definitions ds) h = refl
 unknown_none b (Values vs) h = refl
 unknown_none b (Info i) h = refl
+unknown_none b (Core list) h = refl
 
 -- a count that begins with a number
 counted_from : (p : Reply → Bool) (a : ℕ) (log : List Reply) → fold (λ (n : ℕ) (r : Reply). n + cond (p r) 1 0) a log ≡ a + count_by p log

@@ -1,5 +1,6 @@
 -- No command of a generated script ends the session.
 use Rattle.std.proofs.Common.{◌≡◌, ℕ, zero, suc, ◌≤◌, List, [], ◌∷◌, ◌++◌, false, codes, refl, sym, subst, arith}
+use Rattle.assert_stack.specs.Levels.{live}
 use Rattle.generated_items.specs.Forms as forms
 use Rattle.generated_items.specs.Items.{block_at, number_at, block_items, items_from}
 use Rattle.generated_commands.specs.Commands.{AreCommands, block_commands}
@@ -47,8 +48,8 @@ module _ (block : Block) (k : ℕ) (h : k ≤ 50) where
   at_check others g = (
     refl,
     λ r t step.
-        let checks : Checks (with_levels (levels_two block k)) r t = performs (with_levels (levels_two block k)) t (raw forms.asked) command.CheckSat r are.1.1.1.1.1.0 step in
-        subst (λ (z : State). GoesOn z (raw forms.popped ∷ others)) (sym checks.after) (behind_check others g (kept_of checks.answer)),
+        let checks : Checks (with_levels (levels_two block k)) (live (levels_two block k)) [] r t = performs (with_levels (levels_two block k)) t (raw forms.asked) command.CheckSat r are.1.1.1.1.1.0 step in
+        subst (λ (z : State). GoesOn z (raw forms.popped ∷ others)) (sym checks.after) (behind_check others g (kept_of [] checks.answer)),
   )
 
   block_goes : (others : List Sexpr) → GoesOn opened others → GoesOn opened (block_items block k ++ others)

@@ -1,7 +1,7 @@
--- Verdicts come from `check-sat` alone.
+-- Verdicts come only from the two commands that ask for one.
 use Rattle.std.proofs.Common.{◌≡◌, ℕ, List, [], ◌∷◌, ◌++◌, Bool, true, false, if◌then◌else◌, Result, Ok, Err, Option, Some, None, refl, sym, ap, ◌∙◌, subst, ◌⊎◌, inl, inr, length, length-append, arith, ◌-◌}
 use Rattle.std.specs.Prelude.{codes}
-use Rattle.assert_stack.specs.Levels.{Symbol, symbols_of, live}
+use Rattle.assert_stack.specs.Levels.{Level, Symbol, symbols_of, live}
 use Rattle.decide.specs.Completeness.{IsComplete, MustDecide}
 use Rattle.decide.specs.Verdicts.{RightVerdict}
 use Rattle.decide.specs.declared.verdict.Open.{Open}
@@ -16,14 +16,14 @@ use Rattle.sv_terms.specs.Meaning.{Named}
 use Rattle.sv_terms.specs.declared.term.Term.{Term}
 use Rattle.reply_text.specs.declared.error_kind.ErrorKind.{ErrorKind}
 use Rattle.smt_names.specs.Signature.{same_name}
-use Rattle.smt_session.specs.Steps.{State, Outcome, opened, info_reply, model_reply, reason_reply, AnswersTerms, Checks, Does, Performs, Steps}
+use Rattle.smt_session.specs.Steps.{State, Outcome, opened, info_reply, model_reply, reason_reply, AnswersCore, AnswersNames, AnswersTerms, Checks, Does, Performs, Steps}
 use Rattle.reply_text.specs.declared.info.Info.{Info as InfoOf}
 use Rattle.reply_text.specs.declared.info.Info.TheVariants as info
 use Rattle.smt_session.specs.declared.reply.Reply.{Reply}
-use Rattle.smt_session.specs.declared.reply.Reply.TheVariants.{Success, Unsupported, Echo, Error, Sat, Unsat, Unknown, Definitions, Values, Info}
+use Rattle.smt_session.specs.declared.reply.Reply.TheVariants.{Success, Unsupported, Echo, Error, Sat, Unsat, Unknown, Definitions, Values, Info, Core}
 use Rattle.smt_session.specs.declared.session.LastVerdict.{LastVerdict}
 use Rattle.smt_session.specs.declared.session.LastVerdict.TheVariants as kept
-use Rattle.smt_session.specs.Scripts.{FollowsScript, none, next, AnswersBytes, to_end, to_exit, to_fault, AnswersFront, so_far, all, IsNotOwed, IsTrueOf}
+use Rattle.smt_session.specs.Scripts.{FollowsScript, none, next, AnswersBytes, to_end, to_exit, to_fault, AnswersFront, so_far, all, IsNotOwed, IsTrueOf, asked_by, asked_terms}
 use Rattle.smt_session.specs.Runs.{IsTrueFor}
 use Rattle.sexpr_reader.specs.Reads.{Begins}
 use Rattle.std.proofs.lemmas.Bool.{false≢true}
@@ -49,7 +49,7 @@ either_outcome false x y h g = g
 no_model : (k : Option LastVerdict) → is_verdict (model_reply k) ≡ false
 unfolding is_verdict
 no_model (Some (kept.Sat values)) = refl
-no_model (Some kept.Unsat) = refl
+no_model (Some (kept.Unsat assumed)) = refl
 no_model (Some (kept.Unknown c)) = refl
 no_model None = refl
 
@@ -76,7 +76,7 @@ told_info i = refl
 no_reason : (k : Option LastVerdict) → is_verdict (reason_reply k) ≡ false
 unfolding is_verdict
 no_reason (Some (kept.Sat values)) = refl
-no_reason (Some kept.Unsat) = refl
+no_reason (Some (kept.Unsat assumed)) = refl
 no_reason (Some (kept.Unknown c)) = refl
 no_reason None = refl
 
@@ -100,20 +100,52 @@ no_terms symbols (Some (kept.Sat values)) items Unsat h = absurd h
 no_terms symbols (Some (kept.Sat values)) items (Unknown why) h = absurd h
 no_terms symbols (Some (kept.Sat values)) items (Definitions ds) h = refl
 no_terms symbols (Some (kept.Sat values)) items (Info i) h = refl
-no_terms symbols (Some kept.Unsat) items r h = ap is_verdict h
+no_terms symbols (Some (kept.Sat values)) items (Core list) h = refl
+no_terms symbols (Some (kept.Unsat assumed)) items r h = ap is_verdict h
 no_terms symbols (Some (kept.Unknown c)) items r h = ap is_verdict h
 no_terms symbols None items r h = ap is_verdict h
 
+no_names : (levels : List Level) (assumed : List Term) (r : Reply) → AnswersNames levels assumed r → is_verdict r ≡ false
+unfolding is_verdict
+no_names levels assumed (Core list) h = refl
+no_names levels assumed (Success p) h = refl
+no_names levels assumed Unsupported h = refl
+no_names levels assumed (Echo t) h = refl
+no_names levels assumed (Error kind) h = refl
+no_names levels assumed (Sat vs) h = absurd h
+no_names levels assumed Unsat h = absurd h
+no_names levels assumed (Unknown why) h = absurd h
+no_names levels assumed (Definitions ds) h = refl
+no_names levels assumed (Values vs) h = refl
+no_names levels assumed (Info i) h = refl
+
+no_core : (levels : List Level) (k : Option LastVerdict) (r : Reply) → AnswersCore levels k r → is_verdict r ≡ false
+unfolding is_verdict
+no_core levels (Some (kept.Sat values)) r h = ap is_verdict h
+no_core levels (Some (kept.Unsat assumed)) r h = no_names levels assumed r h
+no_core levels (Some (kept.Unknown c)) r h = ap is_verdict h
+no_core levels None r h = ap is_verdict h
+
+-- a reply that is a verdict on the terms of which the command asks
+record IsAsked (s t : State) (r : Reply) (c : Result Command CheckFault) : Type 0 where
+  terms : List Term
+  assumed : List Term
+  asked : asked_by s c ≡ Some terms
+  checks : Checks s terms assumed r t
+
 module _ (s t : State) (r : Reply) (told : is_verdict r ≡ true) where
-  does : (c : Command) → Does s c r t → Checks s r t
+  does : (c : Command) → Does s c r t → IsAsked s t r (Ok c)
   does command.Inform h = other _ _ _ h.0 (success _) told
   does (command.PrintSuccess b) h = other _ _ _ h.0 (success _) told
   does (command.Declare name sort) h = other _ _ _ h.0 (success _) told
   does (command.Define name e) h = other _ _ _ h.0 (success _) told
   does (command.Assert term) h = other _ _ _ h.0 (success _) told
+  does (command.AssertNamed name term) h = other _ _ _ h.0 (success _) told
   does (command.Push n) h = other _ _ _ h.0 (either_outcome _ _ _ (success _) (failure _)) told
   does (command.Pop n) h = other _ _ _ h.0 (either_outcome _ _ _ (success _) (failure _)) told
-  does command.CheckSat h = h
+  does command.CheckSat h = record { terms = live s.levels; assumed = []; asked = refl; checks = h }
+  does (command.CheckAssuming assumed) h = record { terms = live s.levels ++ assumed; assumed = assumed; asked = refl; checks = h }
+  does command.GetCore h = other _ r r refl (no_core s.levels s.verdict r h.0) told
   does command.GetModel h = other _ _ _ h.0 (no_model s.verdict) told
   does (command.GetValue items) h = other _ r r refl (no_terms (symbols_of s.levels) s.verdict items r h.0) told
   does (command.GetInfo k) h = other _ _ _ h.0 (no_info s k) told
@@ -123,16 +155,16 @@ module _ (s t : State) (r : Reply) (told : is_verdict r ≡ true) where
   does command.Exit h = other _ _ _ h.0 (success _) told
   does command.Unsupported h = other _ _ _ h.0 unsupported told
 
-  performs : (c : Result Command CheckFault) → Performs s c r t → Checks s r t
+  performs : (c : Result Command CheckFault) → Performs s c r t → IsAsked s t r c
   performs (Ok c) h = does c h
   performs (Err fault) h = other _ _ _ h.2.0 (failure _) told
 
 -- what a reply to a check says
-sat_true : (s t : State) (values : Named) → Checks s (Sat values) t → IsTrueOf s (Sat values)
-sat_true s t values h = (subst (RightVerdict (live s.levels)) h.told h.right).1
+sat_true : (s t : State) (terms assumed : List Term) (values : Named) → Checks s terms assumed (Sat values) t → IsTrueOf (Some terms) (Sat values)
+sat_true s t terms assumed values h = (subst (RightVerdict terms) h.told h.right).1
 
-unsat_true : (s t : State) → Checks s Unsat t → IsTrueOf s Unsat
-unsat_true s t h = subst (RightVerdict (live s.levels)) h.told.1 h.right
+unsat_true : (s t : State) (terms assumed : List Term) → Checks s terms assumed Unsat t → IsTrueOf (Some terms) Unsat
+unsat_true s t terms assumed h = subst (RightVerdict terms) h.told.1 h.right
 
 not_owed : (terms : List Term) (why : Open) → (MustDecide terms → IsComplete terms (verdict.Unknown why)) → IsNotOwed terms
 not_owed terms why complete = record {
@@ -140,30 +172,37 @@ not_owed terms why complete = record {
   has_values = λ must none. (complete must).unsat none;
 }
 
-unknown_true : (s t : State) (why : Open) → Checks s (Unknown why) t → IsTrueOf s (Unknown why)
-unknown_true s t why h = (
-  subst (RightVerdict (live s.levels)) h.told h.right,
-  not_owed (live s.levels) why (λ must. subst (IsComplete (live s.levels)) h.told (h.complete must)),
+unknown_true : (s t : State) (terms assumed : List Term) (why : Open) → Checks s terms assumed (Unknown why) t → IsTrueOf (Some terms) (Unknown why)
+unknown_true s t terms assumed why h = (
+  subst (RightVerdict terms) h.told h.right,
+  not_owed terms why (λ must. subst (IsComplete terms) h.told (h.complete must)),
 )
 
-claims : (s t : State) (item : Sexpr) (r : Reply) → Steps s item r t → IsTrueOf s r
+claims : (s t : State) (item : Sexpr) (more : List Sexpr) (r : Reply) → Steps s item r t → IsTrueOf (asked_terms s (item ∷ more)) r
 unfolding is_verdict
-claims s t item (Sat values) h = sat_true s t values (performs s t (Sat values) refl (checked (symbols_of s.levels) (seen item)) h)
-claims s t item Unsat h = unsat_true s t (performs s t Unsat refl (checked (symbols_of s.levels) (seen item)) h)
-claims s t item (Unknown why) h = unknown_true s t why (performs s t (Unknown why) refl (checked (symbols_of s.levels) (seen item)) h)
-claims s t item (Success p) h = tt
-claims s t item Unsupported h = tt
-claims s t item (Echo text) h = tt
-claims s t item (Error kind) h = tt
-claims s t item (Definitions ds) h = tt
-claims s t item (Values vs) h = tt
-claims s t item (Info i) h = tt
+claims s t item more (Sat values) h =
+    let k = performs s t (Sat values) refl (checked (symbols_of s.levels) (seen item)) h in
+    subst (λ o. IsTrueOf o (Sat values)) (sym k.asked) (sat_true s t k.terms k.assumed values k.checks)
+claims s t item more Unsat h =
+    let k = performs s t Unsat refl (checked (symbols_of s.levels) (seen item)) h in
+    subst (λ o. IsTrueOf o Unsat) (sym k.asked) (unsat_true s t k.terms k.assumed k.checks)
+claims s t item more (Unknown why) h =
+    let k = performs s t (Unknown why) refl (checked (symbols_of s.levels) (seen item)) h in
+    subst (λ o. IsTrueOf o (Unknown why)) (sym k.asked) (unknown_true s t k.terms k.assumed why k.checks)
+claims s t item more (Success p) h = tt
+claims s t item more Unsupported h = tt
+claims s t item more (Echo text) h = tt
+claims s t item more (Error kind) h = tt
+claims s t item more (Definitions ds) h = tt
+claims s t item more (Values vs) h = tt
+claims s t item more (Info i) h = tt
+claims s t item more (Core list) h = tt
 
 behind : (s t : State) (items : List Sexpr) (log early late : List Reply) (r : Reply) → FollowsScript s items log t → log ≡ early ++ r ∷ late
-    → (before after : List Sexpr) × (u : State) × (items ≡ before ++ after) × FollowsScript s before early u × IsTrueOf u r
+    → (before after : List Sexpr) × (u : State) × (items ≡ before ++ after) × FollowsScript s before early u × IsTrueOf (asked_terms u after) r
 behind s t items log [] late r (none a) e = absurd (omega (arith, ap length e))
 behind s t items log (x ∷ early) late r (none a) e = absurd (omega (arith, ap length e))
-behind s t items log [] late r (next a b c i q is l goes step rest) e = let same : q ≡ r = cc in ([], i ∷ is, a, refl, none a, subst (IsTrueOf a) same (claims a b i q step))
+behind s t items log [] late r (next a b c i q is l goes step rest) e = let same : q ≡ r = cc in ([], i ∷ is, a, refl, none a, subst (IsTrueOf (asked_terms a (i ∷ is))) same (claims a b i is q step))
 behind s t items log (x ∷ early) late r (next a b c i q is l goes step rest) e =
     let same : q ≡ x = cc in
     let left : l ≡ early ++ r ∷ late = cc in
@@ -188,7 +227,7 @@ last_or_before (z ∷ early) late (y ∷ log) r x e =
 -- each verdict of a right log is true
 module _ (ended : Bool) (bytes : List ℕ) where
   told : (items : List Sexpr) (rest : List ℕ) (early : List Reply) (r : Reply) → Begins ended bytes items rest
-      → (before after : List Sexpr) × (u : State) × (items ≡ before ++ after) × FollowsScript opened before early u × IsTrueOf u r → IsTrueFor ended bytes early r
+      → (before after : List Sexpr) × (u : State) × (items ≡ before ++ after) × FollowsScript opened before early u × IsTrueOf (asked_terms u after) r → IsTrueFor ended bytes early r
   told items rest early r begins h = record {
     items = h.0;
     others = h.1;
@@ -202,7 +241,7 @@ module _ (ended : Bool) (bytes : List ℕ) where
   at_fault : (items : List Sexpr) (rest : List ℕ) (s : State) (first early : List Reply) (r : Reply) (kind : ErrorKind) → Begins ended bytes items rest → FollowsScript opened items first s
       → ((early ≡ first) × (r ≡ Error kind)) ⊎ ((more : List Reply) × (first ≡ early ++ r ∷ more)) → IsTrueFor ended bytes early r
   at_fault items rest s first early r kind begins follows (inl h) =
-      told items rest early r begins (items, [], s, sym (append-nil items), subst (λ (l : List Reply). FollowsScript opened items l s) (sym h.0) follows, subst (IsTrueOf s) (sym h.1) tt)
+      told items rest early r begins (items, [], s, sym (append-nil items), subst (λ (l : List Reply). FollowsScript opened items l s) (sym h.0) follows, subst (IsTrueOf (asked_terms s [])) (sym h.1) tt)
   at_fault items rest s first early r kind begins follows (inr h) = told items rest early r begins (behind opened s items first early h.0 r follows h.1)
 
   in_answers : (log early late : List Reply) (r : Reply) → AnswersBytes ended bytes log → log ≡ early ++ r ∷ late → IsTrueFor ended bytes early r

@@ -1,7 +1,7 @@
 -- How replies are printed (SMT-LIB 2.6, sections 3.9 and 4.1). Each text ends with one line feed; a success that isn't printed has none.
 use Rattle.std.specs.Prelude.{Bool, true, false, [], ◌++◌, map, codes}
 use Rattle.std.specs.List.{flat_map}
-use Rattle.reply_text.specs.Replies.{Text, definition_text, enclosed, error_text, info_text, line, pair_text, spaced}
+use Rattle.reply_text.specs.Replies.{Text, definition_text, enclosed, entry_text, error_text, info_text, line, pair_text, spaced}
 use Rattle.smt_session.specs.declared.reply.Reply.{Reply}
 use Rattle.smt_session.specs.declared.reply.Reply.TheVariants as reply
 
@@ -17,6 +17,7 @@ text_of reply.Unsat = line (codes "unsat")
 text_of (reply.Unknown why) = line (codes "unknown")
 text_of (reply.Definitions ds) = line (codes "(") ++ flat_map definition_text ds ++ line (codes ")")
 text_of (reply.Values vs) = line (enclosed (spaced (map pair_text vs)))
+text_of (reply.Core list) = line (enclosed (spaced (map entry_text list)))
 text_of (reply.Info i) = line (enclosed (info_text i))
 
 abbrev pub is_error : Reply → Bool

@@ -7,7 +7,7 @@ use Rattle.sexpr_reader.specs.declared.sexpr.Sexpr.{Sexpr}
 use Rattle.smt_session.specs.Steps.{State, opened}
 use Rattle.smt_session.specs.declared.reply.Reply.{Reply}
 use Rattle.smt_session.specs.CommandLine.{usage}
-use Rattle.smt_session.specs.Scripts.{FollowsScript, AnswersBytes, AnswersWhole, AnswersFront, IsTrueOf, texts_of}
+use Rattle.smt_session.specs.Scripts.{FollowsScript, AnswersBytes, AnswersWhole, AnswersFront, IsTrueOf, asked_terms, texts_of}
 
 -- the log is right for the bytes, and the sink took its texts and sent them
 pub record IsDone (ended : Bool) (bytes : List ℕ) (output_old output_new : Output) (log : List Reply) : Type 0 where
@@ -80,7 +80,7 @@ pub record IsRefused (output_old output_new : Output) (log : List Reply) : Type 
   pub empty : log ≡ []
   pub took : Takes output_old output_new usage
 
--- a reply behind the early ones: the bytes begin with items, and the first of these led to a session of which the reply is true, where it is a verdict
+-- a reply after the early ones: the bytes begin with items, the first of these led to a session, and the reply is true of the terms of which the next item asks there, where it is a verdict
 pub record IsTrueFor (ended : Bool) (bytes : List ℕ) (early : List Reply) (verdict : Reply) : Type 0 where
   pub items : List Sexpr
   pub others : List Sexpr
@@ -88,7 +88,7 @@ pub record IsTrueFor (ended : Bool) (bytes : List ℕ) (early : List Reply) (ver
   pub begins : Begins ended bytes (items ++ others) rest
   pub session : State
   pub follows : FollowsScript opened items early session
-  pub holds : IsTrueOf session verdict
+  pub holds : IsTrueOf (asked_terms session others) verdict
 
 -- it is such a reply for the bytes that were read
 pub record IsTrueBehind (input_old input_new : Input) (early : List Reply) (verdict : Reply) : Type 0 where

@@ -1,14 +1,20 @@
 -- The right replies to the commands of a script, in order (SMT-LIB 2.6, section 4.1).
-use Rattle.std.specs.Prelude.{◌≡◌, ◌≢◌, ◌||◌, ℕ, Bool, true, false, List, [], ◌∷◌, ◌++◌, Some, ⊤}
-use Rattle.assert_stack.specs.Levels.{live}
+use Rattle.std.specs.Prelude.{◌≡◌, ◌≢◌, ◌||◌, ℕ, Bool, true, false, List, [], ◌∷◌, ◌++◌, Option, None, Some, MatchOption, Result, Ok, Err, ⊤}
+use Rattle.assert_stack.specs.Levels.{live, symbols_of}
 use Rattle.sexpr_reader.specs.Reads.{Begins, FaultAfter, Waits, Ends}
 use Rattle.sexpr_reader.specs.declared.sexpr.Sexpr.{Sexpr}
 use Rattle.sexpr_reader.specs.declared.syntax_fault.SyntaxFault.{SyntaxFault}
 use Rattle.reply_text.specs.Refusals.{of_syntax}
+use Rattle.smt_names.specs.Form.{seen}
+use Rattle.smt_names.specs.declared.check_fault.CheckFault.{CheckFault}
+use Rattle.sort_check.specs.Checking.{checked}
+use Rattle.sort_check.specs.declared.commands.Command.{Command}
+use Rattle.sort_check.specs.declared.commands.Command.TheVariants as command
 use Rattle.smt_session.specs.Replies.{text_of, is_error}
 use Rattle.smt_session.specs.Steps.{State, opened, Steps}
 use Rattle.decide.specs.Completeness.{MustDecide}
 use Rattle.decide.specs.Verdicts.{IsOpenFor}
+use Rattle.decide.specs.declared.verdict.Open.{Open}
 use Rattle.sv_terms.specs.Truth.{AreTrueAt, HasNoValues, clear_of, opaque_of}
 use Rattle.sv_terms.specs.declared.term.Term.{Term}
 use Rattle.reply_text.specs.declared.error_kind.ErrorKind.{ErrorKind}
@@ -47,12 +53,28 @@ pub record IsNotOwed (terms : List Term) : Type 0 where
   pub opaque_part : MustDecide terms → opaque_of terms ≢ []
   pub has_values : MustDecide terms → HasNoValues (clear_of terms) → ⊥
 
--- what a verdict says of the session that it was given in: its values make each live assertion true; no values make those without opaque parts true; or it names a cause that they have, and no answer is owed
-abbrev pub IsTrueOf : State → Reply → Type 0
-IsTrueOf s (Sat values) = AreTrueAt values (live s.levels)
-IsTrueOf s Unsat = HasNoValues (clear_of (live s.levels))
-IsTrueOf s (Unknown why) = IsOpenFor (live s.levels) why × IsNotOwed (live s.levels)
-IsTrueOf s _ = ⊤
+-- the terms of which a command asks for a verdict: the live assertions, and then its assumptions
+abbrev pub asked_by : State → Result Command CheckFault → Option (List Term)
+asked_by s (Ok command.CheckSat) = Some (live s.levels)
+asked_by s (Ok (command.CheckAssuming assumed)) = Some (live s.levels ++ assumed)
+asked_by s (Ok _) = None
+asked_by s (Err fault) = None
+
+-- those of which the first of these items asks
+abbrev pub asked_terms : State → List Sexpr → Option (List Term)
+asked_terms s [] = None
+asked_terms s (item ∷ items) = asked_by s (checked (symbols_of s.levels) (seen item))
+
+-- what is told of the cause holds, and no answer is owed
+abbrev pub IsOpenAndNotOwed : Open → List Term → Type 0
+IsOpenAndNotOwed why terms = IsOpenFor terms why × IsNotOwed terms
+
+-- what a verdict says of the terms of which it was asked: its values make each of them true; no values make those without opaque parts true; or it names a cause that they have, and no answer is owed. Where none was asked there is none
+abbrev pub IsTrueOf : Option (List Term) → Reply → Type 0
+IsTrueOf asked (Sat values) = MatchOption asked ⊥ (AreTrueAt values)
+IsTrueOf asked Unsat = MatchOption asked ⊥ (λ terms. HasNoValues (clear_of terms))
+IsTrueOf asked (Unknown why) = MatchOption asked ⊥ (IsOpenAndNotOwed why)
+IsTrueOf asked _ = ⊤
 
 -- the printed replies, in order
 abbrev pub texts_of : List Reply → List ℕ

@@ -1,6 +1,6 @@
--- What a session answers to an item and what it is afterwards, a row for each command (SMT-LIB 2.6, sections 4.1 and 4.2). Of `check-sat` a right verdict is asked; every other reply is a function of the session and the item.
+-- What a session answers to an item and what it is afterwards, a row for each command (SMT-LIB 2.6, sections 4.1 and 4.2). Of `check-sat` and `check-sat-assuming` a right verdict is asked, and of `get-unsat-core` a core; every other reply is a function of the session and the item.
 use Rattle.std.specs.Prelude.{◌≡◌, ℕ, ◌+◌, ◌-◌, Bool, true, false, nat_le, nat_lt, List, [], ◌∷◌, ◌++◌, length, drop, map, Option, None, Some, Result, Ok, Err, codes, if◌then◌else◌}
-use Rattle.assert_stack.specs.Levels.{Level, Symbol, empty, symbols_of, live, pushed, declared, asserted}
+use Rattle.assert_stack.specs.Levels.{Level, Symbol, empty, symbols_of, live, named, pushed, declared, asserted, asserted_named}
 use Rattle.sexpr_reader.specs.declared.sexpr.Sexpr.{Sexpr}
 use Rattle.sort_check.specs.Checking.{asked_term, checked}
 use Rattle.smt_names.specs.Form.{seen}
@@ -30,6 +30,7 @@ use Rattle.decide.specs.Verdicts.{RightVerdict}
 use Rattle.decide.specs.declared.verdict.Verdict.{Verdict}
 use Rattle.decide.specs.declared.verdict.Verdict.TheVariants as verdict_by
 use Rattle.reply_text.specs.Refusals.{of_check, of_value}
+use Rattle.core_search.specs.Cores.{IsCore}
 use Rattle.smt_session.specs.Verdicts.{IsVerdictFor, cause_of}
 
 -- the levels, the innermost first; the verdict that is kept, if one is; whether successes are printed; whether `exit` was answered
@@ -87,14 +88,14 @@ definitions_of values = map (λ v. (v.0, kind v.1, v.1)) values
 
 abbrev pub model_reply : Option LastVerdict → Reply
 model_reply (Some (kept.Sat values)) = reply.Definitions (definitions_of values)
-model_reply (Some kept.Unsat) = reply.Error error.NoModel
+model_reply (Some (kept.Unsat assumed)) = reply.Error error.NoModel
 model_reply (Some (kept.Unknown c)) = reply.Error error.NoModel
 model_reply None = reply.Error error.NoModel
 
 -- the reason needs a kept `unknown`
 abbrev pub reason_reply : Option LastVerdict → Reply
 reason_reply (Some (kept.Sat values)) = reply.Error error.NoReason
-reason_reply (Some kept.Unsat) = reply.Error error.NoReason
+reason_reply (Some (kept.Unsat assumed)) = reply.Error error.NoReason
 reason_reply (Some (kept.Unknown c)) = reply.Info (info.ReasonUnknown c)
 reason_reply None = reply.Error error.NoReason
 
@@ -134,9 +135,20 @@ AnswersValues symbols values items _ = ⊥
 -- the values need a kept `sat`
 abbrev pub AnswersTerms : List Symbol → Option LastVerdict → List Sexpr → Reply → Type 0
 AnswersTerms symbols (Some (kept.Sat values)) items r = AnswersValues symbols values items r
-AnswersTerms symbols (Some kept.Unsat) items r = r ≡ reply.Error error.NoModel
+AnswersTerms symbols (Some (kept.Unsat assumed)) items r = r ≡ reply.Error error.NoModel
 AnswersTerms symbols (Some (kept.Unknown c)) items r = r ≡ reply.Error error.NoModel
 AnswersTerms symbols None items r = r ≡ reply.Error error.NoModel
+
+abbrev pub AnswersNames : List Level → List Term → Reply → Type 0
+AnswersNames levels assumed (reply.Core list) = IsCore (live levels) (named levels) assumed list
+AnswersNames levels assumed _ = ⊥
+
+-- a core needs a kept `unsat`
+abbrev pub AnswersCore : List Level → Option LastVerdict → Reply → Type 0
+AnswersCore levels (Some (kept.Sat values)) r = r ≡ reply.Error error.NoCore
+AnswersCore levels (Some (kept.Unsat assumed)) r = AnswersNames levels assumed r
+AnswersCore levels (Some (kept.Unknown c)) r = r ≡ reply.Error error.NoCore
+AnswersCore levels None r = r ≡ reply.Error error.NoCore
 
 -- the verdict that a reply tells
 abbrev pub Tells : Reply → Verdict → Type 0
@@ -145,20 +157,20 @@ Tells reply.Unsat v = (refutation : Refutation) × (v ≡ verdict_by.Unsat refut
 Tells (reply.Unknown why) v = v ≡ verdict_by.Unknown why
 Tells _ v = ⊥
 
--- what a session keeps of a verdict
-abbrev pub kept_of : Verdict → LastVerdict
-kept_of (verdict_by.Sat values) = kept.Sat values
-kept_of (verdict_by.Unsat refutation) = kept.Unsat
-kept_of (verdict_by.Unknown why) = kept.Unknown (cause_of why)
+-- what a session keeps of a verdict under these assumptions
+abbrev pub kept_of : List Term → Verdict → LastVerdict
+kept_of assumed (verdict_by.Sat values) = kept.Sat values
+kept_of assumed (verdict_by.Unsat refutation) = kept.Unsat assumed
+kept_of assumed (verdict_by.Unknown why) = kept.Unknown (cause_of why)
 
--- the reply tells a right verdict on the live assertions, an answer where one is owed, and the verdict is kept
-pub record Checks (s : State) (r : Reply) (t : State) : Type 0 where
+-- the reply tells a right verdict on these terms, which are the live assertions and then these assumptions, an answer where one is owed, and the verdict is kept
+pub record Checks (s : State) (terms assumed : List Term) (r : Reply) (t : State) : Type 0 where
   pub answer : Verdict
   pub told : Tells r answer
-  pub right : RightVerdict (live s.levels) answer
-  pub complete : MustDecide (live s.levels) → IsComplete (live s.levels) answer
-  pub covers : IsVerdictFor (symbols_of s.levels) (live s.levels) answer
-  pub after : t ≡ with_verdict (kept_of answer) s
+  pub right : RightVerdict terms answer
+  pub complete : MustDecide terms → IsComplete terms answer
+  pub covers : IsVerdictFor (symbols_of s.levels) terms answer
+  pub after : t ≡ with_verdict (kept_of assumed answer) s
 
 -- the reply to a command, and the session behind it
 abbrev pub Does : State → Command → Reply → State → Type 0
@@ -167,9 +179,12 @@ Does s (command.PrintSuccess b) r t = GivesReply (succeeds (printing b s)) r t
 Does s (command.Declare name sort) r t = GivesReply (succeeds (changed (declared name (entry.Constant sort) s.levels) s)) r t
 Does s (command.Define name e) r t = GivesReply (succeeds (changed (declared name e s.levels) s)) r t
 Does s (command.Assert term) r t = GivesReply (succeeds (changed (asserted term s.levels) s)) r t
+Does s (command.AssertNamed name term) r t = GivesReply (succeeds (changed (asserted_named name term s.levels) s)) r t
 Does s (command.Push n) r t = GivesReply (pushes n s) r t
 Does s (command.Pop n) r t = GivesReply (pops n s) r t
-Does s command.CheckSat r t = Checks s r t
+Does s command.CheckSat r t = Checks s (live s.levels) [] r t
+Does s (command.CheckAssuming assumed) r t = Checks s (live s.levels ++ assumed) assumed r t
+Does s command.GetCore r t = AnswersCore s.levels s.verdict r × (t ≡ s)
 Does s command.GetModel r t = GivesReply (model_reply s.verdict, s) r t
 Does s (command.GetValue items) r t = AnswersTerms (symbols_of s.levels) s.verdict items r × (t ≡ s)
 Does s (command.GetInfo k) r t = GivesReply (info_reply s k, s) r t

@@ -1,11 +1,14 @@
 //! The session, and what it does at each command.
-ghost use Rattle.std.specs.Prelude.{◌≡◌, ◌≤◌, [], ◌∷◌, All, IfOk, OnErr};
+ghost use Rattle.std.specs.Prelude.{◌≡◌, ◌≤◌, [], ◌∷◌, ◌++◌, Some, All, IfOk, OnErr};
 ghost use Rattle.sort_check.specs.Checking.{IsAskable};
 ghost use Rattle.sort_check.specs.WellFormed.{IsAdded, IsTermOf};
-ghost use Rattle.assert_stack.specs.Levels.{asserted, declared, empty, symbols_of};
+ghost use Rattle.assert_stack.specs.Levels.{asserted, asserted_named, declared, empty, live, symbols_of};
+ghost use Rattle.std.specs.List.{AllByRecursion};
+ghost use Rattle.sv_terms.specs.declared.entry.Body.TheVariants as body;
+ghost use Rattle.sv_terms.specs.declared.entry.Entry.TheVariants as entry;
 ghost use Rattle.sv_terms.specs.declared.sort.Sort.TheVariants as sort;
-ghost use Rattle.smt_session.specs.Standing.{FitsLevels};
-ghost use Rattle.smt_session.specs.Steps.{AnswersTerms, Checks, Does, GivesReply, Steps, after_exit, changed, info_reply, model_reply, opened, pops, printing, pushes, reason_reply, succeeds};
+ghost use Rattle.smt_session.specs.Standing.{FitsLevels, IsKeptOf};
+ghost use Rattle.smt_session.specs.Steps.{AnswersCore, AnswersTerms, Checks, Does, GivesReply, Steps, after_exit, changed, info_reply, kept_of, model_reply, opened, pops, printing, pushes, reason_reply, succeeds, Tells, with_verdict};
 ghost use Rattle.smt_session.specs.declared.reply.Reply.TheVariants.{Success};
 
 use crate::cause::cause_of;
@@ -13,6 +16,7 @@ use crate::check::verdict_of;
 use crate::reply::Reply;
 use crate::values::{definitions, values};
 use assert_stack::{Stack, StackFault};
+use core_search::find_core;
 use decide::Verdict;
 use reply_text::{Cause, ErrorKind, Info};
 use sexpr_reader::Sexpr;
@@ -22,14 +26,15 @@ use sort_check::{
 };
 use std::alloc::{AllocError, Global};
 use std::thread::Threads;
-use sv_list::Items;
+use sv_list::{Copied, Items};
 use sv_terms::{Entry, Model, Name, Term};
 
-/// The verdict of the last `check-sat`, until something changes what it was on.
+/// The verdict of the last check, until something changes what it was on.
 #[derive(Drop)]
 pub enum LastVerdict {
     Sat(Model),
-    Unsat,
+    /// With the assumptions of the check.
+    Unsat(Items<Term>),
     Unknown(Cause),
 }
 
@@ -102,8 +107,9 @@ impl Session {
     /// `unsupported`, and where memory is wanting, the session is what it was.
     ///
     /// It costs what checking the item and its command cost: `push` and `pop` what they put and take
-    /// away, `check-sat` what `decide` takes for the live assertions, and the symbols, `get-model` and
-    /// `get-value` what they answer. `get-value` builds each term, evaluates and drops it before the
+    /// away, `check-sat` what `decide` takes for the live assertions, and the symbols,
+    /// `check-sat-assuming` the same with its assumptions, `get-unsat-core` what `find_core` takes, `get-model`
+    /// and `get-value` what they answer. `get-value` builds each term, evaluates and drops it before the
     /// next one.
     pub fn step<R: Threads + Sync>(
         &mut self,
@@ -140,9 +146,12 @@ impl Session {
             Command::Declare(name, sort) => self.declare(name, Entry::Constant(sort)),
             Command::Define(name, entry) => self.declare(name, entry),
             Command::Assert(term) => self.assert(term),
+            Command::AssertNamed(name, term) => self.assert_named(alloc, name, term),
             Command::Push(n) => self.push(n),
             Command::Pop(n) => Ok(self.pop(n)),
             Command::CheckSat => self.check_sat(rt, alloc),
+            Command::CheckAssuming(assumed) => self.check_assuming(rt, alloc, assumed),
+            Command::GetCore => self.core(rt, alloc),
             Command::GetModel => self.model(alloc),
             Command::GetValue(items) => self.values(alloc, items),
             Command::GetInfo(keyword) => Ok(self.info(keyword.as_slice())),
@@ -190,6 +199,18 @@ impl Session {
         Ok(self.success())
     }
 
+    fn assert_named(&mut self, alloc: Global, name: Name, term: Term) -> Result<Reply, AllocError>
+        requires term { IsTermOf (symbols_of self.old.levels) sort.Bool term }
+        requires name { IsAdded (symbols_of self.old.levels) name (entry.Macro [] (body.Term term)) }
+        ensures ok { IfOk result (λ reply. GivesReply (succeeds (changed (asserted_named name term self.old.levels) self.old)) reply self.new) }
+        ensures err { OnErr result (self.new ≡ self.old) }
+    {
+        constants_have_values();
+        self.stack.assert_named(alloc, name, term)?;
+        self.verdict = None;
+        Ok(self.success())
+    }
+
     fn push(&mut self, n: u32) -> Result<Reply, AllocError>
         ensures ok { IfOk result (λ reply. GivesReply (pushes n self.old) reply self.new) }
         ensures err { OnErr result (self.new ≡ self.old) }
@@ -216,26 +237,25 @@ impl Session {
         }
     }
 
-    fn check_sat<R: Threads + Sync>(&mut self, rt: &R, alloc: Global) -> Result<Reply, AllocError>
-        ensures ok { IfOk result (λ reply. Checks self.old reply self.new) }
+    // Keeps the verdict of a check under these assumptions, and tells it.
+    fn keep(
+        &mut self,
+        alloc: Global,
+        assumed: Items<Term>,
+        verdict: Verdict,
+    ) -> Result<Reply, AllocError>
+        requires { IsKeptOf self.old.levels (Some (kept_of assumed verdict)) }
+        ensures ok { IfOk result (λ reply. Tells reply verdict × (self.new ≡ with_verdict (kept_of assumed verdict) self.old)) }
         ensures err { OnErr result (self.new ≡ self.old) }
     {
-        constants_have_values();
-        entries_are_well_formed();
-        match verdict_of(
-            rt,
-            alloc,
-            self.stack.symbols(),
-            self.stack.live(),
-            self.workers,
-        )? {
+        match verdict {
             Verdict::Sat(model) => {
                 let copy = model.copy(alloc)?;
                 self.verdict = Some(LastVerdict::Sat(model));
                 Ok(Reply::Sat(copy))
             }
             Verdict::Unsat(_) => {
-                self.verdict = Some(LastVerdict::Unsat);
+                self.verdict = Some(LastVerdict::Unsat(assumed));
                 Ok(Reply::Unsat)
             }
             Verdict::Unknown(open) => {
@@ -243,6 +263,78 @@ impl Session {
                 Ok(Reply::Unknown(open))
             }
         }
+    }
+
+    fn check_sat<R: Threads + Sync>(&mut self, rt: &R, alloc: Global) -> Result<Reply, AllocError>
+        ensures ok { IfOk result (λ reply. Checks self.old (live self.old.levels) [] reply self.new) }
+        ensures err { OnErr result (self.new ≡ self.old) }
+    {
+        constants_have_values();
+        entries_are_well_formed();
+        let verdict = verdict_of(
+            rt,
+            alloc,
+            self.stack.symbols(),
+            self.stack.live(),
+            self.workers,
+        )?;
+        self.keep(alloc, Items::new(alloc), verdict)
+    }
+
+    // The assumptions are asserted for the check, and go before the verdict is kept.
+    fn check_assuming<R: Threads + Sync>(
+        &mut self,
+        rt: &R,
+        alloc: Global,
+        assumed: Items<Term>,
+    ) -> Result<Reply, AllocError>
+        requires { AllByRecursion (IsTermOf (symbols_of self.old.levels) sort.Bool) assumed }
+        ensures ok { IfOk result (λ reply. Checks self.old (live self.old.levels ++ assumed) assumed reply self.new) }
+        ensures err { OnErr result (self.new ≡ self.old) }
+    {
+        constants_have_values();
+        entries_are_well_formed();
+        let count = assumed.len();
+        let asserted = assumed.copy(alloc)?;
+        self.stack.assert_all(asserted)?;
+        let answer = verdict_of(
+            rt,
+            alloc,
+            self.stack.symbols(),
+            self.stack.live(),
+            self.workers,
+        );
+        self.stack.drop_last(count);
+        self.keep(alloc, assumed, answer?)
+    }
+
+    // The assumptions of the kept `unsat` are asserted while a core is looked for.
+    fn core<R: Threads + Sync>(&mut self, rt: &R, alloc: Global) -> Result<Reply, AllocError>
+        ensures ok { IfOk result (AnswersCore self.old.levels self.old.verdict) }
+        ensures same { self.new ≡ self.old }
+    {
+        constants_have_values();
+        entries_are_well_formed();
+        let Some(kept) = &self.verdict else {
+            return Ok(Reply::Error(ErrorKind::NoCore));
+        };
+        let LastVerdict::Unsat(terms) = kept else {
+            return Ok(Reply::Error(ErrorKind::NoCore));
+        };
+        let assumed = terms.copy(alloc)?;
+        let count = assumed.len();
+        let named = self.stack.live().len();
+        self.stack.assert_all(assumed)?;
+        let core = find_core(
+            rt,
+            alloc,
+            self.stack.live(),
+            named,
+            self.stack.named(),
+            self.workers,
+        );
+        self.stack.drop_last(count);
+        Ok(Reply::Core(core?))
     }
 
     fn model(&self, alloc: Global) -> Result<Reply, AllocError>
@@ -265,7 +357,7 @@ impl Session {
         };
         match kept {
             LastVerdict::Sat(model) => values(alloc, self.stack.symbols(), model, items),
-            LastVerdict::Unsat => Ok(Reply::Error(ErrorKind::NoModel)),
+            LastVerdict::Unsat(_) => Ok(Reply::Error(ErrorKind::NoModel)),
             LastVerdict::Unknown(_) => Ok(Reply::Error(ErrorKind::NoModel)),
         }
     }

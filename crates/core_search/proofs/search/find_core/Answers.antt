@@ -1,4 +1,4 @@
-use Rattle.std.proofs.Common.{◌≡◌, ℕ, ◌++◌, ◌∷◌, ◌+◌, [], List, Bool, None, length, drop, MatchOption, ap, sym, ◌∙◌, subst, arith, append-nil, append_assoc}
+use Rattle.std.proofs.Common.{◌≡◌, ℕ, ◌++◌, ◌∷◌, [], List, Bool, length, MatchOption, ap, sym, ◌∙◌, subst, arith, append-nil, append_assoc}
 use Rattle.sv_terms.specs.Truth.{HasNoValues, clear_of}
 use Rattle.sv_terms.specs.declared.term.Term.{Term}
 use Rattle.core_search.specs.Cores.{Entry, NamedPlace, IsCoreFrom, all_stay, staying}

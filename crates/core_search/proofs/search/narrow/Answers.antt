@@ -1,4 +1,4 @@
-use Rattle.std.proofs.Common.{◌≡◌, ◌+◌, ◌-◌, ◌/◌, ◌<◌, ◌≤◌, subst, arith}
+use Rattle.std.proofs.Common.{◌+◌, ◌-◌, ◌/◌, ◌<◌, ◌≤◌, subst, arith}
 use Rattle.decide.specs.Verdicts.{RightVerdict}
 use Rattle.core_search.specs.Cores.{staying}
 use Rattle.core_search.proofs.Searching.{leads-on, bound-on, bound-last}

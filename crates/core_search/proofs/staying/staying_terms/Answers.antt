@@ -1,4 +1,4 @@
-use Rattle.std.proofs.Common.{rules, ◌≡◌, ◌∷◌, ◌++◌, [], true, ap, sym, ◌∙◌}
+use Rattle.std.proofs.Common.{rules, ◌≡◌, ◌∷◌, ◌++◌, [], ap, sym, ◌∙◌}
 use Rattle.core_search.proofs.Stayings.{none_stays, next-stays, next-goes}
 use Rattle.core_search.proofs.staying.staying_terms.Goals as goal
 use Rattle.core_search.proofs.staying.staying_terms.Goals.{then-not-is_out+in_ok-copy+in_ok-push, else-not-is_out}

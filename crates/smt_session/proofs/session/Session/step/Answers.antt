@@ -13,7 +13,7 @@ perform-requires-clause-fits g c κs within =
     let stack = c.self.inside.stack in
     let is = sym (ap (λ z. checked z (seen c.args.item.now)) c.symbols.ensures) ∙ c.in-Ok.ensures in
     subst (λ ls. FitsLevels ls c.in-Ok.command) (ap (λ (s : State). s.levels) c.self.view_is)
-    (fits c.terms_are_sorted.ensures.asserted c.terms_are_taken_one_by_one.ensures c.additions_are_well_formed.ensures.declared c.additions_are_well_formed.ensures.defined stack c.args.item.now c.in-Ok.command c.self.invariant.0 is)
+    (fits c.terms_are_sorted.ensures.asserted c.terms_are_sorted.ensures.named c.terms_are_sorted.ensures.assumed c.terms_are_taken_one_by_one.ensures c.additions_are_well_formed.ensures.declared c.additions_are_well_formed.ensures.defined c.additions_are_well_formed.ensures.named stack c.args.item.now c.in-Ok.command c.self.invariant.0 is)
 
 pub returns-in-Ok-clause-ok : goal.returns-in-Ok-clause-ok
 returns-in-Ok-clause-ok g c =

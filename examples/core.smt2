@@ -1,0 +1,17 @@
+; Which rules of a policy for file names contradict each other?
+(declare-const name String)
+(declare-const upload Bool)
+(assert (! (str.in_re name (re.+ (re.union (re.range "a" "z") (str.to_re ".")))) :named letters))
+(assert (! (str.in_re name (re.++ re.all (str.to_re ".txt"))) :named text))
+(assert (! (=> upload (str.prefixof "tmp" name)) :named uploads))
+(push 1)
+(assert (! (not (str.contains name ".")) :named plain))
+(check-sat)
+(get-unsat-core)
+(pop 1)
+; Without the rule against dots, may this file be uploaded?
+(check-sat-assuming (upload))
+(assert (! (= name "x.txt") :named this))
+(check-sat-assuming (upload))
+(get-unsat-core)
+(check-sat-assuming ((not upload)))
