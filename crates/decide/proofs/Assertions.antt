@@ -19,7 +19,7 @@ use Rattle.assertion_parts.proofs.Terms.{every-Apply, words-Apply}
 use Rattle.bool_cubes.specs.Cubes.{cubes_of}
 use Rattle.bool_cubes.specs.Laws.{CubesAreExact, IsAssertion, IsFittingCube, IsPassedCube, IsPassedOn, IsClearBool, IsValuedCube, LiteralsAreValued, LiteralsFit, LiteralsPass}
 use Rattle.bool_cubes.specs.Past.{HasNoPast}
-use Rattle.bool_cubes.specs.Refusing.{IsRefusedExactly, count_of, most_cubes}
+use Rattle.bool_cubes.specs.Refusing.{IsRefusedWhereMany, count_of, most_cubes}
 use Rattle.bool_cubes.specs.declared.fault.CubeFault.{CubeFault}
 use Rattle.bool_cubes.specs.declared.fault.CubeFault.TheVariants as fault
 use Rattle.literal_forms.specs.Shapes.{seen}
@@ -125,18 +125,18 @@ cut-more n h = omega (arith, h)
 
 -- refusals
 module _ (X : Type 0) (terms : List Term) where
-  pub refused-right : (f : CubeFault) → IsRefusedExactly {X = X} (clear_of terms) (Err f) → IfOk (refused_as f) (RightVerdict terms)
+  pub refused-right : (f : CubeFault) → IsRefusedWhereMany {X = X} (clear_of terms) (Err f) → IfOk (refused_as f) (RightVerdict terms)
   refused-right (fault.Past l r) h = h
   refused-right (fault.TooMany n) h = (h.2, subst (λ k. most_cubes < k) (sym h.2) (cut-more (count_of (clear_of terms)) h.1))
   refused-right (fault.Memory e) h = tt
 
-  pub refused-complete : (f : CubeFault) → IsRefusedExactly {X = X} (clear_of terms) (Err f) → MustDecide terms → IfOk (refused_as f) (IsComplete terms)
+  pub refused-complete : (f : CubeFault) → IsRefusedWhereMany {X = X} (clear_of terms) (Err f) → MustDecide terms → IfOk (refused_as f) (IsComplete terms)
   refused-complete (fault.Past l r) h must = absurd (must.fits l r h)
   refused-complete (fault.TooMany n) h must = absurd (let few = must.few in let many = h.1 in omega (arith, few, many))
   refused-complete (fault.Memory e) h must = tt
 
-  pub refused-at : (xs : List Term) (r : Result X CubeFault) (f : CubeFault) → xs ≡ clear_of terms → r ≡ Err f → IsRefusedExactly xs r → IsRefusedExactly {X = X} (clear_of terms) (Err f)
-  refused-at xs r f e is h = subst (λ ts. IsRefusedExactly {X = X} ts (Err f)) e (subst (IsRefusedExactly xs) is h)
+  pub refused-at : (xs : List Term) (r : Result X CubeFault) (f : CubeFault) → xs ≡ clear_of terms → r ≡ Err f → IsRefusedWhereMany xs r → IsRefusedWhereMany {X = X} (clear_of terms) (Err f)
+  refused-at xs r f e is h = subst (λ ts. IsRefusedWhereMany {X = X} ts (Err f)) e (subst (IsRefusedWhereMany xs) is h)
 
 pub refused-only : (terms : List Term) (f : CubeFault) → IfOk (refused_as f) (HasOnly terms)
 refused-only terms (fault.Past l r) = tt

@@ -10,6 +10,7 @@ use Rattle.sv_list.specs.Lists.{AllZip-append, AllZip-length}
 use Rattle.sv_terms.specs.Meaning.{Named}
 use Rattle.sv_terms.specs.declared.term.Term.{Term}
 use Rattle.bool_cubes.specs.Cubes.{cubes_of}
+use Rattle.bool_cubes.specs.Refusing.{most_numbered}
 use Rattle.literal_forms.specs.declared.literal.Cube.{Cube}
 use Rattle.cube_search.specs.declared.answer.CubeAnswer.{CubeAnswer}
 use Rattle.sv_terms.specs.Truth.{opaque_of}
@@ -138,7 +139,7 @@ module _ (terms : List Term) (cubes old new : List Cube) (jobs : List Job) (outc
       }
 
 -- a batch's answers leave the tally's number below 2^64
-pub room : (terms : List Term) (cubes old new : List Cube) (jobs : List Job) (outcomes : List (Result CubeAnswer AllocError)) (tally : CubeTally) → IsUnderWay terms cubes old tally → AreJobsOf terms jobs old new → AllZip Yields jobs outcomes → length cubes ≤ 1048576 → tally.count + length outcomes < 2 ^ 64
+pub room : (terms : List Term) (cubes old new : List Cube) (jobs : List Job) (outcomes : List (Result CubeAnswer AllocError)) (tally : CubeTally) → IsUnderWay terms cubes old tally → AreJobsOf terms jobs old new → AllZip Yields jobs outcomes → length cubes ≤ most_numbered → tally.count + length outcomes < 2 ^ 64
 room terms cubes old new jobs outcomes tally u taken yielded few =
     let a = counted terms cubes old tally u in
     let b = jobs-length terms jobs old new taken in
@@ -211,7 +212,7 @@ module _ (terms clear : List Term) (cubes old : List Cube) (before : CubeTally) 
       let n : before.count ≡ length u.done = u.tallied.count ∙ sym (AllZip-length (IsOutcome terms) u.done u.answers u.outcomes) in
       (λ i. drop (n i) (sym is i)) ∙ ap (λ l. drop (length u.done) l) u.parts ∙ drop-append_seam u.done old
 
-  pub pass-room : length cubes ≤ 1048576 → before.count + length (drop before.count (cubes_of clear)) < 2 ^ 64
+  pub pass-room : length cubes ≤ most_numbered → before.count + length (drop before.count (cubes_of clear)) < 2 ^ 64
   pass-room few = let a = counted terms cubes old before u in let b = ap length left-behind in omega (arith, a, b, few)
 
   -- the search goes on behind those that are passed over

@@ -7,7 +7,7 @@ ghost use Rattle.assertion_parts.specs.Constants.{ConstantsHaveOneSort};
 ghost use Rattle.sv_terms.specs.TransducerSizes.{has_formed};
 ghost use Rattle.bool_cubes.specs.Cubes.{cubes_of};
 ghost use Rattle.bool_cubes.specs.Laws.{IsClearBool};
-ghost use Rattle.bool_cubes.specs.Refusing.{most_cubes};
+ghost use Rattle.bool_cubes.specs.Refusing.{most_numbered};
 ghost use Rattle.decide.specs.Passing.{AreKnown, PassesCubes};
 ghost use Rattle.decide.specs.Completeness.{MustDecide, IsComplete};
 ghost use Rattle.decide.specs.Jobs.{IsAskedCube, IsFolded, IsFoldOf};
@@ -35,6 +35,9 @@ use sv_terms::{Term, transducers_are_bounded};
 ///
 /// `workers` is how many shares the cubes of a batch are cut into at the most, each done by one thread.
 /// Each cube is announced at `gate` before it is done, by its place in its batch.
+///
+/// More than 1,048,576 cubes are answered where at most so many are left without those that are known to hold an atom
+/// and its negation; else the answer is that there are too many.
 ///
 /// Time is linear in the assertions, plus what each cube costs: as many as there are, up to the end of the
 /// first batch that ends the search. Memory is that of the assertions' cubes as a tree, of a batch of 64
@@ -64,7 +67,7 @@ pub fn check<R: Threads + Sync, G: Gate + Sync>(
     transducers_are_bounded();
     let clear = clear_terms(alloc, terms)?;
     string_literals_are_words(clear.as_slice());
-    match Cubes::new(alloc, clear.as_slice()) {
+    match Cubes::with_few_left(alloc, clear.as_slice()) {
         Ok(cubes) => {
             let kept = machines_for(alloc, clear.as_slice())?;
             let shared = Shared {
@@ -100,7 +103,7 @@ fn answer_all<R: Threads + Sync, G: Gate + Sync>(
     gate: &G,
 ) -> Result<Verdict, AllocError>
     requires workers { 1 ≤ workers }
-    requires few { length cubes ≤ most_cubes }
+    requires few { length cubes ≤ most_numbered }
     requires sorted { AllByRecursion IsClearBool clear.now }
     requires cubes { cubes ≡ cubes_of clear.now }
     requires asked { AllByRecursion (IsAskedCube shared.now.terms.now) cubes }

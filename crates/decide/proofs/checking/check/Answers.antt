@@ -12,8 +12,8 @@ use Rattle.decide.proofs.Assertions.{all-asked, clear-sorted, laws-of, refused-a
 use Rattle.decide.proofs.Rightness.{right-of, complete-of, only-of, when-fold}
 use Rattle.decide.proofs.checking.check.Goals as goal
 
-pub new-requires : goal.new-requires
-new-requires g c = subst (AllByRecursion IsClearBool) (sym (c.as_slice-2.ensures ∙ c.in_ok-clear.ensures)) (clear-sorted c.args.terms.now c.requires.sorted)
+pub with_few_left-requires : goal.with_few_left-requires
+with_few_left-requires g c = subst (AllByRecursion IsClearBool) (sym (c.as_slice-2.ensures ∙ c.in_ok-clear.ensures)) (clear-sorted c.args.terms.now c.requires.sorted)
 
 pub answer_all-requires-clause-asked : goal.answer_all-requires-clause-asked
 answer_all-requires-clause-asked g c κs within =
@@ -39,12 +39,12 @@ returns-in-Ok-clause-only g c =
 
 pub returns-clause-right : goal.returns-clause-right
 returns-clause-right g c =
-    let own = refused-at (List Cube) c.args.terms.now c.as_slice-2.result.now c.new.result c.in-Err.fault (c.as_slice-2.ensures ∙ c.in_ok-clear.ensures) c.in-Err.is c.new.ensures.refused in
+    let own = refused-at (List Cube) c.args.terms.now c.as_slice-2.result.now c.with_few_left.result c.in-Err.fault (c.as_slice-2.ensures ∙ c.in_ok-clear.ensures) c.in-Err.is c.with_few_left.ensures.refused in
     subst (λ r. IfOk r (RightVerdict c.args.terms.now)) (sym c.refusal_of.ensures) (refused-right (List Cube) c.args.terms.now c.in-Err.fault own)
 
 pub returns-clause-complete : goal.returns-clause-complete
 returns-clause-complete g c = λ must.
-    let own = refused-at (List Cube) c.args.terms.now c.as_slice-2.result.now c.new.result c.in-Err.fault (c.as_slice-2.ensures ∙ c.in_ok-clear.ensures) c.in-Err.is c.new.ensures.refused in
+    let own = refused-at (List Cube) c.args.terms.now c.as_slice-2.result.now c.with_few_left.result c.in-Err.fault (c.as_slice-2.ensures ∙ c.in_ok-clear.ensures) c.in-Err.is c.with_few_left.ensures.refused in
     subst (λ r. IfOk r (IsComplete c.args.terms.now)) (sym c.refusal_of.ensures) (refused-complete (List Cube) c.args.terms.now c.in-Err.fault own must)
 
 pub returns-clause-only : goal.returns-clause-only
