@@ -671,6 +671,8 @@ def ask(command, text, seconds=20):
         return verdict, None
     values = {}
     for name, told in read(rest)[0]:
+        if isinstance(told, list) and told[0] != "-":
+            return "sat without values", None
         told = -told[1] if isinstance(told, list) else told
         values[name] = {"true": True, "false": False}.get(told, told) if isinstance(told, str) else told
     return verdict, values
