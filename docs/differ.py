@@ -681,11 +681,11 @@ def ask(command, text, seconds=20):
 def wrong(script, verdict, values, peer):
     """Why the verdict is wrong, as far as the evaluator and the peer show it, or None."""
     if verdict == "sat":
+        if script.is_closed and script.search()[1]:
+            return f"no values make every assertion true, nor does its model {values}"
         failed = script.fails(values)
         if failed is not None:
             return f"its model {values} doesn't make {show(failed)} true"
-        if script.is_closed and script.search()[1]:
-            return "none of all values makes every assertion true"
     elif verdict == "unsat":
         found, _ = script.search()
         if found is not None:
@@ -726,7 +726,7 @@ def main():
         is_long = verdict == "sat" and any(isinstance(it, tuple) and len(it) > LONGEST for it in values.values())
         told = verdict + " with a long word" * is_long + f", {values}" * (verdict == "unknown")
         counts[told, peer[0] if peer[0] in ("", "sat", "unsat") else "other"] += 1
-        why = None if is_long else wrong(script, verdict, values, peer)
+        why = None if is_long and not script.is_closed else wrong(script, verdict, values, peer)
         if why:
             bad += 1
             print(f"; seed {seed}: {verdict}, but {why}\n{script.commands()}")
