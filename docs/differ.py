@@ -7,7 +7,16 @@
 The evaluator below says what SMT-LIB 2.6 and its theories Core, Ints and UnicodeStrings say of a term whose constants
 have values; it shares nothing with the program. Behind `sat` every assertion has to be true by it under the model that
 the program prints. Behind `unsat` no values may make all of them true, of those that are tried: short words over the
-letters of the script and one more, small numbers. A peer reads each script without a transducer on its standard input,
+letters of the script and one more, small numbers; parts of a script that share no constant are searched apart, and a
+constant that an assertion sets equal to a term is computed. Where the script bounds every word's length and compares
+words with literals alone (`is_closed`), words over one letter of each class are all there is to try: if none of them do,
+`sat` is wrong too.
+
+Four of eleven scripts are plain ones; of the others some have Boolean names for conditions (2 to 5, or 21 to 30, most
+of them held or negated), constant bounds on lengths, literals outside the straight-line fragment (disequalities, second
+definitions, cycles, orders, opaque functions), independent parts, or written words. There `unknown` is no error.
+
+A peer reads each script without a transducer on its standard input,
 such as "cvc5 --lang smt2 --strings-exp --produce-models --tlimit=3000 -q -"; where it says `sat` and the program `unsat`,
 the peer's model is looked at in the same way, and a peer's `unsat` against a `sat` is told.
 Prints each script with a verdict that is shown to be wrong, and ends with 1 if there is one. A model with a word of more
@@ -27,6 +36,10 @@ GREATEST = 0x2FFFF
 SORTS = {"s": "String", "i": "Int", "b": "Bool"}
 # How many assignments are tried against an `unsat`.
 TRIED = 4_000
+# Up to so many assignments of a closed script are all tried.
+WHOLE = 12_000
+# What is drawn: as often as it stands here.
+SHAPES = ["plain"] * 4 + ["names", "many names", "bounds", "bounds", "outside", "parts", "written"]
 # A model with longer words isn't looked at.
 LONGEST = 200
 
@@ -104,7 +117,7 @@ def to_int(word):
     return int("".join(map(chr, word))) if word and all(48 <= c <= 57 for c in word) else -1
 
 
-@functools.lru_cache(maxsize=None)
+@functools.lru_cache(maxsize=1 << 20)
 def has(regex, word):
     """Whether the word is in the regular expression, which is nested tuples here."""
     head, *parts = regex
@@ -230,6 +243,17 @@ def value(term, values):
 # Scripts.
 
 
+def names_in(term, names):
+    """Those of the names that stand in the term."""
+    if isinstance(term, str):
+        return {term} & names
+    return set().union(*(names_in(it, names) for it in term)) if isinstance(term, list) else set()
+
+
+def length(term):
+    return ["str.len", term]
+
+
 class Script:
     """A script that is drawn: its constants, by name with the first letter of the sort, and its assertions."""
 
@@ -238,6 +262,12 @@ class Script:
         self.letters = [ord(c) for c in self.draw.choice(["ab", "ab", "ab", "a", "a7", "<;"])]
         if self.draw.random() < 0.05:
             self.letters.append(self.draw.choice([0, 34, 92, 10, 233, 0xD800, GREATEST]))
+        self.reach, self.is_closed = {}, False
+        self.shape = self.draw.choice(SHAPES)
+        if self.shape != "plain":
+            self.transducer = None
+            self.assertions = self.shaped()
+            return
         counts = {"s": self.draw.randint(1, 3), "i": self.draw.choice([0, 0, 1, 2]), "b": self.draw.choice([0, 0, 1])}
         self.constants = [f"{sort}{at}" for sort, count in counts.items() for at in range(count)]
         self.known = self.constants
@@ -358,6 +388,258 @@ class Script:
     def assertion(self):
         return self.formula(self.draw.choice([0, 0, 1, 2]))
 
+    # Shapes.
+
+    def constants_of(self, **counts):
+        """Begins with so many constants of each sort."""
+        self.constants = [f"{sort}{at}" for sort, count in counts.items() for at in range(count)]
+        self.known = self.constants
+
+    def shaped(self):
+        shapes = {"bounds": self.bounded, "outside": self.outside, "parts": self.parts, "written": self.written}
+        made = shapes.get(self.shape, self.named)()
+        self.draw.shuffle(made)
+        return made
+
+    def cap(self, name, most):
+        """An assertion that the constant's word has at most so many letters."""
+        size = length(name)
+        self.reach[name] = most
+        return self.draw.choice([
+            ["<", size, most + 1], ["<=", size, most], [">=", most, size], ["not", [">", size, most]],
+            ["<=", ["*", 2, size], 2 * most + 1], [">=", ["-", size], -most], ["<", -most - 1, ["*", -1, size]],
+            ["<=", ["+", size, 3], most + 3], ["=", size, most] if most == 0 else ["<=", size, most],
+            ["str.in_re", name, [["_", "re.loop", 0, most], "re.allchar"]],
+        ])
+
+    def bound(self):
+        """A constant bound on a length, on a defined word's too, or on a sum of lengths."""
+        draw, names = self.draw, self.of_sort("s")
+        size = length(draw.choice(names))
+        sums = [["+", size, length(draw.choice(names))], length(["str.++", draw.choice(names), self.word(), draw.choice(names)]), ["-", size, length(draw.choice(names))]]
+        if draw.random() < 0.25:
+            size = draw.choice(sums)
+        head, least = draw.choice(["<", "<=", ">", ">=", "=", "distinct"]), draw.randint(-1, 5)
+        return draw.choice([
+            [head, size, least], [head, least, size], ["<=", draw.randint(1, 3), size], ["=", size, draw.choice([0, 0, 1, 2])],
+            [head, ["*", draw.choice([-2, 2, 3]), size], draw.randint(-7, 9)], [head, ["+", size, draw.randint(-3, 3)], least],
+            [">", ["-", size], draw.randint(-5, 0)], [draw.choice(["<", "distinct"]), *[draw.randint(-1, 1)] * 2] if draw.random() < 0.2 else ["<=", size, 4],
+        ])
+
+    def condition(self):
+        """A literal whose truth doesn't tell letters that the script doesn't write from their like."""
+        draw, roll, name = self.draw, self.draw.random(), self.draw.choice(self.of_sort("s"))
+        if roll < 0.35:
+            return self.bound()
+        if roll < 0.6:
+            return ["str.in_re", name, self.regex(draw.randint(1, 2))]
+        return draw.choice([["=", name, self.word()], ["str.contains", name, self.word()], ["str.prefixof", self.word(), name], ["str.suffixof", self.word(), name]])
+
+    def joined(self, names, pieces):
+        """A concatenation of so many pieces, constants among these names and words."""
+        return ["str.++", *(self.draw.choice(names) if self.draw.random() < 0.65 else self.word() for _ in range(pieces))]
+
+    def definitions(self, sources):
+        """Each constant after the sources is a concatenation of those before it."""
+        names = self.of_sort("s")
+        return [["=", name, self.joined(names[:at], self.draw.randint(2, 4))] for at, name in enumerate(names) if at >= sources]
+
+    def bounded(self):
+        sources = self.draw.randint(1, 2)
+        self.constants_of(s=sources + self.draw.randint(0, 2), b=self.draw.choice([0, 0, 1]))
+        self.is_closed = self.draw.random() < 0.8
+        made, caps = self.definitions(sources), []
+        if self.is_closed:
+            caps = [self.cap(name, self.draw.choice([0, 1, 2, 2, 3, 3])) for name in self.of_sort("s")[:sources]]
+        self.hide(made)
+        made += caps + [self.held(self.bound()) for _ in range(self.draw.randint(1, 3))]
+        made += [self.literal() for _ in range(self.draw.randint(1, 4))]
+        if self.draw.random() < 0.4:
+            made.append([self.draw.choice(["or", "=>", "xor"]), self.condition(), self.condition()])
+        return made
+
+    def hide(self, made=()):
+        """Hidden words for the constants, by the definitions if they are given; in most scripts literals follow them."""
+        self.hidden = {name: self.word()[: self.reach.get(name, 3)] for name in self.of_sort("s")}
+        for _, name, term in made:
+            self.hidden[name] = value(term, self.hidden)
+        self.is_planted = self.draw.random() < 0.7
+
+    def held(self, literal):
+        """The literal or its negation: in most scripts that of the two which is true of the hidden words."""
+        is_kept = value(literal, self.hidden) if self.is_planted else self.draw.random() < 0.7
+        return literal if is_kept else ["not", literal]
+
+    def literal(self):
+        return self.held(self.condition())
+
+    def named(self):
+        """Names for conditions; most follow hidden words, so that the conditions can hold together."""
+        draw, sources = self.draw, self.draw.randint(1, 2)
+        self.constants_of(s=sources + draw.randint(0, 1))
+        made, caps, is_many = self.definitions(sources), [], self.shape == "many names"
+        self.is_closed = draw.random() < 0.5
+        if self.is_closed:
+            caps = [self.cap(name, draw.randint(1, 3)) for name in self.of_sort("s")[:sources]]
+        self.hide(made)
+        names = [f"b{at}" for at in range(draw.randint(21, 30) if is_many else draw.randint(2, 5))]
+        conditions = [self.condition() for _ in names]
+        self.constants += names
+        holds = [value(it, self.hidden) if self.is_planted or draw.random() < 0.8 else draw.random() < 0.5 for it in conditions]
+        literals = [name if held else ["not", name] for name, held in zip(names, holds)]
+        made += caps + [["=", name, it] for name, it in zip(names, conditions)]
+        loose = draw.randint(0, 4 if is_many else len(names))
+        return made + literals[loose:] + [self.clause(literals) for _ in range(draw.randint(1, 3))]
+
+    def clause(self, literals):
+        head = self.draw.choice(["and", "or", "or", "=>", "ite", "not"])
+        parts = [self.draw.choice(literals) for _ in range({"ite": 3, "not": 1}.get(head, self.draw.randint(2, 3)))]
+        return [head, *parts] if head != "not" else ["or", ["not", parts[0]], self.draw.choice(literals)]
+
+    def stray(self):
+        """A literal outside the straight-line fragment."""
+        draw, names = self.draw, self.of_sort("s")
+        x, y = draw.choice(names), draw.choice(names)
+        at, to, word = draw.randint(-1, 3), draw.randint(-1, 3), self.word()
+        return draw.choice([
+            lambda: ["distinct", self.text(1), self.text(1)], lambda: ["not", ["=", x, self.joined(names, 2)]],
+            lambda: ["distinct", x, y, self.word()], lambda: ["=", x, ["str.++", word, x]], lambda: ["=", ["str.++", x, word], ["str.++", word, y]],
+            lambda: ["=", x, self.joined(names, 2)], lambda: [draw.choice(["str.<", "str.<="]), x, draw.choice([y, word])],
+            lambda: ["not", [draw.choice(["str.<", "str.<="]), x, y]], lambda: ["=", ["str.at", x, at], draw.choice([y, self.word(1)])],
+            lambda: ["=", y, ["str.substr", x, at, draw.choice([to, length(y)])]], lambda: [draw.choice(["=", "<=", ">"]), ["str.indexof", x, draw.choice([word, y]), at], to],
+            lambda: ["=", x, ["ite", self.condition(), y, self.word()]], lambda: [draw.choice(["=", "<", ">="]), ["str.to_int", x], draw.choice([-1, 7, 77, to])],
+            lambda: ["=", x, ["str.from_int", draw.choice([-1, 7, length(y)])]], lambda: ["=", ["str.to_code", x], draw.choice([-1, self.letters[0], ["str.to_code", y]])],
+            lambda: ["=", x, ["str.from_code", draw.choice([-1, self.letters[0], GREATEST, GREATEST + 1])]], lambda: ["str.contains", x, y],
+            lambda: ["not", ["str.prefixof", x, y]], lambda: ["=", x, ["str.replace", y, draw.choice(names), self.word()]],
+        ])()
+
+    def outside(self):
+        draw = self.draw
+        self.constants_of(s=draw.randint(1, 3))
+        made = self.definitions(draw.randint(1, len(self.constants)))
+        self.hide(made)
+        made += [self.literal() for _ in range(draw.randint(1, 3))]
+        made += [self.held(self.stray()) if draw.random() < 0.7 else self.stray() for _ in range(draw.randint(1, 2))]
+        if draw.random() < 0.3:
+            made.append(["or", self.stray(), self.literal()])
+        return made + [self.cap(name, draw.randint(0, 3)) for name in self.of_sort("s") if draw.random() < 0.5]
+
+    def parts(self):
+        """Two to five parts that share no constant; mostly at most one of them has no values."""
+        draw, made, first = self.draw, [], 0
+        self.constants_of(s=3 * draw.randint(2, 5))
+        names = self.constants
+        empty = draw.choice([*[-1] * (len(names) // 3), *range(len(names) // 3)])
+        for at in range(0, len(names), 3):
+            whole, *pieces = names[at : at + 3]
+            self.known = [whole, *pieces]
+            definition = ["=", whole, self.joined(pieces, draw.randint(2, 5))]
+            self.hide([definition])
+            made += [definition, *(self.literal() for _ in range(draw.randint(0, 3)))]
+            if at == 3 * empty:
+                made += self.clash(*self.known)
+        self.known = self.constants
+        return made
+
+    def clash(self, whole, *pieces):
+        """Literals that mostly can't be true together."""
+        others = ["str.in_re", whole, ["re.+", ["str.to_re", (122,)]]]
+        return self.draw.choice([
+            [others, ["str.contains", whole, tuple(self.letters[:1])]],
+            [self.bound(), ["<", length(whole), self.draw.randint(0, 2)], [">", length(pieces[0]), 2]],
+            [["=", ["+", length(whole), 1], self.draw.choice([*map(length, pieces)])]],
+        ])
+
+    def written(self):
+        """A constant or two that are literals, used in definitions of others and defined by others."""
+        draw = self.draw
+        self.constants_of(s=draw.randint(3, 5))
+        names = self.of_sort("s")
+        last = ["=", names[-1], self.joined(names[:-1], draw.randint(2, 4))]
+        cut = ["=", names[0], self.joined(names[1:-1], draw.randint(2, 5))]
+        self.hide([cut, last])
+        letters = tuple(draw.choice(self.letters) for _ in range(draw.randint(0, 8)))
+        made = [["=", names[0], self.hidden[names[0]] if self.is_planted else letters], last]
+        if draw.random() < 0.7:
+            made.append(cut)
+        if draw.random() < 0.3:
+            made.append(["=", names[1], self.hidden[names[1]]])
+        return made + [self.literal() for _ in range(draw.randint(0, 3))]
+
+    # The search.
+
+    def classes(self):
+        """The letters of the script, and one of each stretch between them."""
+        further = [0, *(it + 1 for it in self.letters if it < GREATEST)]
+        return sorted({*self.letters, *further})
+
+    def settings(self):
+        """Constants that assertions set equal to terms, each after those that its term uses."""
+        terms, names, order = {}, set(self.constants), []
+        below = lambda used: used.union(*(below(names_in(terms[it], names)) for it in used if it in terms))
+        for it in self.assertions:
+            if it[0] == "=" and len(it) == 3 and isinstance(it[1], str) and it[1] in names - set(terms):
+                if it[1] not in below(names_in(it[2], names)):
+                    terms[it[1]] = it[2]
+
+        def visit(name):
+            if name in terms and name not in [known for known, _ in order]:
+                for used in sorted(names_in(terms[name], names)):
+                    visit(used)
+                order.append((name, terms[name]))
+
+        for name in self.constants:
+            visit(name)
+        return order
+
+    def islands(self):
+        """The constants and assertions of each part that shares no constant with the others."""
+        names, islands = set(self.constants), [({name}, []) for name in self.constants]
+        for it in self.assertions:
+            used = names_in(it, names)
+            apart = [island for island in islands if not island[0] & used]
+            met = [island for island in islands if island[0] & used]
+            islands = [*apart, (used.union(*(own for own, _ in met)), [*itertools.chain(*(own for _, own in met)), it])]
+        return islands
+
+    def domain(self, name, tests):
+        """Values for a constant, of which those stay under which the assertions over it by itself are true."""
+        if name[0] != "s":
+            them = [False, True] if name[0] == "b" else range(-4, 9)
+        elif self.is_closed:
+            them = [word for count in range(self.reach[name] + 1) for word in itertools.product(self.classes(), repeat=count)]
+        else:
+            lengths = range(4 if len(self.letters) < 3 else 3)
+            them = [word for count in lengths for word in itertools.product([*self.letters, 122], repeat=count)]
+        return [it for it in them if all(value(test, {name: it, "T": self.transducer}) for test in tests)]
+
+    def search(self):
+        """Values that make every assertion true, or None, and whether there surely are none."""
+        found, is_refuted, settings = {}, False, self.settings()
+        for names, own in self.islands():
+            values, is_whole = self.search_island(names, own, [it for it in settings if it[0] in names])
+            is_refuted = is_refuted or (values is None and is_whole)
+            found = None if found is None or values is None else {**found, **values}
+        return found, is_refuted
+
+    def search_island(self, names, own, settings):
+        free = [name for name in self.constants if name in names and name not in dict(settings)]
+        every = set(self.constants)
+        domains = [self.domain(name, [it for it in own if names_in(it, every) == {name}]) for name in free]
+        size = functools.reduce(lambda a, b: a * len(b), domains, 1)
+        is_whole = self.is_closed and size <= WHOLE
+        if is_whole or size <= TRIED:
+            picked = itertools.product(*domains)
+        else:
+            picked = (tuple(self.draw.choice(domain) for domain in domains) for _ in range(TRIED))
+        for values in picked:
+            values = {**dict(zip(free, values)), "T": self.transducer}
+            for name, term in settings:
+                values[name] = value(term, values)
+            if all(value(it, values) for it in own):
+                return {name: values[name] for name in self.constants if name in names}, is_whole
+        return None, is_whole
+
     def commands(self):
         """The script's text. Other solvers want the option before the logic."""
         lines = ["(set-option :produce-models true)", "(set-logic ALL)"]
@@ -375,28 +657,6 @@ class Script:
         """The first assertion that isn't true under the values, if there is one."""
         return next((it for it in self.assertions if not value(it, {**values, "T": self.transducer})), None)
 
-    def domains(self):
-        """Some values for each constant."""
-        letters = [*self.letters, 122]
-        lengths = range(4 if len(self.of_sort("s")) < 3 else 3)
-        words = [word for length in lengths for word in itertools.product(letters, repeat=length)]
-        return [{"s": words, "i": range(-4, 9), "b": [False, True]}[name[0]] for name in self.constants]
-
-    def candidates(self):
-        """Assignments to try; where an assertion sets a constant equal to a term, the constant's value is the term's."""
-        domains = self.domains()
-        size = functools.reduce(lambda a, b: a * len(b), domains, 1)
-        if size <= TRIED:
-            picked = itertools.product(*domains)
-        else:
-            picked = (tuple(self.draw.choice(domain) for domain in domains) for _ in range(TRIED))
-        equations = [it[1:] for it in self.assertions if it[0] == "=" and it[1] in self.constants and len(it) == 3]
-        for values in picked:
-            values = dict(zip(self.constants, values))
-            for name, term in equations:
-                values[name] = value(term, {**values, "T": self.transducer})
-            yield values
-
 
 def ask(command, text, seconds=20):
     """What a solver's first reply is, and behind it the values of a `sat`, or what is told of an `unknown`."""
@@ -411,6 +671,8 @@ def ask(command, text, seconds=20):
         return verdict, None
     values = {}
     for name, told in read(rest)[0]:
+        if isinstance(told, list) and told[0] != "-":
+            return "sat without values", None
         told = -told[1] if isinstance(told, list) else told
         values[name] = {"true": True, "false": False}.get(told, told) if isinstance(told, str) else told
     return verdict, values
@@ -419,11 +681,13 @@ def ask(command, text, seconds=20):
 def wrong(script, verdict, values, peer):
     """Why the verdict is wrong, as far as the evaluator and the peer show it, or None."""
     if verdict == "sat":
+        if script.is_closed and script.search()[1]:
+            return f"no values make every assertion true, nor does its model {values}"
         failed = script.fails(values)
         if failed is not None:
             return f"its model {values} doesn't make {show(failed)} true"
     elif verdict == "unsat":
-        found = next((it for it in script.candidates() if script.fails(it) is None), None)
+        found, _ = script.search()
         if found is not None:
             return f"{found} makes every assertion true"
         if peer[0] == "sat" and script.fails(peer[1]) is None:
@@ -462,7 +726,7 @@ def main():
         is_long = verdict == "sat" and any(isinstance(it, tuple) and len(it) > LONGEST for it in values.values())
         told = verdict + " with a long word" * is_long + f", {values}" * (verdict == "unknown")
         counts[told, peer[0] if peer[0] in ("", "sat", "unsat") else "other"] += 1
-        why = None if is_long else wrong(script, verdict, values, peer)
+        why = None if is_long and not script.is_closed else wrong(script, verdict, values, peer)
         if why:
             bad += 1
             print(f"; seed {seed}: {verdict}, but {why}\n{script.commands()}")
