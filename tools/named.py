@@ -1,12 +1,13 @@
 #!/usr/bin/env python3
 """Says which files, functions and types that the documents name aren't there, and which wrong bodies no longer fit.
 
-    python3 docs/named.py
+    python3 tools/named.py
 
-In README.md, CONTRIBUTING.md and docs/*.md: each path to a source, definition, proof or script of a crate must be a file; each name in front of such a path
-(`check`, decide/src/checking.rt) must be declared in that file; each name in the last column of docs/PROVED.md must stand
-in the sources or definitions of its row's crate; docs/TESTING.md must count each crate's edits rightly; and each text
-that an edit replaces must stand just once in its file. Ends with 1 where something isn't so.
+In README.md, CONTRIBUTING.md and docs/: each path to a source, definition, proof or script of a crate must be a file;
+each name in front of such a path (`check`, decide/src/checking.rt) must be declared in that file; each name in the last
+column of docs/PROVED.md must be in the sources or definitions of its row's crate; and each text that an edit replaces
+must be in its file just once. Ends with 1 where something isn't so. What the documents count and say of each crate
+is looked at by tools/catalogue.py.
 """
 import glob
 import re
@@ -48,15 +49,6 @@ def missing_clauses(text):
         yield from (f"`{it}` of {crate}" for it in sorted(named - words))
 
 
-def wrong_counts(text):
-    """Crates whose edits docs/TESTING.md counts wrongly: those of the gate, and those for runs by hand."""
-    told = {it[0]: it[1:] for it in re.findall(r"^\| `(\w+)` \| (\d+), (\d+) \|", text, re.M)}
-    for crate in sorted(it.name for it in (ROOT / "crates").iterdir()):
-        counts = tuple(str(len(list((ROOT / it).glob("*.edit")))) for it in (f"crates/{crate}/must-fail", f"wrong-bodies/{crate}"))
-        if counts != told.get(crate, ("0", "0")):
-            yield f"{crate}: edits {', '.join(counts)}"
-
-
 def unfit(edit):
     """Why an edit can't be applied: its file isn't there, or a text that it replaces doesn't stand there just once."""
     texts, name, old = {}, None, None
@@ -77,10 +69,9 @@ def unfit(edit):
 
 
 def main():
-    documents = [ROOT / "README.md", ROOT / "CONTRIBUTING.md", *sorted((ROOT / "docs").glob("*.md"))]
+    documents = [ROOT / "README.md", ROOT / "CONTRIBUTING.md", *sorted((ROOT / "docs").glob("**/*.md"))]
     found = [f"{it.relative_to(ROOT)}: {gone}" for it in documents for gone in missing_names(it.read_text())]
     found += [f"docs/PROVED.md: {gone}" for gone in missing_clauses((ROOT / "docs/PROVED.md").read_text())]
-    found += [f"docs/TESTING.md: {it}" for it in wrong_counts((ROOT / "docs/TESTING.md").read_text())]
     edits = [*sorted(ROOT.glob("crates/*/must-fail/*.edit")), *sorted(ROOT.glob("wrong-bodies/*/*.edit"))]
     found += [f"{it.relative_to(ROOT)}: {why}" for it, why in zip(edits, map(unfit, edits)) if why]
     print("\n".join(found) or "all that the documents name is there")

@@ -1,5 +1,5 @@
 #!/usr/bin/env python3
-"""Measures the built program on scripts of its own: docs/measure.py PROGRAM [WORD]
+"""Measures the built program on scripts of its own: tools/measure.py PROGRAM [WORD]
 
 Prints a table of what each script asks, the processor seconds in user mode (the least of three runs, of one where a
 run takes more than ten seconds) and the most memory held. With a WORD, only the rows whose text has it. What is printed

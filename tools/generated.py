@@ -1,5 +1,5 @@
 #!/usr/bin/env python3
-"""Draws generated scripts by itself, and compares how their checks come out: docs/generated.py PROGRAM
+"""Draws generated scripts by itself, and compares how their checks come out: tools/generated.py PROGRAM
 
 Prints each seed for which the built program's summary is another one, and ends with 1 if there is one. The first eight
 blocks of seed 1, which a test in term_tests holds, were drawn by `blocks`.

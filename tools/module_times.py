@@ -1,7 +1,7 @@
 #!/usr/bin/env python3
 """Says how long each module of a crate's proof took, from the time stamps of what `rt check --jobs 1` keeps.
 
-    python3 docs/module_times.py sv_list [N]        the N modules that took longest, 20 where N isn't said
+    python3 tools/module_times.py sv_list [N]        the N modules that took longest, 20 where N isn't said
 
 A check writes a module's file as soon as the module is checked, so that the time since the file before is what it took.
 `proofs` alone stands for the reading of the crates below. A check writes again only what changed: what one takes from

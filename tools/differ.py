@@ -1,8 +1,8 @@
 #!/usr/bin/env python3
 """Draws small scripts at random, and looks at each verdict with an evaluator of its own.
 
-    python3 docs/differ.py PROGRAM [--seed S] [--scripts N] [--peer "COMMAND"]
-    python3 docs/differ.py --write FOLDER [--seed S] [--scripts N]     writes the scripts, for tools/corpus.sh
+    python3 tools/differ.py PROGRAM [--seed S] [--scripts N] [--peer "COMMAND"]
+    python3 tools/differ.py --write FOLDER [--seed S] [--scripts N]     writes the scripts, for tools/corpus.sh
 
 The evaluator below says what SMT-LIB 2.6 and its theories Core, Ints and UnicodeStrings say of a term whose constants
 have values; it shares nothing with the program. Behind `sat` every assertion has to be true by it under the model that

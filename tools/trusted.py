@@ -6,9 +6,9 @@ what each definition of a specs/ folder names, the constants of sources among it
 ghost fields of the types that it names say, and those of the types in their fields. It prints one row a
 file: how many lines of it are reached, and what it restates, which is the first comment of the file.
 
-    docs/trusted.py           prints the table
-    docs/trusted.py --check   compares it with docs/TRUST.md, prints what differs, and ends with 1 if something does
-    docs/trusted.py --write   puts it into docs/TRUST.md
+    tools/trusted.py           prints the table
+    tools/trusted.py --check   compares it with docs/TRUST.md, prints what differs, and ends with 1 if something does
+    tools/trusted.py --write   puts it into docs/TRUST.md
 """
 import difflib
 import pathlib

@@ -1,5 +1,5 @@
 #!/usr/bin/env python3
-"""Refuses each request for memory of the built program in turn: docs/refuse_memory.py PROGRAM
+"""Refuses each request for memory of the built program in turn: tools/refuse_memory.py PROGRAM
 
 A `malloc` and a `realloc` put in front of the C library's fork the program at each request: the child is refused it
 and goes on to its end, by itself, while the parent waits and then gets what it asked for. Each child has to end as a

@@ -1,7 +1,7 @@
 #!/usr/bin/env python3
 """Runs the gate, and says what each crate takes of it.
 
-    python3 docs/gate_times.py [rt ci's own words]
+    python3 tools/gate_times.py [rt ci's own words]
 
 For each crate: the processor seconds of its proof, of its tests' proof, and of its must-fail edits with the check that
 they begin with; then the whole by the clock. What `rt ci` prints goes to standard error. Only what this run does counts,
