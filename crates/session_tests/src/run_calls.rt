@@ -471,7 +471,7 @@ const NAMED: [(&[u8], Status, &[u8]); 8] = [
     (
         b"(declare-const p Bool)(assert (! p :named))(assert (! p :named \"a\"))(assert (! p :named :named))(assert (! p :named a :named b))(assert (! p :named a :named))(assert (!))(assert (! p :named a) p)(assert (! q :named))(get-value (a))",
         Status::ErrorAnswered,
-        b"(error \"shape\")\n(error \"shape\")\n(error \"shape\")\n(error \"shape\")\n(error \"shape\")\n(error \"shape\")\n(error \"shape\")\n(error \"shape\")\n(error \"no model\")\n",
+        b"(error \"shape\")\n(error \"shape\")\n(error \"shape\")\n(error \"shape\")\n(error \"shape\")\n(error \"shape\")\n(error \"shape\")\n(error \"shape\")\n(error \"unknown symbol\")\n",
     ),
     (
         b"(declare-const n Int)(assert (! a :named a))(assert (! n :named a))(assert (! (+ n n) :named a))(assert (! (= n a) :named |a|))(declare-const a Int)(assert (! (= n a) :named a))",
