@@ -10,3 +10,4 @@ pub mod Rightness
 mod Sharing
 mod Sorts
 mod Tallying
+mod Weaker

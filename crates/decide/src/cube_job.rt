@@ -1,12 +1,13 @@
 //! One cube of some assertions, as a job.
-ghost use Rattle.std.specs.Prelude.{◌≡◌, ◌<◌, ◌^◌, length, IfOk, IfSome};
-ghost use Rattle.flat_cubes.specs.Flattening.{IsFlattening};
+ghost use Rattle.std.specs.Prelude.{◌≡◌, ◌<◌, ◌^◌, length, Err, IfOk, IfSome};
+ghost use Rattle.flat_cubes.specs.Flattening.{IsFlattened, IsFlattening};
 ghost use Rattle.flat_cubes.specs.Straight.{AreNamesApart};
 ghost use Rattle.cube_search.specs.declared.answer.CubeAnswer.TheVariants.{Open, Unsat};
 ghost use Rattle.cube_search.specs.declared.reason.OpenReason.TheVariants.{Fragment};
 ghost use Rattle.decide.specs.Folds.{refutation};
 ghost use Rattle.decide.specs.Jobs.{IsAskedCube, IsOutcome, refused_answer};
 
+use crate::crooked::is_refuted_by_part;
 use assertion_parts::complete;
 use bool_cubes::{contradictions_are_false, is_contradictory};
 use cube_bounds::numbers;
@@ -99,8 +100,27 @@ pub fn answer_for(shared: &Shared<'_>, cube: &Cube) -> Result<CubeAnswer, AllocE
     }
     match flatten(shared.alloc, cube) {
         Ok(flat) => straight_answer(shared, cube, flat),
-        Err(fault) => refuse(fault),
+        Err(FlatFault::Memory(error)) => Err(error),
+        Err(fault) => crooked_answer(shared, cube, fault),
     }
+}
+
+/// The answer for a cube that isn't straight: none where some of its literals have no values together, else why it isn't.
+fn crooked_answer(
+    shared: &Shared<'_>,
+    cube: &Cube,
+    fault: FlatFault,
+) -> Result<CubeAnswer, AllocError>
+    requires asked { IsAskedCube shared.now.terms.now cube.now }
+    requires refused { IsFlattened cube.now.literals (Err fault) }
+    ensures { IfOk result (IsOutcome shared.now.terms.now cube.now) }
+{
+    refusals_have_no_flat_cube();
+    let refuted = is_refuted_by_part(shared, cube)?;
+    if refuted {
+        return Ok(without_leaf());
+    }
+    refuse(fault)
 }
 
 /// The answer for a cube that has no flat cube.
@@ -124,7 +144,11 @@ fn fragment(shown: Shown) -> CubeAnswer
 
 /// The answer for a straight cube: none where its rows and lengths contradict one another, else what the search finds
 /// with bounds on lengths as parts, or else as they stand.
-fn straight_answer(shared: &Shared<'_>, cube: &Cube, flat: Flat) -> Result<CubeAnswer, AllocError>
+pub fn straight_answer(
+    shared: &Shared<'_>,
+    cube: &Cube,
+    flat: Flat,
+) -> Result<CubeAnswer, AllocError>
     requires asked { IsAskedCube shared.now.terms.now cube.now }
     requires flattening { IsFlattening cube.now.literals flat }
     requires apart { AreNamesApart flat }

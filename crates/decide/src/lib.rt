@@ -13,6 +13,9 @@
 //! else all open cubes by their numbers; else the counts of the leaves closed. An answer costs the tally the same,
 //! whatever it is, but for a copy of the opaque assertion where its model is set aside.
 //!
+//! A cube that isn't straight has no values where what is left of it without the literals by which it isn't has none.
+//! Bounds on lengths are compared before any machine is made, and small ones are asked as parts.
+//!
 //! Cubes that hold an atom and its negation need no work, nor do those of a block whose literals have no values.
 //!
 //! Cubes come in blocks, each of one choice for the first terms: what the cubes of a block share is a cube of fewer
@@ -31,6 +34,7 @@
 mod batch;
 mod blocks;
 mod checking;
+mod crooked;
 mod cube_job;
 mod machines;
 mod passing;
