@@ -12,7 +12,6 @@ use Rattle.cube_search.specs.declared.reason.OpenReason.{OpenReason}
 use Rattle.cube_search.specs.declared.reason.OpenReason.TheVariants.{Fragment}
 use Rattle.cube_search.specs.declared.reason.Shown.TheVariants.{Opaque}
 use Rattle.sv_terms.specs.Truth.{AreValued, clear_of, opaque_of}
-use Rattle.assertion_parts.specs.Constants.{AreValuesOf}
 use Rattle.decide.specs.CubeValues.{CubeHasNoValues, AreTrueAtCube}
 use Rattle.decide.specs.Folds.{first_sat, opens_from}
 use Rattle.decide.proofs.Listed.{contains-cases, contains-none}

@@ -1,5 +1,5 @@
 -- A flat cube that is rewritten: its models are those of the one it comes from.
-use Rattle.std.proofs.Common.{◌≡◌, refl, sym, ap, subst, ◌∙◌, ◌<◌, ◌^◌, ℕ, suc, ℤ, pos, ◌≤ℤ◌, ◌-ℤ◌, ◌/◌, Bool, false, not, List, [], ◌∷◌, ◌++◌, map, length}
+use Rattle.std.proofs.Common.{◌≡◌, refl, sym, ap, subst, ◌∙◌, ◌<◌, ◌^◌, ℕ, suc, pos, ◌≤ℤ◌, ◌-ℤ◌, ◌/◌, Bool, not, List, [], ◌∷◌, ◌++◌, map, length}
 use Rattle.std.specs.Prelude.{filter, nat_eq}
 use Rattle.std.specs.List.{AllByRecursion, AllZip, IsDistinct, list_any, range_with_len, sum_by}
 use Rattle.std.specs.Cmp.Lexicographic.{pointwise}
@@ -9,14 +9,14 @@ use Rattle.sv_terms.specs.declared.value.Value.TheVariants as value
 use Rattle.cube_bounds.specs.Bounds.{greatest}
 use Rattle.cube_bounds.specs.Growth.{growth, grown, longest_word, reach}
 use Rattle.cube_bounds.specs.NumberLaws.{source_length}
-use Rattle.flat_cubes.specs.Satisfying.{AreModelValues, HasValue, NamesHave, word_at}
+use Rattle.flat_cubes.specs.Satisfying.{HasValue, NamesHave, word_at}
 use Rattle.flat_cubes.specs.Straight.{AreNamesApart, HasFormed, IsFormedBy, all_names, string_names}
 use Rattle.flat_cubes.specs.Using.{is_defined}
 use Rattle.flat_cubes.specs.declared.definition.Definition.{Definition}
 use Rattle.flat_cubes.specs.declared.flat.Flat.{Flat}
 use Rattle.flat_cubes.specs.declared.variable.Variable.{Variable}
 use Rattle.length_parts.specs.Rewriting.{HaveSameNames, IsRewriting}
-use Rattle.cube_search.specs.Answers.{AreOnlyIn, IsModelOf, is_name_in}
+use Rattle.cube_search.specs.Answers.{AreOnlyIn, IsModelOf}
 use Rattle.cube_search.specs.Causes.{EachSolution}
 
 strings-same : (vs ws : List Variable) → HaveSameNames vs ws → string_names vs ≡ string_names ws

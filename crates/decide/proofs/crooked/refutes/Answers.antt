@@ -1,5 +1,3 @@
-use Rattle.std.proofs.Common.{subst}
-use Rattle.decide.specs.Jobs.{IsRightAnswer}
 use Rattle.decide.proofs.Models.{literals-sorted}
 use Rattle.decide.proofs.crooked.refutes.Goals as goal
 

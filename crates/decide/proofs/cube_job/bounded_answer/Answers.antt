@@ -1,7 +1,7 @@
 use Rattle.std.proofs.Common.{subst}
 use Rattle.cube_search.specs.Answers.{IsCubeAnswer}
 use Rattle.decide.proofs.Models.{none-of, sat-of}
-use Rattle.decide.proofs.Rewritten.{apart-stays, few-stays, formed-stays, model-back, none-back, only-back}
+use Rattle.decide.proofs.Rewritten.{apart-stays, few-stays, model-back, none-back, only-back}
 use Rattle.decide.proofs.cube_job.bounded_answer.Goals as goal
 
 pub returns-in-Sat : goal.returns-in-Sat

@@ -1,5 +1,4 @@
 use Rattle.std.proofs.Common.{subst, sym}
-use Rattle.std.specs.Prelude.{IfSome}
 use Rattle.decide.specs.Jobs.{IsOutcome}
 use Rattle.decide.proofs.Models.{none-of}
 use Rattle.decide.proofs.cube_job.straight_answer.Goals as goal
