@@ -16,6 +16,10 @@ text word = Atom ("\"" ++ word ++ "\"")
 repeats :: SExpr -> String -> SExpr
 repeats word part = fun "str.in_re" [word, fun "re.+" [fun "str.to_re" [text part]]]
 
+-- Asks whether the word can be so where each of these holds, for this check only. `command` reads the reply.
+assuming :: Solver -> [SExpr] -> IO ()
+assuming solver literals = command solver (fun "check-sat-assuming" [List literals]) >>= putStrLn . flip showsSExpr ""
+
 -- Asks for what makes the page hold a script, where what is typed is escaped or not.
 ask :: Solver -> SExpr -> SExpr -> SExpr -> IO ()
 ask solver page typed written = inNewScope solver $ do
@@ -38,6 +42,9 @@ main = do
     assert solver (gt (fun "str.len" [word]) (int 3))
     check solver >>= print
     command solver (fun "get-value" [List [word]]) >>= putStrLn . flip showsSExpr ""
+    short <- define solver "short" tBool (lt (fun "str.len" [word]) (int 4))
+    assuming solver [short]
+    assuming solver [SimpleSMT.not short]
     page <- declare solver "page" (Atom "String")
     typed <- declare solver "typed" (Atom "String")
     ask solver page typed typed

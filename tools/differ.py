@@ -16,14 +16,22 @@ Four of eleven scripts are plain ones; of the others some have Boolean names for
 of them held or negated), constant bounds on lengths, literals outside the straight-line fragment (disequalities, second
 definitions, cycles, orders, opaque functions), independent parts, or written words. There `unknown` is no error.
 
-A peer reads each script without a transducer on its standard input,
+Three of ten scripts are put as a session: assertions have names or guards, stand on levels that go, or are macros that
+are assumed, and up to three checks are asked, each with its assumptions. Each verdict is looked at by itself, and behind
+each `unsat` the core: its names have to be live ones, in order of assertion; with what has no name and the assumptions
+its assertions may have no values, by the search above and by the peer; and the program may not say `unsat` of what is
+left where one of its names goes as it was tried, with those that were listed before it and all names after it.
+
+A peer reads what each check asks, if that has no transducer, on its standard input,
 such as "cvc5 --lang smt2 --strings-exp --produce-models --tlimit=3000 -q -"; where it says `sat` and the program `unsat`,
 the peer's model is looked at in the same way, and a peer's `unsat` against a `sat` is told.
-Prints each script with a verdict that is shown to be wrong, and ends with 1 if there is one. A model with a word of more
-than 200 characters isn't looked at, and is counted apart; an `unknown` is counted with its cause.
+Prints each script with a verdict or a core that is shown to be wrong, and ends with 1 if there is one. A model with a
+word of more than 200 characters isn't looked at, and is counted apart, as is a core that isn't there when the script has
+taken 20 seconds; an `unknown` is counted with its cause.
 """
 import argparse
 import collections
+import copy
 import functools
 import itertools
 import pathlib
@@ -42,6 +50,8 @@ WHOLE = 12_000
 SHAPES = ["plain"] * 4 + ["names", "many names", "bounds", "bounds", "outside", "parts", "written"]
 # A model with longer words isn't looked at.
 LONGEST = 200
+# How many of the scripts are put as a session.
+SESSIONS = 0.3
 
 
 # Words are tuples of characters' numbers; terms are lists as an s-expression's, with words and numbers at the leaves.
@@ -262,12 +272,17 @@ class Script:
         self.letters = [ord(c) for c in self.draw.choice(["ab", "ab", "ab", "a", "a7", "<;"])]
         if self.draw.random() < 0.05:
             self.letters.append(self.draw.choice([0, 34, 92, 10, 233, 0xD800, GREATEST]))
-        self.reach, self.is_closed = {}, False
+        self.reach, self.caps, self.is_closed = {}, [], False
         self.shape = self.draw.choice(SHAPES)
         if self.shape != "plain":
             self.transducer = None
             self.assertions = self.shaped()
-            return
+        else:
+            self.plain()
+        self.entries, self.symbols = [(None, it) for it in self.assertions], {}
+        self.session = Session(self) if self.draw.random() < SESSIONS else None
+
+    def plain(self):
         counts = {"s": self.draw.randint(1, 3), "i": self.draw.choice([0, 0, 1, 2]), "b": self.draw.choice([0, 0, 1])}
         self.constants = [f"{sort}{at}" for sort, count in counts.items() for at in range(count)]
         self.known = self.constants
@@ -405,12 +420,13 @@ class Script:
         """An assertion that the constant's word has at most so many letters."""
         size = length(name)
         self.reach[name] = most
-        return self.draw.choice([
+        self.caps.append(self.draw.choice([
             ["<", size, most + 1], ["<=", size, most], [">=", most, size], ["not", [">", size, most]],
             ["<=", ["*", 2, size], 2 * most + 1], [">=", ["-", size], -most], ["<", -most - 1, ["*", -1, size]],
             ["<=", ["+", size, 3], most + 3], ["=", size, most] if most == 0 else ["<=", size, most],
             ["str.in_re", name, [["_", "re.loop", 0, most], "re.allchar"]],
-        ])
+        ]))
+        return self.caps[-1]
 
     def bound(self):
         """A constant bound on a length, on a defined word's too, or on a sum of lengths."""
@@ -640,9 +656,11 @@ class Script:
                 return {name: values[name] for name in self.constants if name in names}, is_whole
         return None, is_whole
 
-    def commands(self):
-        """The script's text. Other solvers want the option before the logic."""
-        lines = ["(set-option :produce-models true)", "(set-logic ALL)"]
+    # The text.
+
+    def heading(self):
+        """The lines before the assertions. Other solvers want the options, and those before the logic."""
+        lines = ["(set-option :produce-models true)", *["(set-option :produce-unsat-cores true)"] * bool(self.session), "(set-logic ALL)"]
         lines += [f"(declare-const {name} {SORTS[name[0]]})" for name in self.constants]
         if self.transducer:
             start, edges, ends = self.transducer
@@ -650,32 +668,148 @@ class Script:
             shown = [f"(q{edge[0]} {show((edge[1],))} {show((edge[2],))} ({written}) q{edge[4]})" for edge, written in zip(edges, items)]
             lasts = [f"(q{state} ({show(word)}))" for state, word in ends]
             lines.append(f"(define-transducer T (q0 q1) q{start} ({' '.join(shown)}) ({' '.join(lasts)}))")
-        lines += [f"(assert {show(it)})" for it in self.assertions]
-        return "\n".join([*lines, "(check-sat)", f"(get-value ({' '.join(self.constants)}))", ""])
+        return lines
+
+    def flat(self):
+        """The text with one check of the assertions, none of which has a name."""
+        asserted = [f"(assert {show(it)})" for it in self.assertions]
+        return "\n".join([*self.heading(), *asserted, *self.check("(check-sat)"), ""])
+
+    def commands(self):
+        return "\n".join([*self.heading(), *self.session.lines, ""]) if self.session else self.flat()
+
+    def check(self, command):
+        """The lines of a check, each of which has one reply."""
+        return [command, f"(get-value ({' '.join([*self.constants, *self.symbols])}))", "(get-unsat-core)", "(get-info :reason-unknown)"]
+
+    def questions(self):
+        """What each check asks."""
+        return self.session.questions if self.session else [self]
+
+    # The assertions of a check.
+
+    def asking(self, entries, symbols):
+        """The script with one check of these assertions, each with its name or None, and of symbols with meanings."""
+        made = copy.copy(self)
+        made.session, made.entries, made.symbols, made.assertions = None, entries, symbols, [it for _, it in entries]
+        known = {*self.reach, *(name for name, _ in made.settings())}
+        made.is_closed = self.is_closed and all(it in made.assertions for it in self.caps) and all(name in known for name in self.constants if name[0] == "s")
+        return made
+
+    def keeping(self, names):
+        """What is asked where of the named assertions these stay."""
+        return self.asking([(name, it) for name, it in self.entries if name is None or name in names], {})
 
     def fails(self, values):
-        """The first assertion that isn't true under the values, if there is one."""
-        return next((it for it in self.assertions if not value(it, {**values, "T": self.transducer})), None)
+        """The first assertion that isn't true under the values, or symbol that has another one, if there is one."""
+        values = {**values, "T": self.transducer}
+        others = (name for name, it in self.symbols.items() if name in values and values[name] != value(it, values))
+        return next((it for it in self.assertions if not value(it, values)), next(others, None))
+
+
+class Session:
+    """How a script is put: its lines, and what each of its checks asks."""
+
+    def __init__(self, script):
+        self.script, self.draw = script, script.draw
+        self.lines, self.questions, self.guards, pops = [], [], [], 0
+        # Of each level the entries: whether it is asserted, its name or None, what it means, and the drawn term.
+        self.levels = [[]]
+        # Guards are constants: they are known before the first line is put.
+        often = 0 if script.shape == "many names" else 0.2
+        waiting = [(it, self.guard() if self.draw.random() < often else None) for it in script.assertions]
+        while waiting:
+            roll = self.draw.random()
+            if roll < 0.15:
+                self.levels.append([])
+                self.lines.append("(push 1)")
+            elif roll < 0.23 and len(self.levels) > 1 and pops < 3:
+                pops += 1
+                self.lines.append("(pop 1)")
+                waiting += [entry[3] for entry in self.levels.pop()]
+            elif roll < 0.33 and len(self.questions) < 2:
+                self.ask()
+            else:
+                self.put(*waiting.pop(0))
+        self.ask()
+
+    def guard(self):
+        self.guards.append(f"b{100 + len(self.guards)}")
+        self.script.constants = [*self.script.constants, self.guards[-1]]
+        return self.guards[-1]
+
+    def entries(self):
+        return [entry for level in self.levels for entry in level]
+
+    def symbols(self):
+        """The live names and macros, with what they mean."""
+        return {name: meant for _, name, meant, _ in self.entries() if name}
+
+    def meaning(self, term):
+        """The term with names and macros put in."""
+        symbols = self.symbols()
+        put_in = lambda it: list(map(put_in, it)) if isinstance(it, list) else symbols.get(it, it) if isinstance(it, str) else it
+        return put_in(term)
+
+    def put(self, drawn, guard):
+        """Asserts the term, by itself, behind its guard or behind a symbol, or makes it a macro."""
+        roll, symbols = self.draw.random(), list(self.symbols())
+        shown = ["=>", guard, drawn] if guard else drawn
+        if symbols and self.draw.random() < 0.1:
+            shown = [self.draw.choice(["=>", "or", "and"]), self.draw.choice(symbols), shown]
+        name = None if roll < 0.3 else f"{'m' if roll < 0.45 else 'n'}{len(symbols)}"
+        is_macro, text = 0.3 <= roll < 0.45, show(shown)
+        named = f"(assert (! {text} :named {name}))" if name else f"(assert {text})"
+        self.lines.append(f"(define-fun {name} () Bool {text})" if is_macro else named)
+        self.levels[-1].append((not is_macro, name, self.meaning(shown), (drawn, guard)))
+
+    def ask(self):
+        """A check; most guards and macros are assumed, and a few names and constants."""
+        draw, entries = self.draw, self.entries()
+        often = [*self.guards, *(name for is_asserted, name, _, _ in entries if not is_asserted)]
+        seldom = [*(name for is_asserted, name, _, _ in entries if is_asserted and name), *(it for it in self.script.constants if it[0] == "b" and it not in self.guards)]
+        picked = [it for it in often if draw.random() < 0.9] + [it for it in seldom if draw.random() < 0.06]
+        draw.shuffle(picked)
+        assumed = [it if draw.random() < 0.9 else ["not", it] for it in picked]
+        asked = [(name, meant) for is_asserted, name, meant, _ in entries if is_asserted]
+        symbols = {name: meant for name, meant in self.symbols().items() if name in picked or (name, meant) in asked}
+        self.questions.append(self.script.asking(asked + [(None, self.meaning(it)) for it in assumed], symbols))
+        is_plain = not assumed and draw.random() < 0.7
+        self.lines += self.questions[-1].check("(check-sat)" if is_plain else f"(check-sat-assuming {show(assumed)})")
+
+
+def model(reply):
+    """The values that are told, or None where the reply has none."""
+    values = {}
+    for pair in reply:
+        if not isinstance(pair, list) or isinstance(pair[1], list) and pair[1][0] != "-":
+            return None
+        told = -pair[1][1] if isinstance(pair[1], list) else pair[1]
+        values[pair[0]] = {"true": True, "false": False}.get(told, told) if isinstance(told, str) else told
+    return values
+
+
+def answer(verdict, values=None, core=None, cause=None):
+    """A verdict, the values of a `sat` or what is told of an `unknown`, and what `get-unsat-core` answered."""
+    if verdict == "unknown":
+        told = cause[-1] if isinstance(cause, list) else None
+        return verdict, told[-1] if isinstance(told, list) else told, core
+    if verdict != "sat":
+        return verdict if isinstance(verdict, str) else show(verdict), None, core
+    values = model(values) if isinstance(values, list) else None
+    return ("sat without values" if values is None else verdict), values, core
 
 
 def ask(command, text, seconds=20):
-    """What a solver's first reply is, and behind it the values of a `sat`, or what is told of an `unknown`."""
+    """The answers to the checks, each of which has four lines, as far as they came."""
     try:
-        ran = subprocess.run(command, input=text, capture_output=True, text=True, timeout=seconds)
-    except subprocess.TimeoutExpired:
-        return "timeout", None
-    verdict, _, rest = ran.stdout.partition("\n")
-    if verdict == "unknown":
-        return verdict, (re.findall(r"\(:reason-unknown (?:\(cube \d+ )?([\w-]+)", rest) or [None])[0]
-    if verdict != "sat":
-        return verdict, None
-    values = {}
-    for name, told in read(rest)[0]:
-        if isinstance(told, list) and told[0] != "-":
-            return "sat without values", None
-        told = -told[1] if isinstance(told, list) else told
-        values[name] = {"true": True, "false": False}.get(told, told) if isinstance(told, str) else told
-    return verdict, values
+        ran, is_late = subprocess.run(command, input=text, capture_output=True, text=True, timeout=seconds).stdout, False
+    except subprocess.TimeoutExpired as late:
+        ran, is_late = (late.stdout or b"").decode(), True
+    replies = read(ran)
+    if is_late:
+        replies.append("timeout")
+    return [answer(*replies[at : at + 4]) for at in range(0, len(replies), 4)] or [("", None, None)]
 
 
 def wrong(script, verdict, values, peer):
@@ -687,22 +821,92 @@ def wrong(script, verdict, values, peer):
         if failed is not None:
             return f"its model {values} doesn't make {show(failed)} true"
     elif verdict == "unsat":
-        found, _ = script.search()
-        if found is not None:
-            return f"{found} makes every assertion true"
-        if peer[0] == "sat" and script.fails(peer[1]) is None:
-            return f"the peer's {peer[1]} makes every assertion true"
+        return has_values(script, peer)
     elif verdict != "unknown":
         return "it is no verdict"
     return None
 
 
+def has_values(script, peer):
+    """Which values make every assertion true, as far as the evaluator and the peer find some, or None."""
+    found, _ = script.search()
+    if found is not None:
+        return f"{found} makes every assertion true"
+    if peer[0] == "sat" and script.fails(peer[1]) is None:
+        return f"the peer's {peer[1]} makes every assertion true"
+    return None
+
+
+def wrong_core(script, verdict, core, program, ask_peer):
+    """Why the core is wrong, as far as the evaluator, the peer and the program itself show it, or None."""
+    if verdict != "unsat":
+        return None if isinstance(core, list) and core[:1] == ["error"] else f"the core {core} is of no unsat"
+    names = [name for name, _ in script.entries if name]
+    if not isinstance(core, list) or core != [name for name in names if name in core]:
+        return f"the core {core} isn't a list of live names in order"
+    why = has_values(script.keeping(core), ask_peer(script.keeping(core))) if core != names else None
+    if why:
+        return f"of the core {core} {why}"
+    for name in core:
+        at = names.index(name)
+        rest = [it for it in core if it in names[:at]] + names[at + 1 :]
+        if ask(program, script.keeping(rest).flat())[0][0] == "unsat":
+            return f"the core {core} has {name}, though the rest is unsat"
+    return None
+
+
+class Tally:
+    """Looks at scripts, and counts what came of them."""
+
+    def __init__(self, program, peer):
+        self.program, self.peer = program, peer
+        self.counts, self.verdicts, self.cores, self.late, self.bad = collections.Counter(), 0, 0, 0, 0
+
+    def ask_peer(self, script):
+        return ask(self.peer, script.flat())[0][:2] if self.peer and not script.transducer else ("", None)
+
+    def look_at(self, seed, script):
+        questions, answers = script.questions(), ask(self.program, script.commands())
+        for at, question in enumerate(questions):
+            if at >= len(answers) and "timeout" in answers[-1]:
+                break
+            verdict, values, core = answers[at] if at < len(answers) else ("", None, None)
+            why = self.look(question, verdict, values, core)
+            if core == "timeout":
+                print(f"; seed {seed}, check {at + 1}: {verdict}, but no core in time", flush=True)
+            if why:
+                self.bad += 1
+                print(f"; seed {seed}, check {at + 1}: {verdict}, but {why}\n{script.commands()}", flush=True)
+
+    def look(self, script, verdict, values, core):
+        """Why the answer to a check is wrong, or None."""
+        peer = self.ask_peer(script)
+        is_long = verdict == "sat" and any(isinstance(it, tuple) and len(it) > LONGEST for it in values.values())
+        told = verdict + " with a long word" * is_long + f", {values}" * (verdict == "unknown")
+        self.counts[told, peer[0] if peer[0] in ("", "sat", "unsat") else "other"] += 1
+        self.verdicts += 1
+        why = None if is_long and not script.is_closed else wrong(script, verdict, values, peer)
+        if not why and (verdict, peer[0]) == ("sat", "unsat"):
+            print(f"; the peer says unsat, though {values} makes every assertion true:\n{script.flat()}")
+        if why or core == "timeout":
+            self.late += core == "timeout"
+            return why
+        self.cores += verdict == "unsat" and any(name for name, _ in script.entries)
+        return wrong_core(script, verdict, core, self.program, self.ask_peer)
+
+    def tell(self):
+        for (verdict, peer), count in sorted(self.counts.items()):
+            print(f"{count} {verdict}" + f", the peer {peer}" * bool(self.peer))
+        print(f"{self.cores} cores of named assertions, {self.late} not in time")
+        print(f"{self.bad} of {self.verdicts} verdicts are wrong, or their cores")
+        return 1 if self.bad else 0
+
+
 def write(folder, seeds):
-    """Writes the scripts of these seeds, each asking for the cause of an `unknown`."""
+    """Writes the scripts of these seeds."""
     folder.mkdir(parents=True, exist_ok=True)
     for seed in seeds:
-        text = f"{Script(seed).commands()}(get-info :reason-unknown)\n"
-        (folder / f"{seed:07}.smt2").write_text(text, encoding="utf-8")
+        (folder / f"{seed:07}.smt2").write_text(Script(seed).commands(), encoding="utf-8")
     return 0
 
 
@@ -718,24 +922,10 @@ def main():
         return write(pathlib.Path(given.write), range(given.seed, given.seed + given.scripts))
     if not given.program:
         words.error("it takes a program, or --write FOLDER")
-    counts, bad = collections.Counter(), 0
+    tally = Tally([given.program], given.peer.split() if given.peer else None)
     for seed in range(given.seed, given.seed + given.scripts):
-        script = Script(seed)
-        verdict, values = ask([given.program], script.commands() + "(get-info :reason-unknown)\n")
-        peer = ask(given.peer.split(), script.commands()) if given.peer and not script.transducer else ("", None)
-        is_long = verdict == "sat" and any(isinstance(it, tuple) and len(it) > LONGEST for it in values.values())
-        told = verdict + " with a long word" * is_long + f", {values}" * (verdict == "unknown")
-        counts[told, peer[0] if peer[0] in ("", "sat", "unsat") else "other"] += 1
-        why = None if is_long and not script.is_closed else wrong(script, verdict, values, peer)
-        if why:
-            bad += 1
-            print(f"; seed {seed}: {verdict}, but {why}\n{script.commands()}")
-        elif (verdict, peer[0]) == ("sat", "unsat"):
-            print(f"; seed {seed}: the peer says unsat, though {values} makes every assertion true")
-    for (verdict, peer), count in sorted(counts.items()):
-        print(f"{count} {verdict}" + f", the peer {peer}" * bool(given.peer))
-    print(f"{bad} of {given.scripts} verdicts are wrong")
-    return 1 if bad else 0
+        tally.look_at(seed, Script(seed))
+    return tally.tell()
 
 
 if __name__ == "__main__":
