@@ -12,6 +12,8 @@ mod machine_meet_calls;
 #[cfg(test)]
 mod regex_machine_calls;
 #[cfg(test)]
+mod segment_machines_calls;
+#[cfg(test)]
 mod subset_machine_calls;
 #[cfg(test)]
 mod transducer_core_calls;
