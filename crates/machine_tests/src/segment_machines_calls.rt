@@ -1,4 +1,6 @@
 //! Markings of single words: each call with words that it relates, and words that it doesn't.
+ghost use Rattle.std.specs.Prelude.{◌≡◌, ◌≢◌, [], IfOk};
+
 use segment_machines::{mark, mark_absent, mark_end, mark_found, pick};
 use std::alloc::{AllocError, Global};
 use sv_terms::Transducer;
@@ -11,6 +13,17 @@ fn word(alloc: Global, text: &str) -> Result<Word, AllocError> {
         word.push(u32::from(*byte))?;
     }
     Ok(word)
+}
+
+// The word `aab`.
+fn pattern(alloc: Global) -> Result<Word, AllocError>
+    ensures { IfOk result (λ p. p ≢ []) }
+{
+    let mut pattern = Word::new(alloc);
+    pattern.push(0x61)?;
+    pattern.push(0x61)?;
+    pattern.push(0x62)?;
+    Ok(pattern)
 }
 
 // Whether the transducer relates the first word of each row to the second exactly where the row says so.
@@ -52,24 +65,26 @@ fn picks(alloc: Global) -> Result<bool, AllocError> {
         ("0a0b1c2d", "c", true),
         ("0a0b1c2d", "d", false),
         ("1a0b1c", "ac", true), // it doesn't look whether phases fall
-        ("0a1", "", false),     // no character after the phase
+        ("0a1", "", false), // no character after the phase
         ("3a", "", false),
     ];
     let after = [("0a0b1c2d", "d", true)];
-    Ok(relates(alloc, &pick(alloc, 0)?, &before)?
-        && relates(alloc, &pick(alloc, 1)?, &part)?
-        && relates(alloc, &pick(alloc, 2)?, &after)?)
+    Ok(
+        relates(alloc, &pick(alloc, 0)?, &before)?
+            && relates(alloc, &pick(alloc, 1)?, &part)?
+            && relates(alloc, &pick(alloc, 2)?, &after)?,
+    )
 }
 
 fn finds(alloc: Global) -> Result<bool, AllocError> {
     let rows = [
         ("caabaab", "1c1a1a1b2a2a2b", true),
         ("caabaab", "1c1a1a1b1a1a1b", false), // up to a later occurrence
-        ("caabaab", "0c0a1a1b1a1a1b", true),  // the first begins in phase 0
+        ("caabaab", "0c0a1a1b1a1a1b", true), // the first begins in phase 0
         ("caab", "0c0a1a1b", false),
         ("aaab", "1a1a1a1b", true), // the pattern's first letters come once more
     ];
-    let t = mark_found(alloc, &word(alloc, "aab")?)?;
+    let t = mark_found(alloc, &pattern(alloc)?)?;
     Ok(relates(alloc, &t, &rows)? && t.states == 5)
 }
 
@@ -80,7 +95,7 @@ fn misses(alloc: Global) -> Result<bool, AllocError> {
         ("caab", "0c0a0a0b", true), // nothing in phase 1
         ("", "", true),
     ];
-    let t = mark_absent(alloc, &word(alloc, "aab")?)?;
+    let t = mark_absent(alloc, &pattern(alloc)?)?;
     Ok(relates(alloc, &t, &rows)? && t.states == 4)
 }
 
